@@ -42,3 +42,12 @@ mod RingActs
 pub mod RingRuns
 pub mod RuleUnforged
 pub mod RemainingFrames
+mod WayMoves
+mod WayPlain
+mod WayActs
+pub mod WayRuns
+pub mod RuleNoneLeft
+mod MemoryLong
+pub mod RuleTable
+mod RingFinds
+pub mod RuleSlots

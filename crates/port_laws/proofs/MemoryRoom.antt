@@ -273,10 +273,10 @@ power_some : (n : ℕ) → 1 ≤ 2 ^ n
 power_some zero = omega arith
 power_some (suc n) = omega (arith, power_some n)
 
-abbrev Enough : ℕ → Type 0
+abbrev pub Enough : ℕ → Type 0
 Enough slots = 8192 + 2048 * slots ≤ 8192 * memory_pages slots
 
-power_room : (k slots : ℕ) → slots ≡ 2 ^ k → 2 ≤ slots → slots ≤ 64 → Enough slots
+pub power_room : (k slots : ℕ) → slots ≡ 2 ^ k → 2 ≤ slots → slots ≤ 64 → Enough slots
 power_room zero slots is some most = absurd (omega (arith, is, some))
 power_room (suc zero) slots is some most = subst Enough (sym is) (omega arith)
 power_room (suc (suc zero)) slots is some most = subst Enough (sym is) (omega arith)

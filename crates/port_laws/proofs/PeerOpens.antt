@@ -53,7 +53,7 @@ few_said d Responder PeerReadySaid far = omega arith
 few_said d Responder PeerReadyAnswered far = omega arith
 few_said d r AllSaid far = absurd (far refl)
 
-six_said : (d : Deal) (r : Role) (n : Place) → n ≡ AllSaid → length (said_at true d r n) ≡ 6
+pub six_said : (d : Deal) (r : Role) (n : Place) → n ≡ AllSaid → length (said_at true d r n) ≡ 6
 six_said d r n last = ap (λ (m : Place). length (said_at true d r m)) last ∙ six r
   where
     six : (x : Role) → length (said_at true d x AllSaid) ≡ 6
@@ -74,6 +74,10 @@ pub least_seven : (r : Role) → least r ≤ 7
 unfolding least
 least_seven Initiator = omega arith
 least_seven Responder = omega arith
+
+pub least_heard : {n : ℕ} → 6 ≤ n → least Responder ≤ n
+unfolding least
+least_heard {n} six = six
 
 more_than : (r : Role) → most (other r) + 1 ≤ least r
 unfolding least most
@@ -97,7 +101,7 @@ none_long : (xs : List (List ℕ)) → xs ≡ [] → length xs ≡ 0
 none_long xs is = ap length is
 
 -- where its handshake stands
-mine_at : (asks answers : Offer) (role : Role) (s : Sides) → (talks : Talks asks answers role s) → s.mine.state ≡ Up → is_up s.mine.core.link ≡ true
+pub mine_at : (asks answers : Offer) (role : Role) (s : Sides) → (talks : Talks asks answers role s) → s.mine.state ≡ Up → is_up s.mine.core.link ≡ true
     → AtPlace true (deal asks answers talks.meets.handshakes.sid) role s.mine.core.handshake s.mine.turns
 mine_at asks answers role s talks up link =
     subst (λ (b : Bool). AtPlace b (deal asks answers talks.meets.handshakes.sid) role s.mine.core.handshake s.mine.turns) talks.both (talks.meets.handshakes.mine up link)
@@ -202,5 +206,20 @@ peer_open asks answers role s talks up many = by_state s.theirs.state refl
 
     by_state : (x : ChannelState) → s.theirs.state ≡ x → PeerIn s
     by_state Up is = by_link is (is_up s.theirs.core.link) refl
+    by_state Down is = never (λ now. let wrong : Down ≡ Up = sym is ∙ now in cc wrong)
+    by_state Resetting is = never (λ now. let wrong : Resetting ≡ Up = sym is ∙ now in cc wrong)
+
+-- an end in session has a peer that is up
+pub peer_is_up : (asks answers : Offer) (role : Role) (s : Sides) → Talks asks answers role s → s.mine.state ≡ Up → 1 ≤ length (heard s.mine.turns) → s.theirs.state ≡ Up
+peer_is_up asks answers role s talks up some = by_state s.theirs.state refl
+  where
+    hears : HeardFrom s s.mine.turns
+    hears = hears_now role s talks.meets.converse up
+
+    never : (s.theirs.state ≡ Up → ⊥) → s.theirs.state ≡ Up
+    never not = absurd (omega (arith, some, none_long (heard s.mine.turns) (hears.none not)))
+
+    by_state : (x : ChannelState) → s.theirs.state ≡ x → s.theirs.state ≡ Up
+    by_state Up is = is
     by_state Down is = never (λ now. let wrong : Down ≡ Up = sym is ∙ now in cc wrong)
     by_state Resetting is = never (λ now. let wrong : Resetting ≡ Up = sym is ∙ now in cc wrong)

@@ -150,7 +150,7 @@ moves_wire true [] s = refl
 moves_wire true (frame ∷ frames) s = refl
 moves_wire false queue s = refl
 
-before_wire : (event : NetEvent) (s : PortState) → (before event s).lane.wire ≡ s.lane.wire
+pub before_wire : (event : NetEvent) (s : PortState) → (before event s).lane.wire ≡ s.lane.wire
 before_wire (Steps B answer) s = moves_wire (takes_more s.lane.hub) s.queue s
 before_wire (Steps A answer) s = refl
 before_wire (Asked e lost) s = refl

@@ -23,7 +23,7 @@ use Rattle.port_model.specs.PortLog.{PortLog}
 use Rattle.port_model.specs.PortState.{PortState}
 use Rattle.port_laws.specs.PortCore.{port_core, port_events}
 use Rattle.port_laws.proofs.CoreLaws.{offers_match, sizes_fit}
-use Rattle.port_laws.proofs.PeerOpens.{InAll, PeerIn, Talks, closed_short, least_seven, open_long, peer_open, row}
+use Rattle.port_laws.proofs.PeerOpens.{InAll, PeerIn, Talks, closed_short, least_heard, least_seven, open_long, peer_is_up, peer_open, row}
 use Rattle.port_laws.proofs.PortCounts.{PortCounts}
 use Rattle.port_laws.proofs.PortRuns.{fresh_port_core, logs_same}
 
@@ -41,6 +41,7 @@ sides_from B c transcript = swapped (sides_of c transcript)
 pub record PortTalks (shape : NetShape) (c : LaneCore) (l : PortLog) : Type 0 where
   pub talks : (e : End) → Talks (asks_of shape) (answers_of shape) (role_at e) (sides_from e c l.transcript)
   pub one : c.a.is_open ≡ true → c.b.is_open ≡ true → AreOneSession c.a.handshake c.b.handshake
+  pub front_a : IsUp A c.wire.wire → IsFront (heard l.transcript.client) (said l.transcript.server)
   pub front : IsUp B c.wire.wire → IsFront (heard l.transcript.server) (said l.transcript.client)
 
 pub port_talks : (shape : NetShape) (s : PortState) (l : PortLog) → IsNetShape shape → PortCounts shape s l → s.lane.wire.forged ≡ false → PortTalks shape (port_core s) l
@@ -58,6 +59,7 @@ port_talks shape s l is counts clean =
           (record { both = refl; mine = knows.holds.ends.a; theirs = knows.holds.ends.b; meets = meets })
           (record { both = refl; mine = knows.holds.ends.b; theirs = knows.holds.ends.a; meets = keeps.swaps Initiator (sides_of (port_core s) now.transcript) meets });
       one = λ guest hub. one_session asks answers (port_core s) now knows clean guest hub;
+      front_a = λ up. subst (λ (x : TranscriptLog). IsFront (heard x.client) (said x.server)) same (messages_of (port_core s) now.transcript A meets.converse up);
       front = λ up. subst (λ (x : TranscriptLog). IsFront (heard x.server) (said x.client)) same (messages_of (port_core s) now.transcript B meets.converse up);
     }
   where
@@ -91,3 +93,15 @@ many_open shape c l B talks up many =
     let there : PeerIn (swapped (sides_of c l.transcript)) =
     peer_open (asks_of shape) (answers_of shape) Responder (swapped (sides_of c l.transcript)) (talks.talks B) up (omega (arith, many, least_seven Responder)) in
     record { up = there.up; opened = there.opened }
+
+-- the guest of a switch's end in session is in session, and the peer of a guest in session is up
+pub six_open : (shape : NetShape) (c : LaneCore) (l : PortLog) → PortTalks shape c l → IsUp B c.wire.wire → c.b.is_open ≡ true → c.a.is_open ≡ true
+six_open shape c l talks up opened =
+    let all = open_turns shape c l B talks up opened in
+    (peer_open (asks_of shape) (answers_of shape) Responder (swapped (sides_of c l.transcript)) (talks.talks B) up (least_heard all.heard_long)).opened
+
+pub up_open : (shape : NetShape) (c : LaneCore) (l : PortLog) → PortTalks shape c l → IsUp A c.wire.wire → c.a.is_open ≡ true → IsUp B c.wire.wire
+up_open shape c l talks up opened =
+    let all = open_turns shape c l A talks up opened in
+    let six = all.heard_long in
+    peer_is_up (asks_of shape) (answers_of shape) Initiator (sides_of c l.transcript) (talks.talks A) up (omega (arith, six))

@@ -95,15 +95,15 @@ together A s l spoke peer_spoke ring peer_ring = record { guest_spoke = spoke; h
 together B s l spoke peer_spoke ring peer_ring = record { guest_spoke = peer_spoke; hub_spoke = spoke; guest_ring = peer_ring; hub_ring = ring }
 
 -- WHAT A STEP LEAVES, field by field
-record StepNow (e : End) (u t : NetLaneState) (answer : NetAnswer) (left : NetLeft) : Type 0 where
-  end : net_end e t ≡ left.end
-  own : memory_of e t ≡ left.own
-  peer_end : net_end (peer_of e) t ≡ net_end (peer_of e) u
-  peer_memory : memory_of (peer_of e) t ≡ left.peer
-  wire : t.wire ≡ net_wire (Steps e answer) u
-  reaches : (reach_of e u).memory ≡ memory_of (peer_of e) u
+pub record StepNow (e : End) (u t : NetLaneState) (answer : NetAnswer) (left : NetLeft) : Type 0 where
+  pub end : net_end e t ≡ left.end
+  pub own : memory_of e t ≡ left.own
+  pub peer_end : net_end (peer_of e) t ≡ net_end (peer_of e) u
+  pub peer_memory : memory_of (peer_of e) t ≡ left.peer
+  pub wire : t.wire ≡ net_wire (Steps e answer) u
+  pub reaches : (reach_of e u).memory ≡ memory_of (peer_of e) u
 
-step_now : (e : End) (u t : NetLaneState) (answer : NetAnswer) → (step : EndSteps e u answer t) → StepNow e u t answer step.left
+pub step_now : (e : End) (u t : NetLaneState) (answer : NetAnswer) → (step : EndSteps e u answer t) → StepNow e u t answer step.left
 step_now A u t answer step = record {
   end = ap (λ (x : NetLaneState). x.guest) step.is;
   own = ap (λ (x : NetLaneState). x.guest_memory) step.is;
@@ -179,15 +179,15 @@ step_shut role slots queue s l turns at memory reach (Frame frame) left acting s
 step_shut role slots queue s l turns at memory reach (Reset cause packet lost) left acting step opened = false_true opened
 
 -- A FRAME IS TAKEN in an open session, in which a message of it was heard
-record Busy (answer : NetAnswer) (log : Option SessionLog) : Type 0 where
-  busy : Frames answer log
-  active : Active answer log
+pub record Busy (answer : NetAnswer) (log : Option SessionLog) : Type 0 where
+  pub busy : Frames answer log
+  pub active : Active answer log
 
 frame_busy : (frame : List ℕ) (log : Option SessionLog) → InSession log IsActive → Busy (Frame frame) log
 frame_busy frame None is = absurd is
 frame_busy frame (Some v) is = record { busy = some_not v; active = is }
 
-step_busy : (role : Role) (slots : ℕ) (queue : List (List ℕ)) (s : NetEndState) (l : EndLog) (turns : List Turn) (at : Seen) (memory : List ℕ) (reach : Reach) (answer : NetAnswer) (left : NetLeft)
+pub step_busy : (role : Role) (slots : ℕ) (queue : List (List ℕ)) (s : NetEndState) (l : EndLog) (turns : List Turn) (at : Seen) (memory : List ℕ) (reach : Reach) (answer : NetAnswer) (left : NetLeft)
     → (is_up at.state ≡ true → Acting role slots queue s l turns) → NetEndStep role s at memory reach answer left → Busy answer l.session
 step_busy role slots queue s l turns at memory reach (Frame frame) left acts step =
     let says = says_of role s at (Fetches step.session step.activity) step.rule in
@@ -352,7 +352,7 @@ end_frames shape B u l finds n frame get =
     finds.logs.hub.given (l.hub.gone + n) frame (held_given u.lane.hub.frames u.queue l.hub.given l.hub.gone n frame finds.ready.hub.frames get)
 
 -- the end's own state, and that of what its channel sees
-core_open : (e : End) (u : NetLaneState) (b : Bool) → is_some (net_end e u).session ≡ b → (end_of e (lane_core u)).is_open ≡ b
+pub core_open : (e : End) (u : NetLaneState) (b : Bool) → is_some (net_end e u).session ≡ b → (end_of e (lane_core u)).is_open ≡ b
 core_open A u b is = is
 core_open B u b is = is
 
@@ -361,18 +361,18 @@ seen_state A u = refl
 seen_state B u = refl
 
 -- A STEP of an end
-record Acts (shape : NetShape) (e : End) (u t : PortState) (l : PortLog) (answer : NetAnswer) (left : NetLeft) : Type 0 where
-  finds : Finds shape u l
-  step : NetEndStep (role_at e) (net_end e u.lane) (seen_at e u.lane) (memory_of e u.lane) (reach_of e u.lane) answer left
-  now : StepNow e u.lane t.lane answer left
-  counts : PortCounts shape t (after l (OnLane (Steps e answer)))
-  talks : PortTalks shape (lane_core t.lane) (after l (OnLane (Steps e answer)))
+pub record Acts (shape : NetShape) (e : End) (u t : PortState) (l : PortLog) (answer : NetAnswer) (left : NetLeft) : Type 0 where
+  pub finds : Finds shape u l
+  pub step : NetEndStep (role_at e) (net_end e u.lane) (seen_at e u.lane) (memory_of e u.lane) (reach_of e u.lane) answer left
+  pub now : StepNow e u.lane t.lane answer left
+  pub counts : PortCounts shape t (after l (OnLane (Steps e answer)))
+  pub talks : PortTalks shape (lane_core t.lane) (after l (OnLane (Steps e answer)))
 
-counted_now : (shape : NetShape) (e : End) (s : PortState) (l : PortLog) → PortCounts shape s l → EndCounts (role_at e) shape.slots (queue_of e s) (net_end e s.lane) (log_of_end e l)
+pub counted_now : (shape : NetShape) (e : End) (s : PortState) (l : PortLog) → PortCounts shape s l → EndCounts (role_at e) shape.slots (queue_of e s) (net_end e s.lane) (log_of_end e l)
 counted_now shape A s l counts = counts.guest
 counted_now shape B s l counts = counts.hub
 
-acting_at : (shape : NetShape) (e : End) (u : PortState) (l : PortLog) → Finds shape u l → state_of e u.lane.wire.wire ≡ Up
+pub acting_at : (shape : NetShape) (e : End) (u : PortState) (l : PortLog) → Finds shape u l → state_of e u.lane.wire.wire ≡ Up
     → Acting (role_at e) shape.slots (queue_of e u) (net_end e u.lane) (log_of_end e l) (transcript_of e l.transcript)
 acting_at shape e u l finds up = end_acts shape e u l finds.ready (ap is_up (seen_state e u.lane ∙ up))
 
@@ -389,7 +389,7 @@ owns_at shape e u l finds up =
     }
 
 -- no session of it opens where one is open
-acts_shut : (shape : NetShape) (e : End) (u t : PortState) (l : PortLog) (answer : NetAnswer) (left : NetLeft) → Acts shape e u t l answer left → opens_by answer ≡ true
+pub acts_shut : (shape : NetShape) (e : End) (u t : PortState) (l : PortLog) (answer : NetAnswer) (left : NetLeft) → Acts shape e u t l answer left → opens_by answer ≡ true
     → (net_end e u.lane).session ≡ None
 acts_shut shape e u t l answer left acts opened =
     step_shut (role_at e) shape.slots (queue_of e u) (net_end e u.lane) (log_of_end e l) (transcript_of e l.transcript) (seen_at e u.lane) (memory_of e u.lane) (reach_of e u.lane) answer left
@@ -418,13 +418,13 @@ goes_same (Frame frame) x goes = refl
 goes_same (Joined lost) x goes = absurd goes
 goes_same (Reset cause packet lost) x goes = absurd goes
 
-acts_up_at : (shape : NetShape) (e : End) (u t : PortState) (l : PortLog) (answer : NetAnswer) (left : NetLeft) → Acts shape e u t l answer left → Goes answer → state_of e u.lane.wire.wire ≡ Up
+pub acts_up_at : (shape : NetShape) (e : End) (u t : PortState) (l : PortLog) (answer : NetAnswer) (left : NetLeft) → Acts shape e u t l answer left → Goes answer → state_of e u.lane.wire.wire ≡ Up
 acts_up_at shape e u t l answer left acts goes =
     acts_up (role_at e) (net_end e u.lane) (seen_at e u.lane) (memory_of e u.lane) (reach_of e u.lane) answer left acts.step (state_of e u.lane.wire.wire) (seen_state e u.lane)
     (goes_same answer (state_of e u.lane.wire.wire) goes)
 
 -- WHAT ITS LOG SAYS
-turned_at : (shape : NetShape) (e : End) (u t : PortState) (l : PortLog) (answer : NetAnswer) (left : NetLeft) → Acts shape e u t l answer left → Goes answer
+pub turned_at : (shape : NetShape) (e : End) (u t : PortState) (l : PortLog) (answer : NetAnswer) (left : NetLeft) → Acts shape e u t l answer left → Goes answer
     → Turned (role_at e) (transcript_of e l.transcript) (turns_now answer (transcript_of e l.transcript)) (log_of_end e l).session
     (after_answer l.shape.slots (transcript_of e l.transcript) answer (log_of_end e l)).session
 turned_at shape e u t l answer left acts goes =

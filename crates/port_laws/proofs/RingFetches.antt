@@ -48,7 +48,7 @@ pub record FoundFrame (s : NetEndState) (reach : Reach) (slot : ℕ) (bytes fram
   pub frame_is : frame ≡ frame_in (net_desc_of bytes).size (moved_in reach.table reach.memory (data_cookies (net_desc_of bytes)) 0 (moved_size (net_desc_of bytes).size))
   pub new_is : new ≡ moved_out reach.table reach.memory (slots_cookies s) (64 * slot) (header 4 (net_desc_of bytes).ack)
 
-found_frame : (s : NetEndState) (reach : Reach) (slot : ℕ) (frame new : List ℕ) → fetched s reach slot ≡ IsFetched frame new
+pub found_frame : (s : NetEndState) (reach : Reach) (slot : ℕ) (frame new : List ℕ) → fetched s reach slot ≡ IsFetched frame new
     → FoundFrame s reach slot (moved_in reach.table reach.memory (slots_cookies s) (64 * slot) 64) frame new
 found_frame s reach slot frame new is = by_read (first_copy_fault reach.both Read reach.table (slots_cookies s) (64 * slot) 64) refl is
   where
@@ -89,14 +89,14 @@ found_frame s reach slot frame new is = by_read (first_copy_fault reach.both Rea
     by_read None first found = by_state (slice_index bytes 0 == ready_state) refl first found
 
 -- THROUGH ONE COOKIE a range of the memory is read and written
-one_spots : (place size : ℕ) → spots (record { address = place; size = size } ∷ []) ≡ range_with_len place size
+pub one_spots : (place size : ℕ) → spots (record { address = place; size = size } ∷ []) ≡ range_with_len place size
 one_spots place size =
     let one : List Cookie = record { address = place; size = size } ∷ [] in
     let follow : FollowOn place one = (refl, tt) in
     let whole : held one ≡ size = omega arith in
     spots_follow place one follow ∙ ap (λ (n : ℕ). range_with_len place n) whole
 
-slot_fetched : (s : NetEndState) (reach : Reach) (slots pages slot : ℕ) → Reaches s reach slots pages → slot < slots
+pub slot_fetched : (s : NetEndState) (reach : Reach) (slots pages slot : ℕ) → Reaches s reach slots pages → slot < slots
     → first_copy_fault reach.both Read reach.table (slots_cookies s) (64 * slot) 64 ≡ None
     → moved_in reach.table reach.memory (slots_cookies s) (64 * slot) 64 ≡ slot_bytes 64 slot reach.memory
 slot_fetched s reach slots pages slot reaches below fault =
@@ -145,7 +145,7 @@ pub record Fetches (slots seen taken published : ℕ) (frames : List (List ℕ))
   pub ready : slot_state (taken % slots) memory ≡ 2
 
 -- the next slot isn't READY where all that is published was taken
-ready_next : (slots seen taken published : ℕ) (frames : List (List ℕ)) (memory : List ℕ) → 1 ≤ slots → RingHolds slots seen taken published frames memory → slot_state (taken % slots) memory ≡ 2
+pub ready_next : (slots seen taken published : ℕ) (frames : List (List ℕ)) (memory : List ℕ) → 1 ≤ slots → RingHolds slots seen taken published frames memory → slot_state (taken % slots) memory ≡ 2
     → taken < published
 ready_next slots seen taken published frames memory some ring state =
     elim (cases_lt taken published) [

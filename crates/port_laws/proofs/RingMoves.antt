@@ -33,7 +33,7 @@ pub record Stays (memory new : List ℕ) (slot : ℕ) : Type 0 where
   pub bytes : slot_bytes 64 slot new ≡ slot_bytes 64 slot memory
   pub buffer : (n : ℕ) → n ≤ 2048 → range_at (buffer_place slot) n new ≡ range_at (buffer_place slot) n memory
 
-frame_small : (frame : List ℕ) → IsFrame frame → moved_size (length frame) ≤ 2048
+pub frame_small : (frame : List ℕ) → IsFrame frame → moved_size (length frame) ≤ 2048
 frame_small frame is = let most = is.most in omega (arith, most)
 
 pub holds_stays : (memory new : List ℕ) (slot state : ℕ) (frame : List ℕ) → Stays memory new slot → SlotHolds memory slot state frame → SlotHolds new slot state frame
@@ -65,7 +65,7 @@ buffers_stay slots k piece memory fits below small n =
     range_at-put_at_outside (buffer_place k) n (64 * k) piece memory (omega (arith, few, room, below, small)) (inr (omega (arith, few, below, small)))
 
 -- one in a buffer leaves all slots, and the other buffers
-place_end : (slots k : ℕ) (piece memory : List ℕ) → Fits slots memory → k < slots → length piece ≤ 2048 → buffer_place k + length piece ≤ length memory
+pub place_end : (slots k : ℕ) (piece memory : List ℕ) → Fits slots memory → k < slots → length piece ≤ 2048 → buffer_place k + length piece ≤ length memory
 place_end slots k piece memory fits below small = let room = fits.room in omega (arith, room, below, small)
 
 buffer_slots : (slots k i : ℕ) (piece memory : List ℕ) → Fits slots memory → k < slots → i < slots → length piece ≤ 2048
@@ -139,7 +139,7 @@ ring_given slots seen taken published frames more memory ring =
     }
 
 -- IT IS PUBLISHED
-desc_long : (slot size : ℕ) → length (canonical (frame_desc slot size)) ≡ 64
+pub desc_long : (slot size : ℕ) → length (canonical (frame_desc slot size)) ≡ 64
 desc_long slot size =
     let desc = frame_desc slot size in
     omega (arith, length-append (head_bytes desc) (cookies_bytes desc.cookies), length-cookies_bytes (frame_cookies slot size))

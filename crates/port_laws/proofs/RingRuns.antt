@@ -180,7 +180,7 @@ lane_rings shape u t l (Declines d) of_queue finds step clean counts talks =
     (record { guest_spoke = finds.rings.guest_spoke; hub_spoke = finds.rings.hub_spoke; guest_ring = finds.rings.guest_ring; hub_ring = finds.rings.hub_ring })
 
 -- nobody had forged before
-was_clean : (w : WireLog) (event : NetEvent) → (moved_on w (on_wire event)).forged ≡ false → w.forged ≡ false
+pub was_clean : (w : WireLog) (event : NetEvent) → (moved_on w (on_wire event)).forged ≡ false → w.forged ≡ false
 was_clean w (Steps e (Joined lost)) clean = clean
 was_clean w (Steps e (Took packet opens)) clean = clean
 was_clean w (Steps e (Sent packet opens)) clean = clean
@@ -219,7 +219,7 @@ finds_before shape s l event is kept clean =
       rings = before_rings event s l (kept.rings clean);
     }
 
-kept_step : (shape : NetShape) → IsNetShape shape → (s : PortState) (l : PortLog) (event : PortEvent) (t : PortState) → Kept shape s l → PortStep s event t → Kept shape t (after l event)
+pub kept_step : (shape : NetShape) → IsNetShape shape → (s : PortState) (l : PortLog) (event : PortEvent) (t : PortState) → Kept shape s l → PortStep s event t → Kept shape t (after l event)
 kept_step shape is s l (OnLane event) t kept step =
     let counts : PortCounts shape t (after l (OnLane event)) = counts_step shape is s l (OnLane event) t kept.counts step in
     record {
@@ -243,7 +243,7 @@ kept_step shape is s l (Receives frame) t kept step =
           (record { guest_spoke = rings.guest_spoke; hub_spoke = rings.hub_spoke; guest_ring = rings.guest_ring; hub_ring = rings.hub_ring });
     }
 
-fresh_kept : (shape : NetShape) → IsNetShape shape → Kept shape (fresh_port shape) (no_events shape)
+pub fresh_kept : (shape : NetShape) → IsNetShape shape → Kept shape (fresh_port shape) (no_events shape)
 fresh_kept shape is = record {
   counts = port_counts shape [] (fresh_port shape) is refl;
   logs = record { guest = record { head = tt; given = λ n frame get. absurd (cc get) }; hub = record { head = tt; given = λ n frame get. absurd (cc get) } };

@@ -218,7 +218,7 @@ acknowledges_event shape u l (Pokes e at bytes) t ready step = tt
 acknowledges_event shape u l (Declines d) t ready step = tt
 
 -- 4. WHAT IT HEARS goes no further than what is published
-seen_within : (role : Role) (slots : ℕ) (queue : List (List ℕ)) (s : NetEndState) (l : EndLog) (v : SessionLog) → EndCounts role slots queue s l → FramesStand s → l.session ≡ Some v → v.seen ≤ v.published
+pub seen_within : (role : Role) (slots : ℕ) (queue : List (List ℕ)) (s : NetEndState) (l : EndLog) (v : SessionLog) → EndCounts role slots queue s l → FramesStand s → l.session ≡ Some v → v.seen ≤ v.published
 seen_within role slots queue s l v counts stands log =
     let both = both_open role slots queue s l v counts log in
     let stood : CountsStand s both.p = subst (λ (x : Option NetSession). IfOpen x (CountsStand s)) both.is stands.session in

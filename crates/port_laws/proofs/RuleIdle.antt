@@ -39,10 +39,10 @@ use Rattle.port_laws.proofs.RuleFrames.{along, both_open, end_acts, if_session}
 use Rattle.port_laws.proofs.TookCounts.{free_empty}
 
 -- WHERE NO RULE APPLIES in session
-record NothingLeft (role : Role) (s : NetEndState) (p : NetSession) : Type 0 where
-  told : role ≡ Initiator → (p.untold && not p.telling) ≡ false
-  published : slice_get s.frames (unseen_in p) ≡ None
-  announced : (nat_lt p.seen p.published && not p.asking) ≡ false
+pub record NothingLeft (role : Role) (s : NetEndState) (p : NetSession) : Type 0 where
+  pub told : role ≡ Initiator → (p.untold && not p.telling) ≡ false
+  pub published : slice_get s.frames (unseen_in p) ≡ None
+  pub announced : (nat_lt p.seen p.published && not p.asking) ≡ false
 
 announces_none : (p : NetSession) (b : Bool) → (nat_lt p.seen p.published && not p.asking) ≡ b → (if b then Announces p else Idles) ≡ Idles → (nat_lt p.seen p.published && not p.asking) ≡ false
 announces_none p false is idles = is
@@ -68,7 +68,7 @@ time_none Responder s p idles =
     let rest = publishes_none s p (slice_get s.frames (unseen_in p)) refl idles in
     record { told = λ guest. absurd (cc guest); published = rest.published; announced = rest.announced }
 
-rule_left : (role : Role) (s : NetEndState) (at : Seen) (p : NetSession) → IsFree s at → at.first ≡ None → s.session ≡ Some p → MayListen p → port_rule role s at ≡ Idles → NothingLeft role s p
+pub rule_left : (role : Role) (s : NetEndState) (at : Seen) (p : NetSession) → IsFree s at → at.first ≡ None → s.session ≡ Some p → MayListen p → port_rule role s at ≡ Idles → NothingLeft role s p
 rule_left role s at p free first session listens idles =
     let rest : NetRule = tells_first role p (publishes p (slice_get s.frames (unseen_in p))) in
     let here : port_rule role s at ≡ rest =
@@ -112,13 +112,13 @@ idle_told true p groups members l v untold none counts same is =
     some_told (Some told) some not_ = inr not_
     some_told None some not_ = false_true some
 
-record IdleCounts (role : Role) (slots : ℕ) (queue : List (List ℕ)) (s : NetEndState) (l : EndLog) (v : SessionLog) : Type 0 where
-  answered : v.acks ≡ v.asked
-  announced : v.seen < v.published → v.asking ≡ true
-  all : l.published + length queue ≡ length l.given
-  unseen : v.published - v.seen ≡ length s.frames
+pub record IdleCounts (role : Role) (slots : ℕ) (queue : List (List ℕ)) (s : NetEndState) (l : EndLog) (v : SessionLog) : Type 0 where
+  pub answered : v.acks ≡ v.asked
+  pub announced : v.seen < v.published → v.asking ≡ true
+  pub all : l.published + length queue ≡ length l.given
+  pub unseen : v.published - v.seen ≡ length s.frames
 
-idle_counts : (role : Role) (slots : ℕ) (queue : List (List ℕ)) (s : NetEndState) (l : EndLog) (v : SessionLog) (p : NetSession) → EndCounts role slots queue s l → FramesStand s → s.session ≡ Some p → l.session ≡ Some v
+pub idle_counts : (role : Role) (slots : ℕ) (queue : List (List ℕ)) (s : NetEndState) (l : EndLog) (v : SessionLog) (p : NetSession) → EndCounts role slots queue s l → FramesStand s → s.session ≡ Some p → l.session ≡ Some v
     → s.link.to_send ≡ [] → MayListen p → NothingLeft role s p → IdleCounts role slots queue s l v
 idle_counts role slots queue s l v p counts stands session log empty listens left =
     let here : OpenCounts role slots s.groups l.published l.gone None s.link.begun p l.session =

@@ -115,7 +115,7 @@ two_idle shape s l counts ready one other clean whole =
     let hub_log = open_counts Responder shape.slots s.queue s.lane.hub l.hub hub.0 counts.hub hub.1 in
     (λ none. none_some guest_log.of_log (sym none ∙ guest_log.is), λ none. none_some hub_log.of_log (sym none ∙ hub_log.is))
 
-two_idle_event : (shape : NetShape) (s : PortState) (l : PortLog) (event : NetEvent) (t : PortState) → PortCounts shape s l → Ready shape s l → NetLaneStep (before event s).lane event t.lane → TwoIdleAt l (OnLane event)
+pub two_idle_event : (shape : NetShape) (s : PortState) (l : PortLog) (event : NetEvent) (t : PortState) → PortCounts shape s l → Ready shape s l → NetLaneStep (before event s).lane event t.lane → TwoIdleAt l (OnLane event)
 two_idle_event shape s l (Steps A Idle) t counts ready step = λ last clean whole.
     let kept : IdleKept s l = subst (IdleKept s) (sym counts.log) (idle_kept shape counts.events s counts.run) in
     two_idle shape s l counts ready (idle_rests A s.lane step.step.0) (kept.rests B last) clean whole

@@ -8,3 +8,6 @@ pub mod RemainingSteps
 pub mod PortCauses
 pub mod RingHolds
 pub mod RingStands
+pub mod WaysStand
+pub mod NoneLeft
+pub mod NoSlotReset

@@ -8,7 +8,10 @@ ghost use Rattle.port_model.specs.NetLaneState.{IsNetShape, NetShape};
 ghost use Rattle.port_model.specs.PortLog.{after, no_events};
 ghost use Rattle.port_model.specs.PortState.{fresh_port, PortEvent, PortState, PortStep};
 ghost use Rattle.port_model.specs.RestLaws.{UnforgedAt};
+ghost use Rattle.port_laws.specs.NoneLeft.{NoneLeftAt};
+ghost use Rattle.port_laws.specs.NoSlotReset.{NoSlotResetAt};
 ghost use Rattle.port_laws.specs.RingStands.{RingStands};
+ghost use Rattle.port_laws.specs.WaysStand.{WaysStand};
 
 /// On a port that nobody forged, the ring of each end that is up and in session holds its frames. Those that are
 /// published and not acknowledged stand in the slots of their numbers, each with its descriptor, and its bytes in the
@@ -23,4 +26,27 @@ pub fn the_ring_of_each_end_holds_its_frames()
 pub fn a_frame_that_is_taken_is_the_next_that_was_published()
     ensures { (shape : NetShape) (events : List PortEvent) (s : PortState) → IsNetShape shape → Run PortStep (fresh_port shape) events s
         → Lawful UnforgedAt after (no_events shape) events }
+{}
+
+/// On a port that nobody forged, while the guest is in session and both ends are up, what is on the way agrees with what
+/// both ends count. At most one DRING_DATA INFO of an end isn't answered. It is on the way, with its number and the slot
+/// of the first frame that isn't acknowledged; or the other end works on it; or its ACK is on the way, with the slots
+/// of the frames that were taken.
+pub fn at_most_one_announcement_of_an_end_is_on_the_way()
+    ensures { (shape : NetShape) (events : List PortEvent) (s : PortState) → IsNetShape shape → Run PortStep (fresh_port shape) events s
+        → (log_of after (no_events shape) events).wire.forged ≡ false → WaysStand s.lane (log_of after (no_events shape) events) }
+{}
+
+/// On a port that nobody forged, where no packet was lost since the queues were last emptied, no frame is left where one
+/// end is idle directly after the other. Each that was published in a session is acknowledged, and the guest holds none.
+pub fn no_frame_is_left_where_both_ends_are_idle()
+    ensures { (shape : NetShape) (events : List PortEvent) (s : PortState) → IsNetShape shape → Run PortStep (fresh_port shape) events s
+        → Lawful NoneLeftAt after (no_events shape) events }
+{}
+
+/// On a port that nobody forged, no end resets itself for a slot of the other end's ring. Each copy of its fetches is
+/// answered, and the first slot that it looks at for an announcement holds a frame.
+pub fn no_end_of_a_port_resets_itself_for_a_slot()
+    ensures { (shape : NetShape) (events : List PortEvent) (s : PortState) → IsNetShape shape → Run PortStep (fresh_port shape) events s
+        → Lawful NoSlotResetAt after (no_events shape) events }
 {}

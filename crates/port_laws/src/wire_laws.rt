@@ -3,11 +3,11 @@
 ghost use Rattle.std.specs.Prelude.{List};
 ghost use Rattle.runs.specs.Lawful.{Lawful};
 ghost use Rattle.runs.specs.Run.{Run};
-ghost use Rattle.channel_model.specs.WireAt.{WireHeardAt, WireSaidAt};
+ghost use Rattle.channel_model.specs.WireAt.{WireAnswersAt, WireHeardAt, WireSaidAt, WireTableAt};
 ghost use Rattle.port_model.specs.FrameLaws.{OpeningsAt};
 ghost use Rattle.port_model.specs.NetLaneState.{IsNetShape, NetShape};
 ghost use Rattle.port_model.specs.PortLog.{after, no_events, PortLog};
-ghost use Rattle.port_model.specs.PortMay.{OfWire};
+ghost use Rattle.port_model.specs.PortMay.{OfWire, sizes_in};
 ghost use Rattle.port_model.specs.PortState.{fresh_port, PortEvent, PortState, PortStep};
 
 /// Along every run of a port, forged or not, each packet that an end says is canonical and has its number, and messages
@@ -29,4 +29,18 @@ pub fn what_a_port_hears_may_come()
 pub fn a_port_opens_behind_its_handshake()
     ensures { (shape : NetShape) (events : List PortEvent) (s : PortState) → IsNetShape shape → Run PortStep (fresh_port shape) events s
         → Lawful OpeningsAt after (no_events shape) events }
+{}
+
+/// Along every run of a port, forged or not, each event stands where the states of both ends and what waits in the
+/// queues let it: who may take, put, be blocked, be idle, reset itself and write, and where in its memory.
+pub fn each_event_of_a_port_stands_by_its_ends_and_queues()
+    ensures { (shape : NetShape) (events : List PortEvent) (s : PortState) → IsNetShape shape → Run PortStep (fresh_port shape) events s
+        → Lawful (λ (l : PortLog) (event : PortEvent). OfWire (WireTableAt (sizes_in l) l.wire) event) after (no_events shape) events }
+{}
+
+/// Along every run of a port, forged or not, an order that changes nothing is answered by the first of its cases that
+/// holds.
+pub fn what_changes_nothing_on_a_port_is_answered_rightly()
+    ensures { (shape : NetShape) (events : List PortEvent) (s : PortState) → IsNetShape shape → Run PortStep (fresh_port shape) events s
+        → Lawful (λ (l : PortLog) (event : PortEvent). OfWire (WireAnswersAt (sizes_in l) l.wire) event) after (no_events shape) events }
 {}

@@ -1,0 +1,275 @@
+-- Each event of a port leaves both memories as long as they were, also where somebody forges packets and memory.
+use Rattle.std.proofs.Common.{◌≡◌, ℕ, zero, suc, ◌+◌, ◌≤◌, ◌<◌, Bool, true, false, Option, Some, None, List, [], ◌∷◌, length, inl, refl, sym, ap, ◌∙◌, subst, arith}
+use Rattle.std.specs.Prelude.{Result, Ok, Err, ◌%◌, ◌*◌, map, slice_get, ⊤}
+use Rattle.std.proofs.lemmas.List.{length-replicate}
+use Rattle.std.proofs.lemmas.Nat.{mod_below}
+use Rattle.cookie_copy.proofs.Steps.{length-write_spots}
+use Rattle.cookie_copy.specs.Faults.{is_up}
+use Rattle.cookie_copy.specs.Moved.{moved_in, moved_out, moved_spots, place_of}
+use Rattle.cookie_copy.specs.Reach.{Reach}
+use Rattle.dring.proofs.Turning.{length-free_slots}
+use Rattle.dring.specs.Slots.{free_slots, free_state}
+use Rattle.ldc_link.specs.declared.phase.Role.{Role}
+use Rattle.ldc_link.specs.declared.phase.Role.TheVariants.{Initiator, Responder}
+use Rattle.ldc_link.specs.LinkState.{LinkState, cleared}
+use Rattle.ldc_link.specs.Taking.{Heard, LinkTake, Unheard}
+use Rattle.ldc_packet.specs.declared.packet.Subtype.{Subtype}
+use Rattle.ldc_queue.specs.declared.end.End.{End}
+use Rattle.ldc_queue.specs.declared.end.End.TheVariants.{A, B}
+use Rattle.ldc_queue.specs.Transcript.{Turn}
+use Rattle.map_table.specs.declared.cookie.Cookie.{Cookie}
+use Rattle.runs.specs.Lawful.{log_of, run_lawful}
+use Rattle.runs.specs.Run.{Run}
+use Rattle.vio_bytes.proofs.Putting.{length-put_at}
+use Rattle.vio_bytes.specs.Place.{put_at}
+use Rattle.vio_handshake.specs.declared.handshake.Handshake.{Handshake}
+use Rattle.vio_handshake.specs.Rules.{Faults, Goes, GoesOpen, HandshakeTake, handshake_take}
+use Rattle.vio_tag.specs.declared.message.Message.{Message}
+use Rattle.vio_tag.specs.declared.message.MsgBody.{MsgBody}
+use Rattle.vio_tag.specs.declared.message.TagFault.{TagFault}
+use Rattle.vnet_msg.proofs.FrameSlots.{long}
+use Rattle.vnet_msg.specs.Descriptor.{canonical, net_desc_of}
+use Rattle.vnet_msg.specs.Frames.{IsFrame, buffer_place, frame_buffer, frame_desc, header, memory_pages}
+use Rattle.channel_model.specs.Ranges.{range_length}
+use Rattle.channel_model.specs.Seeing.{Seen}
+use Rattle.channel_model.specs.TranscriptLog.{transcript_of}
+use Rattle.channel_laws.specs.Standing.{EndStands, is_open_in}
+use Rattle.port_model.proofs.Ruling.{says_of}
+use Rattle.port_model.specs.Fetching.{slots_cookies}
+use Rattle.port_model.specs.NetEndPutting.{cleared_by_put, cleared_ring, net_opens}
+use Rattle.port_model.specs.NetEndRule.{Publishes, Takes}
+use Rattle.port_model.specs.NetEndState.{NetEndState, NetSession, unseen_in}
+use Rattle.port_model.specs.NetEndStep.{Blocked, Frame, Idle, Joined, NetAnswer, NetEndStep, NetLeft, Published, Reset, Sent, Took, published_memory}
+use Rattle.port_model.specs.NetEndTaking.{GoesOn, HearsLink, HearsWhole, NetTake, NetTakes, Resets, by_handshake, freed, hears_message, opens_by_take, reads, risen}
+use Rattle.port_model.specs.NetEvent.{Asked, CalmTick, Declines, Gives, Injects, Joins, Loses, NetEvent, Pokes, Steps, Ticked}
+use Rattle.port_model.specs.NetLaneState.{IsNetShape, NetLaneState, NetShape, memory_of, net_end, reach_of, role_at, seen_at}
+use Rattle.port_model.specs.NetLaneStep.{NetLaneStep}
+use Rattle.port_model.specs.PortLog.{PortLog, after, no_events}
+use Rattle.port_model.specs.PortState.{OnLane, PortEvent, PortState, PortStep, Receives, before, fresh_port, moves_first, takes_more}
+use Rattle.port_laws.specs.NetCore.{net_core}
+use Rattle.port_laws.proofs.LogsStand.{LogsStand, held_given}
+use Rattle.port_laws.proofs.MemoryRoom.{HasRoom, before_room, room_behind}
+use Rattle.port_laws.proofs.MessageDoes.{Acks, Asks, Declines as DeclinesMessage, MessageDoes, Names, TakeDoes, Told, message_does}
+use Rattle.port_laws.proofs.PortCounts.{Ready, ready_before}
+use Rattle.port_laws.proofs.RingFetches.{found_frame}
+use Rattle.port_laws.proofs.RingMoves.{Fits, desc_long, frame_small, place_end}
+use Rattle.port_laws.proofs.RingRuns.{Kept, fresh_kept, kept_step}
+use Rattle.port_laws.proofs.RingSteps.{Owns}
+use Rattle.port_laws.proofs.RuleFrames.{end_acts}
+use Rattle.port_laws.proofs.TookCounts.{risen_up, session_open, session_up}
+
+-- WHAT AN END WRITES as it takes a packet: nothing, or its ring is cleared, or slots of it become FREE
+data Written (slots : ℕ) (memory new : List ℕ) : Type 0 where
+  Same : new ≡ memory → Written slots memory new
+  Cleared : new ≡ cleared_ring slots memory → Written slots memory new
+  Freed : (number count : ℕ) → new ≡ freed slots number count memory → Written slots memory new
+
+abbrev WrittenBy : ℕ → List ℕ → NetTake → Type 0
+WrittenBy slots memory (GoesOn t opens new) = Written slots memory new
+WrittenBy slots memory (Resets cause) = ⊤
+
+does_written : (role : Role) (s : NetEndState) (p : NetSession) (memory : List ℕ) (subtype : Subtype) (b : MsgBody) (t : NetEndState) (new : List ℕ) → MessageDoes role s p memory subtype b t new
+    → Written s.slots memory new
+does_written role s p memory subtype b t new (Asks seq ident start end state kind body place stays is) = Same stays
+does_written role s p memory subtype b t new (Acks seq ident start end state kind body begins inside within done freed_is is) = Freed p.seen (range_length s.slots start end) freed_is
+does_written role s p memory subtype b t new (Names set count addresses groups reply answer hub kind body stays is) = Same stays
+does_written role s p memory subtype b t new (Told set count addresses guest kind body telling stays is) = Same stays
+does_written role s p memory subtype b t new (DeclinesMessage h declined stays is) = Same stays
+
+take_written : (role : Role) (s : NetEndState) (p : NetSession) (memory : List ℕ) (subtype : Subtype) (b : MsgBody) (take : NetTake) → TakeDoes role s p memory subtype b take → WrittenBy s.slots memory take
+take_written role s p memory subtype b (GoesOn t opens new) does = does_written role s p memory subtype b t new does.does
+take_written role s p memory subtype b (Resets cause) does = tt
+
+opens_written : (role : Role) (s : NetEndState) (memory : List ℕ) → WrittenBy s.slots memory (opens_by_take role s memory)
+opens_written Initiator s memory = Same refl
+opens_written Responder s memory = Cleared refl
+
+handshake_written : (role : Role) (s : NetEndState) (memory : List ℕ) (take : HandshakeTake) → WrittenBy s.slots memory (by_handshake role s memory take)
+handshake_written role s memory (Goes h) = Same refl
+handshake_written role s memory (GoesOpen h) = opens_written role (record s { handshake = h }) memory
+handshake_written role s memory (Faults cause) = tt
+
+took_written : (role : Role) (memory packet : List ℕ) (s t : NetEndState) (turns : List Turn) (opens : Bool) (new : List ℕ) → EndStands role (net_core role s) turns
+    → NetTakes role s memory packet (GoesOn t opens new) → Written s.slots memory new
+took_written role memory packet s t turns opens new ends takes = by_link takes.link takes.hears
+  where
+    seen : LinkState → NetEndState
+    seen k = record s { link = cleared k; handshake = risen role s.link k s.handshake }
+
+    by_session : (k : LinkState) (m : Message) (session : Option NetSession) → s.session ≡ session → WrittenBy s.slots memory (hears_message role (seen k) memory session m)
+    by_session k m None closed = handshake_written role (seen k) memory (handshake_take (seen k).handshake m)
+    by_session k m (Some p) session =
+        let stays : risen role s.link k s.handshake ≡ s.handshake = risen_up role s.link k s.handshake (session_up role s turns p ends session) in
+        let opened : is_open_in (seen k).handshake.phase ≡ true = ap (λ (h : Handshake). is_open_in h.phase) stays ∙ session_open role s turns p ends session in
+        take_written role (seen k) p memory m.subtype m.body (hears_message role (seen k) memory (Some p) m) (message_does role (seen k) p memory m opened)
+
+    by_decoded : (k : LinkState) (d : Result Message TagFault) → WrittenBy s.slots memory (reads role (seen k) memory d)
+    by_decoded k (Ok m) = by_session k m s.session refl
+    by_decoded k (Err fault) = tt
+
+    by_whole : (k : LinkState) (whole : Option (List ℕ)) → HearsWhole role (record s { link = k; handshake = risen role s.link k s.handshake }) memory whole (GoesOn t opens new)
+        → WrittenBy s.slots memory (GoesOn t opens new)
+    by_whole k None is = subst (WrittenBy s.slots memory) (sym is) (Same refl)
+    by_whole k (Some bytes) hears = subst (WrittenBy s.slots memory) (sym hears.2) (by_decoded k hears.0)
+
+    by_link : (link : LinkTake) → HearsLink role s memory link (GoesOn t opens new) → WrittenBy s.slots memory (GoesOn t opens new)
+    by_link (Heard k) hears = by_whole k k.whole hears
+    by_link (Unheard cause) hears = absurd (cc hears)
+
+-- AS LONG AS BEFORE
+freed_long : (slots number count : ℕ) (memory : List ℕ) → 1 ≤ slots → 64 * slots ≤ length memory → length (freed slots number count memory) ≡ length memory
+freed_long slots number zero memory some room = refl
+freed_long slots number (suc count) memory some room =
+    let below = mod_below number slots (omega (arith, some)) in
+    let same : length (put_at (64 * (number % slots)) (free_state ∷ []) memory) ≡ length memory =
+    length-put_at (64 * (number % slots)) (free_state ∷ []) memory (omega (arith, below, room)) in
+    freed_long slots (number + 1) count (put_at (64 * (number % slots)) (free_state ∷ []) memory) some (omega (arith, same, room)) ∙ same
+
+cleared_long : (slots : ℕ) (memory : List ℕ) → 64 * slots ≤ length memory → length (cleared_ring slots memory) ≡ length memory
+cleared_long slots memory room = length-put_at 0 (free_slots 64 slots) memory (omega (arith, room, length-free_slots 64 slots (inl refl)))
+
+written_long : (slots : ℕ) (memory new : List ℕ) → 1 ≤ slots → 64 * slots ≤ length memory → Written slots memory new → length new ≡ length memory
+written_long slots memory new some room (Same is) = ap length is
+written_long slots memory new some room (Cleared is) = ap length is ∙ cleared_long slots memory room
+written_long slots memory new some room (Freed number count is) = ap length is ∙ freed_long slots number count memory some room
+
+put_long : (role : Role) (opens : Bool) (slots : ℕ) (memory : List ℕ) → 64 * slots ≤ length memory → length (cleared_by_put role opens slots memory) ≡ length memory
+put_long Initiator true slots memory room = cleared_long slots memory room
+put_long Initiator false slots memory room = refl
+put_long Responder opens slots memory room = refl
+
+published_long : (slots k : ℕ) (frame memory : List ℕ) → Fits slots memory → k < slots → IsFrame frame → length (published_memory k frame memory) ≡ length memory
+published_long slots k frame memory fits below is =
+    let few = fits.few in
+    let room = fits.room in
+    let piece : List ℕ = frame_buffer frame in
+    let small : length piece ≤ 2048 = omega (arith, long frame, frame_small frame is) in
+    let middle : length (put_at (buffer_place k) piece memory) ≡ length memory = length-put_at (buffer_place k) piece memory (place_end slots k piece memory fits below small) in
+    length-put_at (64 * k) (canonical (frame_desc k (length frame))) (put_at (buffer_place k) piece memory) (omega (arith, middle, few, room, below, desc_long k (length frame))) ∙ middle
+
+moved_long : (reach : Reach) (cookies : List Cookie) (offset : ℕ) (bytes : List ℕ) → length (moved_out reach.table reach.memory cookies offset bytes) ≡ length reach.memory
+moved_long reach cookies offset bytes = length-write_spots (map (place_of reach.table) (moved_spots cookies offset (length bytes))) bytes reach.memory
+
+-- A STEP
+abbrev SameLong : List ℕ → List ℕ → NetLeft → Type 0
+SameLong own peer left = (length left.own ≡ length own) × (length left.peer ≡ length peer)
+
+step_long : (role : Role) (s : NetEndState) (turns : List Turn) (at : Seen) (memory : List ℕ) (reach : Reach) (answer : NetAnswer) (left : NetLeft) → 1 ≤ s.slots → Fits s.slots memory
+    → (is_up at.state ≡ true → Owns role s turns memory) → NetEndStep role s at memory reach answer left → SameLong memory reach.memory left
+step_long role s turns at memory reach (Joined lost) left some fits owns step = subst (SameLong memory reach.memory) (sym step.2) (refl, refl)
+step_long role s turns at memory reach (Took packet opens) left some fits owns step =
+    let few = fits.few in
+    let room = fits.room in
+    let ends = (owns (says_of role s at (Takes packet) step.0).0.up).ends in (
+      written_long s.slots memory left.own some (omega (arith, few, room)) (took_written role memory packet s left.end turns opens left.own ends step.1),
+      ap length step.2,
+    )
+step_long role s turns at memory reach (Sent packet opens) left some fits owns step =
+    let few = fits.few in
+    let room = fits.room in
+    subst (SameLong memory reach.memory) (sym step.is) (put_long role (net_opens step.held) s.slots memory (omega (arith, few, room)), refl)
+step_long role s turns at memory reach Blocked left some fits owns step = subst (SameLong memory reach.memory) (sym step.2) (refl, refl)
+step_long role s turns at memory reach Idle left some fits owns step = subst (SameLong memory reach.memory) (sym step.1) (refl, refl)
+step_long role s turns at memory reach (Published id) left some fits owns step =
+    let says = says_of role s at (Publishes step.session step.frame) step.rule in
+    let is = (owns says.0.in_session.free.up).frames (unseen_in step.session) step.frame says.1 in
+    subst (SameLong memory reach.memory) (sym step.is)
+    (published_long s.slots (step.session.published % s.slots) step.frame memory fits (mod_below step.session.published s.slots (omega (arith, some))) is, refl)
+step_long role s turns at memory reach (Frame frame) left some fits owns step =
+    let found = found_frame s reach step.session.place frame step.new step.found in
+    subst (SameLong memory reach.memory) (sym step.is) (
+      refl,
+      ap length found.new_is
+          ∙ moved_long reach (slots_cookies s) (64 * step.session.place) (header 4 (net_desc_of (moved_in reach.table reach.memory (slots_cookies s) (64 * step.session.place) 64)).ack),
+    )
+step_long role s turns at memory reach (Reset cause packet lost) left some fits owns step = subst (SameLong memory reach.memory) (sym step.2) (refl, refl)
+
+-- A LANE
+pub record LongMemory (slots : ℕ) (s : NetLaneState) : Type 0 where
+  pub guest : length s.guest_memory ≡ 8192 * memory_pages slots
+  pub hub : length s.hub_memory ≡ 8192 * memory_pages slots
+
+frames_at : (shape : NetShape) (e : End) (u : PortState) (l : PortLog) → Ready shape u l → LogsStand l → (n : ℕ) (frame : List ℕ) → slice_get (net_end e u.lane).frames n ≡ Some frame → IsFrame frame
+frames_at shape A u l ready logs n frame get = logs.guest.given (l.guest.gone + n) frame (held_given u.lane.guest.frames [] l.guest.given l.guest.gone n frame ready.guest.frames get)
+frames_at shape B u l ready logs n frame get = logs.hub.given (l.hub.gone + n) frame (held_given u.lane.hub.frames u.queue l.hub.given l.hub.gone n frame ready.hub.frames get)
+
+fits_of : (shape : NetShape) (e : End) (u : PortState) (l : PortLog) → Ready shape u l → HasRoom shape.slots u.lane → Fits (net_end e u.lane).slots (memory_of e u.lane)
+fits_of shape A u l ready room =
+    subst (λ (n : ℕ). Fits n u.lane.guest_memory) (sym ready.guest.slots_is) (record { few = ready.sound.most_slots; room = room.guest })
+fits_of shape B u l ready room =
+    subst (λ (n : ℕ). Fits n u.lane.hub_memory) (sym ready.hub.slots_is) (record { few = ready.sound.most_slots; room = room.hub })
+
+some_slots : (shape : NetShape) (e : End) (u : PortState) (l : PortLog) → Ready shape u l → 1 ≤ (net_end e u.lane).slots
+some_slots shape A u l ready = let some = ready.sound.some_slots in let is = ready.guest.slots_is in omega (arith, some, is)
+some_slots shape B u l ready = let some = ready.sound.some_slots in let is = ready.hub.slots_is in omega (arith, some, is)
+
+owns_of : (shape : NetShape) (e : End) (u : PortState) (l : PortLog) → Ready shape u l → HasRoom shape.slots u.lane → LogsStand l → is_up (seen_at e u.lane).state ≡ true
+    → Owns (role_at e) (net_end e u.lane) (transcript_of e l.transcript) (memory_of e u.lane)
+owns_of shape e u l ready room logs up =
+    let acting = end_acts shape e u l ready up in
+    record { ends = acting.ends; stands = acting.stands; fits = fits_of shape e u l ready room; frames = frames_at shape e u l ready logs }
+
+event_long : (shape : NetShape) (u : PortState) (l : PortLog) (event : NetEvent) (t : NetLaneState) → Ready shape u l → HasRoom shape.slots u.lane → LogsStand l → NetLaneStep u.lane event t
+    → LongMemory shape.slots u.lane → LongMemory shape.slots t
+event_long shape u l (Steps A answer) t ready room logs step long_ =
+    let same = step_long Initiator u.lane.guest l.transcript.client (seen_at A u.lane) u.lane.guest_memory (reach_of A u.lane) answer step.left (some_slots shape A u l ready) (fits_of shape A u l ready room)
+    (owns_of shape A u l ready room logs) step.step in
+    subst (LongMemory shape.slots) (sym step.is) (record { guest = same.0 ∙ long_.guest; hub = same.1 ∙ long_.hub })
+event_long shape u l (Steps B answer) t ready room logs step long_ =
+    let same = step_long Responder u.lane.hub l.transcript.server (seen_at B u.lane) u.lane.hub_memory (reach_of B u.lane) answer step.left (some_slots shape B u l ready) (fits_of shape B u l ready room)
+    (owns_of shape B u l ready room logs) step.step in
+    subst (LongMemory shape.slots) (sym step.is) (record { guest = same.1 ∙ long_.guest; hub = same.0 ∙ long_.hub })
+event_long shape u l (Asked A lost) t ready room logs step long_ = subst (LongMemory shape.slots) (sym step.1) (record { guest = long_.guest; hub = long_.hub })
+event_long shape u l (Asked B lost) t ready room logs step long_ = subst (LongMemory shape.slots) (sym step.1) (record { guest = long_.guest; hub = long_.hub })
+event_long shape u l (Ticked queued lost) t ready room logs step long_ = subst (LongMemory shape.slots) (sym step.1.1) (record { guest = long_.guest; hub = long_.hub })
+event_long shape u l (CalmTick queued) t ready room logs step long_ = subst (LongMemory shape.slots) (sym step.1) long_
+event_long shape u l (Gives A given) t ready room logs step long_ = subst (LongMemory shape.slots) (sym step.1) (record { guest = long_.guest; hub = long_.hub })
+event_long shape u l (Gives B given) t ready room logs step long_ = subst (LongMemory shape.slots) (sym step.1) (record { guest = long_.guest; hub = long_.hub })
+event_long shape u l (Joins joining) t ready room logs step long_ = subst (LongMemory shape.slots) (sym step.1) (record { guest = long_.guest; hub = long_.hub })
+event_long shape u l (Loses e packet) t ready room logs step long_ = subst (LongMemory shape.slots) (sym step.1) (record { guest = long_.guest; hub = long_.hub })
+event_long shape u l (Injects e packet) t ready room logs step long_ = subst (LongMemory shape.slots) (sym step.2) (record { guest = long_.guest; hub = long_.hub })
+event_long shape u l (Pokes A at bytes) t ready room logs step long_ =
+    subst (LongMemory shape.slots) (sym step.1) (record { guest = length-put_at at bytes u.lane.guest_memory step.0 ∙ long_.guest; hub = long_.hub })
+event_long shape u l (Pokes B at bytes) t ready room logs step long_ =
+    subst (LongMemory shape.slots) (sym step.1) (record { guest = long_.guest; hub = length-put_at at bytes u.lane.hub_memory step.0 ∙ long_.hub })
+event_long shape u l (Declines d) t ready room logs step long_ = subst (LongMemory shape.slots) (sym step.1) long_
+
+-- A RUN
+moves_long : (b : Bool) (queue : List (List ℕ)) (slots : ℕ) (s : PortState) → LongMemory slots s.lane → LongMemory slots (moves_first b queue s).lane
+moves_long true [] slots s long_ = long_
+moves_long true (frame ∷ frames) slots s long_ = record { guest = long_.guest; hub = long_.hub }
+moves_long false queue slots s long_ = long_
+
+before_long : (slots : ℕ) (event : NetEvent) (s : PortState) → LongMemory slots s.lane → LongMemory slots (before event s).lane
+before_long slots (Steps B answer) s long_ = moves_long (takes_more s.lane.hub) s.queue slots s long_
+before_long slots (Steps A answer) s long_ = long_
+before_long slots (Asked e lost) s long_ = long_
+before_long slots (Ticked queued lost) s long_ = long_
+before_long slots (CalmTick queued) s long_ = long_
+before_long slots (Gives e given) s long_ = long_
+before_long slots (Joins joining) s long_ = long_
+before_long slots (Loses e packet) s long_ = long_
+before_long slots (Injects e packet) s long_ = long_
+before_long slots (Pokes e at bytes) s long_ = long_
+before_long slots (Declines d) s long_ = long_
+
+pub record KeptLong (shape : NetShape) (s : PortState) (l : PortLog) : Type 0 where
+  pub kept : Kept shape s l
+  pub memory : LongMemory shape.slots s.lane
+
+long_step : (shape : NetShape) → IsNetShape shape → (s : PortState) (l : PortLog) (event : PortEvent) (t : PortState) → KeptLong shape s l → PortStep s event t → KeptLong shape t (after l event)
+long_step shape is s l (OnLane event) t had step = record {
+  kept = kept_step shape is s l (OnLane event) t had.kept step;
+  memory = event_long shape (before event s) l event t.lane (ready_before shape s l event is had.kept.counts)
+      (before_room shape.slots event s (room_behind shape had.kept.counts.events s is had.kept.counts.run)) had.kept.logs step.1 (before_long shape.slots event s had.memory);
+}
+long_step shape is s l (Receives frame) t had step = record {
+  kept = kept_step shape is s l (Receives frame) t had.kept step;
+  memory = subst (λ (x : PortState). LongMemory shape.slots x.lane) (sym step.2) (record { guest = had.memory.guest; hub = had.memory.hub });
+}
+
+pub port_long : (shape : NetShape) (events : List PortEvent) (s : PortState) → IsNetShape shape → Run PortStep (fresh_port shape) events s → KeptLong shape s (log_of after (no_events shape) events)
+port_long shape events s is run =
+    (run_lawful PortStep (λ (l : PortLog) (e : PortEvent). ⊤) after (KeptLong shape) (λ (x : PortState) (l : PortLog) (e : PortEvent) (y : PortState) had step. (tt, long_step shape is x l e y had step))
+    (fresh_port shape) s (no_events shape) events
+    (record { kept = fresh_kept shape is; memory = record { guest = length-replicate {A = ℕ} (8192 * memory_pages shape.slots) 0; hub = length-replicate {A = ℕ} (8192 * memory_pages shape.slots) 0 } }) run).1

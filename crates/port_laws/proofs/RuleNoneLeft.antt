@@ -1,0 +1,261 @@
+-- Where an end of a port is idle directly after the other, where nobody forged and nothing was lost, no frame is left.
+use Rattle.std.proofs.Common.{◌≡◌, ◌≢◌, ℕ, ◌-◌, ◌<◌, ◌≤◌, Bool, true, false, Option, Some, None, List, [], ◌∷◌, ◌++◌, length, inl, inr, refl, sym, subst, ap, ◌∙◌, arith}
+use Rattle.std.specs.Prelude.{slice_get, ⊤}
+use Rattle.std.proofs.lemmas.Bool.{cases_lt}
+use Rattle.std.proofs.lemmas.List.{append-nil, append_cancel_left}
+use Rattle.ldc_link.specs.declared.phase.Role.TheVariants.{Initiator, Responder}
+use Rattle.ldc_queue.specs.declared.end.ChannelState.{ChannelState}
+use Rattle.ldc_queue.specs.declared.end.ChannelState.TheVariants.{Up}
+use Rattle.ldc_queue.specs.declared.end.End.{End}
+use Rattle.ldc_queue.specs.declared.end.End.TheVariants.{A, B}
+use Rattle.ldc_queue.specs.Fragments.{fragments_in}
+use Rattle.ldc_queue.specs.Messages.{whole_in}
+use Rattle.ldc_queue.specs.Numbered.{numbered}
+use Rattle.ldc_queue.specs.OneStream.{OneWay, live}
+use Rattle.ldc_queue.specs.Transcript.{numbered_heard, numbered_said}
+use Rattle.runs.specs.Lawful.{Lawful, log_of, run_lawful}
+use Rattle.runs.specs.Run.{Run}
+use Rattle.channel_model.proofs.SameSayings.{heard_is, said_is}
+use Rattle.channel_model.specs.Sayings.{heard, said}
+use Rattle.channel_model.specs.Seeing.{seen}
+use Rattle.channel_model.specs.TranscriptLog.{transcript_of}
+use Rattle.channel_model.specs.WireLog.{WireLog}
+use Rattle.channel_laws.specs.Conversing.{Converse}
+use Rattle.channel_laws.specs.Sides.{Sides, sides_of}
+use Rattle.port_model.proofs.Refuting.{none_some, true_false}
+use Rattle.port_model.proofs.Ruling.{says_of}
+use Rattle.port_model.specs.EndLog.{SessionLog}
+use Rattle.port_model.specs.FrameLaws.{InSession}
+use Rattle.port_model.specs.NetEndRule.{Idles, port_rule}
+use Rattle.port_model.specs.NetEndState.{NetEndState, NetSession}
+use Rattle.port_model.specs.NetEndStep.{Blocked, Frame, Idle, Joined, NetLeft, Published, Reset, Sent, Took}
+use Rattle.port_model.specs.NetEvent.{Asked, CalmTick, Declines, Gives, Injects, Joins, Loses, NetEvent, Pokes, Steps, Ticked}
+use Rattle.port_model.specs.NetLaneState.{IsNetShape, NetLaneState, NetShape, net_end, role_at, seen_at, with_left}
+use Rattle.port_model.specs.NetLaneStep.{EndSteps, NetLaneStep, net_wire}
+use Rattle.port_model.specs.PortLog.{PortLog, after, idle_in, log_of_end, no_events}
+use Rattle.port_model.specs.PortState.{OnLane, PortEvent, PortState, PortStep, Receives, before, fresh_port, moves_first, takes_more}
+use Rattle.port_model.specs.RestLaws.{TwoIdleAt}
+use Rattle.port_model.specs.RuleFacts.{IfOpen, MayListen}
+use Rattle.port_laws.specs.NetCore.{lane_core}
+use Rattle.port_laws.specs.NoneLeft.{AllSeen, NoneLeft, NoneLeftAt}
+use Rattle.port_laws.specs.WaysStand.{Comes, Goes, Rests, Way, WaysStand, Works, acks_in, infos_in, or_new}
+use Rattle.port_laws.proofs.PortCounts.{before_guest, before_wire, queue_of, ready_before}
+use Rattle.port_laws.proofs.PortRuns.{lawful_along}
+use Rattle.port_laws.proofs.RingActs.{Finds}
+use Rattle.port_laws.proofs.RingRuns.{finds_before}
+use Rattle.port_laws.proofs.RuleFrames.{both_open, end_acts, end_counted, end_stood, held_frames, seen_within}
+use Rattle.port_laws.proofs.RuleIdle.{idle_counts, rule_left}
+use Rattle.port_laws.proofs.RuleRest.{up_state}
+use Rattle.port_laws.proofs.RuleTwoIdle.{two_idle_event}
+use Rattle.port_laws.proofs.TookCounts.{free_empty}
+use Rattle.port_laws.proofs.WayRuns.{KeptWays, port_ways, ways_before}
+
+-- WHAT WAS SAID WAS HEARD where nothing was lost and nothing waits
+no_packets : (packets : List (List ℕ)) → length packets ≤ 0 → packets ≡ []
+no_packets [] few = refl
+no_packets (packet ∷ packets) few = absurd (omega (arith, few))
+
+no_first : (packets : List (List ℕ)) → slice_get packets 0 ≡ None → packets ≡ []
+no_first [] is = refl
+no_first (packet ∷ packets) is = absurd (cc is)
+
+live_up : (state : ChannelState) (packets : List (List ℕ)) → state ≡ Up → live state packets ≡ packets
+live_up state packets is = ap (λ (x : ChannelState). live x packets) is
+
+one_way : (x y : ChannelState) (put took waiting : List (List ℕ)) (lost : ℕ) → OneWay (live x put) (live y took) (numbered waiting) lost → lost ≡ 0 → waiting ≡ [] → x ≡ Up → y ≡ Up → put ≡ took
+one_way x y put took waiting lost way whole none up other =
+    let gone : way.gone ≡ [] = no_packets way.gone (omega (arith, way.few, whole)) in
+    sym (live_up x put up) ∙ way.is ∙ ap (λ (xs : List (List ℕ)). live y took ++ (xs ++ numbered waiting)) gone ∙ ap (λ (xs : List (List ℕ)). live y took ++ numbered xs) none ∙ append-nil (live y took)
+    ∙ live_up y took other
+
+pub record HeardAll (s : Sides) : Type 0 where
+  pub mine : said s.mine.turns ≡ heard s.theirs.turns
+  pub theirs : said s.theirs.turns ≡ heard s.mine.turns
+
+heard_all : (s : Sides) → Converse Initiator s → s.lossy ≡ false → s.mine.state ≡ Up → s.theirs.state ≡ Up → s.mine.waiting ≡ [] → s.theirs.waiting ≡ [] → HeardAll s
+heard_all s c whole up other none other_none =
+    let lost = c.whole whole in
+    let asked : numbered_said s.mine.turns ≡ numbered_heard s.theirs.turns =
+    one_way s.mine.state s.theirs.state (numbered_said s.mine.turns) (numbered_heard s.theirs.turns) s.theirs.waiting c.lost_theirs c.stream.to_b lost.1 other_none up other in
+    let answered : numbered_said s.theirs.turns ≡ numbered_heard s.mine.turns =
+    one_way s.theirs.state s.mine.state (numbered_said s.theirs.turns) (numbered_heard s.mine.turns) s.mine.waiting c.lost_mine c.stream.to_a lost.0 none other up in
+    record {
+      mine = said_is s.mine.turns ∙ ap (λ (xs : List (List ℕ)). whole_in [] (fragments_in xs)) asked ∙ sym (heard_is s.theirs.turns);
+      theirs = said_is s.theirs.turns ∙ ap (λ (xs : List (List ℕ)). whole_in [] (fragments_in xs)) answered ∙ sym (heard_is s.mine.turns);
+    }
+
+nothing_goes : (told taken going : List (List ℕ)) → told ≡ taken ++ going → told ≡ taken → going ≡ []
+nothing_goes told taken going is same = append_cancel_left taken going [] (sym is ∙ same ∙ sym (append-nil taken))
+
+-- ONE DIRECTION at rest
+rests_seen : (slots : ℕ) (v w : SessionLog) (infos acks : List (List ℕ)) → infos ≡ [] → acks ≡ [] → w.acks ≡ w.asked → (v.seen < v.published → v.asking ≡ true) → v.seen ≤ v.published
+    → Way slots v w infos acks → v.seen ≡ v.published
+rests_seen slots v w infos acks no_info no_ack answered announced within (Rests asking asked acked told taken none no_acks) =
+    elim (cases_lt v.seen v.published) [
+      | inl less ↦ true_false (sym (announced less) ∙ asking)
+      | inr past ↦ omega (arith, past, within)
+    ]
+rests_seen slots v w infos acks no_info no_ack answered announced within (Goes info asking asked acked told taken some seq start end no_acks) =
+    let wrong : info ∷ [] ≡ [] = sym some ∙ no_info in absurd (cc wrong)
+rests_seen slots v w infos acks no_info no_ack answered announced within (Works asking asked busy told none no_acks) = absurd (omega (arith, busy, answered))
+rests_seen slots v w infos acks no_info no_ack answered announced within (Comes ack asking asked acked told some none one_ack start end) =
+    let wrong : ack ∷ [] ≡ [] = sym one_ack ∙ no_ack in absurd (cc wrong)
+
+-- AN IDLE END, by its log
+record IdleEnd (e : End) (u : PortState) (l : PortLog) (v : SessionLog) : Type 0 where
+  answered : v.acks ≡ v.asked
+  announced : v.seen < v.published → v.asking ≡ true
+  unseen : v.published - v.seen ≡ length (net_end e u.lane).frames
+  within : v.seen ≤ v.published
+
+idle_end : (shape : NetShape) (e : End) (u : PortState) (l : PortLog) (v : SessionLog) → Finds shape u l → port_rule (role_at e) (net_end e u.lane) (seen_at e u.lane) ≡ Idles → (log_of_end e l).session ≡ Some v
+    → IdleEnd e u l v
+idle_end shape e u l v finds idles log =
+    let s : NetEndState = net_end e u.lane in
+    let counted = end_counted shape e u l finds.ready in
+    let says = says_of (role_at e) s (seen_at e u.lane) Idles idles in
+    let acting = end_acts shape e u l finds.ready says.0.up in
+    let both = both_open (role_at e) shape.slots (queue_of e u) s (log_of_end e l) v counted log in
+    let listens : MayListen both.p = subst (λ (x : Option NetSession). IfOpen x MayListen) both.is says.2 in
+    let left = rule_left (role_at e) s (seen_at e u.lane) both.p says.0 says.1 both.is listens idles in
+    let counts = idle_counts (role_at e) shape.slots (queue_of e u) s (log_of_end e l) v both.p counted (end_stood shape e u l finds.ready) both.is log
+    (free_empty (role_at e) s (transcript_of e l.transcript) acting.ends says.0.quiet) listens left in
+    record {
+      answered = counts.answered;
+      announced = counts.announced;
+      unseen = counts.unseen;
+      within = seen_within (role_at e) shape.slots (queue_of e u) s (log_of_end e l) v counted (end_stood shape e u l finds.ready) log;
+    }
+
+some_log : (log : Option SessionLog) → log ≢ None → (v : SessionLog) × (log ≡ Some v)
+some_log (Some v) some = (v, refl)
+some_log None some = absurd (some refl)
+
+both_left : (shape : NetShape) (u : PortState) (l : PortLog) → Finds shape u l → WaysStand u.lane l → port_rule Initiator u.lane.guest (seen_at A u.lane) ≡ Idles
+    → port_rule Responder u.lane.hub (seen_at B u.lane) ≡ Idles → l.wire.lossy ≡ false → (l.guest.session ≢ None) × (l.hub.session ≢ None) → NoneLeft l
+both_left shape u l finds ways guest_idles hub_idles lossless opened =
+    let guest_says = says_of Initiator u.lane.guest (seen_at A u.lane) Idles guest_idles in
+    let hub_says = says_of Responder u.lane.hub (seen_at B u.lane) Idles hub_idles in
+    let up : u.lane.wire.wire.end_a ≡ Up = up_state u.lane.wire.wire.end_a guest_says.0.up in
+    let other : u.lane.wire.wire.end_b ≡ Up = up_state u.lane.wire.wire.end_b hub_says.0.up in
+    let whole : u.lane.wire.lossy ≡ false = ap (λ (w : WireLog). w.lossy) finds.ready.wire ∙ lossless in
+    let talks = finds.talks.talks A in
+    let all = heard_all (sides_of (lane_core u.lane) l.transcript) talks.meets.converse whole up other (no_first u.lane.wire.wire.to_a guest_says.1) (no_first u.lane.wire.wire.to_b hub_says.1) in
+    let between = ways up other opened.0 in
+    let going : between.going ≡ [] = nothing_goes (said l.transcript.client) (heard l.transcript.server) between.going between.goes all.mine in
+    let coming : between.coming ≡ [] = nothing_goes (said l.transcript.server) (heard l.transcript.client) between.coming between.comes all.theirs in
+    let guest = some_log l.guest.session opened.0 in
+    let hub = some_log l.hub.session opened.1 in
+    let guest_end = idle_end shape A u l guest.0 finds guest_idles guest.1 in
+    let hub_end = idle_end shape B u l hub.0 finds hub_idles hub.1 in
+    let mine : Way l.shape.slots guest.0 hub.0 (infos_in between.going) (acks_in between.coming) =
+    subst (λ (o : Option SessionLog). Way l.shape.slots guest.0 (or_new o) (infos_in between.going) (acks_in between.coming)) hub.1
+    (subst (λ (o : Option SessionLog). Way l.shape.slots (or_new o) (or_new l.hub.session) (infos_in between.going) (acks_in between.coming)) guest.1 between.mine) in
+    let theirs : Way l.shape.slots hub.0 guest.0 (infos_in between.coming) (acks_in between.going) =
+    subst (λ (o : Option SessionLog). Way l.shape.slots hub.0 (or_new o) (infos_in between.coming) (acks_in between.going)) guest.1
+    (subst (λ (o : Option SessionLog). Way l.shape.slots (or_new o) (or_new l.guest.session) (infos_in between.coming) (acks_in between.going)) hub.1 between.theirs) in
+    let guest_seen : guest.0.seen ≡ guest.0.published =
+    rests_seen l.shape.slots guest.0 hub.0 (infos_in between.going) (acks_in between.coming) (ap infos_in going) (ap acks_in coming) hub_end.answered guest_end.announced guest_end.within mine in
+    let hub_seen : hub.0.seen ≡ hub.0.published =
+    rests_seen l.shape.slots hub.0 guest.0 (infos_in between.coming) (acks_in between.going) (ap infos_in coming) (ap acks_in going) guest_end.answered hub_end.announced hub_end.within theirs in
+    let unseen = guest_end.unseen in
+    let frames = held_frames Initiator shape.slots [] u.lane.guest l.guest finds.ready.guest in
+    record {
+      guest = subst (λ (o : Option SessionLog). InSession o AllSeen) (sym guest.1) guest_seen;
+      hub = subst (λ (o : Option SessionLog). InSession o AllSeen) (sym hub.1) hub_seen;
+      none = omega (arith, frames, unseen, guest_seen);
+    }
+
+-- THE END that was idle last has nothing to do
+record IdlesKept (s : PortState) (l : PortLog) : Type 0 where
+  idles : (e : End) → l.last_idle ≡ Some e → port_rule (role_at e) (net_end e s.lane) (seen_at e s.lane) ≡ Idles
+
+idle_stays : (e : End) (u t : NetLaneState) → EndSteps e u Idle t → port_rule (role_at e) (net_end e t) (seen_at e t) ≡ Idles
+idle_stays A u t step =
+    let is : t ≡ record (with_left A step.left u) { wire = net_wire (Steps A Idle) u } = step.is in
+    ap (λ (x : NetLaneState). port_rule Initiator x.guest (seen_at A x)) is ∙ ap (λ (x : NetLeft). port_rule Initiator x.end (seen_at A u)) step.step.1 ∙ step.step.0
+idle_stays B u t step =
+    let is : t ≡ record (with_left B step.left u) { wire = net_wire (Steps B Idle) u } = step.is in
+    ap (λ (x : NetLaneState). port_rule Responder x.hub (seen_at B x)) is ∙ ap (λ (x : NetLeft). port_rule Responder x.end (seen_at B u)) step.step.1 ∙ step.step.0
+
+last_idles : (u : NetLaneState) (event : NetEvent) (t : NetLaneState) → NetLaneStep u event t → (e : End) → idle_in event ≡ Some e → port_rule (role_at e) (net_end e t) (seen_at e t) ≡ Idles
+last_idles u (Steps end Idle) t step e is =
+    let same : end ≡ e = cc in subst (λ (x : End). port_rule (role_at x) (net_end x t) (seen_at x t) ≡ Idles) same (idle_stays end u t step)
+last_idles u (Steps end Blocked) t step e is = none_some e is
+last_idles u (Steps end (Joined lost)) t step e is = none_some e is
+last_idles u (Steps end (Took packet opens)) t step e is = none_some e is
+last_idles u (Steps end (Sent packet opens)) t step e is = none_some e is
+last_idles u (Steps end (Published id)) t step e is = none_some e is
+last_idles u (Steps end (Frame frame)) t step e is = none_some e is
+last_idles u (Steps end (Reset cause packet lost)) t step e is = none_some e is
+last_idles u (Asked end lost) t step e is = none_some e is
+last_idles u (Ticked queued lost) t step e is = none_some e is
+last_idles u (CalmTick queued) t step e is = none_some e is
+last_idles u (Gives end given) t step e is = none_some e is
+last_idles u (Joins joining) t step e is = none_some e is
+last_idles u (Loses end packet) t step e is = none_some e is
+last_idles u (Injects end packet) t step e is = none_some e is
+last_idles u (Pokes end at bytes) t step e is = none_some e is
+last_idles u (Declines d) t step e is = none_some e is
+
+idles_step : (s : PortState) (l : PortLog) (event : PortEvent) (t : PortState) → IdlesKept s l → PortStep s event t → IdlesKept t (after l event)
+idles_step s l (OnLane event) t kept step = record { idles = λ e is. last_idles (before event s).lane event t.lane step.1 e is }
+idles_step s l (Receives frame) t kept step =
+    record { idles = λ e is. subst (λ (x : PortState). port_rule (role_at e) (net_end e x.lane) (seen_at e x.lane) ≡ Idles) (sym step.2) (kept.idles e is) }
+
+idles_kept : (shape : NetShape) (events : List PortEvent) (s : PortState) → Run PortStep (fresh_port shape) events s → IdlesKept s (log_of after (no_events shape) events)
+idles_kept shape events s run =
+    (run_lawful PortStep (λ (l : PortLog) (e : PortEvent). ⊤) after IdlesKept (λ (x : PortState) (l : PortLog) (e : PortEvent) (y : PortState) kept step. (tt, idles_step x l e y kept step))
+    (fresh_port shape) s (no_events shape) events (record { idles = λ e is. none_some e is }) run).1
+
+-- AN EVENT
+moves_entries : (b : Bool) (queue : List (List ℕ)) (s : PortState) → (moves_first b queue s).lane.shape.entries ≡ s.lane.shape.entries
+moves_entries true [] s = refl
+moves_entries true (frame ∷ frames) s = refl
+moves_entries false queue s = refl
+
+left_event : (shape : NetShape) (s : PortState) (l : PortLog) (event : NetEvent) (t : PortState) → IsNetShape shape → KeptWays shape s l → IdlesKept s l → TwoIdleAt l (OnLane event)
+    → NetLaneStep (before event s).lane event t.lane → NoneLeftAt l (OnLane event)
+left_event shape s l (Steps A Idle) t is had kept opened step = λ last clean whole.
+    both_left shape s l (finds_before shape s l (Steps A Idle) is had.kept clean) (had.ways clean) step.step.0 (kept.idles B last) whole (opened last clean whole)
+left_event shape s l (Steps B Idle) t is had kept opened step = λ last clean whole.
+    let u : PortState = before (Steps B Idle) s in
+    let wire = before_wire (Steps B Idle) s in
+    let guest : port_rule Initiator u.lane.guest (seen_at A u.lane) ≡ Idles =
+    moved_guest s u (before_guest (Steps B Idle) s) wire (moves_entries (takes_more s.lane.hub) s.queue s) (kept.idles A last) in
+    both_left shape u l (finds_before shape s l (Steps B Idle) is had.kept clean) (ways_before (Steps B Idle) s l (had.ways clean)) guest step.step.0 whole (opened last clean whole)
+  where
+    moved_guest : (s u : PortState) → u.lane.guest ≡ s.lane.guest → u.lane.wire ≡ s.lane.wire → u.lane.shape.entries ≡ s.lane.shape.entries
+        → port_rule Initiator s.lane.guest (seen_at A s.lane) ≡ Idles → port_rule Initiator u.lane.guest (seen_at A u.lane) ≡ Idles
+    moved_guest s u guest wire entries idles =
+        ap (λ (x : NetEndState). port_rule Initiator x (seen_at A u.lane)) guest
+        ∙ ap (λ (w : WireLog). port_rule Initiator s.lane.guest (seen A u.lane.shape.entries w.wire)) wire
+        ∙ ap (λ (n : ℕ). port_rule Initiator s.lane.guest (seen A n s.lane.wire.wire)) entries ∙ idles
+left_event shape s l (Steps e (Published id)) t is had kept opened step = tt
+left_event shape s l (Steps e (Frame frame)) t is had kept opened step = tt
+left_event shape s l (Steps e (Took packet opens)) t is had kept opened step = tt
+left_event shape s l (Steps e (Sent packet opens)) t is had kept opened step = tt
+left_event shape s l (Steps e (Joined lost)) t is had kept opened step = tt
+left_event shape s l (Steps e Blocked) t is had kept opened step = tt
+left_event shape s l (Steps e (Reset cause packet lost)) t is had kept opened step = tt
+left_event shape s l (Asked e lost) t is had kept opened step = tt
+left_event shape s l (Ticked queued lost) t is had kept opened step = tt
+left_event shape s l (CalmTick queued) t is had kept opened step = tt
+left_event shape s l (Gives e given) t is had kept opened step = tt
+left_event shape s l (Joins joining) t is had kept opened step = tt
+left_event shape s l (Loses e packet) t is had kept opened step = tt
+left_event shape s l (Injects e packet) t is had kept opened step = tt
+left_event shape s l (Pokes e at bytes) t is had kept opened step = tt
+left_event shape s l (Declines d) t is had kept opened step = tt
+
+pub port_none_left : (shape : NetShape) (events : List PortEvent) (s : PortState) → IsNetShape shape → Run PortStep (fresh_port shape) events s → Lawful NoneLeftAt after (no_events shape) events
+port_none_left shape events s is run = lawful_along shape NoneLeftAt here events s run
+  where
+    here : (events : List PortEvent) (s : PortState) (event : PortEvent) (t : PortState) → Run PortStep (fresh_port shape) events s → PortStep s event t
+        → NoneLeftAt (log_of after (no_events shape) events) event
+    here events s (OnLane event) t run step =
+        let l : PortLog = log_of after (no_events shape) events in
+        let had = port_ways shape events s is run in
+        left_event shape s l event t is had (idles_kept shape events s run)
+        (two_idle_event shape s l event t had.kept.counts (ready_before shape s l (CalmTick 0) is had.kept.counts) step.1) step.1
+    here events s (Receives frame) t run step = tt

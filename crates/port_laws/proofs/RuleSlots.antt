@@ -1,0 +1,225 @@
+-- No end of a port resets itself for a slot where nobody forged: what it works on is in the peer's ring.
+use Rattle.std.proofs.Common.{◌≡◌, ℕ, ◌+◌, ◌%◌, ◌<◌, Bool, true, false, Option, Some, None, List, refl, sym, ap, ◌∙◌, subst, arith}
+use Rattle.std.specs.Prelude.{◌&&◌, is_some}
+use Rattle.ldc_queue.specs.declared.end.ChannelState.{ChannelState}
+use Rattle.ldc_queue.specs.declared.end.ChannelState.TheVariants.{Up}
+use Rattle.ldc_queue.specs.declared.end.End.{End}
+use Rattle.ldc_queue.specs.declared.end.End.TheVariants.{A, B}
+use Rattle.ldc_queue.specs.Wire.{peer_of, state_of}
+use Rattle.cookie_copy.specs.Faults.{is_up}
+use Rattle.runs.specs.Lawful.{Lawful, log_of}
+use Rattle.runs.specs.Run.{Run}
+use Rattle.channel_model.specs.TranscriptLog.{transcript_of}
+use Rattle.vio_tag.specs.declared.cause.Cause.{Cause}
+use Rattle.vnet_msg.specs.Frames.{memory_pages}
+use Rattle.port_model.proofs.Refuting.{none_some, true_false}
+use Rattle.port_model.proofs.Ruling.{says_of}
+use Rattle.port_model.specs.EndLog.{SessionLog, said_in, said_kind}
+use Rattle.port_model.specs.Fetching.{fetched}
+use Rattle.port_model.specs.FramesStand.{CountsStand}
+use Rattle.port_model.specs.NetEndRule.{Announces, Fetches, Idles, Joins, NetRule, Publishes, Puts, Replies, Says, Takes, Tells, port_rule}
+use Rattle.port_model.specs.NetEndState.{Activity, NetEndState, NetSession}
+use Rattle.port_model.specs.NetEndStep.{Blocked, FetchFails, Frame, Idle, Joined, NetEndStep, NetFails, NetLeft, Published, Reset, Sent, Took}
+use Rattle.port_model.specs.NetEvent.{Asked, CalmTick, Declines, Gives as GivesFrame, Injects, Joins as JoinsGroup, Loses, NetEvent, Pokes, Steps, Ticked}
+use Rattle.port_model.specs.NetLaneState.{IsNetShape, NetLaneState, NetShape, memory_of, net_end, reach_of, role_at, seen_at}
+use Rattle.port_model.specs.NetLaneStep.{NetLaneStep}
+use Rattle.port_model.specs.PortLog.{PortLog, after, log_of_end, no_events}
+use Rattle.port_model.specs.PortState.{OnLane, PortEvent, PortState, PortStep, Receives, before, fresh_port}
+use Rattle.port_model.specs.RuleFacts.{IfOpen}
+use Rattle.port_model.specs.Spoken.{GroupsAck, GroupsInfo, Other, RangeAck, RangeInfo, Spoken, spoken}
+use Rattle.port_laws.specs.Counted.{ActiveCounts, LastCounts, unsaid}
+use Rattle.port_laws.specs.NetCore.{lane_core}
+use Rattle.port_laws.specs.NoSlotReset.{NoSlotResetAt}
+use Rattle.port_laws.specs.RingHolds.{RingHolds}
+use Rattle.port_laws.specs.RingStands.{RingIn, taken_by, taken_in, taken_of}
+use Rattle.port_laws.specs.WaysStand.{Comes, Goes, Rests, Way, WaysStand, Works, acks_in, infos_in, or_new}
+use Rattle.port_laws.proofs.EndCounting.{OpenCounts, empty_unsaid, left_seen, open_counts}
+use Rattle.port_laws.proofs.MemoryRoom.{power_room}
+use Rattle.port_laws.proofs.PortCounts.{queue_of}
+use Rattle.port_laws.proofs.PortRuns.{lawful_along}
+use Rattle.port_laws.proofs.PortTalks.{PeerOpen, many_open}
+use Rattle.port_laws.proofs.RingActs.{Finds, core_open, end_reaches, peer_ring_of, place_is, spoke_of}
+use Rattle.port_laws.proofs.RingFinds.{Finding, no_fail, ring_finds}
+use Rattle.port_laws.proofs.RingRuns.{finds_before}
+use Rattle.port_laws.proofs.RuleFrames.{end_acts, end_counted, end_stood}
+use Rattle.port_laws.proofs.RuleRest.{up_state}
+use Rattle.port_laws.proofs.SessionsHeard.{spoke_some}
+use Rattle.port_laws.proofs.TookCounts.{free_empty}
+use Rattle.port_laws.proofs.WayRuns.{KeptWays, port_ways, ways_before}
+
+-- WHAT ITS COPIES WORK ON
+reach_memory : (e : End) (u : NetLaneState) → memory_of (peer_of e) u ≡ (reach_of e u).memory
+reach_memory A u = refl
+reach_memory B u = refl
+
+reach_both : (e : End) (u : NetLaneState) → state_of e u.wire.wire ≡ Up → state_of (peer_of e) u.wire.wire ≡ Up → (reach_of e u).both ≡ true
+reach_both A u one two = ap (λ (x : ChannelState). is_up x && is_up u.wire.wire.end_b) one ∙ ap is_up two
+reach_both B u one two = ap (λ (x : ChannelState). is_up x && is_up u.wire.wire.end_b) two ∙ ap is_up one
+
+seen_up : (e : End) (u : NetLaneState) → state_of e u.wire.wire ≡ (seen_at e u).state
+seen_up A u = refl
+seen_up B u = refl
+
+-- WHAT IS ON THE WAY while an INFO is in work
+record Working (v w : SessionLog) : Type 0 where
+  asking : v.asking ≡ true
+  answered : w.answered ≡ v.seen
+
+working : (slots : ℕ) (v w : SessionLog) (infos acks : List (List ℕ)) → w.asked ≡ w.acks + 1 → Way slots v w infos acks → Working v w
+working slots v w infos acks busy (Rests asking asked acked answered taken none no_ack) = absurd (omega (arith, busy, asked, acked))
+working slots v w infos acks busy (Goes info asking asked acked answered taken some seq start end no_ack) = absurd (omega (arith, busy, acked))
+working slots v w infos acks busy (Works asking asked active answered none no_ack) = record { asking = asking; answered = answered }
+working slots v w infos acks busy (Comes ack asking asked acked answered some none one_ack start end) = absurd (omega (arith, busy, acked))
+
+up_both : (e : End) (u : NetLaneState) → state_of e u.wire.wire ≡ Up → state_of (peer_of e) u.wire.wire ≡ Up → (u.wire.wire.end_a ≡ Up) × (u.wire.wire.end_b ≡ Up)
+up_both A u one two = (one, two)
+up_both B u one two = (two, one)
+
+works_at : (e : End) (u : NetLaneState) (l : PortLog) (v w : SessionLog) → WaysStand u l → state_of e u.wire.wire ≡ Up → state_of (peer_of e) u.wire.wire ≡ Up → (log_of_end e l).session ≡ Some w
+    → (log_of_end (peer_of e) l).session ≡ Some v → w.asked ≡ w.acks + 1 → Working v w
+works_at A u l v w ways up other mine theirs busy =
+    let between = ways up other (λ none. none_some w (sym none ∙ mine)) in
+    working l.shape.slots v w (infos_in between.coming) (acks_in between.going) busy
+    (subst (λ (o : Option SessionLog). Way l.shape.slots v (or_new o) (infos_in between.coming) (acks_in between.going)) mine
+    (subst (λ (o : Option SessionLog). Way l.shape.slots (or_new o) (or_new l.guest.session) (infos_in between.coming) (acks_in between.going)) theirs between.theirs))
+works_at B u l v w ways up other mine theirs busy =
+    let between = ways other up (λ none. none_some v (sym none ∙ theirs)) in
+    working l.shape.slots v w (infos_in between.going) (acks_in between.coming) busy
+    (subst (λ (o : Option SessionLog). Way l.shape.slots v (or_new o) (infos_in between.going) (acks_in between.coming)) mine
+    (subst (λ (o : Option SessionLog). Way l.shape.slots (or_new o) (or_new l.hub.session) (infos_in between.going) (acks_in between.coming)) theirs between.mine))
+
+-- what an end holds to say leaves an INFO unanswered
+kind_asking : (k : Spoken) (message : List ℕ) (v : SessionLog) → v.asking ≡ true → (said_kind k message v).asking ≡ true
+kind_asking RangeInfo message v is = refl
+kind_asking RangeAck message v is = is
+kind_asking GroupsInfo message v is = is
+kind_asking GroupsAck message v is = is
+kind_asking Other message v is = is
+
+left_asking : (left : Option (List ℕ)) (v : SessionLog) → v.asking ≡ true → (said_in left v).asking ≡ true
+left_asking None v is = is
+left_asking (Some message) v is = kind_asking (spoken message) message v is
+
+-- A FETCH
+slot_reset : (shape : NetShape) (e : End) (u : PortState) (l : PortLog) (cause : Cause) (lost : ℕ) (left : NetLeft) → Finds shape u l → WaysStand u.lane l
+    → NetEndStep (role_at e) (net_end e u.lane) (seen_at e u.lane) (memory_of e u.lane) (reach_of e u.lane) (Reset cause None lost) left → ⊥
+slot_reset shape e u l cause lost left finds ways step = by_rule (port_rule (role_at e) s (seen_at e u.lane)) refl step.0
+  where
+    s : NetEndState
+    s = net_end e u.lane
+
+    peer : NetEndState
+    peer = net_end (peer_of e) u.lane
+
+    at_peer : (p q : NetSession) (activity : Activity) → port_rule (role_at e) s (seen_at e u.lane) ≡ Fetches p activity → peer.session ≡ Some q → state_of e u.lane.wire.wire ≡ Up
+        → state_of (peer_of e) u.lane.wire.wire ≡ Up → FetchFails (fetched s (reach_of e u.lane) p.place) activity p.place cause → ⊥
+    at_peer p q activity rule is_q up other fails =
+        let says = says_of (role_at e) s (seen_at e u.lane) (Fetches p activity) rule in
+        let acting = end_acts shape e u l finds.ready says.0.free.up in
+        let empty = free_empty (role_at e) s (transcript_of e l.transcript) acting.ends says.0.free.quiet in
+        let here : OpenCounts (role_at e) shape.slots s.groups (log_of_end e l).published (log_of_end e l).gone None s.link.begun p (log_of_end e l).session =
+        subst (λ (x : Option (List ℕ)). OpenCounts (role_at e) shape.slots s.groups (log_of_end e l).published (log_of_end e l).gone x s.link.begun p (log_of_end e l).session) (empty_unsaid s empty)
+        (open_counts (role_at e) shape.slots (queue_of e u) s (log_of_end e l) p (end_counted shape e u l finds.ready) says.0.session) in
+        let w : SessionLog = here.of_log in
+        let busy : ActiveCounts shape.slots w (Some activity) = subst (ActiveCounts shape.slots w) says.1 here.counts.peer.active in
+        let there = open_counts (role_at (peer_of e)) shape.slots (queue_of (peer_of e) u) peer (log_of_end (peer_of e) l) q (end_counted shape (peer_of e) u l finds.ready) is_q in
+        let v : SessionLog = there.of_log in
+        let work : Working v w = works_at e u.lane l v w ways up other here.is there.is busy.0 in
+        let stood : CountsStand peer q = subst (λ (o : Option NetSession). IfOpen o (CountsStand peer)) is_q (end_stood shape (peer_of e) u l finds.ready).session in
+        let some : q.seen < q.published = stood.some (sym there.counts.ring.asking ∙ left_asking (unsaid peer) v work.asking) in
+        let seen : q.seen ≡ v.seen = sym there.counts.ring.seen ∙ left_seen (unsaid peer) v in
+        let slots : l.shape.slots ≡ shape.slots = ap (λ (z : NetShape). z.slots) finds.ready.shape_is in
+        let taken : taken_of e u.lane l ≡ w.taken =
+        ap (λ (x : ChannelState). taken_by x (log_of_end e l).session) up ∙ ap taken_in here.is in
+        let ring : RingIn l.shape.slots (taken_of e u.lane l) peer.session peer.frames (memory_of (peer_of e) u.lane) = peer_ring_of e u.lane l finds.rings other in
+        let ring_q : RingHolds l.shape.slots q.seen (taken_of e u.lane l) q.published peer.frames (memory_of (peer_of e) u.lane) =
+        subst (λ (o : Option NetSession). RingIn l.shape.slots (taken_of e u.lane l) o peer.frames (memory_of (peer_of e) u.lane)) is_q ring in
+        let holds : RingHolds shape.slots q.seen w.taken q.published peer.frames (reach_of e u.lane).memory =
+        subst (λ (x : List ℕ). RingHolds shape.slots q.seen w.taken q.published peer.frames x) (reach_memory e u.lane)
+        (subst (λ (n : ℕ). RingHolds shape.slots q.seen n q.published peer.frames (memory_of (peer_of e) u.lane)) taken
+        (subst (λ (n : ℕ). RingHolds n q.seen (taken_of e u.lane l) q.published peer.frames (memory_of (peer_of e) u.lane)) slots ring_q)) in
+        let sound = finds.ready.sound in
+        let enough = power_room sound.slots.0 shape.slots sound.slots.1 sound.some_slots sound.most_slots in
+        let one = sound.some_slots in
+        let finding : Finding w.taken q.published (fetched s (reach_of e u.lane) (w.taken % shape.slots)) =
+        ring_finds s (reach_of e u.lane) shape.slots (memory_pages shape.slots) q.seen w.taken q.published peer.frames
+        (end_reaches shape e u l finds (ap is_some says.0.session) (ap is_some is_q)) (omega (arith, one)) (reach_both e u.lane up other) enough holds in
+        let place : p.place ≡ w.taken % shape.slots =
+        place_is (role_at e) shape.slots (queue_of e u) s (log_of_end e l) p (end_counted shape e u l finds.ready) says.0.session ∙ ap (λ (o : Option SessionLog). taken_in o % shape.slots) here.is in
+        let less : activity.last ≡ None → w.taken < q.published = λ none.
+        let rests : w.answered ≡ w.taken = subst (LastCounts shape.slots w) none busy.2 in
+        let answered = work.answered in
+        omega (arith, rests, answered, seen, some) in
+        no_fail w.taken q.published (fetched s (reach_of e u.lane) (w.taken % shape.slots)) activity p.place cause finding less
+        (subst (λ (n : ℕ). FetchFails (fetched s (reach_of e u.lane) n) activity p.place cause) place fails)
+
+    at_work : (p : NetSession) (activity : Activity) → port_rule (role_at e) s (seen_at e u.lane) ≡ Fetches p activity
+        → FetchFails (fetched s (reach_of e u.lane) p.place) activity p.place cause → ⊥
+    at_work p activity rule fails =
+        let says = says_of (role_at e) s (seen_at e u.lane) (Fetches p activity) rule in
+        let up : state_of e u.lane.wire.wire ≡ Up = seen_up e u.lane ∙ up_state (seen_at e u.lane).state says.0.free.up in
+        let acting = end_acts shape e u l finds.ready says.0.free.up in
+        let empty = free_empty (role_at e) s (transcript_of e l.transcript) acting.ends says.0.free.quiet in
+        let here : OpenCounts (role_at e) shape.slots s.groups (log_of_end e l).published (log_of_end e l).gone None s.link.begun p (log_of_end e l).session =
+        subst (λ (x : Option (List ℕ)). OpenCounts (role_at e) shape.slots s.groups (log_of_end e l).published (log_of_end e l).gone x s.link.begun p (log_of_end e l).session) (empty_unsaid s empty)
+        (open_counts (role_at e) shape.slots (queue_of e u) s (log_of_end e l) p (end_counted shape e u l finds.ready) says.0.session) in
+        let busy : ActiveCounts shape.slots here.of_log (Some activity) = subst (ActiveCounts shape.slots here.of_log) says.1 here.counts.peer.active in
+        let asked : here.of_log.asked ≡ here.of_log.acks + 1 = busy.0 in
+        let spoke = spoke_some (role_at e) (transcript_of e l.transcript) (log_of_end e l).session here.of_log here.is (spoke_of e u.lane l finds.rings) in
+        let there : PeerOpen e (lane_core u.lane) = many_open shape (lane_core u.lane) l e finds.talks up (spoke.many (omega (arith, asked))) in
+        by_peer p activity rule fails up there peer.session refl
+      where
+        by_peer : (p : NetSession) (activity : Activity) → port_rule (role_at e) s (seen_at e u.lane) ≡ Fetches p activity
+            → FetchFails (fetched s (reach_of e u.lane) p.place) activity p.place cause → state_of e u.lane.wire.wire ≡ Up → PeerOpen e (lane_core u.lane) → (session : Option NetSession)
+            → peer.session ≡ session → ⊥
+        by_peer p activity rule fails up there None is = true_false (sym there.opened ∙ core_open (peer_of e) u.lane false (ap is_some is))
+        by_peer p activity rule fails up there (Some q) is = at_peer p q activity rule is up there.up fails
+
+    by_rule : (rule : NetRule) → port_rule (role_at e) s (seen_at e u.lane) ≡ rule → NetFails (role_at e) rule s (memory_of e u.lane) (reach_of e u.lane) cause None → ⊥
+    by_rule (Fetches p activity) is fails = at_work p activity is fails.1
+    by_rule (Takes packet) is fails = none_some packet fails.0
+    by_rule Joins is fails = fails
+    by_rule Puts is fails = fails
+    by_rule (Says message) is fails = fails
+    by_rule (Replies p reply) is fails = fails
+    by_rule (Tells p) is fails = fails
+    by_rule (Publishes p frame) is fails = fails
+    by_rule (Announces p) is fails = fails
+    by_rule Idles is fails = fails
+
+-- ALONG EVERY RUN
+by_forged : (b : Bool) → (b ≡ false → ⊥) → b ≡ true
+by_forged true never = refl
+by_forged false never = absurd (never refl)
+
+slots_event : (shape : NetShape) (s : PortState) (l : PortLog) (event : NetEvent) (t : PortState) → IsNetShape shape → KeptWays shape s l → NetLaneStep (before event s).lane event t.lane
+    → NoSlotResetAt l (OnLane event)
+slots_event shape s l (Steps e (Reset cause None lost)) t is had step =
+    by_forged l.wire.forged (λ clean.
+    slot_reset shape e (before (Steps e (Reset cause None lost)) s) l cause lost step.left (finds_before shape s l (Steps e (Reset cause None lost)) is had.kept clean)
+    (ways_before (Steps e (Reset cause None lost)) s l (had.ways clean)) step.step)
+slots_event shape s l (Steps e (Reset cause (Some packet) lost)) t is had step = tt
+slots_event shape s l (Steps e Idle) t is had step = tt
+slots_event shape s l (Steps e Blocked) t is had step = tt
+slots_event shape s l (Steps e (Published id)) t is had step = tt
+slots_event shape s l (Steps e (Frame frame)) t is had step = tt
+slots_event shape s l (Steps e (Took packet opens)) t is had step = tt
+slots_event shape s l (Steps e (Sent packet opens)) t is had step = tt
+slots_event shape s l (Steps e (Joined lost)) t is had step = tt
+slots_event shape s l (Asked e lost) t is had step = tt
+slots_event shape s l (Ticked queued lost) t is had step = tt
+slots_event shape s l (CalmTick queued) t is had step = tt
+slots_event shape s l (GivesFrame e given) t is had step = tt
+slots_event shape s l (JoinsGroup joining) t is had step = tt
+slots_event shape s l (Loses e packet) t is had step = tt
+slots_event shape s l (Injects e packet) t is had step = tt
+slots_event shape s l (Pokes e at bytes) t is had step = tt
+slots_event shape s l (Declines d) t is had step = tt
+
+pub port_slots : (shape : NetShape) (events : List PortEvent) (s : PortState) → IsNetShape shape → Run PortStep (fresh_port shape) events s → Lawful NoSlotResetAt after (no_events shape) events
+port_slots shape events s is run = lawful_along shape NoSlotResetAt here events s run
+  where
+    here : (events : List PortEvent) (s : PortState) (event : PortEvent) (t : PortState) → Run PortStep (fresh_port shape) events s → PortStep s event t
+        → NoSlotResetAt (log_of after (no_events shape) events) event
+    here events s (OnLane event) t run step = slots_event shape s (log_of after (no_events shape) events) event t is (port_ways shape events s is run) step.1
+    here events s (Receives frame) t run step = tt

@@ -1,0 +1,457 @@
+-- Along every run of a port that nobody forged, what is on the way between its ends agrees with what both count.
+use Rattle.std.proofs.Common.{◌≡◌, ◌≢◌, ℕ, ◌+◌, ◌≤◌, Bool, true, false, Option, Some, None, List, [], ◌∷◌, length, refl, sym, ap, ◌∙◌, subst, arith}
+use Rattle.std.specs.Prelude.{is_some, ⊤}
+use Rattle.ldc_link.specs.declared.phase.Role.TheVariants.{Initiator, Responder}
+use Rattle.ldc_queue.specs.declared.end.ChannelState.{ChannelState}
+use Rattle.ldc_queue.specs.declared.end.ChannelState.TheVariants.{Up}
+use Rattle.ldc_queue.specs.declared.end.End.{End}
+use Rattle.ldc_queue.specs.declared.end.End.TheVariants.{A, B}
+use Rattle.ldc_queue.specs.OneStream.{IsFront}
+use Rattle.ldc_queue.specs.Transcript.{Heard, Said, Turn}
+use Rattle.ldc_queue.specs.Wire.{peer_behind, peer_of, state_of}
+use Rattle.runs.specs.Lawful.{log_of, run_lawful}
+use Rattle.runs.specs.Run.{Run}
+use Rattle.channel_model.specs.Messages.{ended_by, opening_sid}
+use Rattle.channel_model.specs.Sayings.{half_said, heard, said}
+use Rattle.channel_model.specs.TranscriptLog.{transcript_of}
+use Rattle.channel_model.specs.WireAt.{IsUp}
+use Rattle.channel_model.specs.WireLog.{WireLog}
+use Rattle.channel_laws.specs.Sides.{sides_of, swapped}
+use Rattle.port_model.proofs.Refuting.{none_some, true_false}
+use Rattle.port_model.specs.EndLog.{EndLog, SessionLog, change, opened_log}
+use Rattle.port_model.specs.NetEndState.{NetSession}
+use Rattle.port_model.specs.NetEndStep.{BadLength, Blocked, Frame, Full, Given, Idle, Joined, NetAnswer, NetLeft, Published, Queued, Reset, Sent, Took}
+use Rattle.port_model.specs.NetEvent.{Asked, CalmTick, Declines, Gives, Injects, Joins, Loses, NetEvent, Pokes, Steps, Ticked, on_wire}
+use Rattle.port_model.specs.NetLaneState.{IsNetShape, NetLaneState, NetShape, memory_of, net_end, reach_of, role_at, seen_at}
+use Rattle.port_model.specs.NetLaneStep.{EndSteps, NetLaneStep, moved_on}
+use Rattle.port_model.specs.PortLog.{PortLog, after, after_answer, after_given, log_of_end, no_events}
+use Rattle.port_model.specs.PortState.{OfQueue, OnLane, PortEvent, PortState, PortStep, Receives, before, fresh_port}
+use Rattle.port_laws.specs.Counted.{unsaid}
+use Rattle.port_laws.specs.NetCore.{lane_core}
+use Rattle.port_laws.specs.RingHolds.{RingHolds}
+use Rattle.port_laws.specs.RingStands.{RingIn, taken_by, taken_in}
+use Rattle.port_laws.specs.WaysStand.{Ways, WaysStand, or_new}
+use Rattle.port_laws.proofs.EndCounting.{left_seen}
+use Rattle.port_laws.proofs.PortCounts.{PortCounts, before_queue, before_wire, queue_of}
+use Rattle.port_laws.proofs.PortTalks.{PortTalks, answers_of, asks_of, port_talks, six_open, up_open}
+use Rattle.port_laws.proofs.PutCounts.{SaidRight}
+use Rattle.port_laws.proofs.RingActs.{Acts, Finds, OpenBoth, acting_at, acts_shut, acts_up_at, open_both, ring_of_end, step_busy, step_now, turned_at}
+use Rattle.port_laws.proofs.RingEvents.{Active, Goes, peer_up, theirs_now, turns_at, turns_now, wire_now}
+use Rattle.port_laws.proofs.RingRuns.{Kept, finds_before, kept_step, fresh_kept, was_clean}
+use Rattle.port_laws.proofs.RingSteps.{opens_by}
+use Rattle.port_laws.proofs.RuleFrames.{both_open, end_acts, end_counted}
+use Rattle.port_laws.proofs.SessionsHeard.{grown_most, heard_grown, said_grown}
+use Rattle.port_laws.proofs.StepCounts.{sent_right}
+use Rattle.port_laws.proofs.WayActs.{AnswerFits, ClosedFits, closed_acts, first_ways, open_acts}
+use Rattle.port_laws.proofs.WayMoves.{Plain, RightIn, swap_ways}
+use Rattle.port_laws.proofs.WayPlain.{BothPlain, closed_plain, open_heard, open_said}
+
+-- THE FRAMES THAT THE PEER TOOK are at most a turn of the ring
+new_taken : (log : Option SessionLog) → (or_new log).taken ≡ taken_in log
+new_taken None = refl
+new_taken (Some w) = refl
+
+turn_of : (slots taken seen : ℕ) (session : Option NetSession) (frames : List (List ℕ)) (memory : List ℕ) (p : NetSession) → session ≡ Some p → p.seen ≡ seen → RingIn slots taken session frames memory
+    → taken ≤ seen + slots
+turn_of slots taken seen session frames memory p is same ring =
+    let here : RingHolds slots p.seen taken p.published frames memory = subst (λ (o : Option NetSession). RingIn slots taken o frames memory) is ring in
+    let first = here.taken_first in
+    let turn = here.turn in
+    omega (arith, first, turn, same)
+
+turn_at : (shape : NetShape) (e : End) (u : PortState) (l : PortLog) (v : SessionLog) → Finds shape u l → state_of e u.lane.wire.wire ≡ Up → state_of (peer_of e) u.lane.wire.wire ≡ Up
+    → (log_of_end e l).session ≡ Some v → (or_new (log_of_end (peer_of e) l).session).taken ≤ v.seen + l.shape.slots
+turn_at shape e u l v finds up other is =
+    let both = both_open (role_at e) shape.slots (queue_of e u) (net_end e u.lane) (log_of_end e l) v (end_counted shape e u l finds.ready) is in
+    let log : Option SessionLog = (log_of_end (peer_of e) l).session in
+    let seen : both.p.seen ≡ v.seen =
+    sym both.open_is.counts.ring.seen ∙ left_seen (unsaid (net_end e u.lane)) both.open_is.of_log ∙ ap (λ (x : SessionLog). x.seen) both.same in
+    let taken : taken_by (state_of (peer_of e) u.lane.wire.wire) log ≡ taken_in log = ap (λ (x : ChannelState). taken_by x log) other in
+    let turn = turn_of l.shape.slots (taken_by (state_of (peer_of e) u.lane.wire.wire) log) v.seen (net_end e u.lane).session (net_end e u.lane).frames (memory_of e u.lane) both.p both.is seen
+    (ring_of_end e u.lane l finds.rings up) in
+    omega (arith, turn, taken, new_taken log)
+
+-- WHAT AN ANSWER FITS in a session
+right_in : (slots : ℕ) (groups : List (List ℕ)) (l : EndLog) (v : SessionLog) (ended : Option (List ℕ)) → l.session ≡ Some v
+    → SaidRight slots groups l ended → RightIn slots groups v ended
+right_in slots groups l v None is right = tt
+right_in slots groups l v (Some message) is right = right message v refl is
+
+not_opens : (opens : Bool) → (opens ≡ true → ⊥) → opens ≡ false
+not_opens false not = refl
+not_opens true not = absurd (not refl)
+
+fits_at : (shape : NetShape) (e : End) (u t : PortState) (l : PortLog) (answer : NetAnswer) (left : NetLeft) (v : SessionLog) → Acts shape e u t l answer left → state_of (peer_of e) u.lane.wire.wire ≡ Up
+    → (log_of_end e l).session ≡ Some v → IsFront (heard (turns_now answer (transcript_of e l.transcript))) (said (transcript_of (peer_of e) l.transcript))
+    → AnswerFits l.shape.slots (transcript_of e l.transcript) (transcript_of (peer_of e) l.transcript) v (or_new (log_of_end (peer_of e) l).session) answer
+fits_at shape e u t l answer left v acts other is front = by_answer answer acts front
+  where
+    never : (given : NetAnswer) → Acts shape e u t l given left → opens_by given ≡ true → ⊥
+    never given moves opened =
+        let before = open_both (role_at e) shape.slots (queue_of e u) (net_end e u.lane) (log_of_end e l) (end_counted shape e u l moves.finds.ready) in
+        none_some v (sym (before.none (acts_shut shape e u t l given left moves opened)) ∙ is)
+
+    by_answer : (given : NetAnswer) → Acts shape e u t l given left → IsFront (heard (turns_now given (transcript_of e l.transcript))) (said (transcript_of (peer_of e) l.transcript))
+        → AnswerFits l.shape.slots (transcript_of e l.transcript) (transcript_of (peer_of e) l.transcript) v (or_new (log_of_end (peer_of e) l).session) given
+    by_answer (Sent packet opens) moves ahead =
+        let acting = acting_at shape e u l moves.finds (acts_up_at shape e u t l (Sent packet opens) left moves tt) in
+        let right = sent_right (role_at e) shape.slots (queue_of e u) (net_end e u.lane) (log_of_end e l) (transcript_of e l.transcript) (seen_at e u.lane) (memory_of e u.lane) (reach_of e u.lane) packet opens
+        left acting moves.step in
+        let slots : shape.slots ≡ l.shape.slots = sym (ap (λ (z : NetShape). z.slots) moves.finds.ready.shape_is) in (
+          not_opens opens (never (Sent packet opens) moves),
+          (
+            moves.step.held.groups,
+            subst (λ (n : ℕ). RightIn n moves.step.held.groups v (ended_by (half_said (transcript_of e l.transcript)) packet)) slots
+                (right_in shape.slots moves.step.held.groups (log_of_end e l) v (ended_by (half_said (transcript_of e l.transcript)) packet) is right),
+          ),
+        )
+    by_answer (Took packet opens) moves ahead = (
+      not_opens opens (never (Took packet opens) moves),
+      ahead,
+      turn_at shape e u l v moves.finds (acts_up_at shape e u t l (Took packet opens) left moves tt) other is,
+    )
+    by_answer (Frame frame) moves ahead =
+        let busy = step_busy (role_at e) shape.slots (queue_of e u) (net_end e u.lane) (log_of_end e l) (transcript_of e l.transcript) (seen_at e u.lane) (memory_of e u.lane) (reach_of e u.lane) (Frame frame)
+        left (λ up. end_acts shape e u l moves.finds.ready up) moves.step in
+        subst (Active (Frame frame)) is busy.active
+    by_answer Blocked moves ahead = tt
+    by_answer Idle moves ahead = tt
+    by_answer (Published id) moves ahead = tt
+    by_answer (Joined lost) moves ahead = tt
+    by_answer (Reset cause packet lost) moves ahead = tt
+
+goes_theirs : (answer : NetAnswer) (x y : ChannelState) → Goes answer → theirs_now answer x y ≡ y
+goes_theirs (Took packet opens) x y goes = refl
+goes_theirs (Sent packet opens) x y goes = refl
+goes_theirs Blocked x y goes = refl
+goes_theirs Idle x y goes = refl
+goes_theirs (Published id) x y goes = refl
+goes_theirs (Frame frame) x y goes = refl
+goes_theirs (Joined lost) x y goes = absurd goes
+goes_theirs (Reset cause packet lost) x y goes = absurd goes
+
+peer_was_up : (shape : NetShape) (e : End) (u t : PortState) (l : PortLog) (answer : NetAnswer) (left : NetLeft) → Acts shape e u t l answer left → Goes answer → state_of (peer_of e) t.lane.wire.wire ≡ Up
+    → state_of (peer_of e) u.lane.wire.wire ≡ Up
+peer_was_up shape e u t l answer left acts goes up =
+    sym (ap (λ (w : WireLog). state_of (peer_of e) w.wire) acts.now.wire ∙ (wire_now e u.lane answer).theirs
+    ∙ goes_theirs answer (state_of e u.lane.wire.wire) (state_of (peer_of e) u.lane.wire.wire) goes) ∙ up
+
+-- A STEP OF THE GUEST
+guest_goes : (slots : ℕ) (turns : List Turn) (answer : NetAnswer) (l : EndLog) → (after_answer slots turns answer l).session ≢ None → Goes answer
+guest_goes slots turns (Joined lost) l some = absurd (some refl)
+guest_goes slots turns (Reset cause packet lost) l some = absurd (some refl)
+guest_goes slots turns (Took packet opens) l some = tt
+guest_goes slots turns (Sent packet opens) l some = tt
+guest_goes slots turns Blocked l some = tt
+guest_goes slots turns Idle l some = tt
+guest_goes slots turns (Published id) l some = tt
+guest_goes slots turns (Frame frame) l some = tt
+
+none_change : (f : SessionLog → SessionLog) (log : Option SessionLog) → log ≡ None → change f log ≡ None
+none_change f log is = ap (change f) is
+
+-- it opens by a packet that it says
+opening_sent : (slots : ℕ) (turns : List Turn) (answer : NetAnswer) (l : EndLog) → l.session ≡ None → (after_answer slots turns answer l).session ≢ None → length (said turns) ≤ 5
+    → 6 ≤ length (said (turns_now answer turns)) → (packet : List ℕ) × (answer ≡ Sent packet true)
+opening_sent slots turns (Sent packet true) l none some few many = (packet, refl)
+opening_sent slots turns (Sent packet false) l none some few many = absurd (some (none_change _ l.session none))
+opening_sent slots turns (Took packet opens) l none some few many = absurd (omega (arith, few, many))
+opening_sent slots turns Blocked l none some few many = absurd (omega (arith, few, many))
+opening_sent slots turns Idle l none some few many = absurd (omega (arith, few, many))
+opening_sent slots turns (Published id) l none some few many = absurd (omega (arith, few, many))
+opening_sent slots turns (Frame frame) l none some few many = absurd (omega (arith, few, many))
+opening_sent slots turns (Joined lost) l none some few many = absurd (some refl)
+opening_sent slots turns (Reset cause packet lost) l none some few many = absurd (some refl)
+
+hub_none : (shape : NetShape) (u : PortState) (l : PortLog) → Finds shape u l → IsUp B u.lane.wire.wire → l.guest.session ≡ None → l.hub.session ≡ None
+hub_none shape u l finds up none = by_log l.hub.session refl
+  where
+    by_log : (log : Option SessionLog) → l.hub.session ≡ log → l.hub.session ≡ None
+    by_log None is = is
+    by_log (Some w) is =
+        let hub = open_both Responder shape.slots u.queue u.lane.hub l.hub finds.ready.hub in
+        let guest = open_both Initiator shape.slots [] u.lane.guest l.guest finds.ready.guest in
+        let some : l.hub.session ≢ None = λ gone. none_some w (sym gone ∙ is) in
+        let there = six_open shape (lane_core u.lane) l finds.talks up (hub.opened some) in
+        true_false (sym there ∙ guest.shut none)
+
+open_step : (shape : NetShape) (e : End) (u t : PortState) (l : PortLog) (answer : NetAnswer) (left : NetLeft) (v : SessionLog) → Acts shape e u t l answer left → Goes answer
+    → state_of (peer_of e) u.lane.wire.wire ≡ Up → (log_of_end e l).session ≡ Some v
+    → IsFront (heard (turns_now answer (transcript_of e l.transcript))) (said (transcript_of (peer_of e) l.transcript))
+    → Ways l.shape.slots (said (transcript_of e l.transcript)) (heard (transcript_of e l.transcript)) (said (transcript_of (peer_of e) l.transcript)) (heard (transcript_of (peer_of e) l.transcript))
+    v (or_new (log_of_end (peer_of e) l).session)
+    → Ways l.shape.slots (said (turns_now answer (transcript_of e l.transcript))) (heard (turns_now answer (transcript_of e l.transcript))) (said (transcript_of (peer_of e) l.transcript))
+    (heard (transcript_of (peer_of e) l.transcript)) (or_new (after_answer l.shape.slots (transcript_of e l.transcript) answer (log_of_end e l)).session) (or_new (log_of_end (peer_of e) l).session)
+open_step shape e u t l answer left v acts goes other is front ways =
+    let slots : l.shape.slots ≡ shape.slots = ap (λ (z : NetShape). z.slots) acts.finds.ready.shape_is in
+    let some = acts.finds.ready.sound.some_slots in
+    open_acts l.shape.slots (transcript_of e l.transcript) (transcript_of (peer_of e) l.transcript) answer (log_of_end e l) v (or_new (log_of_end (peer_of e) l).session) is (omega (arith, some, slots)) goes
+    (fits_at shape e u t l answer left v acts other is front) ways
+
+guest_first : (shape : NetShape) (u t : PortState) (l : PortLog) (packet : List ℕ) (left : NetLeft) → Acts shape A u t l (Sent packet true) left → IsUp A t.lane.wire.wire → IsUp B t.lane.wire.wire
+    → l.guest.session ≡ None
+    → Ways l.shape.slots (said (Said packet ∷ l.transcript.client)) (heard l.transcript.client) (said l.transcript.server) (heard l.transcript.server)
+    (opened_log (opening_sid (half_said l.transcript.client) packet)) (or_new l.hub.session)
+guest_first shape u t l packet left acts up other none =
+    let turned = turned_at shape A u t l (Sent packet true) left acts tt in
+    let few = turned.few none in
+    let then_ = after l (OnLane (Steps A (Sent packet true))) in
+    let up_before = acts_up_at shape A u t l (Sent packet true) left acts tt in
+    let other_before = peer_was_up shape A u t l (Sent packet true) left acts tt other in
+    let hub_shut : l.hub.session ≡ None = hub_none shape u l acts.finds other_before none in
+    let hub = open_both Responder shape.slots u.queue u.lane.hub l.hub acts.finds.ready.hub in
+    let guest = open_both Initiator shape.slots [] t.lane.guest then_.guest acts.counts.guest in
+    let opened : is_some t.lane.guest.session ≡ true = guest.opened (λ gone. none_some _ (sym gone)) in
+    let short : length (said (Said packet ∷ l.transcript.client)) ≤ 6 = omega (arith, few, grown_most _ (said l.transcript.client) (said (Said packet ∷ l.transcript.client)) (said_grown l.transcript.client packet)) in
+    let mine : Plain (said (Said packet ∷ l.transcript.client)) =
+    open_said (asks_of shape) (answers_of shape) Initiator (sides_of (lane_core t.lane) then_.transcript) (acts.talks.talks A) up opened short in
+    let theirs = closed_plain (asks_of shape) (answers_of shape) Responder (swapped (sides_of (lane_core u.lane) l.transcript)) (acts.finds.talks.talks B) other_before (hub.shut hub_shut) in
+    subst (λ (o : Option SessionLog). Ways l.shape.slots (said (Said packet ∷ l.transcript.client)) (heard l.transcript.client) (said l.transcript.server) (heard l.transcript.server)
+    (opened_log (opening_sid (half_said l.transcript.client) packet)) (or_new o)) (sym hub_shut)
+    (first_ways l.shape.slots (opening_sid (half_said l.transcript.client) packet) (Said packet ∷ l.transcript.client) l.transcript.server (acts.talks.front_a up) (acts.talks.front other) mine theirs.said_plain)
+
+guest_ways : (shape : NetShape) (u t : PortState) (l : PortLog) (answer : NetAnswer) (left : NetLeft) → Acts shape A u t l answer left → WaysStand u.lane l
+    → WaysStand t.lane (after l (OnLane (Steps A answer)))
+guest_ways shape u t l answer left acts ways up other some =
+    by_log l.guest.session refl (guest_goes l.shape.slots l.transcript.client answer l.guest some)
+  where
+    then_ : PortLog
+    then_ = after l (OnLane (Steps A answer))
+
+    Now : List Turn → List Turn → Option SessionLog → Type 0
+    Now client server log = Ways l.shape.slots (said client) (heard client) (said server) (heard server) (or_new log) (or_new l.hub.session)
+
+    as_now : Now (turns_now answer l.transcript.client) l.transcript.server (after_answer l.shape.slots l.transcript.client answer l.guest).session
+        → Ways l.shape.slots (said then_.transcript.client) (heard then_.transcript.client) (said then_.transcript.server) (heard then_.transcript.server) (or_new then_.guest.session) (or_new then_.hub.session)
+    as_now one =
+        let turns = turns_at A l.transcript answer in
+        subst (λ (xs : List Turn). Ways l.shape.slots (said xs) (heard xs) (said then_.transcript.server) (heard then_.transcript.server) (or_new then_.guest.session) (or_new then_.hub.session)) (sym turns.mine)
+        (subst (λ (xs : List Turn). Ways l.shape.slots (said (turns_now answer l.transcript.client)) (heard (turns_now answer l.transcript.client)) (said xs) (heard xs) (or_new then_.guest.session) (or_new then_.hub.session))
+        (sym turns.theirs) one)
+
+    front : IsFront (heard (turns_now answer l.transcript.client)) (said l.transcript.server)
+    front =
+        let turns = turns_at A l.transcript answer in
+        subst (λ (xs : List Turn). IsFront (heard xs) (said l.transcript.server)) turns.mine (subst (λ (xs : List Turn). IsFront (heard then_.transcript.client) (said xs)) turns.theirs (acts.talks.front_a up))
+
+    by_log : (log : Option SessionLog) → l.guest.session ≡ log → Goes answer
+        → Ways l.shape.slots (said then_.transcript.client) (heard then_.transcript.client) (said then_.transcript.server) (heard then_.transcript.server) (or_new then_.guest.session) (or_new then_.hub.session)
+    by_log (Some v) is goes =
+        let up_before = acts_up_at shape A u t l answer left acts goes in
+        let other_before = peer_was_up shape A u t l answer left acts goes other in
+        let was = ways up_before other_before (λ gone. none_some v (sym gone ∙ is)) in
+        as_now (open_step shape A u t l answer left v acts goes other_before is front (subst (Now l.transcript.client l.transcript.server) is was))
+    by_log None is goes =
+        let turned = turned_at shape A u t l answer left acts goes in
+        let opening = opening_sent l.shape.slots l.transcript.client answer l.guest is some (turned.few is) (turned.many some) in
+        let same : answer ≡ Sent opening.0 true = opening.1 in
+        as_now (subst (λ (given : NetAnswer). Now (turns_now given l.transcript.client) l.transcript.server (after_answer l.shape.slots l.transcript.client given l.guest).session) (sym same)
+        (guest_first shape u t l opening.0 left (subst (λ (given : NetAnswer). Acts shape A u t l given left) same acts) up other is))
+
+-- A STEP OF THE SWITCH'S END
+hub_plain : (shape : NetShape) (u t : PortState) (l : PortLog) (answer : NetAnswer) (left : NetLeft) → Acts shape B u t l answer left → Goes answer → IsUp B t.lane.wire.wire → l.hub.session ≡ None
+    → ClosedFits l.transcript.server l.transcript.client answer
+hub_plain shape u t l answer left acts goes up none = by_log then_.hub.session refl
+  where
+    then_ : PortLog
+    then_ = after l (OnLane (Steps B answer))
+
+    now : then_.transcript.server ≡ turns_now answer l.transcript.server
+    now = (turns_at B l.transcript answer).mine
+
+    theirs : then_.transcript.client ≡ l.transcript.client
+    theirs = (turns_at B l.transcript answer).theirs
+
+    front : IsFront (heard (turns_now answer l.transcript.server)) (said l.transcript.client)
+    front = subst (λ (xs : List Turn). IsFront (heard xs) (said l.transcript.client)) now (subst (λ (xs : List Turn). IsFront (heard then_.transcript.server) (said xs)) theirs (acts.talks.front up))
+
+    hub : OpenBoth t.lane.hub then_.hub
+    hub = open_both Responder shape.slots t.queue t.lane.hub then_.hub acts.counts.hub
+
+    hub_before : OpenBoth u.lane.hub l.hub
+    hub_before = open_both Responder shape.slots u.queue u.lane.hub l.hub acts.finds.ready.hub
+
+    up_before : IsUp B u.lane.wire.wire
+    up_before = acts_up_at shape B u t l answer left acts goes
+
+    was : BothPlain (said l.transcript.server) (heard l.transcript.server)
+    was = closed_plain (asks_of shape) (answers_of shape) Responder (swapped (sides_of (lane_core u.lane) l.transcript)) (acts.finds.talks.talks B) up_before (hub_before.shut none)
+
+    heard_short : (given : NetAnswer) → length (heard l.transcript.server) ≤ 5 → length (heard (turns_now given l.transcript.server)) ≤ 6
+    heard_short (Took packet opens) few = omega (arith, few, grown_most _ (heard l.transcript.server) (heard (Heard packet ∷ l.transcript.server)) (heard_grown l.transcript.server packet))
+    heard_short (Sent packet opens) few = omega (arith, few)
+    heard_short Blocked few = omega (arith, few)
+    heard_short Idle few = omega (arith, few)
+    heard_short (Published id) few = omega (arith, few)
+    heard_short (Frame frame) few = omega (arith, few)
+    heard_short (Joined lost) few = omega arith
+    heard_short (Reset cause packet lost) few = omega arith
+
+    said_same : (given : NetAnswer) → length (heard l.transcript.server) ≤ 5 → 6 ≤ length (heard (turns_now given l.transcript.server)) → Plain (said (turns_now given l.transcript.server))
+    said_same (Took packet opens) few many = was.said_plain
+    said_same (Sent packet opens) few many = absurd (omega (arith, few, many))
+    said_same Blocked few many = was.said_plain
+    said_same Idle few many = was.said_plain
+    said_same (Published id) few many = was.said_plain
+    said_same (Frame frame) few many = was.said_plain
+    said_same (Joined lost) few many = absurd (omega (arith, many))
+    said_same (Reset cause packet lost) few many = absurd (omega (arith, many))
+
+    by_log : (log : Option SessionLog) → then_.hub.session ≡ log → ClosedFits l.transcript.server l.transcript.client answer
+    by_log None is =
+        let plain = closed_plain (asks_of shape) (answers_of shape) Responder (swapped (sides_of (lane_core t.lane) then_.transcript)) (acts.talks.talks B) up (hub.shut is) in
+        record {
+          said_plain = subst (λ (xs : List Turn). Plain (said xs)) now plain.said_plain;
+          heard_plain = subst (λ (xs : List Turn). Plain (heard xs)) now plain.heard_plain;
+          front = front;
+        }
+    by_log (Some w) is =
+        let some : then_.hub.session ≢ None = λ gone. none_some w (sym gone ∙ is) in
+        let turned = turned_at shape B u t l answer left acts goes in
+        let few = turned.few none in
+        let many = turned.many some in
+        let short : length (heard then_.transcript.server) ≤ 6 = subst (λ (xs : List Turn). length (heard xs) ≤ 6) (sym now) (heard_short answer few) in
+        let plain = open_heard (asks_of shape) (answers_of shape) Responder (swapped (sides_of (lane_core t.lane) then_.transcript)) (acts.talks.talks B) up (hub.opened some) short in
+        record { said_plain = said_same answer few many; heard_plain = subst (λ (xs : List Turn). Plain (heard xs)) now plain; front = front }
+
+-- an end in session has a peer that is up
+guest_open_up : (shape : NetShape) (u : PortState) (l : PortLog) → Finds shape u l → IsUp A u.lane.wire.wire → l.guest.session ≢ None → IsUp B u.lane.wire.wire
+guest_open_up shape u l finds up some =
+    let guest = open_both Initiator shape.slots [] u.lane.guest l.guest finds.ready.guest in up_open shape (lane_core u.lane) l finds.talks up (guest.opened some)
+
+hub_goes : (answer : NetAnswer) (x y : ChannelState) → (y ≡ Up → x ≡ Up) → theirs_now answer x y ≡ Up → Goes answer
+hub_goes (Joined lost) x y means up = let both = peer_up x y up in absurd (both.0 (means both.1))
+hub_goes (Reset cause packet lost) x y means up = let both = peer_up x y up in absurd (both.0 (means both.1))
+hub_goes (Took packet opens) x y means up = tt
+hub_goes (Sent packet opens) x y means up = tt
+hub_goes Blocked x y means up = tt
+hub_goes Idle x y means up = tt
+hub_goes (Published id) x y means up = tt
+hub_goes (Frame frame) x y means up = tt
+
+hub_ways : (shape : NetShape) (u t : PortState) (l : PortLog) (answer : NetAnswer) (left : NetLeft) → Acts shape B u t l answer left → WaysStand u.lane l
+    → WaysStand t.lane (after l (OnLane (Steps B answer)))
+hub_ways shape u t l answer left acts ways other up some = by_log l.hub.session refl
+  where
+    then_ : PortLog
+    then_ = after l (OnLane (Steps B answer))
+
+    theirs : theirs_now answer u.lane.wire.wire.end_b u.lane.wire.wire.end_a ≡ Up
+    theirs = sym (ap (λ (w : WireLog). w.wire.end_a) acts.now.wire ∙ (wire_now B u.lane answer).theirs) ∙ other
+
+    goes : Goes answer
+    goes = hub_goes answer u.lane.wire.wire.end_b u.lane.wire.wire.end_a (λ guest_up. guest_open_up shape u l acts.finds guest_up some) theirs
+
+    other_before : IsUp A u.lane.wire.wire
+    other_before = peer_was_up shape B u t l answer left acts goes other
+
+    up_before : IsUp B u.lane.wire.wire
+    up_before = acts_up_at shape B u t l answer left acts goes
+
+    now : then_.transcript.server ≡ turns_now answer l.transcript.server
+    now = (turns_at B l.transcript answer).mine
+
+    same : then_.transcript.client ≡ l.transcript.client
+    same = (turns_at B l.transcript answer).theirs
+
+    front : IsFront (heard (turns_now answer l.transcript.server)) (said l.transcript.client)
+    front = subst (λ (xs : List Turn). IsFront (heard xs) (said l.transcript.client)) now (subst (λ (xs : List Turn). IsFront (heard then_.transcript.server) (said xs)) same (acts.talks.front up))
+
+    v : SessionLog
+    v = or_new l.guest.session
+
+    Now : List Turn → List Turn → Option SessionLog → Type 0
+    Now client server log = Ways l.shape.slots (said server) (heard server) (said client) (heard client) (or_new log) v
+
+    was : Now l.transcript.client l.transcript.server l.hub.session
+    was = swap_ways l.shape.slots (said l.transcript.client) (heard l.transcript.client) (said l.transcript.server) (heard l.transcript.server) v (or_new l.hub.session) (ways other_before up_before some)
+
+    as_now : Now l.transcript.client (turns_now answer l.transcript.server) (after_answer l.shape.slots l.transcript.server answer l.hub).session
+        → Ways l.shape.slots (said then_.transcript.client) (heard then_.transcript.client) (said then_.transcript.server) (heard then_.transcript.server) (or_new then_.guest.session) (or_new then_.hub.session)
+    as_now one =
+        swap_ways l.shape.slots (said then_.transcript.server) (heard then_.transcript.server) (said then_.transcript.client) (heard then_.transcript.client) (or_new then_.hub.session) (or_new then_.guest.session)
+        (subst (λ (xs : List Turn). Ways l.shape.slots (said xs) (heard xs) (said then_.transcript.client) (heard then_.transcript.client) (or_new then_.hub.session) (or_new then_.guest.session)) (sym now)
+        (subst (λ (xs : List Turn). Ways l.shape.slots (said (turns_now answer l.transcript.server)) (heard (turns_now answer l.transcript.server)) (said xs) (heard xs) (or_new then_.hub.session) (or_new then_.guest.session))
+        (sym same) one))
+
+    by_log : (log : Option SessionLog) → l.hub.session ≡ log
+        → Ways l.shape.slots (said then_.transcript.client) (heard then_.transcript.client) (said then_.transcript.server) (heard then_.transcript.server) (or_new then_.guest.session) (or_new then_.hub.session)
+    by_log (Some w) is = as_now (open_step shape B u t l answer left w acts goes other_before is front (subst (Now l.transcript.client l.transcript.server) is was))
+    by_log None is =
+        as_now (closed_acts l.shape.slots l.transcript.server l.transcript.client answer l.hub v is goes (hub_plain shape u t l answer left acts goes up is) (subst (Now l.transcript.client l.transcript.server) is was))
+
+-- WHAT ISN'T A STEP
+never_alone : (shape : NetShape) (u : PortState) (l : PortLog) (X : Type 0) → Finds shape u l → l.guest.session ≢ None → peer_behind u.lane.wire.wire.end_b u.lane.wire.wire.end_a ≡ Up → X
+never_alone shape u l X finds some up =
+    let both = peer_up u.lane.wire.wire.end_b u.lane.wire.wire.end_a up in absurd (both.0 (guest_open_up shape u l finds both.1 some))
+
+given_same : (given : Given) (l : EndLog) → (after_given given l).session ≡ l.session
+given_same (Queued id frame) l = refl
+given_same (Full frame) l = refl
+given_same (BadLength frame) l = refl
+
+acts_of : (shape : NetShape) (e : End) (u t : PortState) (l : PortLog) (answer : NetAnswer) → Finds shape u l → (step : EndSteps e u.lane answer t.lane)
+    → PortCounts shape t (after l (OnLane (Steps e answer))) → PortTalks shape (lane_core t.lane) (after l (OnLane (Steps e answer))) → Acts shape e u t l answer step.left
+acts_of shape e u t l answer finds step counts talks = record { finds = finds; step = step.step; now = step_now e u.lane t.lane answer step; counts = counts; talks = talks }
+
+lane_ways : (shape : NetShape) (u t : PortState) (l : PortLog) (event : NetEvent) → OfQueue u event → Finds shape u l → NetLaneStep u.lane event t.lane → (moved_on l.wire (on_wire event)).forged ≡ false
+    → PortCounts shape t (after l (OnLane event)) → PortTalks shape (lane_core t.lane) (after l (OnLane event)) → WaysStand u.lane l → WaysStand t.lane (after l (OnLane event))
+lane_ways shape u t l (Steps A answer) of_queue finds step clean counts talks ways = guest_ways shape u t l answer step.left (acts_of shape A u t l answer finds step counts talks) ways
+lane_ways shape u t l (Steps B answer) of_queue finds step clean counts talks ways = hub_ways shape u t l answer step.left (acts_of shape B u t l answer finds step counts talks) ways
+lane_ways shape u t l (Asked A lost) of_queue finds step clean counts talks ways = λ up other some. absurd (some refl)
+lane_ways shape u t l (Asked B lost) of_queue finds step clean counts talks ways =
+    λ up other some. never_alone shape u l _ finds some (sym (ap (λ (x : NetLaneState). x.wire.wire.end_a) step.1) ∙ up)
+lane_ways shape u t l (Ticked queued lost) of_queue finds step clean counts talks ways = λ up other some. absurd (some refl)
+lane_ways shape u t l (CalmTick queued) of_queue finds step clean counts talks ways =
+    λ up other some. ways (sym (ap (λ (x : NetLaneState). x.wire.wire.end_a) step.1) ∙ up) (sym (ap (λ (x : NetLaneState). x.wire.wire.end_b) step.1) ∙ other) some
+lane_ways shape u t l (Gives A given) of_queue finds step clean counts talks ways =
+    λ up other some.
+    subst (λ (o : Option SessionLog). Ways l.shape.slots (said l.transcript.client) (heard l.transcript.client) (said l.transcript.server) (heard l.transcript.server) (or_new o) (or_new l.hub.session))
+    (sym (given_same given l.guest))
+    (ways (sym (ap (λ (x : NetLaneState). x.wire.wire.end_a) step.1) ∙ up) (sym (ap (λ (x : NetLaneState). x.wire.wire.end_b) step.1) ∙ other) (λ none. some (given_same given l.guest ∙ none)))
+lane_ways shape u t l (Gives B given) of_queue finds step clean counts talks ways = absurd of_queue
+lane_ways shape u t l (Joins joining) of_queue finds step clean counts talks ways =
+    λ up other some. ways (sym (ap (λ (x : NetLaneState). x.wire.wire.end_a) step.1) ∙ up) (sym (ap (λ (x : NetLaneState). x.wire.wire.end_b) step.1) ∙ other) some
+lane_ways shape u t l (Loses A packet) of_queue finds step clean counts talks ways =
+    λ up other some. ways (sym (ap (λ (x : NetLaneState). x.wire.wire.end_a) step.1) ∙ up) (sym (ap (λ (x : NetLaneState). x.wire.wire.end_b) step.1) ∙ other) some
+lane_ways shape u t l (Loses B packet) of_queue finds step clean counts talks ways =
+    λ up other some. ways (sym (ap (λ (x : NetLaneState). x.wire.wire.end_a) step.1) ∙ up) (sym (ap (λ (x : NetLaneState). x.wire.wire.end_b) step.1) ∙ other) some
+lane_ways shape u t l (Injects e packet) of_queue finds step clean counts talks ways = true_false clean
+lane_ways shape u t l (Pokes e at bytes) of_queue finds step clean counts talks ways = true_false clean
+lane_ways shape u t l (Declines d) of_queue finds step clean counts talks ways =
+    λ up other some. ways (sym (ap (λ (x : NetLaneState). x.wire.wire.end_a) step.1) ∙ up) (sym (ap (λ (x : NetLaneState). x.wire.wire.end_b) step.1) ∙ other) some
+
+-- ALONG EVERY RUN
+pub record KeptWays (shape : NetShape) (s : PortState) (l : PortLog) : Type 0 where
+  pub kept : Kept shape s l
+  pub ways : l.wire.forged ≡ false → WaysStand s.lane l
+
+pub ways_before : (event : NetEvent) (s : PortState) (l : PortLog) → WaysStand s.lane l → WaysStand (before event s).lane l
+ways_before event s l ways = λ up other some. ways (sym (ap (λ (w : WireLog). w.wire.end_a) (before_wire event s)) ∙ up) (sym (ap (λ (w : WireLog). w.wire.end_b) (before_wire event s)) ∙ other) some
+
+ways_step : (shape : NetShape) → IsNetShape shape → (s : PortState) (l : PortLog) (event : PortEvent) (t : PortState) → KeptWays shape s l → PortStep s event t → KeptWays shape t (after l event)
+ways_step shape is s l (OnLane event) t had step =
+    let kept : Kept shape t (after l (OnLane event)) = kept_step shape is s l (OnLane event) t had.kept step in
+    record {
+      kept = kept;
+      ways = λ clean.
+          let wire : t.lane.wire.forged ≡ false = ap (λ (w : WireLog). w.forged) kept.counts.wire ∙ clean in
+          let was : l.wire.forged ≡ false = was_clean l.wire event clean in
+          lane_ways shape (before event s) t l event (before_queue event s step.0) (finds_before shape s l event is had.kept was) step.1 clean kept.counts
+          (port_talks shape t (after l (OnLane event)) is kept.counts wire) (ways_before event s l (had.ways was));
+    }
+ways_step shape is s l (Receives frame) t had step =
+    let lane : t.lane ≡ s.lane = ap (λ (x : PortState). x.lane) step.2 in
+    record {
+      kept = kept_step shape is s l (Receives frame) t had.kept step;
+      ways = λ clean. λ up other some. had.ways clean (sym (ap (λ (x : NetLaneState). x.wire.wire.end_a) lane) ∙ up) (sym (ap (λ (x : NetLaneState). x.wire.wire.end_b) lane) ∙ other) some;
+    }
+
+pub port_ways : (shape : NetShape) (events : List PortEvent) (s : PortState) → IsNetShape shape → Run PortStep (fresh_port shape) events s → KeptWays shape s (log_of after (no_events shape) events)
+port_ways shape events s is run =
+    (run_lawful PortStep (λ (l : PortLog) (e : PortEvent). ⊤) after (KeptWays shape) (λ (x : PortState) (l : PortLog) (e : PortEvent) (y : PortState) had step. (tt, ways_step shape is x l e y had step))
+    (fresh_port shape) s (no_events shape) events (record { kept = fresh_kept shape is; ways = λ clean up other some. absurd (some refl) }) run).1
+
+pub ways_stand : (shape : NetShape) (events : List PortEvent) (s : PortState) → IsNetShape shape → Run PortStep (fresh_port shape) events s
+    → (log_of after (no_events shape) events).wire.forged ≡ false → WaysStand s.lane (log_of after (no_events shape) events)
+ways_stand shape events s is run clean = (port_ways shape events s is run).ways clean
