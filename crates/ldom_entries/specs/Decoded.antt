@@ -1,7 +1,6 @@
 -- The entries by their headers and by what stands beside them.
 use Rattle.std.specs.Prelude.{◌≡◌, ℕ, Bool, true, false, List, [], ◌∷◌, Option, Some, None, slice_index_or}
 use Rattle.domain_script.specs.declared.event.EndName.{EndName}
-use Rattle.domain_script.specs.declared.event.Side.{Side}
 use Rattle.domain_script.specs.declared.event.Side.TheVariants.{Client, Server}
 use Rattle.domain_script.specs.declared.fields.LaneKind.{LaneKind}
 use Rattle.vdisk_msg.specs.declared.request.Request.{Request}
@@ -14,19 +13,20 @@ use Rattle.ldom_entries.specs.declared.entry.Entry.{Entry}
 use Rattle.ldom_entries.specs.declared.entry.Entry.TheVariants as entry
 use Rattle.ldom_entries.specs.declared.entry.Who.{Who}
 use Rattle.ldom_entries.specs.declared.entry.Who.TheVariants.{Lane as OfLane, End as OfEnd}
+use Rattle.ldom_entries.specs.declared.header.EndMark.{EndMark}
 use Rattle.ldom_entries.specs.declared.header.Header.{Header}
 use Rattle.ldom_entries.specs.declared.header.Header.TheVariants as header
 use Rattle.ldom_entries.specs.declared.header.Part.{Part}
 use Rattle.ldom_entries.specs.declared.header.Part.TheVariants as the_part
 
--- an end of the lane of this kind with this number; and the lane as a whole, or one of its ends
-abbrev pub end_at : LaneKind → ℕ → Side → EndName
-end_at kind number side = record { lane = record { kind = kind; number = number }; side = side }
+-- the end with this mark, of the lane with this number; and the lane of this kind, or one of its ends
+abbrev pub end_at : EndMark → ℕ → EndName
+end_at at number = record { lane = record { kind = at.kind; number = number }; side = at.side }
 
 abbrev pub who_at : LaneKind → ℕ → Part → Who
 who_at kind number the_part.Lane = OfLane (record { kind = kind; number = number })
-who_at kind number the_part.Client = OfEnd (end_at kind number Client)
-who_at kind number the_part.Server = OfEnd (end_at kind number Server)
+who_at kind number the_part.Client = OfEnd (end_at (record { side = Client; kind = kind }) number)
+who_at kind number the_part.Server = OfEnd (end_at (record { side = Server; kind = kind }) number)
 
 -- the first number beside an entry, and the second; its packet; its descriptor; its request; its cause; itself
 abbrev pub first_number : Lists → ℕ
@@ -91,21 +91,21 @@ share (header.Started disk) = needs 0 0
 share (header.Calm part kind number) = needs 0 0
 share header.Settled = needs 0 0
 share (header.Unsettled part kind number) = needs 0 0
-share (header.Idle side kind number) = needs 0 0
-share (header.Off side kind number) = needs 0 0
-share (header.Blocked side kind number) = needs 0 0
-share (header.Joined side kind number) = needs 1 0
-share (header.Took side kind opens number) = needs 0 1
-share (header.Sent side kind opens number) = needs 0 1
-share (header.Published side kind number) = needs 1 0
+share (header.Idle at number) = needs 0 0
+share (header.Off at number) = needs 0 0
+share (header.Blocked at number) = needs 0 0
+share (header.Joined at number) = needs 1 0
+share (header.Took at opens number) = needs 0 1
+share (header.Sent at opens number) = needs 0 1
+share (header.Published at number) = needs 1 0
 share (header.Done operation read disk) = these 2 0 0 (one_where read) 0 0
-share (header.Desc side kind number) = these 1 0 1 0 0 0
-share (header.Moved side kind number) = needs 1 0
-share (header.NotMoved side kind fault number) = needs 1 0
-share (header.Stored side kind operation number) = needs 2 0
-share (header.NotStored side kind operation number) = needs 2 0
-share (header.Finished side kind number) = needs 2 0
-share (header.Reset side kind packet number) = these 1 (one_where packet) 0 0 0 1
+share (header.Desc at number) = these 1 0 1 0 0 0
+share (header.Moved at number) = needs 1 0
+share (header.NotMoved at fault number) = needs 1 0
+share (header.Stored at operation number) = needs 2 0
+share (header.NotStored at operation number) = needs 2 0
+share (header.Finished at number) = needs 2 0
+share (header.Reset at packet number) = these 1 (one_where packet) 0 0 0 1
 share header.Whole = a_whole
 
 -- THE ENTRY of a header and what stands beside it
@@ -118,21 +118,21 @@ entry_of (header.Started disk) l = entry.Started disk
 entry_of (header.Calm part kind number) l = entry.Calm (who_at kind number part)
 entry_of header.Settled l = entry.Settled
 entry_of (header.Unsettled part kind number) l = entry.Unsettled (who_at kind number part)
-entry_of (header.Idle side kind number) l = entry.Idle (end_at kind number side)
-entry_of (header.Off side kind number) l = entry.Off (end_at kind number side)
-entry_of (header.Blocked side kind number) l = entry.Blocked (end_at kind number side)
-entry_of (header.Joined side kind number) l = entry.Joined (end_at kind number side) (first_number l)
-entry_of (header.Took side kind opens number) l = entry.Took (end_at kind number side) (packet_in l) opens
-entry_of (header.Sent side kind opens number) l = entry.Sent (end_at kind number side) (packet_in l) opens
-entry_of (header.Published side kind number) l = entry.Published (end_at kind number side) (first_number l)
+entry_of (header.Idle at number) l = entry.Idle (end_at at number)
+entry_of (header.Off at number) l = entry.Off (end_at at number)
+entry_of (header.Blocked at number) l = entry.Blocked (end_at at number)
+entry_of (header.Joined at number) l = entry.Joined (end_at at number) (first_number l)
+entry_of (header.Took at opens number) l = entry.Took (end_at at number) (packet_in l) opens
+entry_of (header.Sent at opens number) l = entry.Sent (end_at at number) (packet_in l) opens
+entry_of (header.Published at number) l = entry.Published (end_at at number) (first_number l)
 entry_of (header.Done operation read disk) l = entry.Done disk (first_number l) operation (second_number l) (read_in read l)
-entry_of (header.Desc side kind number) l = entry.Desc (end_at kind number side) (first_number l) (descriptor_in l)
-entry_of (header.Moved side kind number) l = entry.Moved (end_at kind number side) (first_number l) None
-entry_of (header.NotMoved side kind fault number) l = entry.Moved (end_at kind number side) (first_number l) (Some fault)
-entry_of (header.Stored side kind operation number) l = entry.Stored (end_at kind number side) operation (first_number l) (second_number l) false
-entry_of (header.NotStored side kind operation number) l = entry.Stored (end_at kind number side) operation (first_number l) (second_number l) true
-entry_of (header.Finished side kind number) l = entry.Finished (end_at kind number side) (first_number l) (second_number l)
-entry_of (header.Reset side kind packet number) l = entry.Reset (end_at kind number side) (cause_in l) (packet_where packet l) (first_number l)
+entry_of (header.Desc at number) l = entry.Desc (end_at at number) (first_number l) (descriptor_in l)
+entry_of (header.Moved at number) l = entry.Moved (end_at at number) (first_number l) None
+entry_of (header.NotMoved at fault number) l = entry.Moved (end_at at number) (first_number l) (Some fault)
+entry_of (header.Stored at operation number) l = entry.Stored (end_at at number) operation (first_number l) (second_number l) false
+entry_of (header.NotStored at operation number) l = entry.Stored (end_at at number) operation (first_number l) (second_number l) true
+entry_of (header.Finished at number) l = entry.Finished (end_at at number) (first_number l) (second_number l)
+entry_of (header.Reset at packet number) l = entry.Reset (end_at at number) (cause_in l) (packet_where packet l) (first_number l)
 entry_of header.Whole l = whole_in l
 
 -- the same, which takes its share from the front of the lists

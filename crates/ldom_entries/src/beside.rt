@@ -4,16 +4,23 @@ ghost use Rattle.ldom_entries.specs.Decoded.{a_whole, cause_in, descriptor_in, e
 ghost use Rattle.ldom_entries.specs.Decoded.{needs, one_where, packet_in, packet_where, read_in, request_in};
 ghost use Rattle.ldom_entries.specs.Decoded.{second_number, share, these, whole_in};
 ghost use Rattle.ldom_entries.specs.Told.{told};
+ghost use Rattle.ldom_entries.specs.declared.entry.Entry.TheVariants as the_entry;
 ghost use Rattle.ldom_entries.specs.declared.header.Header.TheVariants as the_header;
 
 use crate::entry_ref::EntryRef;
-use crate::header::{Header, Part, end_at, who_at};
+use crate::header::{EndMark, Header, Part, end_at, who_at};
 use crate::{Bytes, KeptRequest, WholeEntry, Why};
 use cookie_copy::CopyFault;
-use domain_script::{LaneKind, Side};
+use domain_script::{EndName, LaneKind, Side};
 use std::marker::Model;
 use trimmed_arrays::{TrimmedArray, TrimmedRest};
 use vio_tag::Cause;
+
+/// The mark of an entry that is written over.
+pub(crate) const NO_MARK: EndMark = EndMark {
+    side: Side::Client,
+    kind: LaneKind::Disk,
+};
 
 /// What stands beside the headers that are still to be read, in their order.
 #[derive(Drop)]
@@ -171,22 +178,33 @@ impl<'a> Beside<'a> {
     {
         match header {
             Header::Accepted { disk } => *entry = self.accepted(disk),
-            Header::Joined { side, kind, number } => *entry = self.joined(side, kind, number),
-            Header::Took { side, kind, opens, number } => *entry = self.took(side, kind, opens, number),
-            Header::Sent { side, kind, opens, number } => *entry = self.sent(side, kind, opens, number),
-            Header::Published { side, kind, number } => *entry = self.published(side, kind, number),
+            Header::Joined { at, number } => *entry = self.joined(at, number),
+            Header::Took { at, opens, number } => *entry = self.took(at, opens, number),
+            Header::Sent { at, opens, number } => *entry = self.sent(at, opens, number),
+            Header::Published { at, number } => *entry = self.published(at, number),
             Header::Done {
                 operation,
                 read,
                 disk,
             } => *entry = self.done(operation, read, disk),
-            Header::Desc { side, kind, number } => *entry = self.desc(side, kind, number),
-            Header::Moved { side, kind, number } => *entry = self.moved(side, kind, number),
-            Header::NotMoved { side, kind, fault, number } => *entry = self.not_moved(side, kind, fault, number),
-            Header::Stored { side, kind, operation, number } => *entry = self.stored(side, kind, operation, number),
-            Header::NotStored { side, kind, operation, number } => *entry = self.not_stored(side, kind, operation, number),
-            Header::Finished { side, kind, number } => *entry = self.finished(side, kind, number),
-            Header::Reset { side, kind, packet, number } => *entry = self.reset(side, kind, packet, number),
+            Header::Desc { at, number } => *entry = self.desc(at, number),
+            Header::Moved { at, number } => *entry = self.moved(end_at(at, number), None),
+            Header::NotMoved { at, fault, number } => *entry = self.moved(
+                end_at(at, number),
+                Some(fault),
+            ),
+            Header::Stored {
+                at,
+                operation,
+                number,
+            } => *entry = self.stored(end_at(at, number), operation, false),
+            Header::NotStored {
+                at,
+                operation,
+                number,
+            } => *entry = self.stored(end_at(at, number), operation, true),
+            Header::Finished { at, number } => *entry = self.finished(at, number),
+            Header::Reset { at, packet, number } => *entry = self.reset(at, packet, number),
             Header::Whole => *entry = EntryRef::Whole(self.whole()),
             plain => read_plain(plain, entry),
         }
@@ -213,7 +231,7 @@ impl<'a> Beside<'a> {
             Header::Stored { .. } | Header::NotStored { .. } | Header::Finished { .. } => {
                 self.two_numbers();
             }
-            other => self.read_into(other, &mut idle(Side::Client, LaneKind::Disk, 0)),
+            other => self.read_into(other, &mut idle(NO_MARK, 0)),
         }
     }
 
@@ -231,51 +249,51 @@ impl<'a> Beside<'a> {
     }
 
     /// An end was configured. Beside it: how many frames were lost by that.
-    fn joined(&mut self, side: Side, kind: LaneKind, number: u32) -> EntryRef<'a>
+    fn joined(&mut self, at: EndMark, number: u32) -> EntryRef<'a>
         requires { Holds (needs 1 0) self.old }
-        ensures told { told result ≡ first_entry (the_header.Joined side kind number) self.old }
+        ensures told { told result ≡ first_entry (the_header.Joined at number) self.old }
         ensures rest { self.new ≡ rest_of (needs 1 0) self.old }
     {
         EntryRef::Joined {
-            end: end_at(kind, number, side),
+            end: end_at(at, number),
             lost: self.number(),
         }
     }
 
     /// An end took a packet. Beside it: the packet.
-    fn took(&mut self, side: Side, kind: LaneKind, opens: bool, number: u32) -> EntryRef<'a>
+    fn took(&mut self, at: EndMark, opens: bool, number: u32) -> EntryRef<'a>
         requires { Holds (needs 0 1) self.old }
-        ensures told { told result ≡ first_entry (the_header.Took side kind opens number) self.old }
+        ensures told { told result ≡ first_entry (the_header.Took at opens number) self.old }
         ensures rest { self.new ≡ rest_of (needs 0 1) self.old }
     {
         EntryRef::Took {
-            end: end_at(kind, number, side),
+            end: end_at(at, number),
             packet: self.packet(),
             opens,
         }
     }
 
     /// An end put a packet. Beside it: the packet.
-    fn sent(&mut self, side: Side, kind: LaneKind, opens: bool, number: u32) -> EntryRef<'a>
+    fn sent(&mut self, at: EndMark, opens: bool, number: u32) -> EntryRef<'a>
         requires { Holds (needs 0 1) self.old }
-        ensures told { told result ≡ first_entry (the_header.Sent side kind opens number) self.old }
+        ensures told { told result ≡ first_entry (the_header.Sent at opens number) self.old }
         ensures rest { self.new ≡ rest_of (needs 0 1) self.old }
     {
         EntryRef::Sent {
-            end: end_at(kind, number, side),
+            end: end_at(at, number),
             packet: self.packet(),
             opens,
         }
     }
 
     /// The client put a request into its ring. Beside it: its id.
-    fn published(&mut self, side: Side, kind: LaneKind, number: u32) -> EntryRef<'a>
+    fn published(&mut self, at: EndMark, number: u32) -> EntryRef<'a>
         requires { Holds (needs 1 0) self.old }
-        ensures told { told result ≡ first_entry (the_header.Published side kind number) self.old }
+        ensures told { told result ≡ first_entry (the_header.Published at number) self.old }
         ensures rest { self.new ≡ rest_of (needs 1 0) self.old }
     {
         EntryRef::Published {
-            end: end_at(kind, number, side),
+            end: end_at(at, number),
             id: self.number(),
         }
     }
@@ -306,98 +324,70 @@ impl<'a> Beside<'a> {
     }
 
     /// The server fetched the descriptor of a slot. Beside it: the slot, and the descriptor.
-    fn desc(&mut self, side: Side, kind: LaneKind, number: u32) -> EntryRef<'a>
+    fn desc(&mut self, at: EndMark, number: u32) -> EntryRef<'a>
         requires { Holds (these 1 0 1 0 0 0) self.old }
-        ensures told { told result ≡ first_entry (the_header.Desc side kind number) self.old }
+        ensures told { told result ≡ first_entry (the_header.Desc at number) self.old }
         ensures rest { self.new ≡ rest_of (these 1 0 1 0 0 0) self.old }
     {
         EntryRef::Desc {
-            end: end_at(kind, number, side),
+            end: end_at(at, number),
             slot: self.number(),
             bytes: self.descriptor(),
         }
     }
 
-    /// The server copied a unit. Beside it: the unit.
-    fn moved(&mut self, side: Side, kind: LaneKind, number: u32) -> EntryRef<'a>
+    /// The server copied a unit, or why it couldn't. Beside it: the unit.
+    fn moved(&mut self, end: EndName, fault: Option<CopyFault>) -> EntryRef<'a>
         requires { Holds (needs 1 0) self.old }
-        ensures told { told result ≡ first_entry (the_header.Moved side kind number) self.old }
+        ensures told { told result ≡ the_entry.Moved end (first_number (share_of (needs 1 0) self.old)) fault }
         ensures rest { self.new ≡ rest_of (needs 1 0) self.old }
     {
         EntryRef::Moved {
-            end: end_at(kind, number, side),
+            end,
             unit: self.number(),
-            fault: None,
-        }
-    }
-
-    /// It couldn't. Beside it: the unit.
-    fn not_moved(&mut self, side: Side, kind: LaneKind, fault: CopyFault, number: u32) -> EntryRef<'a>
-        requires { Holds (needs 1 0) self.old }
-        ensures told { told result ≡ first_entry (the_header.NotMoved side kind fault number) self.old }
-        ensures rest { self.new ≡ rest_of (needs 1 0) self.old }
-    {
-        EntryRef::Moved {
-            end: end_at(kind, number, side),
-            unit: self.number(),
-            fault: Some(fault),
+            fault,
         }
     }
 
     /// The server called its store. Beside it: the first block, and how many.
-    fn stored(&mut self, side: Side, kind: LaneKind, operation: u8, number: u32) -> EntryRef<'a>
+    fn stored(&mut self, end: EndName, operation: u8, failed: bool) -> EntryRef<'a>
         requires { Holds (needs 2 0) self.old }
-        ensures told { told result ≡ first_entry (the_header.Stored side kind operation number) self.old }
+        ensures told { told result ≡ the_entry.Stored end operation (first_number (share_of (needs 2 0) self.old))
+            (second_number (share_of (needs 2 0) self.old)) failed }
         ensures rest { self.new ≡ rest_of (needs 2 0) self.old }
     {
         let (block, count) = self.two_numbers();
         EntryRef::Stored {
-            end: end_at(kind, number, side),
+            end,
             operation,
             block,
             count,
-            failed: false,
-        }
-    }
-
-    /// The call failed. Beside it: the first block, and how many.
-    fn not_stored(&mut self, side: Side, kind: LaneKind, operation: u8, number: u32) -> EntryRef<'a>
-        requires { Holds (needs 2 0) self.old }
-        ensures told { told result ≡ first_entry (the_header.NotStored side kind operation number) self.old }
-        ensures rest { self.new ≡ rest_of (needs 2 0) self.old }
-    {
-        let (block, count) = self.two_numbers();
-        EntryRef::Stored {
-            end: end_at(kind, number, side),
-            operation,
-            block,
-            count,
-            failed: true,
+            failed,
         }
     }
 
     /// The server gave the descriptor of a slot its status. Beside it: the slot, and the status.
-    fn finished(&mut self, side: Side, kind: LaneKind, number: u32) -> EntryRef<'a>
+    fn finished(&mut self, at: EndMark, number: u32) -> EntryRef<'a>
         requires { Holds (needs 2 0) self.old }
-        ensures told { told result ≡ first_entry (the_header.Finished side kind number) self.old }
+        ensures told { told result ≡ first_entry (the_header.Finished at number) self.old }
         ensures rest { self.new ≡ rest_of (needs 2 0) self.old }
     {
         let (slot, status) = self.two_numbers();
         EntryRef::Finished {
-            end: end_at(kind, number, side),
+            end: end_at(at, number),
             slot,
             status,
         }
     }
 
     /// An end was reset. Beside it: the cause, the packet where it has one, and how many frames were lost by that.
-    fn reset(&mut self, side: Side, kind: LaneKind, packet: bool, number: u32) -> EntryRef<'a>
+    fn reset(&mut self, at: EndMark, packet: bool, number: u32) -> EntryRef<'a>
         requires { Holds (these 1 (one_where packet) 0 0 0 1) self.old }
-        ensures told { told result ≡ first_entry (the_header.Reset side kind packet number) self.old }
+        ensures told { told result ≡ first_entry (the_header.Reset at packet number) self.old }
         ensures rest { self.new ≡ rest_of (these 1 (one_where packet) 0 0 0 1) self.old }
     {
         EntryRef::Reset {
-            end: end_at(kind, number, side),
+            end: end_at(at, number),
             cause: self.cause(),
             packet: self.packet_where(packet),
             lost: self.number(),
@@ -412,15 +402,20 @@ fn read_plain<'a>(header: Header, entry: &mut EntryRef<'a>)
 {
     match header {
         Header::Full { part, kind, number } => *entry = full(part, kind, number),
-        Header::Refused { part, kind, why, number } => *entry = refused(part, kind, why, number),
+        Header::Refused {
+            part,
+            kind,
+            why,
+            number,
+        } => *entry = refused(part, kind, why, number),
         Header::Stopped { disk } => *entry = EntryRef::Stopped { disk },
         Header::Started { disk } => *entry = EntryRef::Started { disk },
         Header::Calm { part, kind, number } => *entry = calm(part, kind, number),
         Header::Settled => *entry = EntryRef::Settled,
         Header::Unsettled { part, kind, number } => *entry = unsettled(part, kind, number),
-        Header::Idle { side, kind, number } => *entry = idle(side, kind, number),
-        Header::Off { side, kind, number } => *entry = off(side, kind, number),
-        Header::Blocked { side, kind, number } => *entry = blocked(side, kind, number),
+        Header::Idle { at, number } => *entry = idle(at, number),
+        Header::Off { at, number } => *entry = off(at, number),
+        Header::Blocked { at, number } => *entry = blocked(at, number),
         _ => unreachable!(),
     }
 }
@@ -463,29 +458,29 @@ fn unsettled<'a>(part: Part, kind: LaneKind, number: u32) -> EntryRef<'a>
 }
 
 /// An end has nothing to do.
-pub(crate) fn idle<'a>(side: Side, kind: LaneKind, number: u32) -> EntryRef<'a>
-    ensures { told result ≡ kind_of (the_header.Idle side kind number) }
+pub(crate) fn idle<'a>(at: EndMark, number: u32) -> EntryRef<'a>
+    ensures { told result ≡ kind_of (the_header.Idle at number) }
 {
     EntryRef::Idle {
-        end: end_at(kind, number, side),
+        end: end_at(at, number),
     }
 }
 
 /// The end of a stopped server was to make a step.
-fn off<'a>(side: Side, kind: LaneKind, number: u32) -> EntryRef<'a>
-    ensures { told result ≡ kind_of (the_header.Off side kind number) }
+fn off<'a>(at: EndMark, number: u32) -> EntryRef<'a>
+    ensures { told result ≡ kind_of (the_header.Off at number) }
 {
     EntryRef::Off {
-        end: end_at(kind, number, side),
+        end: end_at(at, number),
     }
 }
 
 /// An end has no room for its next packet.
-fn blocked<'a>(side: Side, kind: LaneKind, number: u32) -> EntryRef<'a>
-    ensures { told result ≡ kind_of (the_header.Blocked side kind number) }
+fn blocked<'a>(at: EndMark, number: u32) -> EntryRef<'a>
+    ensures { told result ≡ kind_of (the_header.Blocked at number) }
 {
     EntryRef::Blocked {
-        end: end_at(kind, number, side),
+        end: end_at(at, number),
     }
 }
 

@@ -1,10 +1,9 @@
 ghost use Rattle.std.specs.Prelude.{◌≡◌, [], ◌∷◌, length, IfSome, IsNone};
 ghost use Rattle.ldom_entries.specs.Told.{told};
 
-use crate::beside::{Beside, idle};
+use crate::beside::{Beside, NO_MARK, idle};
 use crate::entry_ref::EntryRef;
 use crate::header::Header;
-use domain_script::{LaneKind, Side};
 use std::marker::Model;
 
 /// The entries of a journal that are still to be read, in order. A clause sees the list of them.
@@ -50,7 +49,7 @@ impl<'a> Entries<'a> {
         match self.headers {
             [header, rest @ ..] => {
                 // Only a place: the entry is written over it.
-                let mut entry = idle(Side::Client, LaneKind::Disk, 0);
+                let mut entry = idle(NO_MARK, 0);
                 self.beside.read_into(*header, &mut entry);
                 self.headers = rest;
                 Some(entry)

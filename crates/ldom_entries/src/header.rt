@@ -16,6 +16,13 @@ pub enum Part {
     Server,
 }
 
+/// An end of a lane of this kind: all of its name but the lane's number.
+#[derive(Clone, Copy, Debug, PartialEq, Eq)]
+pub struct EndMark {
+    pub side: Side,
+    pub kind: LaneKind,
+}
+
 /// The kind of an entry, its lane and its flags, in eight bytes: the number stands last, so that no gap is before it.
 /// What else it has stands in lists beside it, and so does all of an entry that is kept whole.
 #[derive(Clone, Copy, Debug, PartialEq, Eq)]
@@ -53,48 +60,41 @@ pub enum Header {
         number: u32,
     },
     Idle {
-        side: Side,
-        kind: LaneKind,
+        at: EndMark,
         number: u32,
     },
     Off {
-        side: Side,
-        kind: LaneKind,
+        at: EndMark,
         number: u32,
     },
     Blocked {
-        side: Side,
-        kind: LaneKind,
+        at: EndMark,
         number: u32,
     },
 
     /// Beside it: how many frames were lost.
     Joined {
-        side: Side,
-        kind: LaneKind,
+        at: EndMark,
         number: u32,
     },
 
     /// Beside it: the packet.
     Took {
-        side: Side,
-        kind: LaneKind,
+        at: EndMark,
         opens: bool,
         number: u32,
     },
 
     /// Beside it: the packet.
     Sent {
-        side: Side,
-        kind: LaneKind,
+        at: EndMark,
         opens: bool,
         number: u32,
     },
 
     /// Beside it: the id.
     Published {
-        side: Side,
-        kind: LaneKind,
+        at: EndMark,
         number: u32,
     },
 
@@ -107,53 +107,46 @@ pub enum Header {
 
     /// Beside it: the slot, and the descriptor.
     Desc {
-        side: Side,
-        kind: LaneKind,
+        at: EndMark,
         number: u32,
     },
 
     /// A unit that was copied. Beside it: the unit.
     Moved {
-        side: Side,
-        kind: LaneKind,
+        at: EndMark,
         number: u32,
     },
 
     /// One that wasn't. Beside it: the unit.
     NotMoved {
-        side: Side,
-        kind: LaneKind,
+        at: EndMark,
         fault: CopyFault,
         number: u32,
     },
 
     /// A call of the store that went well. Beside it: the first block, and how many.
     Stored {
-        side: Side,
-        kind: LaneKind,
+        at: EndMark,
         operation: u8,
         number: u32,
     },
 
     /// One that failed. Beside it: the first block, and how many.
     NotStored {
-        side: Side,
-        kind: LaneKind,
+        at: EndMark,
         operation: u8,
         number: u32,
     },
 
     /// Beside it: the slot, and the status.
     Finished {
-        side: Side,
-        kind: LaneKind,
+        at: EndMark,
         number: u32,
     },
 
     /// Beside it: the cause, how many frames were lost, and the packet where it has one.
     Reset {
-        side: Side,
-        kind: LaneKind,
+        at: EndMark,
         packet: bool,
         number: u32,
     },
@@ -195,7 +188,8 @@ pub fn part_of(who: Who) -> (Part, Lane)
 
 /// The end of a lane that a side has.
 fn part_at(side: Side) -> Part
-    ensures { (kind : lane_kind) (number : ℕ) → who_at kind number result ≡ OfEnd (end_at kind number side) }
+    ensures { (kind : lane_kind) (number : ℕ) → who_at kind number result ≡
+        OfEnd (end_at (record { side = side; kind = kind }) number) }
 {
     match side {
         Side::Client => Part::Client,
@@ -203,13 +197,26 @@ fn part_at(side: Side) -> Part
     }
 }
 
-/// An end of the lane of this kind with this number.
-pub fn end_at(kind: LaneKind, number: u32, side: Side) -> EndName
-    ensures { result ≡ end_at kind number side }
+/// The mark of an end.
+pub fn mark_of(end: EndName) -> EndMark
+    ensures { end_at result end.lane.number ≡ end }
+{
+    EndMark {
+        side: end.side,
+        kind: end.lane.kind,
+    }
+}
+
+/// The end with this mark, of the lane with this number.
+pub fn end_at(at: EndMark, number: u32) -> EndName
+    ensures { result ≡ end_at at number }
 {
     EndName {
-        lane: Lane { kind, number },
-        side,
+        lane: Lane {
+            kind: at.kind,
+            number,
+        },
+        side: at.side,
     }
 }
 
@@ -219,7 +226,19 @@ pub fn who_at(kind: LaneKind, number: u32, part: Part) -> Who
 {
     match part {
         Part::Lane => Who::Lane(Lane { kind, number }),
-        Part::Client => Who::End(end_at(kind, number, Side::Client)),
-        Part::Server => Who::End(end_at(kind, number, Side::Server)),
+        Part::Client => Who::End(end_at(
+            EndMark {
+                side: Side::Client,
+                kind,
+            },
+            number,
+        )),
+        Part::Server => Who::End(end_at(
+            EndMark {
+                side: Side::Server,
+                kind,
+            },
+            number,
+        )),
     }
 }

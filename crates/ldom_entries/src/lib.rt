@@ -14,7 +14,7 @@ pub use domain_script::{EndName, Lane, LaneKind, Side};
 pub use entries::Entries;
 pub use entry::{Entry, Who, Why};
 pub use entry_ref::EntryRef;
-pub use header::{Header, Part, end_at, part_of};
+pub use header::{EndMark, Header, Part, mark_of, part_of};
 pub use kept_requests::{Bytes, KeptRequest, shortest_word};
 pub use vio_tag::Cause;
 pub use whole_entry::WholeEntry;

@@ -2,8 +2,6 @@
 use Rattle.std.proofs.Common.{◌≡◌, ℕ, ◌+◌, ◌-◌, ◌≤◌, Bool, Option, Some, None, is_some, List, [], ◌∷◌, ◌++◌, length, sym, ap, subst, ◌∙◌, arith}
 use Rattle.std.proofs.Math.Seq.{take-length, drop-length}
 use Rattle.std.proofs.lemmas.List.{take-append-le, drop-append-le, length-append}
-use Rattle.domain_script.specs.declared.event.Side.{Side}
-use Rattle.domain_script.specs.declared.fields.LaneKind.{LaneKind}
 use Rattle.vdisk_msg.specs.declared.request.Request.{Request}
 use Rattle.vio_tag.specs.declared.cause.Cause.{Cause}
 use Rattle.kept_requests.specs.Bytes.{BytesState}
@@ -14,6 +12,7 @@ use Rattle.ldom_journal.specs.PartsState.{PartsState, PutsParts, with_cause}
 use Rattle.ldom_entries.specs.Whole.{AreKeptWhole}
 use Rattle.ldom_entries.specs.declared.entry.Entry.{Entry}
 use Rattle.ldom_entries.specs.declared.entry.Entry.TheVariants as entry
+use Rattle.ldom_entries.specs.declared.header.EndMark.{EndMark}
 use Rattle.ldom_entries.specs.declared.header.Header.{Header}
 use Rattle.ldom_entries.specs.declared.header.Header.TheVariants as header
 
@@ -163,12 +162,12 @@ kept_more headers later s t m h capacity grown room kept puts more is same =
     }
 
 -- a reset has its packet beside it where it has one
-pub reset_share : (side : Side) (kind : LaneKind) (number n : ℕ) (cause : Cause) (is : Bool) (packet : Option (List ℕ)) → is ≡ is_some packet → share (header.Reset side kind is number) ≡ all_share (with_cause n cause packet)
-reset_share side kind number n cause is None e = ap (λ (b : Bool). share (header.Reset side kind b number)) e
-reset_share side kind number n cause is (Some p) e = ap (λ (b : Bool). share (header.Reset side kind b number)) e
+pub reset_share : (at : EndMark) (number n : ℕ) (cause : Cause) (is : Bool) (packet : Option (List ℕ)) → is ≡ is_some packet → share (header.Reset at is number) ≡ all_share (with_cause n cause packet)
+reset_share at number n cause is None e = ap (λ (b : Bool). share (header.Reset at b number)) e
+reset_share at number n cause is (Some p) e = ap (λ (b : Bool). share (header.Reset at b number)) e
 
-pub reset_entry : (side : Side) (kind : LaneKind) (number n : ℕ) (cause : Cause) (is : Bool) (packet : Option (List ℕ)) → is ≡ is_some packet → entry_of (header.Reset side kind is number) (with_cause n cause packet) ≡ entry.Reset (end_at kind number side) cause packet n
-reset_entry side kind number n cause is None e =
-    ap (λ (b : Bool). entry_of (header.Reset side kind b number) (with_cause n cause None)) e
-reset_entry side kind number n cause is (Some p) e =
-    ap (λ (b : Bool). entry_of (header.Reset side kind b number) (with_cause n cause (Some p))) e
+pub reset_entry : (at : EndMark) (number n : ℕ) (cause : Cause) (is : Bool) (packet : Option (List ℕ)) → is ≡ is_some packet → entry_of (header.Reset at is number) (with_cause n cause packet) ≡ entry.Reset (end_at at number) cause packet n
+reset_entry at number n cause is None e =
+    ap (λ (b : Bool). entry_of (header.Reset at b number) (with_cause n cause None)) e
+reset_entry at number n cause is (Some p) e =
+    ap (λ (b : Bool). entry_of (header.Reset at b number) (with_cause n cause (Some p))) e

@@ -6,7 +6,7 @@ use crate::reading::nth;
 use cookie_copy::CopyFault;
 use domain_script::EndName;
 use ldom_entries::{
-    Bytes, Entries, Entry, EntryRef, Header, KeptRequest, Who, Why, part_of,
+    Bytes, Entries, Entry, EntryRef, Header, KeptRequest, Who, Why, mark_of, part_of,
 };
 use std::alloc::Global;
 use std::marker::Model;
@@ -84,8 +84,7 @@ impl Journal {
         ensures { PutsEntry self.old (the_entry.Idle end) self.new }
     {
         self.kept.push_plain(Header::Idle {
-            side: end.side,
-            kind: end.lane.kind,
+            at: mark_of(end),
             number: end.lane.number,
         });
     }
@@ -96,8 +95,7 @@ impl Journal {
         ensures { PutsEntry self.old (the_entry.Off end) self.new }
     {
         self.kept.push_plain(Header::Off {
-            side: end.side,
-            kind: end.lane.kind,
+            at: mark_of(end),
             number: end.lane.number,
         });
     }
@@ -108,8 +106,7 @@ impl Journal {
         ensures { PutsEntry self.old (the_entry.Blocked end) self.new }
     {
         self.kept.push_plain(Header::Blocked {
-            side: end.side,
-            kind: end.lane.kind,
+            at: mark_of(end),
             number: end.lane.number,
         });
     }
@@ -120,8 +117,7 @@ impl Journal {
         ensures { PutsEntry self.old (the_entry.Joined end lost) self.new }
     {
         let header = Header::Joined {
-            side: end.side,
-            kind: end.lane.kind,
+            at: mark_of(end),
             number: end.lane.number,
         };
         self.kept.push_number(header, u64::from(lost));
@@ -133,8 +129,7 @@ impl Journal {
         ensures { PutsEntry self.old (the_entry.Took end packet.now opens) self.new }
     {
         let header = Header::Took {
-            side: end.side,
-            kind: end.lane.kind,
+            at: mark_of(end),
             opens,
             number: end.lane.number,
         };
@@ -147,8 +142,7 @@ impl Journal {
         ensures { PutsEntry self.old (the_entry.Sent end packet.now opens) self.new }
     {
         let header = Header::Sent {
-            side: end.side,
-            kind: end.lane.kind,
+            at: mark_of(end),
             opens,
             number: end.lane.number,
         };
@@ -161,8 +155,7 @@ impl Journal {
         ensures { PutsEntry self.old (the_entry.Published end id) self.new }
     {
         let header = Header::Published {
-            side: end.side,
-            kind: end.lane.kind,
+            at: mark_of(end),
             number: end.lane.number,
         };
         self.kept.push_number(header, id);
@@ -191,19 +184,11 @@ impl Journal {
         requires { 0 < self.old.room }
         ensures { PutsEntry self.old (the_entry.Moved end unit fault) self.new }
     {
-        let EndName { lane, side } = end;
+        let at = mark_of(end);
+        let number = end.lane.number;
         let header = match fault {
-            None => Header::Moved {
-                side,
-                kind: lane.kind,
-                number: lane.number,
-            },
-            Some(fault) => Header::NotMoved {
-                side,
-                kind: lane.kind,
-                fault,
-                number: lane.number,
-            },
+            None => Header::Moved { at, number },
+            Some(fault) => Header::NotMoved { at, fault, number },
         };
         self.kept.push_number(header, u64::from(unit));
     }
@@ -213,20 +198,19 @@ impl Journal {
         requires { 0 < self.old.room }
         ensures { PutsEntry self.old (the_entry.Stored end operation block count failed) self.new }
     {
-        let EndName { lane, side } = end;
+        let at = mark_of(end);
+        let number = end.lane.number;
         let header = if failed {
             Header::NotStored {
-                side,
-                kind: lane.kind,
+                at,
                 operation,
-                number: lane.number,
+                number,
             }
         } else {
             Header::Stored {
-                side,
-                kind: lane.kind,
+                at,
                 operation,
-                number: lane.number,
+                number,
             }
         };
         self.kept.push_numbers(header, block, count);
@@ -238,8 +222,7 @@ impl Journal {
         ensures { PutsEntry self.old (the_entry.Finished end slot status) self.new }
     {
         let header = Header::Finished {
-            side: end.side,
-            kind: end.lane.kind,
+            at: mark_of(end),
             number: end.lane.number,
         };
         self.kept

@@ -3,7 +3,7 @@ ghost use Rattle.ldom_entries.specs.Decoded.{entry_of, needs, share, these};
 
 use crate::parts::Parts;
 use domain_script::EndName;
-use ldom_entries::{Bytes, Entries, Entry, Header, KeptRequest};
+use ldom_entries::{Bytes, Entries, Entry, Header, KeptRequest, mark_of};
 use std::alloc::Global;
 use std::marker::Model;
 use vio_bytes::NoMemory;
@@ -162,8 +162,7 @@ impl KeptEntries {
         ensures { PutsEntry self.old (the_entry.Desc end slot bytes.now) self.new }
     {
         let header = Header::Desc {
-            side: end.side,
-            kind: end.lane.kind,
+            at: mark_of(end),
             number: end.lane.number,
         };
         self.parts.put_descriptor(u64::from(slot), bytes);
@@ -183,8 +182,7 @@ impl KeptEntries {
         ensures { PutsEntry self.old (the_entry.Reset end cause packet.now lost) self.new }
     {
         let header = Header::Reset {
-            side: end.side,
-            kind: end.lane.kind,
+            at: mark_of(end),
             packet: packet.is_some(),
             number: end.lane.number,
         };

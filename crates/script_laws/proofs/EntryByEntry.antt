@@ -3,14 +3,14 @@
 use Rattle.std.proofs.Common.{◌≡◌, ℕ, Bool, true, false, Option, Some, List, [], ◌∷◌, map, refl}
 use Rattle.vio_tag.specs.declared.cause.Cause.{Cause}
 use Rattle.channel_model.specs.WireEvent.{Declines, Reset}
-use Rattle.disk_model.specs.DiskEvent.{Asks, DiskEvent, Done, OnWire, Calms, Works}
+use Rattle.disk_model.specs.DiskEvent.{Asks, DiskEvent, Done, Full, OnWire, Refused, Calms, Works}
 use Rattle.domain_script.specs.declared.event.DiskDecl.{DiskDecl}
 use Rattle.domain_script.specs.declared.event.Lane.{Lane}
-use Rattle.domain_script.specs.declared.event.Lane.TheVariants.{Disk}
 use Rattle.domain_script.specs.declared.event.Side.{Side}
 use Rattle.domain_script.specs.declared.event.Side.TheVariants.{Client, Server}
-use Rattle.world_laws.specs.Settle.{OfLane, SettleEntry}
+use Rattle.world_laws.specs.Settle.{OfLane, SettleEntry, Unsettled}
 use Rattle.world_laws.specs.Lines.{Line}
+use Rattle.ldom_report.specs.DiskEvents.{defect_of}
 use Rattle.ldom_report.specs.LaneEvents.{AtClient, AtLane, AtServer, AtWire, ChangesNothing, Meaning, end_of, meaning}
 use Rattle.world_parts.specs.WorldEvents.{wire_event, world_event}
 use Rattle.ldom_entries.specs.declared.entry.Entry.{Entry}
@@ -19,7 +19,7 @@ use Rattle.ldom_entries.specs.declared.entry.Who.TheVariants.{Lane as OfWhole, E
 use Rattle.ldom_entries.specs.declared.entry.Why.TheVariants.{Count, Range}
 use Rattle.script_laws.proofs.LaneReport.{SaysSame, says_append}
 use Rattle.world_parts.specs.Parts.{PartSays}
-use Rattle.world_parts.proofs.Meanings.{Has, Holds, disk_has, entry_has, lane_of, wire_has}
+use Rattle.world_parts.proofs.Meanings.{Has, Holds, disk_has, entry_has, lane_has, lane_of, wire_has}
 
 -- an entry says the same as this one of a lane
 abbrev SameAs : DiskDecl → Entry → SettleEntry → Type 0
@@ -68,19 +68,30 @@ quiet_same disk e x nothing none = absurd (cc none)
 reset_same : (disk : DiskDecl) (lane : Lane) (side : Side) (cause : Cause) (packet : Option (List ℕ)) (lost : ℕ)
     → Has (SameAs disk (entry.Reset (record { lane = lane; side = side }) cause packet lost))
     (wire_event lane (Reset (end_of side) cause packet lost))
-reset_same disk (Disk k) Client cause packet lost = (refl, refl)
-reset_same disk (Disk k) Server cause packet lost = (refl, refl)
+reset_same disk lane Client cause packet lost =
+    lane_has (λ l. SameAs disk (entry.Reset (record { lane = l; side = Client }) cause packet lost))
+    (λ k. OfLane k (OnWire (Reset (end_of Client) cause packet lost))) lane (λ k. (refl, refl))
+reset_same disk lane Server cause packet lost =
+    lane_has (λ l. SameAs disk (entry.Reset (record { lane = l; side = Server }) cause packet lost))
+    (λ k. OfLane k (OnWire (Reset (end_of Server) cause packet lost))) lane (λ k. (refl, refl))
 
 -- EACH ENTRY, by what it means
 entry_same : (disk : DiskDecl) (e : Entry) → Holds (SameAs disk e) (meaning e)
 entry_same disk (entry.Accepted k id request) = (refl, refl)
-entry_same disk (entry.Full (OfWhole (Disk k))) = λ request. (refl, refl)
+entry_same disk (entry.Full (OfWhole lane)) =
+    λ request. lane_has (λ l. SameAs disk (entry.Full (OfWhole l))) (λ k. OfLane k (Asks (Full request))) lane
+    (λ k. (refl, refl))
 entry_same disk (entry.Full (OfEnd e)) = λ request. tt
-entry_same disk (entry.Refused (OfWhole (Disk k)) Count) = λ request. (refl, refl)
-entry_same disk (entry.Refused (OfWhole (Disk k)) Range) = λ request. (refl, refl)
+entry_same disk (entry.Refused (OfWhole lane) Count) =
+    λ request. lane_has (λ l. SameAs disk (entry.Refused (OfWhole l) Count))
+    (λ k. OfLane k (Asks (Refused (defect_of Count) request))) lane (λ k. (refl, refl))
+entry_same disk (entry.Refused (OfWhole lane) Range) =
+    λ request. lane_has (λ l. SameAs disk (entry.Refused (OfWhole l) Range))
+    (λ k. OfLane k (Asks (Refused (defect_of Range) request))) lane (λ k. (refl, refl))
 entry_same disk (entry.Refused (OfEnd e) why) = λ request. tt
 entry_same disk entry.Settled = (refl, refl)
-entry_same disk (entry.Unsettled (OfWhole (Disk k))) = (refl, refl)
+entry_same disk (entry.Unsettled (OfWhole lane)) =
+    lane_has (λ l. SameAs disk (entry.Unsettled (OfWhole l))) (λ k. Unsettled k) lane (λ k. (refl, refl))
 entry_same disk (entry.Unsettled (OfEnd e)) = tt
 entry_same disk (entry.Done k id operation status bytes) = (refl, refl)
 entry_same disk (entry.Reset e cause packet lost) = reset_same disk e.lane e.side cause packet lost

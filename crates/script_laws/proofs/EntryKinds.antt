@@ -1,6 +1,6 @@
 -- What an entry says of the requests of disks, and what the same entry is for their lanes: four kinds of entry are of
 -- requests, and all others are silent.
-use Rattle.std.proofs.Common.{◌≡◌, ◌⊎◌, inl, inr, ℕ, ◌==◌, Bool, true, false, Option, Some, None, refl}
+use Rattle.std.proofs.Common.{◌≡◌, ◌⊎◌, inl, inr, ℕ, ◌==◌, Bool, true, false, Option, Some, None, refl, ap}
 use Rattle.std.specs.Prelude.{⊤}
 use Rattle.vdisk_msg.specs.declared.request.Request.{Request}
 use Rattle.disk_law.specs.ListStep as plain
@@ -9,16 +9,17 @@ use Rattle.disk_model.specs.DiskEvent.{Accepted, Asks, Calms, DiskEvent, Done, F
 use Rattle.world_laws.specs.Settle.{OfLane, SettleEntry}
 use Rattle.domain_script.specs.declared.event.Event.{Event}
 use Rattle.domain_script.specs.declared.event.Event.TheVariants as line
-use Rattle.domain_script.specs.declared.event.Lane.TheVariants.{Disk}
+use Rattle.domain_script.specs.declared.event.Lane.{Lane}
+use Rattle.domain_script.specs.LaneKinds.{disk_of}
 use Rattle.kept_requests.specs.Bytes.{BytesState}
 use Rattle.ldom_entries.specs.declared.entry.Entry.{Entry}
 use Rattle.ldom_entries.specs.declared.entry.Entry.TheVariants as entry
 use Rattle.ldom_entries.specs.declared.entry.Who.{Who}
 use Rattle.ldom_entries.specs.declared.entry.Who.TheVariants.{Lane as OfWhole}
 use Rattle.ldom_entries.specs.declared.entry.Why.{Why}
-use Rattle.ldom_report.specs.DiskEvents.{Defective, NoRoom, NotTaken, Nothing, OfDisk, Refusal, defect_of, refused, request_asked, said}
+use Rattle.ldom_report.specs.DiskEvents.{Defective, NoRoom, NotTaken, Nothing, OfDisk, Refusal, defect_of, not_taken_on, refused, request_asked, said}
 use Rattle.ldom_report.specs.LaneEvents.{AtClient, AtLane, AtServer, AtWire, ChangesNothing, LeavesNothing, LeavesOver, Meaning, NoRoomFor, Refuses, meaning}
-use Rattle.world_parts.specs.WorldEvents.{full_event, if_so, refused_event, world_event}
+use Rattle.world_parts.specs.WorldEvents.{at_disk, full_event, if_so, refused_event, world_event}
 use Rattle.world_laws.specs.Failures.{is_failed_done}
 use Rattle.world_laws.specs.Statuses.{TellsStore}
 use Rattle.world_parts.specs.Lines.{line_of}
@@ -119,35 +120,46 @@ silent (LeavesOver who) none = left_has SaysNothing who (λ k. tt)
 silent LeavesNothing none = tt
 
 -- A REQUEST THAT ISN'T TAKEN UP is that of its line
-full_kind : (asked : Event) (who : Who) (m : SettleEntry) → full_event (line_of asked) who ≡ Some m
-    → NotTakenUp asked (entry.Full who) m
-full_kind (line.Issue j request) (OfWhole (Disk k)) m is = record {
+full_on : (j : ℕ) (request : Request) (lane : Lane) (o : Option ℕ) (m : SettleEntry) → disk_of lane ≡ o
+    → at_disk j o (Asks (Full request)) ≡ Some m → NotTakenUp (line.Issue j request) (entry.Full (OfWhole lane)) m
+full_on j request lane None m at is = absurd (cc is)
+full_on j request lane (Some k) m at is = record {
   disk = k;
   event = Asks (Full request);
   refusal = NoRoom;
   request = request;
   means_is = if_is (j == k) (OfLane k (Asks (Full request))) m is;
   asked_is = refl;
-  said_is = refl;
+  said_is = ap (λ (x : Option ℕ). not_taken_on x NoRoom) at;
   sees = refl;
   failed = refl;
 }
+
+full_kind : (asked : Event) (who : Who) (m : SettleEntry) → full_event (line_of asked) who ≡ Some m
+    → NotTakenUp asked (entry.Full who) m
+full_kind (line.Issue j request) (OfWhole lane) m is = full_on j request lane (disk_of lane) m refl is
 full_kind asked who m is = absurd (cc is)
 
-refused_kind : (asked : Event) (who : Who) (why : Why) (m : SettleEntry)
-    → refused_event (line_of asked) who why ≡ Some m
-    → NotTakenUp asked (entry.Refused who why) m
-refused_kind (line.Issue j request) (OfWhole (Disk k)) why m is = record {
+refused_on : (j : ℕ) (request : Request) (lane : Lane) (why : Why) (o : Option ℕ) (m : SettleEntry) → disk_of lane ≡ o
+    → at_disk j o (Asks (Refused (defect_of why) request)) ≡ Some m
+    → NotTakenUp (line.Issue j request) (entry.Refused (OfWhole lane) why) m
+refused_on j request lane why None m at is = absurd (cc is)
+refused_on j request lane why (Some k) m at is = record {
   disk = k;
   event = Asks (Refused (defect_of why) request);
   refusal = Defective why;
   request = request;
   means_is = if_is (j == k) (OfLane k (Asks (Refused (defect_of why) request))) m is;
   asked_is = refl;
-  said_is = refl;
+  said_is = ap (λ (x : Option ℕ). not_taken_on x (Defective why)) at;
   sees = refl;
   failed = refl;
 }
+
+refused_kind : (asked : Event) (who : Who) (why : Why) (m : SettleEntry)
+    → refused_event (line_of asked) who why ≡ Some m
+    → NotTakenUp asked (entry.Refused who why) m
+refused_kind (line.Issue j request) (OfWhole lane) why m is = refused_on j request lane why (disk_of lane) m refl is
 refused_kind asked who why m is = absurd (cc is)
 
 -- one that was

@@ -5,7 +5,8 @@ use Rattle.std.specs.Prelude.{◌&&◌, ◌==◌}
 use Rattle.disk_model.specs.LaneState.{LaneState}
 use Rattle.lane_kinds.proofs.Stuck as ends
 use Rattle.world_laws.proofs.Counts.{blocked, blocked_both, blocked_in}
-use Rattle.world_laws.proofs.RoundCounts.{once, one_end, step_blocked}
+use Rattle.world_laws.proofs.RoundCounts.{one_end, step_blocked}
+use Rattle.lane_kinds.specs.LaneCounts.{once}
 use Rattle.world_laws.proofs.Stuck.{unsticks}
 use Rattle.world_laws.specs.Begun.{NoMore, RoundFront, SettleFront, TickFront, fronts}
 use Rattle.world_laws.specs.Moves.{NeverThree, is_end, moves, stuck}

@@ -15,7 +15,7 @@ use Rattle.disk_law.specs.Issued.{completed}
 use Rattle.disk_law.specs.ListStep as plain
 use Rattle.disk_model.specs.DiskEvent.{Asks, Done, Full, OnWire, Refused, Works}
 use Rattle.domain_script.specs.declared.event.DiskDecl.{DiskDecl}
-use Rattle.domain_script.specs.declared.event.Lane.TheVariants.{Disk}
+use Rattle.domain_script.specs.LaneKinds.{disk_lane}
 use Rattle.domain_script.specs.declared.event.Side.{Side}
 use Rattle.domain_script.specs.declared.event.Side.TheVariants.{Client, Server}
 use Rattle.world_laws.specs.Settle.{OfLane, SettleEntry, Settled, Unsettled}
@@ -45,14 +45,14 @@ abbrev pub run_line : DiskDecl → Entry → List ℕ
 run_line disk e = line_text mode.Run (disk ∷ []) e
 
 abbrev pub lane_text : DiskDecl → SettleEntry → List ℕ
-lane_text disk (OfLane k (Asks (Full request))) = run_line disk (entry.Full (OfWhole (Disk k)))
-lane_text disk (OfLane k (Asks (Refused why request))) = run_line disk (entry.Refused (OfWhole (Disk k)) (why_of why))
+lane_text disk (OfLane k (Asks (Full request))) = run_line disk (entry.Full (OfWhole (disk_lane k)))
+lane_text disk (OfLane k (Asks (Refused why request))) = run_line disk (entry.Refused (OfWhole (disk_lane k)) (why_of why))
 lane_text disk (OfLane k (Works (Done id operation status bytes))) =
     run_line disk (entry.Done k id operation status (filled bytes))
 lane_text disk (OfLane k (OnWire (Reset e cause packet lost))) =
-    run_line disk (entry.Reset (record { lane = Disk k; side = side_of e }) cause packet lost)
+    run_line disk (entry.Reset (record { lane = disk_lane k; side = side_of e }) cause packet lost)
 lane_text disk Settled = codes "settled\n"
-lane_text disk (Unsettled k) = run_line disk (entry.Unsettled (OfWhole (Disk k)))
+lane_text disk (Unsettled k) = run_line disk (entry.Unsettled (OfWhole (disk_lane k)))
 lane_text disk _ = []
 
 -- the id that it completes, and whether it is a reset

@@ -1,5 +1,5 @@
 -- What each kind of line does: no other lemma lists the kinds.
-use Rattle.std.proofs.Common.{◌≡◌, ℕ, ◌<◌, true, false, List, [], ◌∷◌, length, refl, ap, arith, ◌⊎◌, inl, inr, IsTrue}
+use Rattle.std.proofs.Common.{◌≡◌, ℕ, true, false, List, [], ◌∷◌, length, refl, ap, arith, ◌⊎◌, inl, inr, IsTrue}
 use Rattle.vdisk_msg.specs.declared.request.Request.TheVariants.{Read, Write, Flush}
 use Rattle.domain_script.specs.Limits.{AreTurns}
 use Rattle.domain_script.specs.Words.{IsWithin}
@@ -7,16 +7,13 @@ use Rattle.domain_script.specs.declared.fields.Bounds.TheVariants.{Between}
 use Rattle.domain_script.specs.declared.event.DiskDecl.{DiskDecl}
 use Rattle.domain_script.specs.declared.event.Event.{Event}
 use Rattle.domain_script.specs.declared.event.Event.TheVariants as line
-use Rattle.domain_script.specs.declared.event.Lane.{Lane}
-use Rattle.domain_script.specs.declared.event.Lane.TheVariants as the_lane
-use Rattle.domain_script.specs.NamesState.{IsLane, NamesState, noted}
+use Rattle.domain_script.specs.NamesState.{NamesState, noted}
 use Rattle.domain_script.specs.Spells.{IsDeclared}
 use Rattle.disk_model.specs.LaneState.{LaneState}
 use Rattle.world_laws.specs.Begun.{RoundFront, SettleFront}
 use Rattle.world_laws.specs.Settle.{begin}
 use Rattle.world_laws.specs.Lines.{AreFirstSteps, BeginsPart, EndTurn}
 use Rattle.world_laws.specs.World.{WorldState}
-use Rattle.ldom_report.specs.LaneEvents.{lane_number}
 use Rattle.script_laws.specs.Attached.{is_opening}
 use Rattle.world_parts.specs.Lines.{IsForDisks, EventStep, line_of}
 
@@ -89,9 +86,6 @@ ends names e =
     by_line (λ (x : Event). is_opening x ≡ false → (noted names x).ended ≡ true) (λ other. absurd (cc other)) (λ disk other. absurd (cc other))
     (λ x _ closes other. ap (λ (n : NamesState). n.ended) (closes names)) e
 
-lane_there : (names : NamesState) (l : Lane) → IsLane names l → lane_number l < length names.disks
-lane_there names (the_lane.Disk k) is = is
-
 turns : (count : ℕ) → IsWithin (Between 1 100) count → AreTurns count
 turns count is = (omega (arith, is.0), is.1)
 
@@ -103,11 +97,11 @@ for_declared names (line.Issue disk (Write block count fill)) is = (is.0, is.1.1
 for_declared names (line.Issue disk (Read block count)) is = (is.0, tt)
 for_declared names (line.Issue disk Flush) is = (is.0, tt)
 for_declared names line.Settle is = tt
-for_declared names (line.Step end count) is = (lane_there names end.lane is.0.0, turns count is.1.0.1)
+for_declared names (line.Step end count) is = (is.0.0, turns count is.1.0.1)
 for_declared names (line.Round count) is = turns count is.0.1
-for_declared names (line.Reset end) is = lane_there names end.lane is.0.0
-for_declared names (line.Restart end) is = (lane_there names end.lane is.0.0, is.0.1)
+for_declared names (line.Reset end) is = is.0.0
+for_declared names (line.Restart end) is = (is.0.0, is.0.1)
 for_declared names (line.Stop disk) is = is.0
 for_declared names (line.Start disk) is = is.0
-for_declared names (line.Lose end) is = lane_there names end.lane is.0.0
-for_declared names (line.Tick ticked) is = lane_there names ticked is.0
+for_declared names (line.Lose end) is = is.0.0
+for_declared names (line.Tick ticked) is = is.0

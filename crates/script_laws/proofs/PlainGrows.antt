@@ -12,7 +12,7 @@ use Rattle.disk_model.specs.DiskEvent.{Asks, Full, Refused}
 use Rattle.domain_script.specs.declared.event.DiskDecl.{DiskDecl}
 use Rattle.domain_script.specs.declared.event.Event.{Event}
 use Rattle.domain_script.specs.declared.event.Event.TheVariants as event
-use Rattle.domain_script.specs.declared.event.Lane.TheVariants.{Disk}
+use Rattle.domain_script.specs.LaneKinds.{disk_lane}
 use Rattle.world_laws.specs.Settle.{OfLane, SettleEntry, Settled}
 use Rattle.kept_requests.specs.BlockWord.{blocks_text}
 use Rattle.kept_requests.specs.Bytes.{filled}
@@ -82,19 +82,19 @@ bare a b c d is =
     ap (λ (l : List ℕ). l ++ c) (append-nil (a ++ b)) ∙ append_assoc a b c ∙ ap (λ (l : List ℕ). a ++ l) is
 
 refused_count : (disk : DiskDecl)
-    → run_line disk (entry.Refused (OfWhole (Disk 0)) Count) ≡ codes "refused " ++ name_text disk ++ codes " count\n"
+    → run_line disk (entry.Refused (OfWhole (disk_lane 0)) Count) ≡ codes "refused " ++ name_text disk ++ codes " count\n"
 refused_count disk =
     bare (codes "refused " ++ name_text disk ++ codes " ") (codes "count") (codes "\n") (codes "count\n") refl
     ∙ append_assoc (codes "refused " ++ name_text disk) (codes " ") (codes "count\n")
 
 refused_range : (disk : DiskDecl)
-    → run_line disk (entry.Refused (OfWhole (Disk 0)) Range) ≡ codes "refused " ++ name_text disk ++ codes " range\n"
+    → run_line disk (entry.Refused (OfWhole (disk_lane 0)) Range) ≡ codes "refused " ++ name_text disk ++ codes " range\n"
 refused_range disk =
     bare (codes "refused " ++ name_text disk ++ codes " ") (codes "range") (codes "\n") (codes "range\n") refl
     ∙ append_assoc (codes "refused " ++ name_text disk) (codes " ") (codes "range\n")
 
 full_line : (disk : DiskDecl)
-    → run_line disk (entry.Full (OfWhole (Disk 0))) ≡ codes "full " ++ name_text disk ++ codes "\n"
+    → run_line disk (entry.Full (OfWhole (disk_lane 0))) ≡ codes "full " ++ name_text disk ++ codes "\n"
 full_line disk = ap (λ (l : List ℕ). l ++ codes "\n") (append-nil (codes "full " ++ name_text disk))
 
 pub zero_text : decimal 0 ≡ codes "0"

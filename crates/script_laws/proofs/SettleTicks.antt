@@ -8,9 +8,10 @@ use Rattle.channel_model.specs.WireEvent.{Reset}
 use Rattle.lane_laws.specs.CalmEnds.{IsStep}
 use Rattle.world_laws.proofs.Counts.{ticks_both}
 use Rattle.world_laws.proofs.LineEntries.{EachEntry, begun_each}
-use Rattle.world_laws.proofs.RoundCounts.{once, tick_entry}
+use Rattle.world_laws.proofs.RoundCounts.{tick_entry}
+use Rattle.lane_kinds.specs.LaneCounts.{mark_at, once}
 use Rattle.lane_kinds.proofs.Counting.{front_counted}
-use Rattle.world_laws.proofs.TicksOnce.{counts, entry_ticks, mark_at}
+use Rattle.world_laws.proofs.TicksOnce.{counts, entry_ticks}
 use Rattle.world_laws.specs.Begun.{NoMore, SettleFront, TickFront, fronts}
 use Rattle.world_laws.specs.Moves.{is_tick, ticks, ticks_in}
 use Rattle.world_laws.specs.Settle.{OfLane, SettleEntry, disks}
@@ -106,7 +107,7 @@ front_few k j (s ∷ lanes) (had ∷ marks) part behind (inl none) =
 front_few k j (s ∷ lanes) (had ∷ marks) part behind (inr made) =
     let sum : ticks_in k part ≡ once ((j == k) && gets_tick s had) + ticks_in k made.later =
     ap (ticks_in k) made.is ∙ ticks_both k (tick_entry j (gets_tick s had)) made.later
-    ∙ ap (λ (n : ℕ). n + ticks_in k made.later) (entry_ticks k j (gets_tick s had)) in
+    ∙ ap (λ (n : ℕ). n + ticks_in k made.later) (entry_ticks k j s (gets_tick s had)) in
     lane_few (j == k) had (waits_on s) k j (ticks_in k part) (ticks_in k made.later) (mark_at k (j + 1) marks) sum
     (eqb-true j k) (front_few k (j + 1) lanes marks made.later made.others made.more)
 

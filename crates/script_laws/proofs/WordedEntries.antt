@@ -4,13 +4,12 @@ use Rattle.std.specs.List.{All}
 use Rattle.std.proofs.lemmas.List.Elements.{All-cons, All-nil}
 use Rattle.channel_model.specs.WireEvent.{Declines, Reset, WireEvent}
 use Rattle.disk_model.specs.DiskEvent.{Asks, Calms, DiskEvent, Full, OnWire, Refused, Stored, Works}
-use Rattle.world_laws.specs.Settle.{SettleEntry}
+use Rattle.world_laws.specs.Settle.{OfLane, SettleEntry, Unsettled}
 use Rattle.world_laws.specs.Lines.{Line}
 use Rattle.vio_tag.specs.declared.cause.Cause.{Cause}
 use Rattle.vio_tag.specs.declared.cause.Cause.TheVariants as the_cause
 use Rattle.domain_script.specs.declared.event.DiskDecl.{DiskDecl}
 use Rattle.domain_script.specs.declared.event.Lane.{Lane}
-use Rattle.domain_script.specs.declared.event.Lane.TheVariants.{Disk}
 use Rattle.ldom_entries.specs.declared.entry.Entry.{Entry}
 use Rattle.ldom_entries.specs.declared.entry.Entry.TheVariants as entry
 use Rattle.ldom_entries.specs.declared.entry.Who.{Who}
@@ -23,17 +22,17 @@ use Rattle.world_parts.specs.Lines.{line_of}
 use Rattle.world_laws.specs.Words.{IsOperation, NamesFault, ReadsBlocks}
 use Rattle.script_laws.proofs.Tellings.{Telling, entries_told, means_of}
 use Rattle.script_laws.proofs.ToldEntries.{AreTold, IsTold}
-use Rattle.world_parts.proofs.Meanings.{Has, Holds, disk_has, entry_has, lane_of, wire_has}
+use Rattle.world_parts.proofs.Meanings.{Has, Holds, disk_has, entry_has, lane_has, lane_of, wire_has}
 
 -- WHAT IS NAMED is declared
 abbrev Names : List DiskDecl → Lane → SettleEntry → Type 0
 Names disks lane m = IsTold (length disks) m → IsLane disks lane
 
 disk_named : (disks : List DiskDecl) (lane : Lane) (event : DiskEvent) → Has (Names disks lane) (disk_event lane event)
-disk_named disks (Disk k) event = λ told. told.0
+disk_named disks lane event = lane_has (Names disks) (λ k. OfLane k event) lane (λ k told. told.0)
 
 wire_named : (disks : List DiskDecl) (lane : Lane) (event : WireEvent) → Has (Names disks lane) (wire_event lane event)
-wire_named disks (Disk k) event = λ told. told.0
+wire_named disks lane event = lane_has (Names disks) (λ k. OfLane k (OnWire event)) lane (λ k told. told.0)
 
 abbrev Declares : List DiskDecl → Who → SettleEntry → Type 0
 Declares disks who m = IsTold (length disks) m → IsDeclared disks who
@@ -48,7 +47,7 @@ whole_named disks (OfWhole lane) event = disk_named disks lane event
 whole_named disks (OfEnd e) event = tt
 
 left_named : (disks : List DiskDecl) (who : Who) → Has (Declares disks who) (unsettled_event who)
-left_named disks (OfWhole (Disk k)) = λ told. told
+left_named disks (OfWhole lane) = lane_has (Names disks) (λ k. Unsettled k) lane (λ k told. told)
 left_named disks (OfEnd e) = tt
 
 named : (disks : List DiskDecl) (x : Meaning) → Holds (λ (m : SettleEntry). IsTold (length disks) m → IsNamed disks x) x

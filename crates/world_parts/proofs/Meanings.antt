@@ -1,6 +1,6 @@
 -- What holds of all that an entry may be for the lanes, whatever line it came in: by what it means.
-use Rattle.std.proofs.Common.{◌≡◌, ℕ, ◌==◌, ◌&&◌, Bool, true, false, Option, Some, None, refl, sym, subst}
-use Rattle.std.specs.Prelude.{⊤}
+use Rattle.std.proofs.Common.{◌≡◌, ℕ, ◌==◌, ◌&&◌, Bool, true, false, Option, Some, None, option_map, refl, sym, subst}
+use Rattle.std.specs.Prelude.{IsSomeAnd, ⊤}
 use Rattle.std.proofs.lemmas.Bool.{eqb-true}
 use Rattle.vdisk_msg.specs.declared.request.Request.{Request}
 use Rattle.world_laws.specs.WireEvent.{Declined, Declines, NothingLost, WireEvent}
@@ -9,7 +9,8 @@ use Rattle.ldc_queue.specs.declared.end.End.TheVariants.{B}
 use Rattle.world_laws.specs.Settle.{OfLane, SettleEntry, Settled, Unsettled}
 use Rattle.world_laws.specs.Lines.{Asked, Call, Calls, Line, Loses, Resets, Restarts, Starts, Stops, Ticks}
 use Rattle.domain_script.specs.declared.event.Lane.{Lane}
-use Rattle.domain_script.specs.declared.event.Lane.TheVariants.{Disk}
+use Rattle.domain_script.specs.LaneKinds.{disk_lane, disk_of}
+use Rattle.domain_script.proofs.LaneKinds.{of_disks}
 use Rattle.domain_script.specs.declared.event.Side.{Side}
 use Rattle.domain_script.specs.declared.event.Side.TheVariants.{Client, Server}
 use Rattle.ldom_entries.specs.declared.entry.Entry.{Entry}
@@ -17,7 +18,7 @@ use Rattle.ldom_entries.specs.declared.entry.Who.{Who}
 use Rattle.ldom_entries.specs.declared.entry.Who.TheVariants.{Lane as OfWhole, End as OfEnd}
 use Rattle.ldom_report.specs.DiskEvents.{defect_of}
 use Rattle.ldom_report.specs.LaneEvents.{AtClient, AtLane, AtServer, AtWire, ChangesNothing, LeavesNothing, LeavesOver, Meaning, NoRoomFor, Refuses, end_of, meaning}
-use Rattle.world_parts.specs.WorldEvents.{called_event, disk_event, if_so, is_disk, is_same, meant, of_client, of_server, unsettled_event, who_event, wire_event, world_event}
+use Rattle.world_parts.specs.WorldEvents.{at_disk, called_event, disk_event, if_so, is_disk, is_same, meant, of_client, of_server, unsettled_event, who_event, wire_event, world_event}
 
 -- the lane of whom an entry is about
 abbrev pub lane_of : Who → Lane
@@ -47,14 +48,38 @@ if_has : (P : SettleEntry → Type 0) (b : Bool) (x : SettleEntry) → P x → H
 if_has P true x holds = holds
 if_has P false x holds = tt
 
+mapped_has : (P : SettleEntry → Type 0) (o : Option ℕ) (f : ℕ → SettleEntry) → ((k : ℕ) → P (f k)) → Has P (option_map f o)
+mapped_has P None f holds = tt
+mapped_has P (Some k) f holds = holds k
+
+at_has : (P : SettleEntry → Type 0) (j : ℕ) (o : Option ℕ) (event : DiskEvent)
+    → Has P (option_map (λ k. OfLane k event) o) → Has P (at_disk j o event)
+at_has P j None event holds = tt
+at_has P j (Some k) event holds = if_has P (j == k) (OfLane k event) holds
+
+-- what holds of each lane of a disk with something of that disk
+found_has : (P : Lane → SettleEntry → Type 0) (f : ℕ → SettleEntry) (lane : Lane) → ((k : ℕ) → P (disk_lane k) (f k))
+    → (o : Option ℕ) → disk_of lane ≡ o → Has (P lane) (option_map f o)
+found_has P f lane holds None at = tt
+found_has P f lane holds (Some k) at =
+    of_disks (λ (l : Lane). disk_of l ≡ Some k → P l (f k)) (λ j. ⊤)
+    (λ j _ same.
+    let number : j ≡ k = cc same in
+    subst (λ (n : ℕ). P (disk_lane n) (f k)) (sym number) (holds k)) lane
+    (subst (λ (o : Option ℕ). IsSomeAnd o (λ j. ⊤)) (sym at) tt) at
+
+pub lane_has : (P : Lane → SettleEntry → Type 0) (f : ℕ → SettleEntry) (lane : Lane) → ((k : ℕ) → P (disk_lane k) (f k))
+    → Has (P lane) (option_map f (disk_of lane))
+lane_has P f lane holds = found_has P f lane holds (disk_of lane) refl
+
 -- where all events of disks have it
 pub disk_has : (P : SettleEntry → Type 0) (lane : Lane) (event : DiskEvent) → ((k : ℕ) → P (OfLane k event))
     → Has P (disk_event lane event)
-disk_has P (Disk k) event holds = holds k
+disk_has P lane event holds = mapped_has P (disk_of lane) (λ k. OfLane k event) holds
 
 pub wire_has : (P : SettleEntry → Type 0) (lane : Lane) (event : WireEvent) → ((k : ℕ) → P (OfLane k (OnWire event)))
     → Has P (wire_event lane event)
-wire_has P (Disk k) event holds = holds k
+wire_has P lane event holds = mapped_has P (disk_of lane) (λ k. OfLane k (OnWire event)) holds
 
 pub who_has : (P : SettleEntry → Type 0) (who : Who) (event : DiskEvent) → ((k : ℕ) → P (OfLane k event))
     → Has P (who_event who event)
@@ -62,7 +87,7 @@ who_has P (OfWhole lane) event holds = disk_has P lane event holds
 who_has P (OfEnd e) event holds = tt
 
 pub left_has : (P : SettleEntry → Type 0) (who : Who) → ((k : ℕ) → P (Unsettled k)) → Has P (unsettled_event who)
-left_has P (OfWhole (Disk k)) holds = holds k
+left_has P (OfWhole lane) holds = mapped_has P (disk_of lane) (λ k. Unsettled k) holds
 left_has P (OfEnd e) holds = tt
 
 client_has : (P : SettleEntry → Type 0) (side : Side) (lane : Lane) (event : DiskEvent)
@@ -81,21 +106,22 @@ number_has : (P : SettleEntry → Type 0) (j k : ℕ) (same also : Bool) (event 
 number_has P j k true true event is holds = subst (λ (n : ℕ). P (OfLane n event)) (sym (eqb-true j k is)) holds
 number_has P j k same also event is holds = tt
 
-end_has : (P : SettleEntry → Type 0) (j : ℕ) (lane : Lane) (also : Bool) (event : DiskEvent)
-    → Has P (disk_event lane event) → Has P (if_so (is_disk j lane && also) (OfLane j event))
-end_has P j (Disk k) also event holds = number_has P j k (j == k) also event refl holds
+end_has : (P : SettleEntry → Type 0) (j : ℕ) (o : Option ℕ) (also : Bool) (event : DiskEvent)
+    → Has P (option_map (λ k. OfLane k event) o) → Has P (if_so (is_disk j o && also) (OfLane j event))
+end_has P j None also event holds = tt
+end_has P j (Some k) also event holds = number_has P j k (j == k) also event refl holds
 
 called_has : (P : SettleEntry → Type 0) (j : ℕ) (call : Call) (who : Who) → Holds P (ChangesNothing who)
     → Has P (called_event j call who)
-called_has P j Stops (OfWhole (Disk k)) holds = if_has P (j == k) (OfLane k (Calms CalmStop)) (holds.0 CalmStop)
-called_has P j Starts (OfWhole (Disk k)) holds = if_has P (j == k) (OfLane k (Calms CalmStart)) (holds.0 CalmStart)
-called_has P j Ticks (OfWhole (Disk k)) holds = if_has P (j == k) (OfLane k (Calms CalmTick)) (holds.0 CalmTick)
+called_has P j Stops (OfWhole lane) holds = at_has P j (disk_of lane) (Calms CalmStop) (holds.0 CalmStop)
+called_has P j Starts (OfWhole lane) holds = at_has P j (disk_of lane) (Calms CalmStart) (holds.0 CalmStart)
+called_has P j Ticks (OfWhole lane) holds = at_has P j (disk_of lane) (Calms CalmTick) (holds.0 CalmTick)
 called_has P j (Resets e) (OfEnd name) holds =
-    end_has P j name.lane (is_same e (end_of name.side)) (Calms (CalmReset e)) (holds.0 (CalmReset e))
+    end_has P j (disk_of name.lane) (is_same e (end_of name.side)) (Calms (CalmReset e)) (holds.0 (CalmReset e))
 called_has P j Restarts (OfEnd name) holds =
-    end_has P j name.lane (is_same B (end_of name.side)) (Calms CalmRestart) (holds.0 CalmRestart)
+    end_has P j (disk_of name.lane) (is_same B (end_of name.side)) (Calms CalmRestart) (holds.0 CalmRestart)
 called_has P j (Loses e) (OfEnd name) holds =
-    end_has P j name.lane (is_same e (end_of name.side)) (OnWire (Declines (NothingLost e))) (holds.1 (NothingLost e))
+    end_has P j (disk_of name.lane) (is_same e (end_of name.side)) (OnWire (Declines (NothingLost e))) (holds.1 (NothingLost e))
 called_has P j call who holds = tt
 
 meant_has : (P : SettleEntry → Type 0) (asked : Line) (x : Meaning) → Holds P x → Has P (meant asked x)
@@ -103,10 +129,10 @@ meant_has P asked (AtWire e event) holds = holds
 meant_has P asked (AtClient e event) holds = client_has P e.side e.lane event holds
 meant_has P asked (AtServer e event) holds = server_has P e.side e.lane event holds
 meant_has P asked (AtLane k event) holds = holds
-meant_has P (Asked j request) (NoRoomFor (OfWhole (Disk k))) holds =
-    if_has P (j == k) (OfLane k (Asks (Full request))) (holds request)
-meant_has P (Asked j request) (Refuses (OfWhole (Disk k)) why) holds =
-    if_has P (j == k) (OfLane k (Asks (Refused (defect_of why) request))) (holds request)
+meant_has P (Asked j request) (NoRoomFor (OfWhole lane)) holds =
+    at_has P j (disk_of lane) (Asks (Full request)) (holds request)
+meant_has P (Asked j request) (Refuses (OfWhole lane) why) holds =
+    at_has P j (disk_of lane) (Asks (Refused (defect_of why) request)) (holds request)
 meant_has P (Calls j call) (ChangesNothing who) holds = called_has P j call who holds
 meant_has P asked (LeavesOver who) holds = holds
 meant_has P asked LeavesNothing holds = holds

@@ -1,17 +1,19 @@
 -- What a line of a script is for a world of lanes, and the part that it gives.
-use Rattle.std.specs.Prelude.{◌≡◌, ℕ, ◌<◌, List, ⊤}
+use Rattle.std.specs.Prelude.{◌≡◌, ℕ, ◌<◌, List, IsSomeAnd, ⊤}
 use Rattle.std.specs.List.{flat_map}
 use Rattle.vdisk_msg.specs.Fills.{IsRequest}
 use Rattle.disk_law.specs.ListStep.{ListEvent}
 use Rattle.domain_script.specs.declared.event.Event.{Event}
 use Rattle.domain_script.specs.declared.event.Event.TheVariants as event
+use Rattle.domain_script.specs.declared.event.Lane.{Lane}
 use Rattle.domain_script.specs.declared.event.Side.TheVariants.{Server}
+use Rattle.domain_script.specs.LaneKinds.{disk_of}
 use Rattle.domain_script.specs.Limits.{AreTurns}
 use Rattle.world_laws.specs.Settle.{SettleEntry}
 use Rattle.world_laws.specs.Lines.{Asked, Calls, Line, LineBegins, LineMoves, Loses, Nothing, Resets, Restarts, Rounds, Settles, Starts, Steps, Stops, Ticks}
 use Rattle.world_laws.specs.World.{WorldState}
 use Rattle.ldom_report.specs.DiskEvents.{happened_to}
-use Rattle.ldom_report.specs.LaneEvents.{end_of, lane_number}
+use Rattle.ldom_report.specs.LaneEvents.{end_of}
 use Rattle.ldom_entries.specs.declared.entry.Entry.{Entry}
 use Rattle.world_parts.specs.Parts.{PartSays}
 
@@ -21,27 +23,31 @@ line_of event.Blank = Nothing
 line_of (event.Disk disk) = Nothing
 line_of (event.Issue disk request) = Asked disk request
 line_of event.Settle = Settles
-line_of (event.Step end count) = Steps (lane_number end.lane) (end_of end.side) count
+line_of (event.Step end count) = Steps end.lane.number (end_of end.side) count
 line_of (event.Round count) = Rounds count
-line_of (event.Reset end) = Calls (lane_number end.lane) (Resets (end_of end.side))
-line_of (event.Restart end) = Calls (lane_number end.lane) Restarts
+line_of (event.Reset end) = Calls end.lane.number (Resets (end_of end.side))
+line_of (event.Restart end) = Calls end.lane.number Restarts
 line_of (event.Stop disk) = Calls disk Stops
 line_of (event.Start disk) = Calls disk Starts
-line_of (event.Lose end) = Calls (lane_number end.lane) (Loses (end_of end.side))
-line_of (event.Tick lane) = Calls (lane_number lane) Ticks
+line_of (event.Lose end) = Calls end.lane.number (Loses (end_of end.side))
+line_of (event.Tick lane) = Calls lane.number Ticks
+
+-- the lane is that of one of so many disks
+abbrev pub IsDiskOf : ℕ → Lane → Type 0
+IsDiskOf many lane = IsSomeAnd (disk_of lane) (λ k. k < many)
 
 -- The event is one that a row of a script says, of one of so many disks: a request's fill is one, steps and rounds are 1
 -- to 100, and the end that restarts is a server. Of a declaration nothing is asked.
 abbrev pub IsForDisks : ℕ → Event → Type 0
 IsForDisks many (event.Issue disk request) = (disk < many) × IsRequest request
-IsForDisks many (event.Step end count) = (lane_number end.lane < many) × AreTurns count
+IsForDisks many (event.Step end count) = IsDiskOf many end.lane × AreTurns count
 IsForDisks many (event.Round count) = AreTurns count
-IsForDisks many (event.Reset end) = lane_number end.lane < many
-IsForDisks many (event.Restart end) = (lane_number end.lane < many) × (end.side ≡ Server)
+IsForDisks many (event.Reset end) = IsDiskOf many end.lane
+IsForDisks many (event.Restart end) = IsDiskOf many end.lane × (end.side ≡ Server)
 IsForDisks many (event.Stop disk) = disk < many
 IsForDisks many (event.Start disk) = disk < many
-IsForDisks many (event.Lose end) = lane_number end.lane < many
-IsForDisks many (event.Tick lane) = lane_number lane < many
+IsForDisks many (event.Lose end) = IsDiskOf many end.lane
+IsForDisks many (event.Tick lane) = IsDiskOf many lane
 IsForDisks many other = ⊤
 
 -- A LINE with its part of the journal leads a world from one state to another

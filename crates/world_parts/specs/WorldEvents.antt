@@ -1,5 +1,5 @@
 -- What the entries of a journal are for the lanes of a world, in the part of a script's line that they came in.
-use Rattle.std.specs.Prelude.{ℕ, Bool, true, false, ◌==◌, ◌&&◌, Option, Some, None}
+use Rattle.std.specs.Prelude.{ℕ, Bool, true, false, ◌==◌, ◌&&◌, Option, Some, None, option_map}
 use Rattle.ldc_queue.specs.declared.end.End.{End}
 use Rattle.ldc_queue.specs.declared.end.End.TheVariants.{A, B}
 use Rattle.world_laws.specs.WireEvent.{WireEvent, Declines, NothingLost}
@@ -10,7 +10,7 @@ use Rattle.world_laws.specs.Lines.{Asked, Call, Calls, Line, Loses, Resets, Rest
 use Rattle.world_laws.specs.Settle as settle
 use Rattle.domain_script.specs.declared.event.EndName.{EndName}
 use Rattle.domain_script.specs.declared.event.Lane.{Lane}
-use Rattle.domain_script.specs.declared.event.Lane.TheVariants.{Disk}
+use Rattle.domain_script.specs.LaneKinds.{disk_of}
 use Rattle.domain_script.specs.declared.event.Side.{Side}
 use Rattle.domain_script.specs.declared.event.Side.TheVariants.{Client, Server}
 use Rattle.ldom_entries.specs.declared.entry.Entry.{Entry}
@@ -26,23 +26,29 @@ is_same A A = true
 is_same B B = true
 is_same _ _ = false
 
-abbrev pub is_disk : ℕ → Lane → Bool
-is_disk j (Disk k) = j == k
+abbrev pub is_disk : ℕ → Option ℕ → Bool
+is_disk j None = false
+is_disk j (Some k) = j == k
 
 abbrev pub is_end : ℕ → End → EndName → Bool
-is_end j e name = is_disk j name.lane && is_same e (end_of name.side)
+is_end j e name = is_disk j (disk_of name.lane) && is_same e (end_of name.side)
 
 -- an event where this holds, and else none
 abbrev pub if_so : Bool → SettleEntry → Option SettleEntry
 if_so true x = Some x
 if_so false x = None
 
+-- one of the disk with this number, where the lane is that disk's
+abbrev pub at_disk : ℕ → Option ℕ → DiskEvent → Option SettleEntry
+at_disk j None event = None
+at_disk j (Some k) event = if_so (j == k) (OfLane k event)
+
 -- AN EVENT OF A LANE, by its kind: one of a disk's, and one on its channel
 abbrev pub disk_event : Lane → DiskEvent → Option SettleEntry
-disk_event (Disk k) event = Some (OfLane k event)
+disk_event lane event = option_map (λ k. OfLane k event) (disk_of lane)
 
 abbrev pub wire_event : Lane → WireEvent → Option SettleEntry
-wire_event (Disk k) event = Some (OfLane k (OnWire event))
+wire_event lane event = option_map (λ k. OfLane k (OnWire event)) (disk_of lane)
 
 -- one of a whole lane: where an end is named in its place there is none
 abbrev pub who_event : Who → DiskEvent → Option SettleEntry
@@ -60,18 +66,18 @@ of_server Client lane event = None
 
 -- a request that found no room, or was refused, on the disk that the line names
 abbrev pub full_event : Line → Who → Option SettleEntry
-full_event (Asked j request) (OfWhole (Disk k)) = if_so (j == k) (OfLane k (Asks (disk.Full request)))
+full_event (Asked j request) (OfWhole lane) = at_disk j (disk_of lane) (Asks (disk.Full request))
 full_event _ _ = None
 
 abbrev pub refused_event : Line → Who → Why → Option SettleEntry
-refused_event (Asked j request) (OfWhole (Disk k)) why = if_so (j == k) (OfLane k (Asks (disk.Refused (defect_of why) request)))
+refused_event (Asked j request) (OfWhole lane) why = at_disk j (disk_of lane) (Asks (disk.Refused (defect_of why) request))
 refused_event _ _ why = None
 
 -- What was asked of a lane and changes nothing there: of the lane that the line names, or of the end that it names.
 abbrev pub called_event : ℕ → Call → Who → Option SettleEntry
-called_event j Stops (OfWhole (Disk k)) = if_so (j == k) (OfLane k (Calms CalmStop))
-called_event j Starts (OfWhole (Disk k)) = if_so (j == k) (OfLane k (Calms CalmStart))
-called_event j Ticks (OfWhole (Disk k)) = if_so (j == k) (OfLane k (Calms CalmTick))
+called_event j Stops (OfWhole lane) = at_disk j (disk_of lane) (Calms CalmStop)
+called_event j Starts (OfWhole lane) = at_disk j (disk_of lane) (Calms CalmStart)
+called_event j Ticks (OfWhole lane) = at_disk j (disk_of lane) (Calms CalmTick)
 called_event j (Resets e) (OfEnd name) = if_so (is_end j e name) (OfLane j (Calms (CalmReset e)))
 called_event j Restarts (OfEnd name) = if_so (is_end j B name) (OfLane j (Calms CalmRestart))
 called_event j (Loses e) (OfEnd name) = if_so (is_end j e name) (OfLane j (OnWire (Declines (NothingLost e))))
@@ -82,7 +88,7 @@ calm_event (Calls j call) who = called_event j call who
 calm_event _ who = None
 
 abbrev pub unsettled_event : Who → Option SettleEntry
-unsettled_event (OfWhole (Disk k)) = Some (settle.Unsettled k)
+unsettled_event (OfWhole lane) = option_map (λ k. settle.Unsettled k) (disk_of lane)
 unsettled_event (OfEnd e) = None
 
 -- what is meant for the lanes, where it came in the part of this line; none where it doesn't belong to it, or to its end
