@@ -73,6 +73,7 @@ impl Journal {
         requires { 0 < self.old.room }
         ensures { PutsEntry self.old (the_entry.Accepted disk id request) self.new }
     {
+        // That there are fewer than 2^63 entries is known by this call alone. So the count fits.
         let _len = self.kept.len();
         self.kept.push_accepted(disk, id, request);
         self.accepted += 1;
@@ -166,6 +167,7 @@ impl Journal {
         requires { 0 < self.old.room }
         ensures { PutsEntry self.old (the_entry.Done disk id operation status bytes) self.new }
     {
+        // That there are fewer than 2^63 entries is known by this call alone. So the count fits.
         let _len = self.kept.len();
         self.kept.push_done(disk, id, operation, status, bytes);
         self.done += 1;
@@ -234,6 +236,7 @@ impl Journal {
         requires { 0 < self.old.room }
         ensures { PutsEntry self.old (the_entry.Reset end cause packet.now lost) self.new }
     {
+        // That there are fewer than 2^63 entries is known by this call alone. So the count fits.
         let _len = self.kept.len();
         self.kept.push_reset(end, cause, packet, lost);
         self.resets += 1;
