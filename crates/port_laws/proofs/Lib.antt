@@ -30,3 +30,4 @@ pub mod RuleIdle
 pub mod RuleTwoIdle
 pub mod PortCauses
 pub mod PortResets
+pub mod PortTable

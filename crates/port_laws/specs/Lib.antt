@@ -6,3 +6,4 @@ pub mod Counted
 pub mod Remaining
 pub mod RemainingSteps
 pub mod PortCauses
+pub mod PortTable

@@ -34,6 +34,6 @@ pub use rule_laws::{
     lost_frames_are_published_and_not_acknowledged, no_ack_goes_beyond_what_is_published,
 };
 pub use wire_laws::{
-    a_port_opens_behind_its_handshake, what_a_port_hears_may_come,
-    what_a_port_says_is_cut_and_numbered,
+    a_port_opens_behind_its_handshake, events_of_a_port_stand_by_both_ends,
+    what_a_port_hears_may_come, what_a_port_says_is_cut_and_numbered,
 };

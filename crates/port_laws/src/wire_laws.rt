@@ -9,6 +9,7 @@ ghost use Rattle.port_model.specs.NetLaneState.{IsNetShape, NetShape};
 ghost use Rattle.port_model.specs.PortLog.{after, no_events, PortLog};
 ghost use Rattle.port_model.specs.PortMay.{OfWire};
 ghost use Rattle.port_model.specs.PortState.{fresh_port, PortEvent, PortState, PortStep};
+ghost use Rattle.port_laws.specs.PortTable.{PortTableAt};
 
 /// Along every run of a port, forged or not, each packet that an end says is canonical and has its number, and messages
 /// are cut into parts rightly.
@@ -29,4 +30,12 @@ pub fn what_a_port_hears_may_come()
 pub fn a_port_opens_behind_its_handshake()
     ensures { (shape : NetShape) (events : List PortEvent) (s : PortState) → IsNetShape shape → Run PortStep (fresh_port shape) events s
         → Lawful OpeningsAt after (no_events shape) events }
+{}
+
+/// Along every run of a port, forged or not, each event stands where the states of its ends and what waits for them let
+/// it. An end is idle only where nothing waits for it. A packet finds no room only where the queue holds all that it can.
+/// What was asked and changes nothing is said exactly where it is so; ranges of a memory are left to the lane's steps.
+pub fn events_of_a_port_stand_by_both_ends()
+    ensures { (shape : NetShape) (events : List PortEvent) (s : PortState) → IsNetShape shape → Run PortStep (fresh_port shape) events s
+        → Lawful PortTableAt after (no_events shape) events }
 {}
