@@ -21,8 +21,9 @@ pub fn the_ring_of_each_end_holds_its_frames()
         → (log_of after (no_events shape) events).wire.forged ≡ false → RingStands e s.lane (log_of after (no_events shape) events) }
 {}
 
-/// On a port that nobody forged, the k-th frame that an end takes in a session is, byte by byte, the k-th that the other
-/// end published in the last session of the same sid that it opened. So frames arrive in order, and each at most once.
+/// On a port that nobody forged, the k-th frame that an end takes in a session is the k-th that the other end published,
+/// byte by byte. That is one of the last session of the same sid that it opened. So frames arrive in order, and each at
+/// most once.
 pub fn a_frame_that_is_taken_is_the_next_that_was_published()
     ensures { (shape : NetShape) (events : List PortEvent) (s : PortState) → IsNetShape shape → Run PortStep (fresh_port shape) events s
         → Lawful UnforgedAt after (no_events shape) events }
@@ -30,7 +31,7 @@ pub fn a_frame_that_is_taken_is_the_next_that_was_published()
 
 /// On a port that nobody forged, while the guest is in session and both ends are up, what is on the way agrees with what
 /// both ends count. At most one DRING_DATA INFO of an end isn't answered. It is on the way, with its number and the slot
-/// of the first frame that isn't acknowledged; or the other end works on it; or its ACK is on the way, with the slots
+/// of the first frame that isn't acknowledged. Or the other end works on it. Or its ACK is on the way, with the slots
 /// of the frames that were taken.
 pub fn at_most_one_announcement_of_an_end_is_on_the_way()
     ensures { (shape : NetShape) (events : List PortEvent) (s : PortState) → IsNetShape shape → Run PortStep (fresh_port shape) events s

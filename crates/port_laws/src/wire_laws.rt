@@ -32,7 +32,7 @@ pub fn a_port_opens_behind_its_handshake()
 {}
 
 /// Along every run of a port, forged or not, each event stands where the states of both ends and what waits in the
-/// queues let it: who may take, put, be blocked, be idle, reset itself and write, and where in its memory.
+/// queues let it. That is who may take, put, be blocked, be idle and reset itself, and where a memory is written.
 pub fn each_event_of_a_port_stands_by_its_ends_and_queues()
     ensures { (shape : NetShape) (events : List PortEvent) (s : PortState) → IsNetShape shape → Run PortStep (fresh_port shape) events s
         → Lawful (λ (l : PortLog) (event : PortEvent). OfWire (WireTableAt (sizes_in l) l.wire) event) after (no_events shape) events }
