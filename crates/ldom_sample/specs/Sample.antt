@@ -7,7 +7,7 @@ use Rattle.domain_script.specs.declared.event.DiskDecl.{DiskDecl}
 use Rattle.domain_script.specs.declared.event.EndName.{EndName}
 use Rattle.domain_script.specs.declared.event.Event.{Event}
 use Rattle.domain_script.specs.declared.event.Event.TheVariants as line
-use Rattle.domain_script.specs.declared.event.Lane.TheVariants as lane
+use Rattle.domain_script.specs.LaneKinds.{disk_lane}
 use Rattle.domain_script.specs.declared.event.Side.TheVariants.{Client, Server}
 use Rattle.domain_script.specs.Limits.{most_lines}
 use Rattle.domain_script.specs.NamesState.{NamesState}
@@ -32,10 +32,10 @@ abbrev pub sample_names : Bool → NamesState
 sample_names ended = record { disks = sample_disk ∷ []; ended = ended }
 
 abbrev pub client : EndName
-client = record { lane = lane.Disk 0; side = Client }
+client = record { lane = disk_lane 0; side = Client }
 
 abbrev pub server : EndName
-server = record { lane = lane.Disk 0; side = Server }
+server = record { lane = disk_lane 0; side = Server }
 
 -- a word of one byte
 abbrev pub one_byte : ℕ → Fill

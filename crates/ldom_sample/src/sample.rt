@@ -5,7 +5,9 @@ ghost use Rattle.domain_script.specs.ScriptLines.{fed, script_lines};
 ghost use Rattle.ldom_sample.specs.Sample.{SpellSample, block_of, blocks_of, disturbance, drawn_event, drawn_events, next_draw};
 ghost use Rattle.ldom_sample.specs.Sample.{one_byte, sample_line, sample_names, sample_text, turns_of};
 
-use domain_script::{DiskDecl, EndName, Event, Fill, Lane, Name, Names, Request, Side, print};
+use domain_script::{
+    DiskDecl, EndName, Event, Fill, Lane, LaneKind, Name, Names, Request, Side, print,
+};
 use kept_requests::Bytes;
 use std::alloc::Global;
 use vio_bytes::NoMemory;
@@ -27,12 +29,18 @@ const DECLARED: DiskDecl = DiskDecl {
 };
 
 const CLIENT: EndName = EndName {
-    lane: Lane::Disk(DISK),
+    lane: Lane {
+        kind: LaneKind::Disk,
+        number: DISK,
+    },
     side: Side::Client,
 };
 
 const SERVER: EndName = EndName {
-    lane: Lane::Disk(DISK),
+    lane: Lane {
+        kind: LaneKind::Disk,
+        number: DISK,
+    },
     side: Side::Server,
 };
 
