@@ -23,7 +23,8 @@ use Rattle.ldom_entries.specs.declared.entry.Entry.{Entry}
 use Rattle.ldom_entries.specs.declared.entry.Entry.TheVariants as entry
 use Rattle.ldom_entries.specs.declared.entry.Who.TheVariants.{Lane as OfWhole, End as OfEnd}
 use Rattle.ldom_world.specs.Called.{refused_entry}
-use Rattle.ldom_world.specs.OneLane.{LaneAnswers}
+use Rattle.ldom_entries.specs.JournalState.{JournalState, PutsEntry}
+use Rattle.ldom_world.specs.OneLane.{LaneAnswers, RecordsAnswer}
 use Rattle.vdisk_client.specs.Calls.{admitted}
 use Rattle.vdisk_client.specs.declared.answers.IssueFault.{IssueFault}
 use Rattle.vdisk_client.specs.declared.answers.IssueFault.TheVariants as fault
@@ -207,4 +208,25 @@ module _ (k : ℕ) (s t : LaneState) (x : Entry) where
     answers = refused_answers request why;
     moves = λ (i : ImageState). (step, refl);
     says = ap (λ (z : Entry). world_event (Asked k request) z) is ∙ refused_says k request why;
+  }
+
+-- A REQUEST'S ANSWER IS RECORDED: one that was accepted, with a copy of it
+module _ (k : ℕ) (s t : LaneState) (request : Request) (old new : JournalState) where
+  pub accepted_put : (kept : Request) (id : ℕ) → kept ≡ request → LaneStep s (Asks (admitted (Ok id) request)) t
+      → PutsEntry old (entry.Accepted k id kept) new
+      → RecordsAnswer (Asked k request) k (AnswersRequest request) s old new t
+  accepted_put kept id same step puts = record {
+    entry = entry.Accepted k id kept;
+    puts = puts;
+    answer = was_accepted k s t (entry.Accepted k id kept) request id step
+        (ap (λ (r : Request). entry.Accepted k id r) same);
+  }
+
+  pub refused_put : (why : IssueFault) (x : Entry) → LaneStep s (Asks (admitted (Err why) request)) t
+      → x ≡ refused_entry k why → PutsEntry old x new
+      → RecordsAnswer (Asked k request) k (AnswersRequest request) s old new t
+  refused_put why x step is puts = record {
+    entry = x;
+    puts = puts;
+    answer = was_refused k s t x request why step is;
   }

@@ -22,6 +22,13 @@ pub record LaneAnswers (line : Line) (k : ℕ) (Answers : DiskEvent → Type 0) 
   pub moves : (i : ImageState) → LaneMoves s i event t i
   pub says : world_event line entry ≡ Some (OfLane k event)
 
+-- and its entry was put last
+pub record RecordsAnswer (line : Line) (k : ℕ) (Answers : DiskEvent → Type 0) (s : LaneState) (old new : JournalState)
+    (t : LaneState) : Type 0 where
+  pub entry : Entry
+  pub puts : PutsEntry old entry new
+  pub answer : LaneAnswers line k Answers s entry t
+
 -- AN EVENT WAS RECORDED: an entry was put last that tells it, whatever line it is in
 pub record Records (k : ℕ) (event : DiskEvent) (s t : JournalState) : Type 0 where
   pub entry : Entry

@@ -17,6 +17,7 @@ use vio_io::Store;
 impl<D: Store> World<D> {
     /// Does what a line of the script says, and adds its part to the journal. After want of memory the journal holds
     /// every step that was made and no other.
+    #[tactic(auto, using(crate::proofs::Lifting::line_many))]
     pub fn apply(&mut self, event: &Event, journal: &mut Journal) -> Result<(), NoMemory>
         requires event { IsForDisks (length self.old.lanes) event.now }
         requires agrees { accepted_count journal.old.entries ≡ issued_on self.old.lanes }
@@ -25,18 +26,6 @@ impl<D: Store> World<D> {
             journal.new.entries self.new) }
         ensures agrees { accepted_count journal.new.entries ≡ issued_on self.new.lanes }
         ensures many { length self.new.lanes ≡ length self.old.lanes }
-    {
-        self.act_on(event, journal)
-    }
-
-    // Each kind of line by the function that does it.
-    fn act_on(&mut self, event: &Event, journal: &mut Journal) -> Result<(), NoMemory>
-        requires event { IsForDisks (length self.old.lanes) event.now }
-        requires agrees { accepted_count journal.old.entries ≡ issued_on self.old.lanes }
-        ensures fits { OnOk result (Fits self.old (line_of event.now) journal.old.entries journal.new.entries self.new) }
-        ensures so_far { OnErr result (FitsSoFar self.old (line_of event.now) journal.old.entries
-            journal.new.entries self.new) }
-        ensures agrees { accepted_count journal.new.entries ≡ issued_on self.new.lanes }
     {
         match event {
             Event::Blank => Ok(()),

@@ -4,7 +4,7 @@ ghost use Rattle.std.specs.Prelude.{◌≡◌, ◌<◌, ◌-◌, ◌^◌, length
 ghost use Rattle.world_laws.specs.Lines.{AnswersRequest, Asked};
 ghost use Rattle.ldom_report.specs.Report.{accepted_count};
 ghost use Rattle.ldom_world.specs.Called.{refused_entry};
-ghost use Rattle.ldom_world.specs.OneLane.{LaneAnswers};
+ghost use Rattle.ldom_world.specs.OneLane.{RecordsAnswer};
 ghost use Rattle.world_laws.specs.Issued.{issued_on};
 ghost use Rattle.vdisk_msg.specs.Fills.{IsRequest};
 ghost use Rattle.world_parts.specs.Parts.{Fits, FitsSoFar};
@@ -34,30 +34,33 @@ impl<D: Store> World<D> {
         ensures agrees { accepted_count journal.new.entries ≡ issued_on self.new.lanes }
     {
         journal.reserve(1)?;
+        // That there are fewer than 2^63 entries is known by this call alone. So the ids never run out.
         let _len = journal.len();
         let kept = KeptRequest::new(self.alloc, request)?;
-        let entry = ask_lane(&mut self.disks[disk as usize], disk, request, kept);
-        journal.push(entry);
+        ask_lane(&mut self.disks[disk as usize], disk, request, kept, journal);
         Ok(())
     }
 }
 
-/// Asks a lane, and gives the entry of what came of it, which keeps this copy of the request where it was accepted.
-fn ask_lane(lane: &mut DiskLane, disk: u32, request: &Request, kept: KeptRequest) -> Entry
+/// Asks a lane, and records what came of it, with this copy of the request where it was accepted.
+fn ask_lane(
+    lane: &mut DiskLane,
+    disk: u32,
+    request: &Request,
+    kept: KeptRequest,
+    journal: &mut Journal,
+)
     requires request { IsRequest request.now }
     requires few { lane.old.client.next_id < 2 ^ 64 - 1 }
     requires kept { kept ≡ request.now }
-    ensures answers { LaneAnswers (Asked disk request.now) disk (AnswersRequest request.now) lane.old result
-        lane.new }
+    requires room { 0 < journal.old.room }
+    ensures answers { RecordsAnswer (Asked disk request.now) disk (AnswersRequest request.now) lane.old journal.old
+        journal.new lane.new }
     ensures shape { lane.new.shape ≡ lane.old.shape }
 {
     match lane.issue(request) {
-        Ok(id) => Entry::Accepted {
-            disk,
-            id,
-            request: kept,
-        },
-        Err(fault) => refusal(disk, fault),
+        Ok(id) => journal.push_accepted(disk, id, kept),
+        Err(fault) => journal.push(refusal(disk, fault)),
     }
 }
 

@@ -5,7 +5,7 @@ ghost use Rattle.domain_script.specs.Declarations.{AreDisks, IsDisk};
 ghost use Rattle.world_parts.specs.Declared.{shape_of, shapes_of};
 
 use disk_lane::{DiskLane, Region};
-use domain_script::{DiskDecl, Names};
+use domain_script::{DiskDecl, MOST_DISKS, Names};
 use std::alloc::Global;
 use std::marker::Model;
 use vio_bytes::NoMemory;
@@ -50,9 +50,6 @@ impl Lanes {
         lane
     }
 }
-
-/// So many disks a script may declare.
-pub(crate) const MOST_DISKS: usize = 8;
 
 /// The lanes of these declarations, before anything was asked.
 fn lanes_of(alloc: Global, names: &Names) -> Result<Vec<DiskLane>, NoMemory>

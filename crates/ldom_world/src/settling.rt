@@ -14,10 +14,9 @@ ghost use Rattle.world_laws.specs.RoundMade.{all_true};
 ghost use Rattle.world_parts.specs.Parts.{Fits, FitsSoFar};
 
 use crate::calls::LaneCall;
-use crate::lanes::MOST_DISKS;
 use crate::world::World;
 use disk_lane::DiskLane;
-use domain_script::{Lane, Side};
+use domain_script::{Lane, MOST_DISKS, Side};
 use ldom_report::{Entry, Journal, Who};
 use vio_bytes::NoMemory;
 use vio_io::Store;

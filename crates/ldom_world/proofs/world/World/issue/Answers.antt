@@ -5,8 +5,8 @@ use Rattle.ldom_world.proofs.Lifting.{few_issued}
 use Rattle.ldom_world.proofs.Opened.{answer_agrees, lane_there, request_fits}
 use Rattle.ldom_world.proofs.world.World.issue.Goals as goal
 
-pub ask_lane-entry-requires-clause-few : goal.ask_lane-entry-requires-clause-few
-ask_lane-entry-requires-clause-few g c =
+pub ask_lane-requires-clause-few : goal.ask_lane-requires-clause-few
+ask_lane-requires-clause-few g c =
     few_issued c.reserve.new.self.entries c.args.self.now.lanes c.args.disk c.index_mut.result.now
     (lane_there c.args.self.now _ _ c.args.disk c.index_mut.result.now c.self.view_is c.requires.disk
     c.index_mut.ensures.value)
@@ -16,9 +16,10 @@ ask_lane-entry-requires-clause-few g c =
 pub returns-clause-fits : goal.returns-clause-fits
 returns-clause-fits g c =
     request_fits c.args.self.now _ _ c.args.disk _ _ _ _ _ _ c.self.view_is c.requires.disk c.index_mut.ensures.value
-    c.in_ok-reserve.ensures.entries c.push.ensures.entries _ c.ask_lane-entry.ensures.answers
+    c.in_ok-reserve.ensures.entries c.ask_lane.ensures.answers.puts.entries _ c.ask_lane.ensures.answers.answer
 
 pub returns-clause-agrees : goal.returns-clause-agrees
 returns-clause-agrees g c =
     answer_agrees c.args.self.now _ _ c.args.disk _ _ _ _ _ _ c.self.view_is c.requires.disk c.index_mut.ensures.value
-    c.in_ok-reserve.ensures.entries c.push.ensures.entries _ _ c.ask_lane-entry.ensures.answers c.requires.agrees
+    c.in_ok-reserve.ensures.entries c.ask_lane.ensures.answers.puts.entries _ _ c.ask_lane.ensures.answers.answer
+    c.requires.agrees
