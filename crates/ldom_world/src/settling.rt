@@ -17,7 +17,7 @@ use crate::calls::LaneCall;
 use crate::lanes::MOST_DISKS;
 use crate::world::World;
 use disk_lane::DiskLane;
-use domain_script::{Lane, Side};
+use domain_script::{Lane, LaneKind, Side};
 use ldom_report::{Entry, Journal, Who};
 use vio_bytes::NoMemory;
 use vio_io::Store;
@@ -195,7 +195,10 @@ impl<D: Store> World<D> {
         }
         journal.reserve(1)?;
         journal.push(Entry::Unsettled {
-            who: Who::Lane(Lane::Disk(disk)),
+            who: Who::Lane(Lane {
+                kind: LaneKind::Disk,
+                number: disk,
+            }),
         });
         Ok(())
     }
