@@ -8,7 +8,7 @@ use Rattle.disk_model.specs.DiskEvent.{Asks, CalmReset, CalmRestart, CalmStart, 
 use Rattle.disk_model.specs.DiskEvent as disk
 use Rattle.disk_model.specs.LaneState.{LaneState}
 use Rattle.disk_model.specs.LaneStep.{LaneStep}
-use Rattle.domain_script.specs.declared.event.Lane.TheVariants.{Disk}
+use Rattle.domain_script.specs.LaneKinds.{disk_lane}
 use Rattle.domain_script.specs.declared.event.Side.{Side}
 use Rattle.domain_script.specs.declared.event.Side.TheVariants.{Client, Server}
 use Rattle.channel_model.specs.WireEvent.{Declines, NothingLost}
@@ -18,11 +18,10 @@ use Rattle.world_laws.specs.Lines.{AnswersCall, AnswersRequest, Asked, Calls, Lo
 use Rattle.ldc_queue.specs.declared.end.End.TheVariants.{B}
 use Rattle.ldom_report.specs.LaneEvents.{end_of}
 use Rattle.world_parts.specs.WorldEvents.{if_so, is_end, is_same, world_event}
-use Rattle.ldom_entries.specs.Decoded.{end_at}
 use Rattle.ldom_entries.specs.declared.entry.Entry.{Entry}
 use Rattle.ldom_entries.specs.declared.entry.Entry.TheVariants as entry
 use Rattle.ldom_entries.specs.declared.entry.Who.TheVariants.{Lane as OfWhole, End as OfEnd}
-use Rattle.ldom_world.specs.Called.{refused_entry}
+use Rattle.ldom_world.specs.Called.{disk_end, refused_entry}
 use Rattle.ldom_entries.specs.JournalState.{JournalState, PutsEntry}
 use Rattle.ldom_world.specs.OneLane.{LaneAnswers, RecordsAnswer}
 use Rattle.vdisk_client.specs.Calls.{admitted}
@@ -36,7 +35,7 @@ same_end : (side : Side) → is_same (end_of side) (end_of side) ≡ true
 same_end Client = refl
 same_end Server = refl
 
-own_end : (k : ℕ) (side : Side) → is_end k (end_of side) (end_at k side) ≡ true
+own_end : (k : ℕ) (side : Side) → is_end k (end_of side) (disk_end k side) ≡ true
 own_end k side = ap (λ (b : Bool). b && is_same (end_of side) (end_of side)) (eq-eqb k k refl) ∙ same_end side
 
 own_said : (b : Bool) (x : SettleEntry) → b ≡ true → if_so b x ≡ Some x
@@ -56,7 +55,7 @@ refused_says k request why = own_said (k == k) (OfLane k (Asks (admitted (Err wh
 module _ (k : ℕ) (s t : LaneState) (x : Entry) where
   -- A RESET
   pub was_reset : (side : Side) (did : Bool) → did ≡ true → LaneStep s (reset_event (end_of side) did) t
-      → x ≡ entry.Reset (end_at k side) the_cause.Asked None 0
+      → x ≡ entry.Reset (disk_end k side) the_cause.Asked None 0
       → LaneAnswers (Calls k (Resets (end_of side))) k (AnswersCall (Resets (end_of side))) s x t
   was_reset side did yes_is step is = record {
     event = reset_event (end_of side) true;
@@ -66,20 +65,20 @@ module _ (k : ℕ) (s t : LaneState) (x : Entry) where
   }
 
   pub not_reset : (side : Side) (did : Bool) → did ≡ false → LaneStep s (reset_event (end_of side) did) t
-      → x ≡ entry.Calm (OfEnd (end_at k side))
+      → x ≡ entry.Calm (OfEnd (disk_end k side))
       → LaneAnswers (Calls k (Resets (end_of side))) k (AnswersCall (Resets (end_of side))) s x t
   not_reset side did no_is step is = record {
     event = reset_event (end_of side) false;
     answers = refl;
     moves = λ (i : ImageState). (subst (λ (b : Bool). LaneStep s (reset_event (end_of side) b) t) no_is step, refl);
     says = ap (λ (z : Entry). world_event (Calls k (Resets (end_of side))) z) is
-        ∙ own_said (is_end k (end_of side) (end_at k side)) (OfLane k (Calms (CalmReset (end_of side))))
+        ∙ own_said (is_end k (end_of side) (disk_end k side)) (OfLane k (Calms (CalmReset (end_of side))))
         (own_end k side);
   }
 
   -- A RESTART
   pub was_restarted : (did : Bool) → did ≡ true → LaneStep s (restart_event did) t
-      → x ≡ entry.Reset (end_at k Server) the_cause.Restart None 0
+      → x ≡ entry.Reset (disk_end k Server) the_cause.Restart None 0
       → LaneAnswers (Calls k Restarts) k (AnswersCall Restarts) s x t
   was_restarted did yes_is step is = record {
     event = restart_event true;
@@ -89,14 +88,14 @@ module _ (k : ℕ) (s t : LaneState) (x : Entry) where
   }
 
   pub not_restarted : (did : Bool) → did ≡ false → LaneStep s (restart_event did) t
-      → x ≡ entry.Calm (OfEnd (end_at k Server))
+      → x ≡ entry.Calm (OfEnd (disk_end k Server))
       → LaneAnswers (Calls k Restarts) k (AnswersCall Restarts) s x t
   not_restarted did no_is step is = record {
     event = restart_event false;
     answers = tt;
     moves = λ (i : ImageState). (subst (λ (b : Bool). LaneStep s (restart_event b) t) no_is step, refl);
     says = ap (λ (z : Entry). world_event (Calls k Restarts) z) is
-        ∙ own_said (is_end k B (end_at k Server)) (OfLane k (Calms CalmRestart)) (own_end k Server);
+        ∙ own_said (is_end k B (disk_end k Server)) (OfLane k (Calms CalmRestart)) (own_end k Server);
   }
 
   -- A STOP
@@ -109,7 +108,7 @@ module _ (k : ℕ) (s t : LaneState) (x : Entry) where
     says = ap (λ (z : Entry). world_event (Calls k Stops) z) is;
   }
 
-  pub not_stopped : (did : Bool) → did ≡ false → LaneStep s (stop_event did) t → x ≡ entry.Calm (OfWhole (Disk k))
+  pub not_stopped : (did : Bool) → did ≡ false → LaneStep s (stop_event did) t → x ≡ entry.Calm (OfWhole (disk_lane k))
       → LaneAnswers (Calls k Stops) k (AnswersCall Stops) s x t
   not_stopped did no_is step is = record {
     event = stop_event false;
@@ -129,7 +128,7 @@ module _ (k : ℕ) (s t : LaneState) (x : Entry) where
     says = ap (λ (z : Entry). world_event (Calls k Starts) z) is;
   }
 
-  pub not_started : (did : Bool) → did ≡ false → LaneStep s (start_event did) t → x ≡ entry.Calm (OfWhole (Disk k))
+  pub not_started : (did : Bool) → did ≡ false → LaneStep s (start_event did) t → x ≡ entry.Calm (OfWhole (disk_lane k))
       → LaneAnswers (Calls k Starts) k (AnswersCall Starts) s x t
   not_started did no_is step is = record {
     event = start_event false;
@@ -141,7 +140,7 @@ module _ (k : ℕ) (s t : LaneState) (x : Entry) where
 
   -- A PACKET LOST
   pub was_lost : (side : Side) (lost : Option (List ℕ)) (packet : List ℕ) → lost ≡ Some packet
-      → LaneStep s (lost_event (end_of side) lost) t → x ≡ entry.Lost (end_at k side) packet
+      → LaneStep s (lost_event (end_of side) lost) t → x ≡ entry.Lost (disk_end k side) packet
       → LaneAnswers (Calls k (Loses (end_of side))) k (AnswersCall (Loses (end_of side))) s x t
   was_lost side lost packet there step is = record {
     event = OnWire (wire.Lost (end_of side) packet);
@@ -154,7 +153,7 @@ module _ (k : ℕ) (s t : LaneState) (x : Entry) where
   }
 
   pub none_lost : (side : Side) (lost : Option (List ℕ)) → lost ≡ None → LaneStep s (lost_event (end_of side) lost) t
-      → x ≡ entry.Calm (OfEnd (end_at k side))
+      → x ≡ entry.Calm (OfEnd (disk_end k side))
       → LaneAnswers (Calls k (Loses (end_of side))) k (AnswersCall (Loses (end_of side))) s x t
   none_lost side lost none step is = record {
     event = OnWire (Declines (NothingLost (end_of side)));
@@ -164,13 +163,13 @@ module _ (k : ℕ) (s t : LaneState) (x : Entry) where
       refl,
     );
     says = ap (λ (z : Entry). world_event (Calls k (Loses (end_of side))) z) is
-        ∙ own_said (is_end k (end_of side) (end_at k side)) (OfLane k (OnWire (Declines (NothingLost (end_of side)))))
+        ∙ own_said (is_end k (end_of side) (disk_end k side)) (OfLane k (OnWire (Declines (NothingLost (end_of side)))))
         (own_end k side);
   }
 
   -- A TICK
   pub was_ticked : (did : Bool) → did ≡ true → LaneStep s (tick_event did) t
-      → x ≡ entry.Reset (end_at k Client) the_cause.Tick None 0
+      → x ≡ entry.Reset (disk_end k Client) the_cause.Tick None 0
       → LaneAnswers (Calls k Ticks) k (AnswersCall Ticks) s x t
   was_ticked did yes_is step is = record {
     event = tick_event true;
@@ -179,7 +178,7 @@ module _ (k : ℕ) (s t : LaneState) (x : Entry) where
     says = ap (λ (z : Entry). world_event (Calls k Ticks) z) is;
   }
 
-  pub not_ticked : (did : Bool) → did ≡ false → LaneStep s (tick_event did) t → x ≡ entry.Calm (OfWhole (Disk k))
+  pub not_ticked : (did : Bool) → did ≡ false → LaneStep s (tick_event did) t → x ≡ entry.Calm (OfWhole (disk_lane k))
       → LaneAnswers (Calls k Ticks) k (AnswersCall Ticks) s x t
   not_ticked did no_is step is = record {
     event = tick_event false;

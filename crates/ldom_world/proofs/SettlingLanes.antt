@@ -1,16 +1,16 @@
 -- What a lane is in a settle: its mark in a round, its tick, and its name where it is left over.
-use Rattle.std.proofs.Common.{◌≡◌, ℕ, ◌+◌, ◌<◌, Bool, true, false, Option, Some, List, [], ◌∷◌, ◌++◌, length, map, take, slice_get, slice_set, refl, sym, ap, ◌∙◌, subst, arith, append-nil}
+use Rattle.std.proofs.Common.{◌≡◌, ℕ, ◌+◌, ◌<◌, Bool, true, false, Option, Some, None, List, [], ◌∷◌, ◌++◌, length, map, take, slice_get, slice_set, refl, sym, ap, ◌∙◌, subst, arith, append-nil}
 use Rattle.std.specs.Prelude.{◌&&◌, ◌||◌, ◌==◌, cond, if◌then◌else◌, not}
 use Rattle.runs.specs.Run.{Run}
 use Rattle.disk_model.specs.DiskEvent.{CalmTick, Calms}
 use Rattle.disk_model.specs.LaneState.{LaneState}
-use Rattle.domain_script.specs.declared.event.Lane.TheVariants.{Disk}
+use Rattle.domain_script.specs.LaneKinds.{disk_lane, disk_of}
 use Rattle.world_laws.specs.Settle.{OfLane, SettleEntry, Unsettled}
 use Rattle.world_laws.specs.Ticks.{gets_tick, tick, waits_on}
 use Rattle.world_laws.specs.Lines.{AnswersCall, Calls, Line, OneEntry, Settles, Ticks}
 use Rattle.world_laws.specs.World.{OneMoves, WorldState, WorldStep}
 use Rattle.ldom_report.specs.LaneEvents.{ChangesNothing, Meaning, NoRoomFor, Refuses, meaning}
-use Rattle.world_parts.specs.WorldEvents.{calm_event, if_so, meant, world_event}
+use Rattle.world_parts.specs.WorldEvents.{at_disk, calm_event, if_so, meant, world_event}
 use Rattle.ldom_report.specs.Report.{accepted_count, is_accepted}
 use Rattle.ldom_entries.specs.declared.entry.Entry.{Entry}
 use Rattle.ldom_entries.specs.declared.entry.Entry.TheVariants as entry
@@ -63,8 +63,12 @@ calm_no_tick : (b : Bool) (j k : ℕ) → if_so b (OfLane j (Calms CalmTick)) �
 calm_no_tick true j k is = cc is
 calm_no_tick false j k is = cc is
 
+calm_at : (k : ℕ) (o : Option ℕ) → at_disk k o (Calms CalmTick) ≡ Some (OfLane k tick) → ⊥
+calm_at k None is = cc is
+calm_at k (Some j) is = calm_no_tick (k == j) j k is
+
 tick_of_calm : (k : ℕ) (who : Who) → calm_event (Calls k Ticks) who ≡ Some (OfLane k tick) → ⊥
-tick_of_calm k (OfWhole (Disk j)) is = calm_no_tick (k == j) j k is
+tick_of_calm k (OfWhole lane) is = calm_at k (disk_of lane) is
 tick_of_calm k (OfEnd name) is = cc is
 
 tick_meant : (k : ℕ) (x : Meaning) → meant (Calls k Ticks) x ≡ Some (OfLane k tick)
@@ -177,12 +181,12 @@ name_by k calm rests lane is =
 
 pub named_goes_on : (k : ℕ) (w : WorldState) (calm rests : Bool) (lane : LaneState) (old new : List Entry)
     → slice_get w.lanes k ≡ Some lane → rests ≡ (calm && not (waits_on lane)) → rests ≡ false
-    → new ≡ old ++ entry.Unsettled (OfWhole (Disk k)) ∷ [] → NamesGoOn k w calm old new
+    → new ≡ old ++ entry.Unsettled (OfWhole (disk_lane k)) ∷ [] → NamesGoOn k w calm old new
 named_goes_on k w calm rests lane old new there is left grew =
     names_go_by k w old new calm lane there
     (subst (λ (l : List SettleEntry). Adds Settles old new l)
     (sym (name_by k calm rests lane is ∙ ap (λ (b : Bool). if b then [] else Unsettled k ∷ []) left))
-    (one_adds Settles old new (entry.Unsettled (OfWhole (Disk k))) (Unsettled k) grew refl))
+    (one_adds Settles old new (entry.Unsettled (OfWhole (disk_lane k))) (Unsettled k) grew refl))
 
 pub unnamed_goes_on : (k : ℕ) (w : WorldState) (calm rests : Bool) (lane : LaneState) (old : List Entry)
     → slice_get w.lanes k ≡ Some lane → rests ≡ (calm && not (waits_on lane)) → rests ≡ true

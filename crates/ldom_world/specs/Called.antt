@@ -1,6 +1,8 @@
 -- The calls of a lane as a script has them, and the entries of requests that weren't taken up.
 use Rattle.std.specs.Prelude.{ℕ}
-use Rattle.domain_script.specs.declared.event.Lane.TheVariants.{Disk}
+use Rattle.domain_script.specs.declared.event.EndName.{EndName}
+use Rattle.domain_script.specs.declared.event.Side.{Side}
+use Rattle.domain_script.specs.LaneKinds.{disk_lane}
 use Rattle.world_laws.specs.Lines.{Call}
 use Rattle.world_laws.specs.Lines as script
 use Rattle.ldom_report.specs.LaneEvents.{end_of}
@@ -21,8 +23,12 @@ call_of lane.Start = script.Starts
 call_of (lane.Lose side) = script.Loses (end_of side)
 call_of lane.Tick = script.Ticks
 
+-- an end of the disk with this number
+abbrev pub disk_end : ℕ → Side → EndName
+disk_end k side = record { lane = disk_lane k; side = side }
+
 -- the entry of a request that was refused, or found no room
 abbrev pub refused_entry : ℕ → IssueFault → Entry
-refused_entry k fault.Count = entry.Refused (who.Lane (Disk k)) Count
-refused_entry k fault.Range = entry.Refused (who.Lane (Disk k)) Range
-refused_entry k fault.Full = entry.Full (who.Lane (Disk k))
+refused_entry k fault.Count = entry.Refused (who.Lane (disk_lane k)) Count
+refused_entry k fault.Range = entry.Refused (who.Lane (disk_lane k)) Range
+refused_entry k fault.Full = entry.Full (who.Lane (disk_lane k))

@@ -1,15 +1,18 @@
 // What a line of a script says, done to a world.
 
 ghost use Rattle.std.specs.Prelude.{◌≡◌, length, OnErr, OnOk};
-ghost use Rattle.ldom_report.specs.LaneEvents.{lane_number};
+ghost use Rattle.domain_script.specs.Limits.{AreTurns};
+ghost use Rattle.ldom_report.specs.LaneEvents.{end_of};
 ghost use Rattle.ldom_report.specs.Report.{accepted_count};
+ghost use Rattle.ldom_world.specs.Called.{call_of};
 ghost use Rattle.world_laws.specs.Issued.{issued_on};
-ghost use Rattle.world_parts.specs.Lines.{IsForDisks, line_of};
+ghost use Rattle.world_laws.specs.Lines.{Calls, Steps};
+ghost use Rattle.world_parts.specs.Lines.{IsDiskOf, IsForDisks, line_of};
 ghost use Rattle.world_parts.specs.Parts.{Fits, FitsSoFar};
 
 use crate::calls::LaneCall;
 use crate::world::World;
-use domain_script::{Event, Lane};
+use domain_script::{EndName, Event, Lane, LaneKind};
 use ldom_report::Journal;
 use vio_bytes::NoMemory;
 use vio_io::Store;
@@ -32,31 +35,45 @@ impl<D: Store> World<D> {
             Event::Disk(_) => Ok(()),
             Event::Issue { disk, request } => self.issue(*disk, request, journal),
             Event::Settle => self.settle(journal),
-            Event::Step { end, count } => {
-                self.steps(number_of(end.lane), end.side, *count, journal)
-            }
+            Event::Step { end, count } => self.step_on(*end, *count, journal),
             Event::Round { count } => self.rounds(*count, journal),
-            Event::Reset { end } => {
-                self.answer_call(number_of(end.lane), LaneCall::Reset(end.side), journal)
-            }
-            Event::Restart { end } => {
-                self.answer_call(number_of(end.lane), LaneCall::Restart, journal)
-            }
+            Event::Reset { end } => self.call_on(end.lane, LaneCall::Reset(end.side), journal),
+            Event::Restart { end } => self.call_on(end.lane, LaneCall::Restart, journal),
             Event::Stop { disk } => self.answer_call(*disk, LaneCall::Stop, journal),
             Event::Start { disk } => self.answer_call(*disk, LaneCall::Start, journal),
-            Event::Lose { end } => {
-                self.answer_call(number_of(end.lane), LaneCall::Lose(end.side), journal)
-            }
-            Event::Tick { lane } => self.answer_call(number_of(*lane), LaneCall::Tick, journal),
+            Event::Lose { end } => self.call_on(end.lane, LaneCall::Lose(end.side), journal),
+            Event::Tick { lane } => self.call_on(*lane, LaneCall::Tick, journal),
         }
     }
-}
 
-/// The number of the disk that a lane is of.
-fn number_of(lane: Lane) -> u32
-    ensures { result ≡ lane_number lane }
-{
-    match lane {
-        Lane::Disk(disk) => disk,
+    /// So many steps of an end, among the lanes of its kind.
+    fn step_on(&mut self, end: EndName, count: u32, journal: &mut Journal) -> Result<(), NoMemory>
+        requires lane { IsDiskOf (length self.old.lanes) end.lane }
+        requires count { AreTurns count }
+        requires agrees { accepted_count journal.old.entries ≡ issued_on self.old.lanes }
+        ensures fits { OnOk result (Fits self.old (Steps end.lane.number (end_of end.side) count)
+            journal.old.entries journal.new.entries self.new) }
+        ensures so_far { OnErr result (FitsSoFar self.old (Steps end.lane.number (end_of end.side) count)
+            journal.old.entries journal.new.entries self.new) }
+        ensures agrees { accepted_count journal.new.entries ≡ issued_on self.new.lanes }
+    {
+        match end.lane.kind {
+            LaneKind::Disk => self.steps(end.lane.number, end.side, count, journal),
+        }
+    }
+
+    /// Calls a lane, among those of its kind.
+    fn call_on(&mut self, lane: Lane, call: LaneCall, journal: &mut Journal) -> Result<(), NoMemory>
+        requires lane { IsDiskOf (length self.old.lanes) lane }
+        requires agrees { accepted_count journal.old.entries ≡ issued_on self.old.lanes }
+        ensures fits { OnOk result (Fits self.old (Calls lane.number (call_of call)) journal.old.entries
+            journal.new.entries self.new) }
+        ensures so_far { OnErr result (FitsSoFar self.old (Calls lane.number (call_of call)) journal.old.entries
+            journal.new.entries self.new) }
+        ensures agrees { accepted_count journal.new.entries ≡ issued_on self.new.lanes }
+    {
+        match lane.kind {
+            LaneKind::Disk => self.answer_call(lane.number, call, journal),
+        }
     }
 }

@@ -1,7 +1,7 @@
 // What a script does to a lane beside asking and stepping it: resets, restarts, stops, starts, losses and ticks.
 
 ghost use Rattle.std.specs.Prelude.{◌≡◌, ◌<◌, length, None, OnErr, OnOk};
-ghost use Rattle.domain_script.specs.declared.event.Lane.TheVariants.{Disk};
+ghost use Rattle.domain_script.specs.LaneKinds.{disk_lane};
 ghost use Rattle.ldom_report.specs.LaneEvents.{end_of};
 ghost use Rattle.ldom_report.specs.Report.{accepted_count};
 ghost use Rattle.ldom_entries.specs.declared.entry.Entry.TheVariants as the_entry;
@@ -12,11 +12,10 @@ ghost use Rattle.world_laws.specs.Lines.{AnswersCall, Calls, Loses, Resets, Rest
 ghost use Rattle.world_laws.specs.Issued.{issued_on};
 ghost use Rattle.world_parts.specs.Parts.{Fits, FitsSoFar};
 
-use crate::entries::{client_of, end_of, server_of};
+use crate::entries::{client_of, disk_end, end_of, server_of};
 use crate::world::World;
 use disk_lane::DiskLane;
-use domain_script::{EndName, Lane, Side};
-use ldom_entries::end_at;
+use domain_script::{EndName, Lane, LaneKind, Side};
 use ldom_report::{Entry, Journal, Who};
 use vio_bytes::NoMemory;
 use vio_io::Store;
@@ -88,7 +87,7 @@ fn reset_end(lane: &mut DiskLane, disk: u32, side: Side) -> Entry
         lane.old result lane.new }
     ensures shape { lane.new.shape ≡ lane.old.shape }
 {
-    let end = end_at(disk, side);
+    let end = disk_end(disk, side);
     if lane.reset(end_of(side)) {
         reset_entry(end, Cause::Asked)
     } else {
@@ -135,7 +134,7 @@ fn lose_packet(lane: &mut DiskLane, disk: u32, side: Side) -> Entry
         lane.old result lane.new }
     ensures shape { lane.new.shape ≡ lane.old.shape }
 {
-    let end = end_at(disk, side);
+    let end = disk_end(disk, side);
     match lane.lose(end_of(side)) {
         Some(packet) => Entry::Lost { end, packet },
         None => Entry::Calm { who: Who::End(end) },
@@ -168,9 +167,12 @@ fn reset_entry(end: EndName, cause: Cause) -> Entry
 
 /// Nothing changed on the disk with this number.
 fn calm_lane(disk: u32) -> Entry
-    ensures { result ≡ the_entry.Calm (the_who.Lane (Disk disk)) }
+    ensures { result ≡ the_entry.Calm (the_who.Lane (disk_lane disk)) }
 {
     Entry::Calm {
-        who: Who::Lane(Lane::Disk(disk)),
+        who: Who::Lane(Lane {
+            kind: LaneKind::Disk,
+            number: disk,
+        }),
     }
 }

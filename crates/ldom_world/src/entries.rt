@@ -3,9 +3,10 @@
 ghost use Rattle.std.specs.Prelude.{◌≡◌, ◌≤◌, ◌<◌, ◌||◌, [], length, true};
 ghost use Rattle.disk_lane.specs.Events.{answered, served_event};
 ghost use Rattle.disk_model.specs.DiskEvent.{Off, Switches};
-ghost use Rattle.domain_script.specs.declared.event.Lane.TheVariants.{Disk};
 ghost use Rattle.domain_script.specs.declared.event.Side.TheVariants.{Client, Server};
+ghost use Rattle.domain_script.specs.LaneKinds.{disk_lane};
 ghost use Rattle.ldom_report.specs.LaneEvents.{end_of};
+ghost use Rattle.ldom_world.specs.Called.{disk_end};
 ghost use Rattle.ldom_world.specs.Fitting.{HasRoomFor};
 ghost use Rattle.ldom_world.specs.OneLane.{Leaves, Records};
 ghost use Rattle.ldom_world.specs.Resting.{client_blocked, client_rests, server_blocked, server_rests};
@@ -13,8 +14,7 @@ ghost use Rattle.vdisk_client.specs.Calls.{client_event};
 ghost use Rattle.disk_lane.specs.Answering.{server_event};
 
 use disk_lane::{ClientOut, DiskLane, End, ServerOut};
-use domain_script::{EndName, Side};
-use ldom_entries::end_at;
+use domain_script::{EndName, Lane, LaneKind, Side};
 use ldom_report::{Bytes, Journal};
 use std::alloc::Global;
 
@@ -28,18 +28,31 @@ pub fn end_of(side: Side) -> End
     }
 }
 
+/// An end of the disk with this number.
+pub fn disk_end(disk: u32, side: Side) -> EndName
+    ensures { result ≡ disk_end disk side }
+{
+    EndName {
+        lane: Lane {
+            kind: LaneKind::Disk,
+            number: disk,
+        },
+        side,
+    }
+}
+
 /// The client of the disk with this number.
 pub fn client_of(disk: u32) -> EndName
-    ensures { result ≡ record { lane = Disk disk; side = Client } }
+    ensures { result ≡ record { lane = disk_lane disk; side = Client } }
 {
-    end_at(disk, Side::Client)
+    disk_end(disk, Side::Client)
 }
 
 /// Its server.
 pub fn server_of(disk: u32) -> EndName
-    ensures { result ≡ record { lane = Disk disk; side = Server } }
+    ensures { result ≡ record { lane = disk_lane disk; side = Server } }
 {
-    end_at(disk, Side::Server)
+    disk_end(disk, Side::Server)
 }
 
 /// Puts what the step of this lane's client leaves in the journal, and tells whether the step was calm. In a settle a

@@ -11,7 +11,7 @@ ghost use Rattle.world_parts.specs.Parts.{Fits, FitsSoFar};
 
 use crate::world::World;
 use disk_lane::{DiskLane, IssueFault};
-use domain_script::{Lane, Request};
+use domain_script::{Lane, LaneKind, Request};
 use ldom_report::{Entry, Journal, KeptRequest, Who, Why};
 use vio_bytes::NoMemory;
 use vio_io::Store;
@@ -68,7 +68,10 @@ fn ask_lane(
 fn refusal(disk: u32, fault: IssueFault) -> Entry
     ensures { result ≡ refused_entry disk fault }
 {
-    let who = Who::Lane(Lane::Disk(disk));
+    let who = Who::Lane(Lane {
+        kind: LaneKind::Disk,
+        number: disk,
+    });
     match fault {
         IssueFault::Count => Entry::Refused {
             who,

@@ -16,7 +16,7 @@ ghost use Rattle.world_parts.specs.Parts.{Fits, FitsSoFar};
 use crate::calls::LaneCall;
 use crate::world::World;
 use disk_lane::DiskLane;
-use domain_script::{Lane, MOST_DISKS, Side};
+use domain_script::{Lane, LaneKind, MOST_DISKS, Side};
 use ldom_report::{Entry, Journal, Who};
 use vio_bytes::NoMemory;
 use vio_io::Store;
@@ -194,7 +194,10 @@ impl<D: Store> World<D> {
         }
         journal.reserve(1)?;
         journal.push(Entry::Unsettled {
-            who: Who::Lane(Lane::Disk(disk)),
+            who: Who::Lane(Lane {
+                kind: LaneKind::Disk,
+                number: disk,
+            }),
         });
         Ok(())
     }

@@ -2,7 +2,7 @@
 
 use ldom_report::{
     Bytes, Cause, CopyFault, EndName, Entries, Entry, EntryRef, Journal, KeptRequest, Lane,
-    NoMemory, Request, Side, VD_OP_BREAD, VD_OP_BWRITE, VD_OP_FLUSH, Who, Why,
+    LaneKind, NoMemory, Request, Side, VD_OP_BREAD, VD_OP_BWRITE, VD_OP_FLUSH, Who, Why,
 };
 use std::alloc::Global;
 use std::test::Fail;
@@ -11,17 +11,22 @@ use trimmed_arrays::TrimmedArray;
 /// What is looked at of an entry: its kind, whom it is about, and one of its numbers or the length of its bytes.
 type Row = (&'static str, u64, u64);
 
+const DISK: Lane = Lane {
+    kind: LaneKind::Disk,
+    number: 3,
+};
+
 const CLIENT: EndName = EndName {
-    lane: Lane::Disk(3),
+    lane: DISK,
     side: Side::Client,
 };
 
 const SERVER: EndName = EndName {
-    lane: Lane::Disk(3),
+    lane: DISK,
     side: Side::Server,
 };
 
-const LANE: Who = Who::Lane(Lane::Disk(3));
+const LANE: Who = Who::Lane(DISK);
 
 /// The row of no entry.
 const NOTHING: Row = ("nothing", 0, 0);
@@ -202,18 +207,17 @@ pub(crate) fn journal_of_all(alloc: Global) -> Result<Journal, NoMemory> {
 
 /// An end's disk and its side, as a number of two digits.
 fn at(end: EndName) -> u64 {
-    let Lane::Disk(disk) = end.lane;
     let side = match end.side {
         Side::Client => 0,
         Side::Server => 1,
     };
-    10 * u64::from(disk) + side
+    10 * u64::from(end.lane.number) + side
 }
 
 /// An end as its number, or a lane's disk with a 1 before it.
 fn whom(who: Who) -> u64 {
     match who {
-        Who::Lane(Lane::Disk(disk)) => 10 + u64::from(disk),
+        Who::Lane(lane) => 10 + u64::from(lane.number),
         Who::End(end) => at(end),
     }
 }

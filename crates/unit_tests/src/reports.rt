@@ -8,15 +8,20 @@ ghost use Rattle.world_parts.specs.Declared.{bytes_needed};
 use crate::journals::journal_of_all;
 use domain_script::{DiskDecl, Event, Name};
 use ldom_report::{
-    Bytes, Cause, CopyFault, EndName, Entry, Journal, Lane, LimitKind, Mode, Names, NoMemory, Side,
-    Status, VD_OP_BREAD, VD_OP_BWRITE, Who, write_end, write_text,
+    Bytes, Cause, CopyFault, EndName, Entry, Journal, Lane, LaneKind, LimitKind, Mode, Names,
+    NoMemory, Side, Status, VD_OP_BREAD, VD_OP_BWRITE, Who, write_end, write_text,
 };
 use std::alloc::Global;
 use std::test::Fail;
 use vio_io::{ListSink, Sink};
 
+const DISK: Lane = Lane {
+    kind: LaneKind::Disk,
+    number: 0,
+};
+
 const SERVER: EndName = EndName {
-    lane: Lane::Disk(0),
+    lane: DISK,
     side: Side::Server,
 };
 
@@ -106,7 +111,7 @@ fn note_failures(alloc: Global, journal: &mut Journal) -> Result<(), NoMemory>
     requires { (disks : List DiskDecl) → length disks ≡ 1 → All (HasWords disks) journal.old.entries }
     ensures { OnOk result ((disks : List DiskDecl) → length disks ≡ 1 → All (HasWords disks) journal.new.entries) }
 {
-    let who = Who::Lane(Lane::Disk(0));
+    let who = Who::Lane(DISK);
     note(journal, Entry::Unsettled { who })?;
     note(journal, done(VD_OP_BWRITE, 5, Bytes::empty(alloc)))?;
     note(journal, done(VD_OP_BREAD, 5, Bytes::empty(alloc)))?;

@@ -10,16 +10,16 @@ use Rattle.ldom_world.proofs.calls.lose_packet.Goals as goal
 
 pub returns-in-Some-clause-answers : goal.returns-in-Some-clause-answers
 returns-in-Some-clause-answers c =
-    was_lost c.args.disk c.args.lane.now c.lose.new.self (entry.Lost c.end_at-end.result c.in-Some.packet) c.args.side
+    was_lost c.args.disk c.args.lane.now c.lose.new.self (entry.Lost c.disk_end-end.result c.in-Some.packet) c.args.side
     c.lose.result c.in-Some.packet c.in-Some.is
     (subst (λ (e : End). LaneStep c.args.lane.now (lost_event e c.lose.result) c.lose.new.self) c.end_of.ensures
     c.lose.ensures.step)
-    (ap (λ (e : EndName). entry.Lost e c.in-Some.packet) c.end_at-end.ensures)
+    (ap (λ (e : EndName). entry.Lost e c.in-Some.packet) c.disk_end-end.ensures)
 
 pub returns-in-None-clause-answers : goal.returns-in-None-clause-answers
 returns-in-None-clause-answers c =
-    none_lost c.args.disk c.args.lane.now c.lose.new.self (entry.Calm (OfEnd c.end_at-end.result)) c.args.side
+    none_lost c.args.disk c.args.lane.now c.lose.new.self (entry.Calm (OfEnd c.disk_end-end.result)) c.args.side
     c.lose.result c.in-None.is
     (subst (λ (e : End). LaneStep c.args.lane.now (lost_event e c.lose.result) c.lose.new.self) c.end_of.ensures
     c.lose.ensures.step)
-    (ap (λ (e : EndName). entry.Calm (OfEnd e)) c.end_at-end.ensures)
+    (ap (λ (e : EndName). entry.Calm (OfEnd e)) c.disk_end-end.ensures)

@@ -15,12 +15,12 @@ returns-then-reset-clause-answers c =
     c.if-reset.true
     (subst (λ (e : End). LaneStep c.args.lane.now (reset_event e c.reset.result) c.reset.new.self) c.end_of.ensures
     c.reset.ensures.step)
-    (c.reset_entry.ensures ∙ ap (λ (e : EndName). entry.Reset e the_cause.Asked None 0) c.end_at-end.ensures)
+    (c.reset_entry.ensures ∙ ap (λ (e : EndName). entry.Reset e the_cause.Asked None 0) c.disk_end-end.ensures)
 
 pub returns-else-reset-clause-answers : goal.returns-else-reset-clause-answers
 returns-else-reset-clause-answers c =
-    not_reset c.args.disk c.args.lane.now c.reset.new.self (entry.Calm (OfEnd c.end_at-end.result)) c.args.side
+    not_reset c.args.disk c.args.lane.now c.reset.new.self (entry.Calm (OfEnd c.disk_end-end.result)) c.args.side
     c.reset.result c.if-reset.false
     (subst (λ (e : End). LaneStep c.args.lane.now (reset_event e c.reset.result) c.reset.new.self) c.end_of.ensures
     c.reset.ensures.step)
-    (ap (λ (e : EndName). entry.Calm (OfEnd e)) c.end_at-end.ensures)
+    (ap (λ (e : EndName). entry.Calm (OfEnd e)) c.disk_end-end.ensures)
