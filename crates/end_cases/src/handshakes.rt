@@ -63,7 +63,7 @@ fn between(initiator: &Offer, responder: &Offer) -> Handshakes {
 impl Handshakes {
     // Passes the message that one of the two owes, and tells it.
     fn turn(&mut self) -> Option<Message> {
-        if self.a.handshake.next().is_some() {
+        if self.a.handshake.owes() {
             pass(&mut self.a, &mut self.b)
         } else {
             pass(&mut self.b, &mut self.a)
@@ -113,7 +113,7 @@ impl Side {
     fn asked(&mut self, alloc: Global, call: &str, wanted: &str) -> Option<String> {
         match call {
             "puts" => message_text(alloc, &self.put()?, wanted),
-            "owes" => shown(alloc, &self.handshake.next().is_some()),
+            "owes" => shown(alloc, &self.handshake.owes()),
             "session" => session_text(alloc, &self.handshake.session()?),
             _ => None,
         }
