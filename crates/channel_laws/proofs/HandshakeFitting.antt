@@ -118,7 +118,7 @@ row_fits role offer h t message opens none fits (Opened r at is goes shut) =
     (record { role_is = fits.role_is; offer_is = fits.offer_is; owed = none_fits _ h.owed none; ring = λ takes named. fits.ring takes (ap (has_named role) at) })
 
 -- ONE THAT IT PUT
-pub row_sent_fits : (role : Role) (offer : Offer) (h t : Handshake) (opens : Bool) → HandshakeFits role offer h → RowSent h t opens → HandshakeFits role offer t
+row_sent_fits : (role : Role) (offer : Offer) (h t : Handshake) (opens : Bool) → HandshakeFits role offer h → RowSent h t opens → HandshakeFits role offer t
 row_sent_fits role offer h t opens fits (ReadyFollows r at goes shut) =
     subst (HandshakeFits role offer) (sym goes)
     (record { role_is = fits.role_is; offer_is = fits.offer_is; owed = tt; ring = λ takes named. fits.ring takes (ap (has_named role) at) })

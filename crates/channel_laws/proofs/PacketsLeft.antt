@@ -64,10 +64,10 @@ held_part false (x ∷ xs) (y ∷ ys) owed some more less = omega (arith, less)
 later_at : (both_rings : Bool) (one other : Role) (at next : Phase) → one ≡ other → at ≡ next → later both_rings one at ≡ later both_rings other next
 later_at both_rings one other at next role phase_is = ap (λ (r : Role). later both_rings r at) role ∙ ap (later both_rings other) phase_is
 
-pub version_part : (sid major minor class : ℕ) → parts (length (canonical (info sid (Ver major minor class)))) ≡ 1
+version_part : (sid major minor class : ℕ) → parts (length (canonical (info sid (Ver major minor class)))) ≡ 1
 version_part sid major minor class = omega (arith, length_canonical (info sid (Ver major minor class)))
 
-pub ready_part : (sid : ℕ) → parts (length (canonical (info sid Rdx))) ≡ 1
+ready_part : (sid : ℕ) → parts (length (canonical (info sid Rdx))) ≡ 1
 ready_part sid = omega (arith, length_canonical (info sid Rdx))
 
 begun_left : (role : Role) (h : Handshake) → h.role ≡ role

@@ -15,7 +15,7 @@ use Rattle.disk_model.specs.ServerRule as server
 use Rattle.disk_model.specs.ServerState.{ServerSession, ServerState, SlotRange, Work}
 
 -- a packet of the link's handshake is one that is owed
-pub control_in : (ph : LinkPhase) (k : LinkState) → owes_in ph ≡ true → is_some (owed_in ph k) ≡ true
+control_in : (ph : LinkPhase) (k : LinkState) → owes_in ph ≡ true → is_some (owed_in ph k) ≡ true
 control_in phase.OwesVersInfo k is = refl
 control_in phase.OwesRts k is = refl
 control_in phase.OwesRdx k is = refl

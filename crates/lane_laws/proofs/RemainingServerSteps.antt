@@ -1,25 +1,23 @@
 -- The work of a server: what remains falls.
 use Rattle.std.proofs.Common.{◌≡◌, ◌≢◌, ℕ, ◌+◌, ◌-◌, ◌*◌, ◌%◌, ◌/◌, ◌≤◌, ◌<◌, Bool, true, false, Option, Some, None, List, refl, sym, ap, ◌∙◌, subst, arith}
-use Rattle.std.specs.Prelude.{⊤, not, nat_le, nat_lt, ◌&&◌, ◌||◌, ◌==◌, if◌then◌else◌}
+use Rattle.std.specs.Prelude.{not, nat_le, nat_lt, ◌&&◌, ◌||◌, ◌==◌, if◌then◌else◌}
 use Rattle.std.proofs.lemmas.Bool.{eqb-false, leb-true, ltb-true}
 use Rattle.cookie_copy.specs.declared.fault.CopyFault.{CopyFault}
-use Rattle.cookie_copy.specs.Faults.{is_up}
-use Rattle.ldc_link.specs.Putting.{owes}
 use Rattle.vdisk_msg.specs.Check.{first_defect, has_size, holds_cookies, is_allowed, is_within, moves_data}
 use Rattle.vdisk_msg.specs.declared.desc.DescFault.{DescFault}
 use Rattle.vdisk_msg.specs.declared.desc.DescFault.TheVariants as fault
 use Rattle.vdisk_msg.specs.declared.desc.DiskDesc.{DiskDesc}
 use Rattle.vdisk_msg.specs.Descriptor as slot_says
 use Rattle.vdisk_msg.specs.Pieces.{unit_count}
-use Rattle.vio_tag.specs.declared.message.Message.{Message}
 use Rattle.channel_model.specs.Ranges.{wrapped}
 use Rattle.channel_model.specs.Seeing.{Seen}
-use Rattle.disk_model.specs.ServerRule.{Fetches, Joins, Puts, Says, ServerRule, Serves, answer, in_range, in_session, says, server_rule, serves, takes_first}
+use Rattle.disk_model.specs.ServerRule.{Fetches, Serves, server_rule}
 use Rattle.disk_model.specs.ServerState.{Ends, Flushes, Gathers, Gives, Progress, Reads, ServerSession, ServerState, SlotRange, Work, Writes}
 use Rattle.disk_model.specs.ServerStep.{ServerFetches, ServerFinishes, ServerMoves, ServerStores}
 use Rattle.cookie_copy.specs.Reach.{Reach}
 use Rattle.disk_model.specs.ServerWork.{MovesIn, StoresIn, checked_progress, desc_of, first_progress, gathered, gathers_next, given, or_ends}
 use Rattle.lane_laws.proofs.RemainingServerPuts.{ServerLowers}
+use Rattle.lane_laws.proofs.RulesFree.{ServerFree, ServesFree, server_free}
 use Rattle.lane_laws.specs.Remaining.{asked_in, pieces_left, server_packets, serving_left, unfinished, work_left}
 use Rattle.lane_laws.specs.RemainingSteps.{CountsFit}
 
@@ -29,52 +27,16 @@ pub record Working (s : ServerState) (session : ServerSession) (work : Option Wo
   pub work_is : s.work ≡ work
   pub more : (session.finished == session.asked) ≡ false
 
-abbrev WorkMay : ServerState → ServerRule → Type 0
-WorkMay s (Fetches session) = Working s session None
-WorkMay s (Serves session work) = Working s session (Some work)
-WorkMay s _ = ⊤
+working_of : (s : ServerState) (session : ServerSession) (work : Option Work) → ServesFree s session × (s.work ≡ work) → Working s session work
+working_of s session work free = record { session_is = free.0.session_is; work_is = free.1; more = free.0.unfinished }
 
-takes_may : (s : ServerState) (first : Option (List ℕ)) → WorkMay s (takes_first first)
-takes_may s None = tt
-takes_may s (Some packet) = tt
+fetches_working : (s : ServerState) (at : Seen) (session : ServerSession) → server_rule s at ≡ Fetches session → Working s session None
+fetches_working s at session rule = working_of s session None (subst (ServerFree s) rule (server_free s at))
 
-serves_may : (s : ServerState) (session : ServerSession) (work : Option Work) → s.session ≡ Some session → s.work ≡ work → (session.finished == session.asked) ≡ false
-    → WorkMay s (serves session work)
-serves_may s session None is worked more = record { session_is = is; work_is = worked; more = more }
-serves_may s session (Some work) is worked more = record { session_is = is; work_is = worked; more = more }
-
-range_may : (s : ServerState) (session : ServerSession) (range : SlotRange) (b : Bool) → s.session ≡ Some session → (session.finished == session.asked) ≡ b
-    → WorkMay s (if b then Says (answer s range) else serves session s.work)
-range_may s session range true is all = tt
-range_may s session range false is more = serves_may s session s.work is refl more
-
-in_range_may : (s : ServerState) (at : Seen) (session : ServerSession) (range : Option SlotRange) → s.session ≡ Some session → WorkMay s (in_range s session range at)
-in_range_may s at session None is = takes_may s at.first
-in_range_may s at session (Some range) is = range_may s session range (session.finished == session.asked) is refl
-
-in_session_may : (s : ServerState) (at : Seen) (open_one : Option ServerSession) → s.session ≡ open_one → WorkMay s (in_session s open_one at)
-in_session_may s at None is = takes_may s at.first
-in_session_may s at (Some session) is = in_range_may s at session session.range is
-
-says_may : (s : ServerState) (at : Seen) (owed : Option Message) → WorkMay s (says s owed at)
-says_may s at (Some message) = tt
-says_may s at None = in_session_may s at s.session refl
-
-puts_may : (s : ServerState) (at : Seen) (b : Bool) → WorkMay s (if b then Puts else says s s.handshake.owed at)
-puts_may s at true = tt
-puts_may s at false = says_may s at s.handshake.owed
-
-up_may : (s : ServerState) (at : Seen) (b : Bool) → WorkMay s (if b then (if owes s.link then Puts else says s s.handshake.owed at) else Joins)
-up_may s at true = puts_may s at (owes s.link)
-up_may s at false = tt
-
-work_may : (s : ServerState) (at : Seen) → WorkMay s (server_rule s at)
-work_may s at = up_may s at (is_up at.state)
+serves_working : (s : ServerState) (at : Seen) (session : ServerSession) (work : Work) → server_rule s at ≡ Serves session work → Working s session (Some work)
+serves_working s at session work rule = working_of s session (Some work) (subst (ServerFree s) rule (server_free s at))
 
 -- A SESSION and a work of which less is left, with the same range and the same that was asked
-lower_sum : (packets less more by : ℕ) → less + by ≤ more → 2 * packets + less + by ≤ 2 * packets + more
-lower_sum packets less more by fall = omega (arith, fall)
-
 works_lower : (s : ServerState) (session next : ServerSession) (work later_work : Option Work) → Working s session work → next.range ≡ session.range → next.asked ≡ session.asked
     → work_left (unfinished next) later_work + 1 ≤ work_left (unfinished session) work → ServerLowers 1 s (record s { session = Some next; work = later_work })
 works_lower s session next work later_work working range asked fall =
@@ -137,7 +99,7 @@ stores_less _ work operation block count failed gave next stores = absurd stores
 progress_lowers : (s : ServerState) (at : Seen) (session : ServerSession) (work : Work) (next : Progress) → server_rule s at ≡ Serves session work → Less work next work.progress
     → ServerLowers 1 s (record s { work = Some (record work { progress = next }) })
 progress_lowers s at session work next rule less =
-    let working : Working s session (Some work) = subst (WorkMay s) rule (work_may s at) in
+    let working = serves_working s at session work rule in
     let lower = works_lower s session session (Some work) (Some (record work { progress = next })) working refl refl (omega (arith, less)) in
     subst (λ (o : Option ServerSession). ServerLowers 1 s (record s { session = o; work = Some (record work { progress = next }) })) (sym working.session_is) lower
 
@@ -211,7 +173,7 @@ one_less asked finished other fits also = omega (arith, other, fits, also)
 pub fetches_lowers : (s : ServerState) (at : Seen) (reach : Reach) (slot : ℕ) (bytes : List ℕ) (t : ServerState) (new : List ℕ) → CountsFit s.session
     → ServerFetches s at reach slot bytes t new → ServerLowers 1 s t
 fetches_lowers s at reach slot bytes t new fit step =
-    let working : Working s step.session None = subst (WorkMay s) step.rule (work_may s at) in
+    let working = fetches_working s at step.session step.rule in
     let fits = counts_of s.session step.session working.session_is fit in
     let some = some_left step.session.asked step.session.finished (eqb-false step.session.finished step.session.asked working.more) fits.0 fits.1 in
     let next : Option Work = Some (record { bytes = bytes; progress = first_progress s.blocks (slot_says.disk_desc_of bytes) }) in
@@ -226,7 +188,7 @@ fetches_lowers s at reach slot bytes t new fit step =
 pub finishes_lowers : (s : ServerState) (at : Seen) (reach : Reach) (slot status : ℕ) (t : ServerState) (new : List ℕ) → CountsFit s.session
     → ServerFinishes s at reach slot status t new → ServerLowers 1 s t
 finishes_lowers s at reach slot status t new fit step =
-    let working : Working s step.session (Some step.work) = subst (WorkMay s) step.rule (work_may s at) in
+    let working = serves_working s at step.session step.work step.rule in
     let fits = counts_of s.session step.session working.session_is fit in
     let less = one_less step.session.asked step.session.finished (eqb-false step.session.finished step.session.asked working.more) fits.0 fits.1 in
     let next : ServerSession = record step.session { finished = wrapped (step.session.finished + 1) } in

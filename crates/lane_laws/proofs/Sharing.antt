@@ -16,10 +16,6 @@ pub infos_few : (slots pending : ℕ) (session : Option ClientSession) → Count
 infos_few slots pending None counts = omega arith
 infos_few slots pending (Some s) counts = omega (arith, counts.acked)
 
-pub nothing : (xs : List ℕ) → length xs ≡ 0 → xs ≡ []
-nothing [] none = refl
-nothing (x ∷ xs) none = absurd (omega (arith, none))
-
 -- a part is put where some bytes are left
 pub some_left : (k : LinkState) (xs : List ℕ) (one : Packet × LinkState) (m : LinkState) → with_link (part_owed k xs) m ≡ Some one → 1 ≤ length xs
 some_left k [] one m is = absurd (cc)

@@ -6,7 +6,7 @@ use Rattle.std.proofs.lemmas.Option.{slice_get_within}
 use Rattle.ldc_link.specs.Calls.{Puts as PutsPacket}
 use Rattle.ldc_link.specs.declared.phase.Role.{Role}
 use Rattle.ldc_link.specs.declared.phase.Role.TheVariants.{Initiator, Responder}
-use Rattle.ldc_link.specs.Putting.{behind_put, owes}
+use Rattle.ldc_link.specs.Putting.{behind_put}
 use Rattle.ldc_queue.specs.declared.end.ChannelState.TheVariants.{Up}
 use Rattle.ldc_queue.specs.Transcript.{Turn}
 use Rattle.vio_handshake.specs.declared.handshake.Handshake.{Handshake}
@@ -19,7 +19,7 @@ use Rattle.channel_model.specs.Seeing.{Seen}
 use Rattle.cookie_copy.specs.Reach.{Reach}
 use Rattle.channel_laws.proofs.EndStanding.{held_stands}
 use Rattle.channel_laws.proofs.PacketsLeft.{held_packets, loud_none, owing_none, own_most, says_packets}
-use Rattle.channel_laws.specs.EndStep.{EndSays, Holding, Holds, HoldsOn, HoldsOwed, HoldsOwn}
+use Rattle.channel_laws.specs.EndStep.{EndSays, Holding, Holds}
 use Rattle.channel_laws.specs.PacketsLeft.{own_in, packets_left}
 use Rattle.channel_laws.specs.Standing.{EndStands, is_open_in}
 use Rattle.port_model.proofs.Refuting.{false_true, none_some, true_false}
