@@ -1,4 +1,3 @@
-pub mod Granted
 pub mod EndsUp
 pub mod NotedSteps
 pub mod Reaching

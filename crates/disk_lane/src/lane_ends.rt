@@ -14,12 +14,13 @@ ghost use Rattle.vdisk_server.specs.Answering.{server_event};
 ghost use Rattle.disk_lane.specs.Events.{ResetsOwn, lost_event, reset_event, restart_event, start_event, stop_event, tick_event};
 ghost use Rattle.disk_lane.specs.Noted.{noted};
 
-use crate::granting::{own_table, pages_for};
+use crate::granting::pages_for;
 use crate::near::Near;
 use dom_memory::Memory;
 use flat_store::Region;
 use ldc_queue::{Channel, ChannelState, End};
 use map_table::MapTable;
+use memory_grant::own_table;
 use std::alloc::Global;
 use std::marker::Model;
 use vdisk_client::{Client, ClientOut, IssueFault};
