@@ -85,7 +85,7 @@ sends_some k up owing = in_phase k.phase up owing
     in_phase phase.Established at is = in_left k.to_send is
     in_phase _ at is = absurd (cc)
 
-calm_up : (k : LinkState) → owes_control k ≡ false → owes k ≡ true → is_up k ≡ true
+pub calm_up : (k : LinkState) → owes_control k ≡ false → owes k ≡ true → is_up k ≡ true
 calm_up k calm owing = in_phase k.phase calm owing
   where
     in_phase : (ph : LinkPhase) → owes_in ph ≡ false → is_some (owed_in ph k) ≡ true → is_established ph ≡ true

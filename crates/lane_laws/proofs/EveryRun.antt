@@ -5,6 +5,7 @@ use Rattle.runs.specs.Run.{Run}
 use Rattle.lane_laws.specs.DiskLog.{DiskLog, after, nothing_yet}
 use Rattle.lane_laws.specs.May.{IsLawful, May}
 use Rattle.lane_laws.specs.NearLaws.{NearAt}
+use Rattle.lane_laws.specs.OrderLaws.{OrderAt}
 use Rattle.lane_laws.specs.QuietLaws.{IdleAt, TickAt, TwoIdleAt}
 use Rattle.lane_laws.specs.RequestLaws.{AdmissionAt, CarriesAt, OnceAt, TurnsAt}
 use Rattle.lane_laws.specs.WorkLaws.{OpeningsAt, PiecesAt, RangesAt, WorkNumbersAt, WorkResetAt, WorkUnforgedAt, WorksAt}
@@ -26,7 +27,7 @@ use Rattle.lane_laws.proofs.OpeningLaw.{openings_lawful}
 use Rattle.lane_laws.proofs.OwnResets as own
 use Rattle.lane_laws.proofs.StatusRuns as status
 use Rattle.lane_laws.proofs.TwoIdle.{two_idle_lawful}
-use Rattle.lane_laws.proofs.WorkRuns.{idle_lawful, numbers_lawful, own_resets_lawful, pieces_lawful, ranges_lawful}
+use Rattle.lane_laws.proofs.WorkRuns.{idle_lawful, numbers_lawful, order_lawful, own_resets_lawful, pieces_lawful, ranges_lawful}
 use Rattle.lane_laws.specs.Laws.{GapAt, LostAt, ResetAt, SaidAt, UnforgedAt}
 
 -- the events are lawful by each law
@@ -45,6 +46,7 @@ record LawfulByEach (l : DiskLog) (events : List DiskEvent) : Type 0 where
   turns : Lawful TurnsAt after l events
   works : Lawful WorksAt after l events
   numbers : Lawful WorkNumbersAt after l events
+  order : Lawful OrderAt after l events
   ranges : Lawful RangesAt after l events
   pieces : Lawful PiecesAt after l events
   openings : Lawful OpeningsAt after l events
@@ -71,6 +73,7 @@ first l event events each = record {
   turns = each.turns.0;
   works = each.works.0;
   numbers = each.numbers.0;
+  order = each.order.0;
   ranges = each.ranges.0;
   pieces = each.pieces.0;
   openings = each.openings.0;
@@ -98,6 +101,7 @@ others l event events each = record {
   turns = each.turns.1;
   works = each.works.1;
   numbers = each.numbers.1;
+  order = each.order.1;
   ranges = each.ranges.1;
   pieces = each.pieces.1;
   openings = each.openings.1;
@@ -129,6 +133,7 @@ every_run shape events s sound run = may_all (nothing_yet shape) events (record 
   turns = turns_lawful shape events s sound run;
   works = works_lawful shape events s sound run;
   numbers = numbers_lawful shape events s sound run;
+  order = order_lawful shape events s sound run;
   ranges = ranges_lawful shape events s sound run;
   pieces = pieces_lawful shape events s sound run;
   openings = openings_lawful shape events s sound run;

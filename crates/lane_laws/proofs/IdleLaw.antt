@@ -26,22 +26,22 @@ use Rattle.lane_laws.proofs.Counting.{OfServer, of_client, of_server}
 use Rattle.lane_laws.proofs.IdleRules.{ClientIdles, ServerIdles, client_idles, server_idles}
 use Rattle.lane_laws.proofs.WorkNumbers.{Grounded, at_client, at_server, finished_descs, order_of}
 
-not_below : (a b : ℕ) → nat_lt a b ≡ false → b ≤ a
+pub not_below : (a b : ℕ) → nat_lt a b ≡ false → b ≤ a
 not_below a b test = grind (arith, nat_tests, test)
 
-past_all : (requests : List Request) (n : ℕ) → slice_get requests n ≡ None → length requests ≤ n
+pub past_all : (requests : List Request) (n : ℕ) → slice_get requests n ≡ None → length requests ≤ n
 past_all [] n none = omega arith
 past_all (one ∷ requests) zero none = absurd (cc)
 past_all (one ∷ requests) (suc n) none = omega (arith, past_all requests n none)
 
 -- the session of the log is the state's
-some_client : (o : Option ClientSession) (done : ℕ) (k : Option ClientCounts) (P : ClientCounts → Type 0) → ClientAgrees o done k
+pub some_client : (o : Option ClientSession) (done : ℕ) (k : Option ClientCounts) (P : ClientCounts → Type 0) → ClientAgrees o done k
     → ((session : ClientSession) (c : ClientCounts) → o ≡ Some session → k ≡ Some c → P c) → IfClient k P
 some_client o done None P agrees holds = tt
 some_client None done (Some c) P agrees holds = absurd agrees
 some_client (Some session) done (Some c) P agrees holds = holds session c refl refl
 
-some_server : (o : Option ServerSession) (work : Option Work) (d : Option ServerCounts) (P : ServerCounts → Type 0) → ServerAgrees o work d
+pub some_server : (o : Option ServerSession) (work : Option Work) (d : Option ServerCounts) (P : ServerCounts → Type 0) → ServerAgrees o work d
     → ((session : ServerSession) (c : ServerCounts) → o ≡ Some session → d ≡ Some c → P c) → IfServer d P
 some_server o work None P agrees holds = tt
 some_server None work (Some c) P agrees holds = absurd agrees
@@ -89,7 +89,7 @@ idle_server s l grounded idles =
       answered = omega (arith, all, order.finished, order.descs, finished);
     }))
 
-same_waiting : (e : End) (s : LaneState) (l : DiskLog) → Grounded s l → waiting_for e s.wire.wire ≡ [] → waiting_for e l.wire.wire ≡ []
+pub same_waiting : (e : End) (s : LaneState) (l : DiskLog) → Grounded s l → waiting_for e s.wire.wire ≡ [] → waiting_for e l.wire.wire ≡ []
 same_waiting e s l grounded none = ap (λ (w : WireLog). waiting_for e w.wire) (sym grounded.knows.all.stands.wire) ∙ none
 
 idle_end : (e : End) (s : LaneState) (l : DiskLog) (t : LaneState) → Grounded s l → EndOnWire e s (Idle e) t → (waiting_for e l.wire.wire ≡ []) × EndIsIdle e l

@@ -1,4 +1,5 @@
--- What is known where an end's next step is to rest: nothing waits for it, and its session has nothing to do.
+-- What is known where an end's next step is to rest: nothing waits for it, and its session has nothing to do. And where a client's is to
+-- announce: it has published all that is pending.
 use Rattle.std.proofs.Common.{◌≡◌, ℕ, ◌-◌, Bool, true, false, Option, Some, None, List, refl, sym, ap, ◌∙◌, subst}
 use Rattle.std.specs.Prelude.{◌&&◌, ◌||◌, is_none, is_some, if◌then◌else◌, nat_lt, slice_get, ◌==◌, ⊤}
 use Rattle.cookie_copy.specs.Faults.{is_up}
@@ -50,14 +51,20 @@ pub record RestsIn (s : ClientState) : Type 0 where
   pub owed : s.handshake.owed ≡ None
   pub session : (session : ClientSession) → s.session ≡ Some session → HasDone s session
 
+-- where it announces, nothing that is pending isn't published
+abbrev pub PublishedAll : ClientState → ClientSession → Type 0
+PublishedAll s session = slice_get s.pending (session.published - session.completed) ≡ None
+
 abbrev WhereRests : ClientState → client.ClientRule → Type 0
 WhereRests s client.Idles = RestsIn s
+WhereRests s (client.Announces session) = PublishedAll s session
+WhereRests s (client.Publishes session request) = (owes s.link ≡ false) × (s.handshake.owed ≡ None)
 WhereRests s _ = ⊤
 
 announces_rests : (s : ClientState) (session : ClientSession) (b : Bool) → owes s.link ≡ false → s.handshake.owed ≡ None → s.session ≡ Some session
     → slice_get s.pending (session.published - session.completed) ≡ None → nat_lt session.announced session.published ≡ b
     → WhereRests s (if b then client.Announces session else client.Idles)
-announces_rests s session true free none is published announced = tt
+announces_rests s session true free none is published announced = published
 announces_rests s session false free none is published announced = record {
   free = free;
   owed = none;
@@ -70,7 +77,7 @@ announces_rests s session false free none is published announced = record {
 next_rests : (s : ClientState) (session : ClientSession) (next : Option Request) → owes s.link ≡ false → s.handshake.owed ≡ None → s.session ≡ Some session
     → slice_get s.pending (session.published - session.completed) ≡ next → WhereRests s (client.publishes session next)
 next_rests s session None free none is published = announces_rests s session (nat_lt session.announced session.published) free none is published refl
-next_rests s session (Some request) free none is published = tt
+next_rests s session (Some request) free none is published = (free, none)
 
 session_rests : (s : ClientState) (open_one : Option ClientSession) → owes s.link ≡ false → s.handshake.owed ≡ None → s.session ≡ open_one → WhereRests s (client.in_session s open_one)
 session_rests s None free none is = record { free = free; owed = none; session = λ session now. let both : None ≡ Some session = sym is ∙ now in absurd (cc) }
@@ -91,6 +98,8 @@ pub record ClientRestsAt (s : ClientState) (at : Seen) : Type 0 where
 
 abbrev WhereRestsAt : ClientState → Seen → client.ClientRule → Type 0
 WhereRestsAt s at client.Idles = ClientRestsAt s at
+WhereRestsAt s at (client.Announces session) = PublishedAll s session
+WhereRestsAt s at (client.Publishes session request) = at.first ≡ None
 WhereRestsAt s at _ = ⊤
 
 with_first : (s : ClientState) (at : Seen) (rule : client.ClientRule) → at.first ≡ None → WhereRests s rule → WhereRestsAt s at rule
@@ -100,8 +109,8 @@ with_first s at (client.Completes session) none rests = tt
 with_first s at (client.Takes packet) none rests = tt
 with_first s at client.Puts none rests = tt
 with_first s at (client.Says message) none rests = tt
-with_first s at (client.Announces session) none rests = tt
-with_first s at (client.Publishes session request) none rests = tt
+with_first s at (client.Announces session) none rests = rests
+with_first s at (client.Publishes session request) none rests = none
 
 takes_rests : (s : ClientState) (at : Seen) (first : Option (List ℕ)) → at.first ≡ first → WhereRestsAt s at (client.takes_first first (client.puts_first s))
 takes_rests s at None is = with_first s at (client.puts_first s) is (puts_rests s (owes s.link) refl)
@@ -114,35 +123,43 @@ never_urgent s at (client.Completes session) urgent rests = tt
 never_urgent s at (client.Takes packet) urgent rests = tt
 never_urgent s at client.Puts urgent rests = tt
 never_urgent s at (client.Says message) urgent rests = tt
-never_urgent s at (client.Announces session) urgent rests = tt
-never_urgent s at (client.Publishes session request) urgent rests = tt
+never_urgent s at (client.Announces session) urgent rests = rests
+never_urgent s at (client.Publishes session request) urgent rests = let both : true ≡ false = sym urgent ∙ not_urgent s rests.0 rests.1 in absurd (cc)
 
 urgent_rests : (s : ClientState) (at : Seen) (b : Bool) → client.is_urgent s ≡ b → WhereRestsAt s at (if b then client.puts_first s else client.takes_first at.first (client.puts_first s))
 urgent_rests s at true is = never_urgent s at (client.puts_first s) is (puts_rests s (owes s.link) refl)
 urgent_rests s at false is = takes_rests s at at.first refl
 
--- and none that is acknowledged isn't completed
+-- and none that is acknowledged isn't completed, which goes before all rules but that by which an end joins
+abbrev pub CompletedAll : ClientState → Type 0
+CompletedAll s = (session : ClientSession) → s.session ≡ Some session → nat_lt session.completed session.acked ≡ false
+
 pub record ClientIdles (s : ClientState) (at : Seen) : Type 0 where
   pub rests : ClientRestsAt s at
-  pub completed : (session : ClientSession) → s.session ≡ Some session → nat_lt session.completed session.acked ≡ false
+  pub completed : CompletedAll s
 
-abbrev WhereIdles : ClientState → Seen → client.ClientRule → Type 0
-WhereIdles s at client.Idles = ClientIdles s at
-WhereIdles s at _ = ⊤
+abbrev pub ClientGoes : ClientState → Seen → client.ClientRule → Type 0
+ClientGoes s at client.Joins = ⊤
+ClientGoes s at (client.Completes session) = ⊤
+ClientGoes s at (client.Takes packet) = CompletedAll s
+ClientGoes s at client.Puts = CompletedAll s
+ClientGoes s at (client.Says message) = CompletedAll s
+ClientGoes s at (client.Publishes session request) = CompletedAll s × (at.first ≡ None)
+ClientGoes s at (client.Announces session) = CompletedAll s × PublishedAll s session
+ClientGoes s at client.Idles = ClientIdles s at
 
-with_completed : (s : ClientState) (at : Seen) (rule : client.ClientRule) → ((session : ClientSession) → s.session ≡ Some session → nat_lt session.completed session.acked ≡ false)
-    → WhereRestsAt s at rule → WhereIdles s at rule
+with_completed : (s : ClientState) (at : Seen) (rule : client.ClientRule) → CompletedAll s → WhereRestsAt s at rule → ClientGoes s at rule
 with_completed s at client.Idles none rests = record { rests = rests; completed = none }
 with_completed s at client.Joins none rests = tt
 with_completed s at (client.Completes session) none rests = tt
-with_completed s at (client.Takes packet) none rests = tt
-with_completed s at client.Puts none rests = tt
-with_completed s at (client.Says message) none rests = tt
-with_completed s at (client.Announces session) none rests = tt
-with_completed s at (client.Publishes session request) none rests = tt
+with_completed s at (client.Takes packet) none rests = none
+with_completed s at client.Puts none rests = none
+with_completed s at (client.Says message) none rests = none
+with_completed s at (client.Announces session) none rests = (none, rests)
+with_completed s at (client.Publishes session request) none rests = (none, rests)
 
 completes_idles : (s : ClientState) (at : Seen) (session : ClientSession) (b : Bool) → s.session ≡ Some session → nat_lt session.completed session.acked ≡ b
-    → WhereIdles s at (if b then client.Completes session else client.puts_or_takes s at)
+    → ClientGoes s at (if b then client.Completes session else client.puts_or_takes s at)
 completes_idles s at session true is more = tt
 completes_idles s at session false is more =
     with_completed s at (client.puts_or_takes s at)
@@ -152,17 +169,24 @@ completes_idles s at session false is more =
     subst (λ (x : ClientSession). nat_lt x.completed x.acked ≡ false) same more)
     (urgent_rests s at (client.is_urgent s) refl)
 
-first_idles : (s : ClientState) (at : Seen) (open_one : Option ClientSession) → s.session ≡ open_one → WhereIdles s at (client.completes_first open_one (client.puts_or_takes s at))
+first_idles : (s : ClientState) (at : Seen) (open_one : Option ClientSession) → s.session ≡ open_one → ClientGoes s at (client.completes_first open_one (client.puts_or_takes s at))
 first_idles s at None is =
     with_completed s at (client.puts_or_takes s at) (λ session now. let both : None ≡ Some session = sym is ∙ now in absurd (cc)) (urgent_rests s at (client.is_urgent s) refl)
 first_idles s at (Some session) is = completes_idles s at session (nat_lt session.completed session.acked) is refl
 
-up_idles : (s : ClientState) (at : Seen) (b : Bool) → WhereIdles s at (if b then client.completes_first s.session (client.puts_or_takes s at) else client.Joins)
+up_idles : (s : ClientState) (at : Seen) (b : Bool) → ClientGoes s at (if b then client.completes_first s.session (client.puts_or_takes s at) else client.Joins)
 up_idles s at true = first_idles s at s.session refl
 up_idles s at false = tt
 
+pub client_goes : (s : ClientState) (at : Seen) → ClientGoes s at (client.client_rule s at)
+client_goes s at = up_idles s at (is_up at.state)
+
 pub client_idles : (s : ClientState) (at : Seen) → client.client_rule s at ≡ client.Idles → ClientIdles s at
-client_idles s at rule = subst (WhereIdles s at) rule (up_idles s at (is_up at.state))
+client_idles s at rule = subst (ClientGoes s at) rule (client_goes s at)
+
+pub published_all : (s : ClientState) (at : Seen) (session : ClientSession) → client.client_rule s at ≡ client.Announces session → PublishedAll s session
+published_all s at session rule =
+    let goes : ClientGoes s at (client.Announces session) = subst (ClientGoes s at) rule (client_goes s at) in goes.1
 
 -- THE SERVER
 pub record ServerIdles (s : ServerState) (at : Seen) : Type 0 where

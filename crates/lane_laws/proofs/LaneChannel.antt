@@ -123,7 +123,7 @@ lane_links shape events s sound run clean =
     subst (λ (l : TranscriptLog). LinksAt Initiator (sides_of (core_of s) l)) (said_in_log shape events)
     (links_placed shape.entries (asks_of shape) (answers_of shape) (map core_event events) (core_of s) (lane_fits shape sound) (lane_cores shape events s sound run) clean)
 
-matched : (shape : Shape) → IsShape shape → Match (asks_of shape) (answers_of shape)
+pub matched : (shape : Shape) → IsShape shape → Match (asks_of shape) (answers_of shape)
 matched shape sound = offers_match shape.blocks shape.slots (omega (arith, sound.some_slots)) sound.most_slots (omega (arith, sound.most_blocks))
 
 pub lane_matches : (shape : Shape) → IsShape shape → Matches (asks_of shape) (answers_of shape)

@@ -133,6 +133,8 @@ pub mod WorkNumbers
 pub mod WorkResets
 pub mod IdleRules
 pub mod IdleLaw
+pub mod BlockedLaw
+pub mod OrderLaw
 pub mod WorkRuns
 pub mod UnitsHeld
 pub mod WorkKept

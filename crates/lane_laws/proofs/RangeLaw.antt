@@ -1,8 +1,8 @@
 -- The ranges that an end says and hears. An INFO that is said has the next number, begins where the one before it ended and names all that
 -- was published since; one that is heard is the next too. An ACK that is heard names announced ones alone, and one that is said is that of the
 -- range in work, the last of it finished.
-use Rattle.std.proofs.Common.{◌≡◌, ℕ, ◌+◌, ◌-◌, ◌%◌, ◌^◌, ◌<◌, ◌≤◌, Bool, Option, Some, None, List, ◌∷◌, ◌++◌, length, refl, sym, ap, ◌∙◌, subst, arith, inl, inr, ◌⊎◌}
-use Rattle.std.specs.Prelude.{is_none, is_some}
+use Rattle.std.proofs.Common.{◌≡◌, ◌≢◌, ℕ, ◌+◌, ◌-◌, ◌%◌, ◌^◌, ◌<◌, ◌≤◌, Bool, true, false, Option, Some, None, List, ◌∷◌, ◌++◌, drop, length, length-drop, refl, sym, ap, ◌∙◌, subst, arith, inl, inr, ◌⊎◌}
+use Rattle.std.specs.Prelude.{is_none, is_some, ◌&&◌, slice_get}
 use Rattle.std.proofs.lemmas.Nat.{mod_below}
 use Rattle.ldc_packet.specs.declared.packet.Subtype.{Subtype}
 use Rattle.ldc_packet.specs.Spelling.{subtype_code}
@@ -13,19 +13,21 @@ use Rattle.ldc_queue.specs.Transcript as turn
 use Rattle.ldc_queue.specs.Transcript.{Turn}
 use Rattle.vio_tag.specs.declared.message.Message.{Message}
 use Rattle.vio_tag.specs.declared.message.MsgBody.TheVariants.{DringData}
-use Rattle.vio_tag.specs.Spelling.{SpellsBody, canonical, envelope_code}
+use Rattle.vio_tag.specs.Spelling.{SpellsBody, canonical, envelope_code, subtype_at}
 use Rattle.channel_model.specs.Sayings.{half_heard, half_said, said}
 use Rattle.channel_model.specs.WireEvent.{Blocked, Declines, Idle, Injected, Joined, Lost, Poked, Reset, Sent, Took, WireEvent}
 use Rattle.lane_laws.specs.DiskLog.{DiskLog}
-use Rattle.lane_laws.specs.EndLog.{ident_of, range_in_work, state_of}
+use Rattle.lane_laws.specs.BlockLog.{Blockage, Clear}
+use Rattle.lane_laws.specs.EndLog.{ident_of, is_stuck_with_own, range_in_work, state_of}
 use Rattle.channel_model.specs.Messages.{end_of, range_ended, range_in, seq_of, sid_of, start_of}
-use Rattle.lane_laws.specs.WorkLaws.{Acknowledges, AcknowledgesRange, Announces, AsksFor, IfRange, NamesRing, OfClientRange, OfServerRange, RangesAt, client_handshake, server_handshake}
+use Rattle.lane_laws.specs.WorkLaws.{Acknowledges, AcknowledgesRange, Announces, AsksFor, HearsNoOther, IfRange, NamesRing, OfClientRange, OfServerRange, RangesAt, client_handshake, server_handshake}
 use Rattle.lane_laws.specs.WorkLog.{ClientCounts, ServerCounts}
-use Rattle.disk_model.specs.ClientPutting.{client_kind, is_announcing}
-use Rattle.disk_model.specs.ClientState.{ClientState, slot_in}
+use Rattle.disk_model.specs.ClientPutting.{announcement, announcing, client_holds, client_kind, holding, is_announcing}
+use Rattle.disk_model.specs.ClientRule as client_rules
+use Rattle.disk_model.specs.ClientState.{ClientSession, ClientState, slot_in}
 use Rattle.disk_model.specs.ClientStep.{ClientSends}
 use Rattle.channel_model.specs.EndPuts.{ComesUp, EndsOwn, EndsHandshake, Goes, PutKind}
-use Rattle.channel_model.specs.Seeing.{seen}
+use Rattle.channel_model.specs.Seeing.{Seen, seen}
 use Rattle.disk_model.specs.ServerPutting.{server_kind}
 use Rattle.disk_model.specs.ServerRule as server_rules
 use Rattle.vio_handshake.specs.declared.handshake.Handshake.{Handshake}
@@ -38,14 +40,18 @@ use Rattle.channel_model.specs.Ranges.{range_length, wrapped}
 use Rattle.disk_model.specs.ServerState.{ServerSession, ServerState, SlotRange}
 use Rattle.disk_model.specs.ServerStep.{ServerSends}
 use Rattle.channel_laws.proofs.TurnCases.{heard_none, heard_some, said_none, said_some}
+use Rattle.lane_laws.proofs.ClientFolds.{ClientIs}
 use Rattle.lane_laws.proofs.ClientPuts.{putting}
-use Rattle.lane_laws.proofs.ClientTaken.{ClientAcked, ClientTook, client_took_what}
+use Rattle.lane_laws.proofs.ClientTaken.{ClientAcked, ClientTook, HearsMessage, client_took_what}
 use Rattle.lane_laws.proofs.ClientPutCounting.{OwnInfo, own_info}
 use Rattle.channel_laws.proofs.PutSayings.{PutSays, SaysWhole, put_says}
 use Rattle.lane_laws.proofs.EndsFold.{BothAre, held_session, infos_are}
-use Rattle.lane_laws.proofs.LaneCounting.{Knows}
+use Rattle.lane_laws.proofs.IdleLaw.{past_all}
+use Rattle.lane_laws.proofs.IdleRules.{PublishedAll, published_all}
 use Rattle.lane_laws.proofs.RangeTurns.{range_turns}
-use Rattle.lane_laws.proofs.RangesSaid.{end_is, heard_no_range, no_data, owed_no_range, range_is, said_is, seq_is, start_is, state_is}
+use Rattle.lane_laws.proofs.RangesSaid.{end_is, heard_no_range, no_data, other_subtype, owed_no_range, range_is, said_is, seq_is, start_is, state_is}
+use Rattle.lane_laws.proofs.Requesting.{held_kept}
+use Rattle.lane_laws.proofs.Ruling.{client_may}
 use Rattle.lane_laws.proofs.RulesFree.{ServerFree, TakesFree, server_free}
 use Rattle.lane_laws.proofs.ServerCounting.{own_slots}
 use Rattle.lane_laws.proofs.ServerFolds.{ranged}
@@ -104,13 +110,45 @@ says_range k n s seq ident start end state link turns packet kind small_seq smal
   states = ap state_of is ∙ state_is s n seq ident start end state;
 }
 
--- AN INFO THAT IS SAID
-abbrev SaysInfo : DiskLog → List ℕ → Type 0
-SaysInfo l packet = OfClientRange l (range_ended 1 (half_said l.transcript.client) packet) (Announces l.shape.slots)
+-- AN INFO THAT IS SAID. A client that isn't blocked announces only once all that is pending is published.
+never_own : (s : ClientState) (b : Blockage) (session : ClientSession) → ClientIs s b → b ≡ Clear → s.session ≡ Some session → session.announcing ≡ true → true ≡ false
+never_own s b session stands clear is own =
+    let now : is_announcing (Some session) ≡ (true && is_stuck_with_own b s.handshake.owed) =
+    subst (λ (o : Option ClientSession). is_announcing o ≡ (is_some o && is_stuck_with_own b s.handshake.owed)) is stands.announcing in
+    let not : is_announcing (Some session) ≡ false = subst (λ (x : Blockage). is_announcing (Some session) ≡ (true && is_stuck_with_own x s.handshake.owed)) clear now in
+    sym own ∙ not
 
-announces : (l : DiskLog) (packet : List ℕ) (held : ClientState) (info : OwnInfo held (half_said l.transcript.client ++ held.link.to_send)) → ClientSound held
+holds_all : (s : ClientState) (at : Seen) (rule : client_rules.ClientRule) (held : ClientState) (b : Blockage) (session : ClientSession) → client_rules.client_rule s at ≡ rule
+    → client_holds rule s ≡ Some held → ClientIs s b → b ≡ Clear → held.session ≡ Some session → session.announcing ≡ true → PublishedAll held session
+holds_all s at client_rules.Puts held b session rule is stands clear now own =
+    let same : s ≡ held = cc is in
+    let never : true ≡ false = never_own s b session stands clear (ap (λ (x : ClientState). x.session) same ∙ now) own in absurd (cc)
+holds_all s at (client_rules.Says message) held b session rule is stands clear now own =
+    let same : holding message s ≡ held = cc is in
+    let never : true ≡ false = never_own s b session stands clear (ap (λ (x : ClientState). x.session) same ∙ now) own in absurd (cc)
+holds_all s at (client_rules.Announces one) held b session rule is stands clear now own =
+    let same : announcing one (holding (announcement s one) s) ≡ held = cc is in
+    let both : Some (record one { announcing = true }) ≡ Some session = ap (λ (x : ClientState). x.session) same ∙ now in
+    let counts : record one { announcing = true } ≡ session = cc in
+    subst (λ (x : ClientState). PublishedAll x session) same
+    (subst (λ (x : ClientSession). slice_get s.pending (x.published - x.completed) ≡ None) counts (published_all s at one rule))
+holds_all s at client_rules.Joins held b session rule is stands clear now own = absurd (cc)
+holds_all s at (client_rules.Completes one) held b session rule is stands clear now own = absurd (cc)
+holds_all s at (client_rules.Takes packet) held b session rule is stands clear now own = absurd (cc)
+holds_all s at (client_rules.Publishes one request) held b session rule is stands clear now own = absurd (cc)
+holds_all s at client_rules.Idles held b session rule is stands clear now own = absurd (cc)
+
+record Pending (l : DiskLog) (held : ClientState) : Type 0 where
+  pending : held.pending ≡ drop l.work.done l.work.issued
+  done : l.work.done ≤ length l.work.issued
+  published : (session : ClientSession) → l.blocked.client ≡ Clear → held.session ≡ Some session → session.announcing ≡ true → PublishedAll held session
+
+abbrev SaysInfo : DiskLog → List ℕ → Type 0
+SaysInfo l packet = OfClientRange l (range_ended 1 (half_said l.transcript.client) packet) (Announces l)
+
+announces : (l : DiskLog) (packet : List ℕ) (held : ClientState) (info : OwnInfo held (half_said l.transcript.client ++ held.link.to_send)) → Pending l held → ClientSound held
     → ClientCounted l.shape held l.transcript.client l.work.done l.work.client → SaysWhole held.link l.transcript.client packet → SaysInfo l packet
-announces l packet held info sound counted last =
+announces l packet held info stand sound counted last =
     let session = info.session in
     let of : OfClient session l.work.done l.work.client = of_client held.session session l.work.done l.work.client info.is counted.agrees in
     let c = of.counts in
@@ -130,27 +168,49 @@ announces l packet held info sound counted last =
     ap (λ (x : ℕ). range_length l.shape.slots x (end_of bytes)) says.starts ∙ ap (λ (x : ℕ). range_length l.shape.slots start x) says.ends
     ∙ ap (λ (n : ℕ). range_length n start end) (sym counted.slots) ∙ range_turns held.slots session.announced session.published some few in
     if_some (range_ended 1 (half_said l.transcript.client) packet) _ bytes says.range
-    (in_client l.work.client c (λ (k : ClientCounts). Announces l.shape.slots k bytes) of.is (record {
+    (in_client l.work.client c (λ (k : ClientCounts). Announces l k bytes) of.is (record {
       next = says.numbered ∙ ap (λ (n : ℕ). wrapped (n + 1)) of.agree.infos;
       begins = says.starts ∙ ap (λ (n : ℕ). session.announced % n) counted.slots ∙ ap (λ (n : ℕ). n % l.shape.slots) of.agree.announced;
       ends = omega (arith, says.ends, below, counted.slots);
       published = omega (arith, spans, of.agree.announced, of.agree.published, some);
+      accepted = λ clear. omega (
+        arith,
+        past_all held.pending (session.published - session.completed) (stand.published session clear info.is info.announcing),
+        of.agree.base,
+        of.agree.published,
+        of.agree.completed,
+        order.published,
+        order.completed,
+        order.acked,
+        order.announced,
+        ap length stand.pending,
+        length-drop l.work.done l.work.issued,
+        stand.done,
+      );
       active = says.states;
     }))
 
-by_kind : (kind : PutKind) (l : DiskLog) (packet : List ℕ) (held : ClientState) → ClientRests held l.transcript.client → ClientSound held → ClientCounted l.shape held l.transcript.client l.work.done l.work.client
+by_kind : (kind : PutKind) (l : DiskLog) (packet : List ℕ) (held : ClientState) → Pending l held → ClientRests held l.transcript.client → ClientSound held → ClientCounted l.shape held l.transcript.client l.work.done l.work.client
     → PutSays kind (is_announcing held.session) held.link l.transcript.client packet → SaysInfo l packet
-by_kind Goes l packet held rests sound counted says = if_none _ _ (goes_none 1 l.transcript.client packet says.messages)
-by_kind ComesUp l packet held rests sound counted says = if_none _ _ (goes_none 1 l.transcript.client packet says.0.messages)
-by_kind EndsOwn l packet held rests sound counted says = announces l packet held (own_info held l.transcript.client held.session refl says.1 counted.holds) sound counted says.0
-by_kind EndsHandshake l packet held rests sound counted says =
+by_kind Goes l packet held stand rests sound counted says = if_none _ _ (goes_none 1 l.transcript.client packet says.messages)
+by_kind ComesUp l packet held stand rests sound counted says = if_none _ _ (goes_none 1 l.transcript.client packet says.0.messages)
+by_kind EndsOwn l packet held stand rests sound counted says = announces l packet held (own_info held l.transcript.client held.session refl says.1 counted.holds) stand sound counted says.0
+by_kind EndsHandshake l packet held stand rests sound counted says =
     if_none _ _ (owed_none 1 held.handshake.phase held.handshake.owed held.link l.transcript.client packet (inl refl) counted.handshake.owed
     (holds_owed Initiator (client_core held) l.transcript.client rests.stands says.1 says.0.some) says.0)
 
-said_info : (s : LaneState) (l : DiskLog) (packet : List ℕ) (opens : Bool) (t : ClientState) (new : List ℕ) → Knows s l
+said_info : (s : LaneState) (l : DiskLog) (packet : List ℕ) (opens : Bool) (t : ClientState) (new : List ℕ) → BothAre s l
     → ClientSends s.client (seen A s.shape.entries s.wire.wire) s.memory packet opens t new → SaysInfo l packet
-said_info s l packet opens t new knows sends =
-    let put = putting s l packet opens t new knows sends in by_kind (client_kind sends.held) l packet sends.held put.rests put.sound put.counted put.says
+said_info s l packet opens t new both sends =
+    let at = seen A s.shape.entries s.wire.wire in
+    let rule = client_rules.client_rule s.client at in
+    let requests = both.knows.all.stands.requests in
+    let put = putting s l packet opens t new both.knows sends in
+    by_kind (client_kind sends.held) l packet sends.held (record {
+      pending = (held_kept s.client at rule sends.held (client_may s.client at) sends.holds).pending ∙ requests.pending;
+      done = requests.done;
+      published = λ session clear is own. holds_all s.client at rule sends.held l.blocked.client session refl sends.holds both.client clear is own;
+    }) put.rests put.sound put.counted put.says
 
 -- A RANGE THAT IS HEARD names the end's ring
 names_ring : (h g : Handshake) (sid : ℕ) (bytes : List ℕ) (ident : ℕ) → sid ≡ sid_of bytes → h ≡ g → sid_fault h.sid sid ≡ None → ident_of bytes ≡ ident
@@ -291,27 +351,55 @@ said_ack s l packet opens t sound both sends =
     (put_says (is_none sends.held.handshake.owed) sends.held.link t.link l.transcript.server packet
     rests.stands.link.follows sends.packet)
 
+-- NO OTHER RANGE is heard
+other_none : (k : ℕ) (turns : List Turn) (packet : List ℕ) (message : Message) (hears : HearsMessage turns packet message) → range_in k (Some hears.bytes) ≡ None
+    → range_ended k (half_heard turns) packet ≡ None
+other_none k turns packet message hears none = ap (range_in k) (heard_some turns packet hears.bytes hears.messages) ∙ none
+
+apart : (code k : ℕ) (bytes : List ℕ) → subtype_at bytes ≡ code → k ≢ code → range_in k (Some bytes) ≡ None
+apart code k bytes is other = other_subtype k bytes (λ (same : subtype_at bytes ≡ k). other (sym same ∙ is))
+
+client_no_other : (s t : ClientState) (turns : List Turn) (packet : List ℕ) → ClientTook s turns packet t → HearsNoOther 2 turns packet
+client_no_other s t turns packet (inl part) = λ other not. ap (range_in other) (heard_none turns packet part.messages)
+client_no_other s t turns packet (inr (inl took)) = λ other not.
+    other_none other turns packet took.message took.hears
+    (heard_no_range other took.hears.bytes took.message took.hears.spells took.hears.form (no_data s.handshake took.handshake took.message took.opens took.took))
+client_no_other s t turns packet (inr (inr acked)) = λ other not.
+    other_none other turns packet acked.message acked.hears (apart 2 other acked.hears.bytes (acked.hears.spells.subtype ∙ ap subtype_code acked.subtype_is) not)
+
+server_no_other : (s t : ServerState) (turns : List Turn) (packet : List ℕ) (opens : Bool) → ServerTook s turns packet t opens → HearsNoOther 1 turns packet
+server_no_other s t turns packet opens (inl part) = λ other not. ap (range_in other) (heard_none turns packet part.messages)
+server_no_other s t turns packet opens (inr (inl took)) = λ other not.
+    other_none other turns packet took.message took.hears
+    (heard_no_range other took.hears.bytes took.message took.hears.spells took.hears.form (no_data s.handshake took.handshake took.message opens took.took))
+server_no_other s t turns packet opens (inr (inr asks)) = λ other not.
+    other_none other turns packet asks.message asks.hears (apart 1 other asks.hears.bytes (asks.hears.spells.subtype ∙ ap subtype_code asks.subtype_is) not)
+
 -- what both handshakes are by the log
 pub record AreTold (s : LaneState) (l : DiskLog) : Type 0 where
   pub client : s.client.handshake ≡ client_handshake l
   pub server : s.server.handshake ≡ server_handshake l
 
 -- EACH EVENT
-took_ack : (s : LaneState) (l : DiskLog) (packet : List ℕ) (opens : Bool) (t : LaneState) → BothAre s l → AreTold s l → EndOnWire A s (Took A packet opens) t → HearsAck l packet
+took_ack : (s : LaneState) (l : DiskLog) (packet : List ℕ) (opens : Bool) (t : LaneState) → BothAre s l → AreTold s l → EndOnWire A s (Took A packet opens) t
+    → HearsAck l packet × HearsNoOther 2 l.transcript.client packet
 took_ack s l packet opens t both told step =
     let knows = both.knows in
-    heard_ack l packet s.client t.client told.client knows.counted.client
-    (client_took_what s.client l.transcript.client packet t.client knows.rests.client.stands.link.follows knows.rests.client.whole step.step.1)
+    let took = client_took_what s.client l.transcript.client packet t.client knows.rests.client.stands.link.follows knows.rests.client.whole step.step.1 in
+    (heard_ack l packet s.client t.client told.client knows.counted.client took, client_no_other s.client t.client l.transcript.client packet took)
 
-took_info : (s : LaneState) (l : DiskLog) (packet : List ℕ) (opens : Bool) (t : LaneState) → IsShape l.shape → BothAre s l → AreTold s l → EndOnWire B s (Took B packet opens) t → HearsInfo l packet
+took_info : (s : LaneState) (l : DiskLog) (packet : List ℕ) (opens : Bool) (t : LaneState) → IsShape l.shape → BothAre s l → AreTold s l → EndOnWire B s (Took B packet opens) t
+    → HearsInfo l packet × HearsNoOther 1 l.transcript.server packet
 took_info s l packet opens t sound both told step =
     let knows = both.knows in
     let free : TakesFree s.server = subst (ServerFree s.server) step.1.step.1.0 (server_free s.server (seen B s.shape.entries s.wire.wire)) in
-    heard_info l packet s.server t.server opens sound told.server knows.rests.server free knows.counted.server
-    (server_took_what s.server l.transcript.server packet t.server opens knows.rests.server.stands.link.follows knows.rests.server.whole step.1.step.1.1)
+    let took = server_took_what s.server l.transcript.server packet t.server opens knows.rests.server.stands.link.follows knows.rests.server.whole step.1.step.1.1 in (
+      heard_info l packet s.server t.server opens sound told.server knows.rests.server free knows.counted.server took,
+      server_no_other s.server t.server l.transcript.server packet opens took,
+    )
 
 wire_ranges : (s : LaneState) (l : DiskLog) (event : WireEvent) (t : LaneState) → IsShape l.shape → BothAre s l → AreTold s l → WireStep s event t → RangesAt l (OnWire event)
-wire_ranges s l (Sent A packet opens) t sound both told step = said_info s l packet opens t.client t.memory both.knows step.step
+wire_ranges s l (Sent A packet opens) t sound both told step = said_info s l packet opens t.client t.memory both step.step
 wire_ranges s l (Sent B packet opens) t sound both told step = said_ack s l packet opens t.server sound both step.1.step.1.0
 wire_ranges s l (Took A packet opens) t sound both told step = took_ack s l packet opens t both told step
 wire_ranges s l (Took B packet opens) t sound both told step = took_info s l packet opens t sound both told step

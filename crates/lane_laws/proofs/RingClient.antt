@@ -1,7 +1,7 @@
 -- What a client's events do to the ring: a request is published in a free slot, a done one's slot is freed, and all are as the session
 -- opens.
 use Rattle.std.proofs.Common.{◌≡◌, ℕ, ◌*◌, ◌<◌, ◌≤◌, List, [], ◌∷◌, length, None, inr, refl, ap, ◌∙◌, arith}
-use Rattle.std.specs.Prelude.{slice_index}
+use Rattle.std.specs.Prelude.{drop, slice_index}
 use Rattle.dring.proofs.Turning.{one_slot_front, slot_cleared, slot_front, slot_reads_back}
 use Rattle.dring.specs.Slots.{free_slots, free_state, slot_bytes}
 use Rattle.vdisk_msg.proofs.Repeated.{length-repeated}
@@ -44,16 +44,21 @@ publishes_slot blocks slots slot id request memory none below long =
       there = slot_reads_back 128 slots slot desc filled below whole room;
     }
 
--- A SLOT IS FREED: its state, and no other slot
+-- A SLOT IS FREED: its state, no other byte of it, and no other slot
 free_byte : (bytes : List ℕ) → slice_index (put_at 0 (free_state ∷ []) bytes) 0 ≡ free_state
 free_byte bytes = refl
+
+other_bytes : (bytes : List ℕ) → drop 1 (put_at 0 (free_state ∷ []) bytes) ≡ drop 1 bytes
+other_bytes bytes = refl
 
 pub frees_slot : (slots slot : ℕ) (memory : List ℕ) → slot < slots → length memory ≡ memory_long slots → FreesSlot slots slot memory (put_at (128 * slot) (free_state ∷ []) memory)
 frees_slot slots slot memory below long =
     let room = ring_room slots memory long in
+    let front = slot_front 128 slots slot (free_state ∷ []) memory below (omega arith) room in
     record {
       one = one_slot_front 128 slots slot (free_state ∷ []) memory below (omega arith) room;
-      there = ap (λ (bytes : List ℕ). slice_index bytes 0) (slot_front 128 slots slot (free_state ∷ []) memory below (omega arith) room) ∙ free_byte (slot_bytes 128 slot memory);
+      there = ap (λ (bytes : List ℕ). slice_index bytes 0) front ∙ free_byte (slot_bytes 128 slot memory);
+      rest = ap (drop 1) front ∙ other_bytes (slot_bytes 128 slot memory);
     }
 
 -- THE RING IS CLEARED

@@ -14,8 +14,10 @@ use Rattle.disk_model.specs.LaneStep.{LaneStep, WorkStep, reach}
 use Rattle.channel_model.specs.Seeing.{Seen, seen}
 use Rattle.lane_laws.specs.Agreement.{WorkAgrees}
 use Rattle.channel_model.specs.Ranges.{wrapped}
+use Rattle.disk_model.specs.ServerRule as server
 use Rattle.disk_model.specs.ServerState.{ServerSession, Work}
 use Rattle.disk_model.specs.ServerStep.{ServerFetches}
+use Rattle.disk_model.specs.ServerWork.{slot_at}
 use Rattle.cookie_copy.specs.Reach.{Reach}
 use Rattle.ldc_queue.specs.declared.end.End.TheVariants.{A, B}
 use Rattle.lane_laws.proofs.LaneCounting.{Knows}
@@ -119,20 +121,26 @@ slot_in_log s l session count number grounded is wraps =
     ap (λ (n : ℕ). count % n) (server_ring s l session grounded is)
     ∙ slot_of_count l.shape.slots count number grounded.sound.slots grounded.sound.some_slots grounded.sound.most_slots wraps
 
-fetches : (s t : LaneState) (l : DiskLog) (at : Seen) (reached : Reach) (slot : ℕ) (bytes : List ℕ) → Grounded s l
-    → ServerFetches s.server at reached slot bytes t.server t.memory → InServer l.work.server (MayFetch l slot)
-fetches s t l at reached slot bytes grounded step =
-    let free = subst (ServerFree s.server) step.rule (server_free s.server at) in
-    let now : Serving s l step.session = serving s l step.session grounded free.0 in
+pub fetches_next : (s : LaneState) (l : DiskLog) (session : ServerSession) → Grounded s l → ServerFree s.server (server.Fetches session) → (now : Serving s l session)
+    → MayFetch l (slot_at s.server session.descs) now.of.counts
+fetches_next s l session grounded free now =
     let idle : WorkAgrees None now.of.counts = subst (λ (w : Option Work). WorkAgrees w now.of.counts) free.1 now.of.work_agrees in
-    in_server l.work.server now.of.counts (MayFetch l slot) now.of.is (record {
+    record {
       nothing_owed = idle.0;
-      next = step.slot_is ∙ slot_in_log s l step.session step.session.descs now.of.counts.descs grounded free.0.session_is now.of.agree.descs;
+      next = slot_in_log s l session session.descs now.of.counts.descs grounded free.0.session_is now.of.agree.descs;
       asked = below now.of.counts.descs now.of.counts.asked now.order.descs (λ same. now.unfinished (sym idle.1 ∙ same));
-    })
+    }
   where
     below : (a b : ℕ) → a ≤ b → a ≢ b → a < b
     below a b most other = grind (arith, nat_tests, most, other)
+
+fetches : (s t : LaneState) (l : DiskLog) (at : Seen) (reached : Reach) (slot : ℕ) (bytes : List ℕ) → Grounded s l
+    → ServerFetches s.server at reached slot bytes t.server t.memory → InServer l.work.server (MayFetch l slot)
+fetches s t l at reached slot bytes grounded step =
+    let free : ServerFree s.server (server.Fetches step.session) = subst (ServerFree s.server) step.rule (server_free s.server at) in
+    let now : Serving s l step.session = serving s l step.session grounded free.0 in
+    in_server l.work.server now.of.counts (MayFetch l slot) now.of.is
+    (subst (λ (n : ℕ). MayFetch l n now.of.counts) (sym step.slot_is) (fetches_next s l step.session grounded free now))
 
 work_numbers : (s : LaneState) (l : DiskLog) (event : Worked) (t : LaneState) → Grounded s l → WorkStep s event t → WorkNumbersAt l (Works event)
 work_numbers s l (Published id) t grounded step = publishes s t l (at_client s) id grounded step.step

@@ -13,7 +13,8 @@ use Rattle.vio_tag.specs.declared.cause.Cause.{Cause}
 use Rattle.vio_tag.specs.declared.cause.Cause.TheVariants as the_cause
 use Rattle.channel_model.specs.WireEvent.{Blocked, Declines, Idle, Injected, Joined, Lost, Poked, Reset, Sent, Took, WireEvent}
 use Rattle.lane_laws.specs.DiskLog.{DiskLog}
-use Rattle.lane_laws.specs.WorkLaws.{ClientFailed, InRange, InServer, OwnReset, ResetOf, WorkResetAt}
+use Rattle.lane_laws.specs.WorkLaws.{ClientFailed, FetchFailed, InRange, InServer, MayFetch, OwnReset, ResetOf, WorkResetAt}
+use Rattle.lane_laws.specs.WorkLog.{ServerCounts}
 use Rattle.disk_model.specs.ClientRule as client
 use Rattle.disk_model.specs.ClientStep.{ClientFails}
 use Rattle.disk_model.specs.DiskEvent.{Asks, DiskEvent, OnWire, Calms, Switches, Works}
@@ -31,7 +32,7 @@ use Rattle.lane_laws.proofs.Counting.{OfClient, of_client}
 use Rattle.lane_laws.proofs.EndResets.{LiesIn}
 use Rattle.lane_laws.proofs.LaneResets.{by_giver}
 use Rattle.channel_laws.specs.Resetting.{LiesInPacket}
-use Rattle.lane_laws.proofs.WorkNumbers.{Grounded, Serving, at_client, at_server, in_client, in_server, serving}
+use Rattle.lane_laws.proofs.WorkNumbers.{Grounded, Serving, at_client, at_server, fetches_next, in_client, in_server, serving}
 
 -- what lies in a packet
 carried_reset : (l : DiskLog) (e : End) (cause : Cause) (packet : List ℕ) → LiesInPacket cause → ResetOf l e cause (Some packet)
@@ -70,21 +71,39 @@ number_small copy.NoAccess = (omega arith, omega arith)
 below : (a b : ℕ) → a ≤ b → a ≢ b → a < b
 below a b most other = grind (arith, nat_tests, most, other)
 
+asks_more : (s : LaneState) (l : DiskLog) (session : ServerSession) (now : Serving s l session) → InRange now.of.counts
+asks_more s l session now = below now.of.counts.finished now.of.counts.asked now.finished now.unfinished
+
 in_range : (s : LaneState) (l : DiskLog) (session : ServerSession) → Grounded s l → ServesFree s.server session → InServer l.work.server InRange
 in_range s l session grounded free =
-    let now : Serving s l session = serving s l session grounded free in
-    in_server l.work.server now.of.counts InRange now.of.is (below now.of.counts.finished now.of.counts.asked now.finished now.unfinished)
+    let now : Serving s l session = serving s l session grounded free in in_server l.work.server now.of.counts InRange now.of.is (asks_more s l session now)
+
+-- the descriptor that is fetched next, and its slot
+record Fetching (l : DiskLog) (slot : ℕ) : Type 0 where
+  counts : ServerCounts
+  is : l.work.server ≡ Some counts
+  next : MayFetch l slot counts
+  in_range : InRange counts
+
+fetching : (s : LaneState) (l : DiskLog) (session : ServerSession) → Grounded s l → ServerFree s.server (server.Fetches session) → Fetching l (slot_at s.server session.descs)
+fetching s l session grounded free =
+    let now : Serving s l session = serving s l session grounded free.0 in
+    record { counts = now.of.counts; is = now.of.is; next = fetches_next s l session grounded free now; in_range = asks_more s l session now }
 
 by_copy : (l : DiskLog) (why : CopyFault) (cause : Cause) → cause ≡ the_cause.Copy (copy_number why) → InServer l.work.server InRange → OwnReset l B cause
 by_copy l why cause is ranged = subst (λ (c : Cause). OwnReset l B c) (sym is) ((number_small why).0, (number_small why).1, ranged)
 
-by_ring : (l : DiskLog) (fault : Option CopyFault) (bytes : List ℕ) (slot : ℕ) (why : RingFault) → RefusesFetch fault bytes why → InServer l.work.server InRange → OwnReset l B (cause_of slot why)
-by_ring l fault bytes slot (refused.Copy why) refuses ranged = by_copy l why (the_cause.Copy (copy_number why)) refl ranged
-by_ring l fault bytes slot (refused.NotReady state) refuses ranged = (refuses.2, ranged)
+still_asked : (l : DiskLog) (slot : ℕ) → Fetching l slot → InServer l.work.server InRange
+still_asked l slot now = in_server l.work.server now.counts InRange now.is now.in_range
 
-by_fetch : (s : LaneState) (l : DiskLog) (reached : Reach) (slot : ℕ) (cause : Cause) → FetchFails s.server reached slot cause → InServer l.work.server InRange → OwnReset l B cause
-by_fetch s l reached slot cause (inl fails) ranged = subst (λ (c : Cause). OwnReset l B c) (sym fails.2) (by_ring l (fetch_fault s.server reached slot) (slot_fetched s.server reached slot) slot fails.0 fails.1 ranged)
-by_fetch s l reached slot cause (inr fails) ranged = by_copy l fails.0 cause fails.3 ranged
+by_ring : (l : DiskLog) (fault : Option CopyFault) (bytes : List ℕ) (slot : ℕ) (why : RingFault) → RefusesFetch fault bytes why → Fetching l slot → OwnReset l B (cause_of slot why)
+by_ring l fault bytes slot (refused.Copy why) refuses now = by_copy l why (the_cause.Copy (copy_number why)) refl (still_asked l slot now)
+by_ring l fault bytes slot (refused.NotReady state) refuses now =
+    in_server l.work.server now.counts (FetchFailed l slot state) now.is (record { next = now.next; state_is = refuses.2; in_range = now.in_range })
+
+by_fetch : (s : LaneState) (l : DiskLog) (reached : Reach) (slot : ℕ) (cause : Cause) → FetchFails s.server reached slot cause → Fetching l slot → OwnReset l B cause
+by_fetch s l reached slot cause (inl fails) now = subst (λ (c : Cause). OwnReset l B c) (sym fails.2) (by_ring l (fetch_fault s.server reached slot) (slot_fetched s.server reached slot) slot fails.0 fails.1 now)
+by_fetch s l reached slot cause (inr fails) now = by_copy l fails.0 cause fails.3 (still_asked l slot now)
 
 by_end : (s : LaneState) (l : DiskLog) (reached : Reach) (slot : ℕ) (work : Work) (status : ℕ) (cause : Cause) (new : List ℕ) → EndFails s.server reached slot work status cause new
     → InServer l.work.server InRange → OwnReset l B cause
@@ -103,7 +122,7 @@ server_reset s l (server.Takes bytes) reached cause packet new grounded lies fre
     (carried_reset l B cause bytes (subst (λ (p : Option (List ℕ)). LiesIn p cause) fails.0 lies))
 server_reset s l (server.Fetches session) reached cause packet new grounded lies free fails =
     subst (λ (p : Option (List ℕ)). ResetOf l B cause p) (sym fails.0)
-    (by_fetch s l reached (slot_at s.server session.descs) cause fails.1 (in_range s l session grounded free.0))
+    (by_fetch s l reached (slot_at s.server session.descs) cause fails.1 (fetching s l session grounded free))
 server_reset s l (server.Serves session work) reached cause packet new grounded lies free fails =
     subst (λ (p : Option (List ℕ)). ResetOf l B cause p) (sym fails.0)
     (by_work work.progress s l session work reached cause new fails.1 (in_range s l session grounded free.0))

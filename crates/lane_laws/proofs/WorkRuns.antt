@@ -5,6 +5,7 @@ use Rattle.runs.specs.Lawful.{Lawful, log_of, run_lawful}
 use Rattle.runs.specs.Run.{Run}
 use Rattle.channel_model.specs.TranscriptLog.{nothing_said}
 use Rattle.lane_laws.specs.DiskLog.{DiskLog, after, nothing_yet}
+use Rattle.lane_laws.specs.OrderLaws.{OrderAt}
 use Rattle.lane_laws.specs.QuietLaws.{IdleAt}
 use Rattle.lane_laws.specs.WorkLaws.{PiecesAt, RangesAt, WorkNumbersAt, WorkResetAt}
 use Rattle.disk_model.specs.DiskEvent.{DiskEvent}
@@ -19,6 +20,7 @@ use Rattle.lane_laws.proofs.Speaking.{fresh_rests}
 use Rattle.lane_laws.proofs.Speaking.{lane_utters}
 use Rattle.lane_laws.proofs.RingPages.{same_pages}
 use Rattle.lane_laws.proofs.IdleLaw.{idle_at}
+use Rattle.lane_laws.proofs.OrderLaw.{order_at}
 use Rattle.lane_laws.proofs.PieceLaw.{Working, pieces_at}
 use Rattle.lane_laws.proofs.RangeLaw.{ranges_at}
 use Rattle.lane_laws.proofs.WorkKept.{OfWork, pieces_keep, work_step}
@@ -48,6 +50,20 @@ grounded_lawful May may shape events s sound run =
 
 pub numbers_lawful : (shape : Shape) (events : List DiskEvent) (s : LaneState) → IsShape shape → Run LaneStep (fresh shape) events s → Lawful WorkNumbersAt after (nothing_yet shape) events
 numbers_lawful = grounded_lawful WorkNumbersAt numbers_at
+
+pub order_lawful : (shape : Shape) (events : List DiskEvent) (s : LaneState) → IsShape shape → Run LaneStep (fresh shape) events s → Lawful OrderAt after (nothing_yet shape) events
+order_lawful shape events s sound run =
+    reached_lawful OrderAt shape (λ past x event t behind step.
+    let l = log_of after (nothing_yet shape) past in
+    let both = run_both shape past x sound behind in
+    let folds = lane_folds shape past x sound behind in
+    order_at x l event t (record {
+      grounded = run_grounded shape past x sound behind;
+      both = both;
+      are = record { client = client_told x l both folds.a (run_sids shape past x sound behind); server = server_told x l both folds.b (no_sids shape past x sound behind) };
+      client_phase = folds.a.folds.phase;
+      server_phase = folds.b.folds.phase;
+    }) step) events s run
 
 pub own_resets_lawful : (shape : Shape) (events : List DiskEvent) (s : LaneState) → IsShape shape → Run LaneStep (fresh shape) events s → Lawful WorkResetAt after (nothing_yet shape) events
 own_resets_lawful = grounded_lawful WorkResetAt own_resets_at

@@ -6,6 +6,7 @@ pub mod BlockLog
 pub mod DiskLog
 pub mod RequestLaws
 pub mod WorkLaws
+pub mod OrderLaws
 pub mod QuietLaws
 pub mod NearLaws
 pub mod May

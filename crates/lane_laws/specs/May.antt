@@ -8,6 +8,7 @@ use Rattle.disk_model.specs.DiskEvent.{DiskEvent, OnWire}
 use Rattle.disk_model.specs.LaneState.{Shape, pages_of}
 use Rattle.lane_laws.specs.DiskLog.{DiskLog, after, nothing_yet}
 use Rattle.lane_laws.specs.NearLaws.{NearAt}
+use Rattle.lane_laws.specs.OrderLaws.{OrderAt}
 use Rattle.lane_laws.specs.QuietLaws.{IdleAt, TickAt, TwoIdleAt}
 use Rattle.lane_laws.specs.RequestLaws.{AdmissionAt, CarriesAt, OnceAt, TurnsAt}
 use Rattle.lane_laws.specs.WorkLaws.{OpeningsAt, PiecesAt, RangesAt, WorkNumbersAt, WorkResetAt, WorkUnforgedAt, WorksAt}
@@ -38,6 +39,7 @@ pub record May (l : DiskLog) (event : DiskEvent) : Type 0 where
   -- work
   pub works : WorksAt l event
   pub numbers : WorkNumbersAt l event
+  pub order : OrderAt l event
   pub ranges : RangesAt l event
   pub pieces : PiecesAt l event
   pub openings : OpeningsAt l event

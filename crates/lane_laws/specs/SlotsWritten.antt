@@ -1,5 +1,5 @@
 -- What a client writes into its ring, one slot at a time, also where somebody forges packets and memory.
-use Rattle.std.specs.Prelude.{◌≡◌, ℕ, ◌-◌, ◌<◌, List, Some, slice_get, slice_index}
+use Rattle.std.specs.Prelude.{◌≡◌, ℕ, ◌-◌, ◌<◌, List, Some, drop, slice_get, slice_index}
 use Rattle.dring.specs.Slots.{OneSlot, free_slot, free_state, slot_bytes}
 use Rattle.vdisk_msg.specs.declared.request.Request.{Request}
 use Rattle.vdisk_msg.specs.Descriptor.{canonical, disk_desc_of}
@@ -12,10 +12,11 @@ pub record PublishesSlot (slots slot id : ℕ) (request : Request) (memory new :
   pub one : OneSlot 128 slots slot memory new
   pub there : slot_bytes 128 slot new ≡ canonical (descriptor_of id request slot slots)
 
--- a slot is FREE, and no other slot changed
+-- a slot is FREE, its other bytes are as they were, and no other slot changed
 pub record FreesSlot (slots slot : ℕ) (memory new : List ℕ) : Type 0 where
   pub one : OneSlot 128 slots slot memory new
   pub there : slice_index (slot_bytes 128 slot new) 0 ≡ free_state
+  pub rest : drop 1 (slot_bytes 128 slot new) ≡ drop 1 (slot_bytes 128 slot memory)
 
 -- the next pending request is published in the slot of its number
 pub record SlotPublished (s : LaneState) (id : ℕ) (t : LaneState) : Type 0 where

@@ -28,6 +28,7 @@ use Rattle.disk_model.specs.LaneState.{pages_of}
 use Rattle.disk_model.specs.Offering.{client_offer, server_offer}
 use Rattle.disk_model.specs.ServerState.{SlotRange}
 use Rattle.channel_model.specs.Ranges.{range_length, wrapped}
+use Rattle.lane_laws.specs.BlockLog.{Clear}
 use Rattle.lane_laws.specs.DiskLog.{DiskLog}
 use Rattle.channel_model.specs.Messages.{end_of, range_ended, seq_of, sid_of, start_of}
 use Rattle.channel_laws.specs.EndFold.{handshake_of}
@@ -88,18 +89,20 @@ WorksAt l (Works Misplaced) = ⊥
 WorksAt l _ = ⊤
 
 -- THE RANGES are said and heard in a session alone, and end within the ring. An INFO that is said has the next number, begins after the
--- range before and names all that was published since, as active. One that is heard has the next number, begins after the range before and
--- comes where all before it is answered. An ACK that is heard begins after the ACK before and names announced ones alone. One that is said is
--- that of the range in work: it names all that was asked since the ACK before, the last of it finished.
+-- range before and names all that was published since, as active; but where the client was blocked with it, that is all that was accepted.
+-- One that is heard has the next number, begins after the range before and comes where all before it is answered. An ACK that is heard begins
+-- after the ACK before and names announced ones alone. One that is said is that of the range in work: it names all that was asked since the
+-- ACK before, the last of it finished. No other range is heard.
 abbrev pub IfRange : Option (List ℕ) → (List ℕ → Type 0) → Type 0
 IfRange None holds = ⊤
 IfRange (Some message) holds = holds message
 
-pub record Announces (slots : ℕ) (c : ClientCounts) (message : List ℕ) : Type 0 where
+pub record Announces (l : DiskLog) (c : ClientCounts) (message : List ℕ) : Type 0 where
   pub next : seq_of message ≡ wrapped (c.infos + 1)
-  pub begins : start_of message ≡ c.announced % slots
-  pub ends : end_of message < slots
-  pub published : c.announced + range_length slots (start_of message) (end_of message) ≡ c.published
+  pub begins : start_of message ≡ c.announced % l.shape.slots
+  pub ends : end_of message < l.shape.slots
+  pub published : c.announced + range_length l.shape.slots (start_of message) (end_of message) ≡ c.published
+  pub accepted : l.blocked.client ≡ Clear → c.base + c.published ≡ length l.work.issued
   pub active : state_of message ≡ 1
 
 -- one that is heard has no other sid than the handshake of the end that hears it, and the number of its ring there
@@ -139,6 +142,10 @@ OfClientRange l range holds = IfRange range (λ (message : List ℕ). InClient l
 abbrev pub OfServerRange : DiskLog → Option (List ℕ) → (ServerCounts → List ℕ → Type 0) → Type 0
 OfServerRange l range holds = IfRange range (λ (message : List ℕ). InServer l.work.server (λ (c : ServerCounts). holds c message))
 
+-- an INFO is 1, an ACK 2 and a NACK 4
+abbrev pub HearsNoOther : ℕ → List Turn → List ℕ → Type 0
+HearsNoOther subtype turns packet = (other : ℕ) → other ≢ subtype → range_ended other (half_heard turns) packet ≡ None
+
 abbrev pub client_handshake : DiskLog → Handshake
 client_handshake l = handshake_of Initiator (client_offer l.shape.blocks l.shape.slots) (l.transcript.links % 2 ^ 32) l.transcript.client
 
@@ -146,11 +153,13 @@ abbrev pub server_handshake : DiskLog → Handshake
 server_handshake l = handshake_of Responder (server_offer l.shape.blocks l.shape.slots) 0 l.transcript.server
 
 abbrev pub RangesAt : DiskLog → DiskEvent → Type 0
-RangesAt l (OnWire (Sent A packet opens)) = OfClientRange l (range_ended 1 (half_said l.transcript.client) packet) (Announces l.shape.slots)
+RangesAt l (OnWire (Sent A packet opens)) = OfClientRange l (range_ended 1 (half_said l.transcript.client) packet) (Announces l)
 RangesAt l (OnWire (Took B packet opens)) =
     OfServerRange l (range_ended 1 (half_heard l.transcript.server) packet) (AsksFor l.shape.slots l.transcript.server (server_handshake l))
+    × HearsNoOther 1 l.transcript.server packet
 RangesAt l (OnWire (Took A packet opens)) =
     OfClientRange l (range_ended 2 (half_heard l.transcript.client) packet) (Acknowledges l.shape.slots (client_handshake l))
+    × HearsNoOther 2 l.transcript.client packet
 RangesAt l (OnWire (Sent B packet opens)) =
     OfServerRange l (range_ended 2 (half_said l.transcript.server) packet) (AcknowledgesRange l.shape.slots l.transcript.server)
 RangesAt l _ = ⊤
@@ -210,8 +219,8 @@ OpeningsAt l (OnWire (Sent e packet opens)) = OpensRightly opens e (says e packe
 OpeningsAt l (OnWire (Took e packet opens)) = OpensRightly opens e (hears e packet l.transcript)
 OpeningsAt l _ = ⊤
 
--- THE RESETS without a packet: a client's for an acknowledged slot that isn't DONE; a server's in a range, for a slot that isn't READY
--- or a copy that was refused
+-- THE RESETS without a packet: a client's for an acknowledged slot that isn't DONE; a server's in a range, for the slot of the next
+-- descriptor, which isn't READY, or a copy that was refused
 pub record ClientFailed (l : DiskLog) (slot state : ℕ) (c : ClientCounts) : Type 0 where
   pub slot_is : slot ≡ (l.work.done - c.base) % l.shape.slots
   pub state_is : state ≢ 4
@@ -220,9 +229,14 @@ pub record ClientFailed (l : DiskLog) (slot state : ℕ) (c : ClientCounts) : Ty
 abbrev pub InRange : ServerCounts → Type 0
 InRange c = c.finished < c.asked
 
+pub record FetchFailed (l : DiskLog) (slot state : ℕ) (c : ServerCounts) : Type 0 where
+  pub next : MayFetch l slot c
+  pub state_is : state ≢ 2
+  pub in_range : InRange c
+
 abbrev pub OwnReset : DiskLog → End → Cause → Type 0
 OwnReset l A (the_cause.NotDone slot state) = InClient l.work.client (ClientFailed l slot state)
-OwnReset l B (the_cause.NotReady slot state) = (state ≢ 2) × InServer l.work.server InRange
+OwnReset l B (the_cause.NotReady slot state) = InServer l.work.server (FetchFailed l slot state)
 OwnReset l B (the_cause.Copy fault) = (1 ≤ fault) × (fault ≤ 6) × InServer l.work.server InRange
 OwnReset l e the_cause.Asked = ⊤
 OwnReset l e the_cause.Restart = ⊤

@@ -1,6 +1,6 @@
 // What follows from the invariant of a lane.
 
-ghost use Rattle.std.specs.Prelude.{◌≡◌, ℕ, Bool, ◌≤◌, ◌*◌, false, true, length, List, ◌<◌, ◌+◌, Option, Some, is_some};
+ghost use Rattle.std.specs.Prelude.{◌≡◌, ℕ, Bool, ◌≤◌, ◌*◌, false, true, length, List, map, ◌<◌, ◌+◌, Option, Some, is_some};
 ghost use Rattle.runs.specs.Lawful.{log_of, Lawful};
 ghost use Rattle.runs.specs.Run.{Run};
 ghost use Rattle.cookie_copy.specs.Identity.{IsIdentity};
@@ -26,7 +26,10 @@ ghost use Rattle.lane_laws.specs.WorkLog.{ClientCounts, ServerCounts};
 ghost use Rattle.disk_model.specs.DiskEvent.{Desc, DiskEvent, Done, OnWire, Published, Works};
 ghost use Rattle.disk_model.specs.LaneState.{fresh, pages_of, IsShape, LaneState, Shape};
 ghost use Rattle.disk_model.specs.LaneStep.{LaneStep};
-ghost use Rattle.disk_model.specs.Offering.{client_offer};
+ghost use Rattle.disk_model.specs.Offering.{client_offer, server_offer};
+ghost use Rattle.channel_laws.specs.LaneCore.{CoreFits, CoreStep, fresh_core};
+ghost use Rattle.lane_laws.specs.ChannelEnds.{core_event, core_of};
+ghost use Rattle.vio_handshake.specs.Offers.{Match};
 ghost use Rattle.lane_laws.specs.CompletedIds.{done_ids, CountsFrom};
 ghost use Rattle.lane_laws.specs.CompletesSlot.{CompletesSlot};
 ghost use Rattle.lane_laws.specs.CountsInTurn.{CountsInTurn};
@@ -43,6 +46,19 @@ ghost use Rattle.lane_laws.specs.TickBegins.{TickBegins};
 ghost use Rattle.lane_laws.specs.Sound.{CountsInOrder};
 ghost use Rattle.lane_laws.specs.TableStands.{AnswersAt, TableAt};
 ghost use Rattle.channel_laws.specs.Utterances.{SaysEach};
+
+/// Each run of a lane, forged or not, is a run of two ends on a channel, event by event. What its ends offer fits a
+/// program's fields, and the server expects the ring that the client offers.
+pub fn a_lane_is_two_ends_on_a_channel()
+    ensures run { (shape : Shape) (events : List DiskEvent) (s : LaneState)
+        → IsShape shape → Run LaneStep (fresh shape) events s
+        → Run CoreStep (fresh_core shape.entries (client_offer shape.blocks shape.slots) (server_offer shape.blocks shape.slots))
+        (map core_event events) (core_of s) }
+    ensures sizes { (shape : Shape) → IsShape shape
+        → CoreFits shape.entries (client_offer shape.blocks shape.slots) (server_offer shape.blocks shape.slots) }
+    ensures offers { (shape : Shape) → IsShape shape
+        → Match (client_offer shape.blocks shape.slots) (server_offer shape.blocks shape.slots) }
+{}
 
 /// On a lane that nobody forged, what an end that is up has heard is a front of what the other end has said, each since
 /// it last began. It is so packet by packet of those with numbers, and message by message. So it is whatever was lost,
@@ -154,8 +170,8 @@ pub fn pages_of_a_lane_stay_granted()
 
 /// What a client writes into its ring at a step of a lane, forged or not: as its session opens each slot holds nothing.
 /// A request that is published stands, READY, in the slot of its number. The slot of a request that is done was DONE,
-/// with the status that the completion carries, and is FREE. No other slot changes, though a write's bytes are put into
-/// its buffer in the same step.
+/// with the status that the completion carries, and is FREE. Its other bytes are as they were. No other slot changes,
+/// though a write's bytes are put into its buffer in the same step.
 pub fn a_client_writes_one_slot()
     ensures opens { (shape : Shape) (events : List DiskEvent) (s t : LaneState) (packet : List ℕ)
         → IsShape shape → Run LaneStep (fresh shape) events s → LaneStep s (OnWire (Sent A packet true)) t

@@ -11,6 +11,7 @@ ghost use Rattle.channel_model.specs.WireEvent.{ByStep, Idle, Reset, giver};
 ghost use Rattle.lane_laws.specs.Agreement.{AgreesWithLog};
 ghost use Rattle.lane_laws.specs.DiskLog.{DiskLog, after, nothing_yet};
 ghost use Rattle.lane_laws.specs.May.{IsLawful};
+ghost use Rattle.lane_laws.specs.OrderLaws.{OrderAt};
 ghost use Rattle.lane_laws.specs.QuietLaws.{IdleAt, TwoIdleAt};
 ghost use Rattle.lane_laws.specs.WorkLaws.{OpeningsAt, PiecesAt, RangesAt, WorkNumbersAt, WorkResetAt};
 ghost use Rattle.lane_laws.specs.WorkLaws.{WorkUnforgedAt, WorksAt};
@@ -79,9 +80,21 @@ pub fn work_has_its_numbers()
         → Lawful WorkNumbersAt after (nothing_yet shape) events }
 {}
 
+/// Along every run of a lane, forged or not, an end ends its work before it takes. A client completes what is
+/// acknowledged before it takes, puts or publishes anything, and publishes only where nothing waits for it. A server
+/// answers all that it was asked for before it takes anything. An end is blocked only with a packet to put, of its
+/// link's handshake, of a message that its handshake owes, or of a range. It puts that before it publishes or works,
+/// and a server does so before it takes.
+pub fn an_end_ends_its_work_before_it_takes()
+    ensures { (shape : Shape) (events : List DiskEvent) (s : LaneState)
+        → IsShape shape → Run LaneStep (fresh shape) events s
+        → Lawful OrderAt after (nothing_yet shape) events }
+{}
+
 /// Along every run of a lane, forged or not: no reset loses frames. And one without a packet has its ground in the
 /// ring, but where a script, a restart or a tick asks for it. At a client that is an acknowledged slot that isn't DONE.
-/// At a server it is, in a range that isn't finished, a slot that isn't READY or a copy that was refused.
+/// At a server it is, in a range that isn't finished, the slot of the next descriptor, which isn't READY, or a copy
+/// that was refused.
 pub fn resets_without_a_packet_have_their_ground()
     ensures { (shape : Shape) (events : List DiskEvent) (s : LaneState)
         → IsShape shape → Run LaneStep (fresh shape) events s
@@ -109,10 +122,11 @@ pub fn what_is_done_is_the_next_piece()
 
 /// Along every run of a lane, forged or not: a range is said and heard in a session alone, and ends within the ring. An
 /// INFO that a client says has the next number and begins at the slot after the range before it. It names all requests
-/// that were published since, and says that the ring is active. One that a server hears, and goes on with, has the next
-/// number and begins at the slot after the range before it, which is answered. An acknowledgement that a client hears,
-/// and goes on with, begins at the slot after the one before it and names announced requests alone. Both have no other
-/// sid than the handshake of the end that hears them, and the number of its ring. One that a server says has the
+/// that were published since, and says that the ring is active. Where the client wasn't blocked with it, all that was
+/// accepted is published by then. One that a server hears, and goes on with, has the next number and begins at the slot
+/// after the range before it, which is answered. An acknowledgement that a client hears, and goes on with, begins at
+/// the slot after the one before it and names announced requests alone. Both have no other sid than the handshake of
+/// the end that hears them, and the number of its ring. Neither end hears another range. One that a server says has the
 /// number, the slots and the state of the INFO in work. It begins at the slot after the one before it and names all
 /// descriptors that were asked for since, the last finished.
 pub fn ranges_name_what_was_done()
