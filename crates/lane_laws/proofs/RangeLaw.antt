@@ -2,15 +2,17 @@
 -- was published since; one that is heard is the next too. An ACK that is heard names announced ones alone, and one that is said is that of the
 -- range in work, the last of it finished.
 use Rattle.std.proofs.Common.{◌≡◌, ◌≢◌, ℕ, ◌+◌, ◌-◌, ◌%◌, ◌^◌, ◌<◌, ◌≤◌, Bool, true, false, Option, Some, None, List, ◌∷◌, ◌++◌, drop, length, length-drop, refl, sym, ap, ◌∙◌, subst, arith, inl, inr, ◌⊎◌}
-use Rattle.std.specs.Prelude.{is_none, is_some, ◌&&◌, slice_get}
+use Rattle.std.specs.Prelude.{is_none, is_some, ◌&&◌, ◌==◌, if◌then◌else◌, slice_get}
+use Rattle.std.proofs.lemmas.Bool.Decides.{nat_tests}
 use Rattle.std.proofs.lemmas.Nat.{mod_below}
 use Rattle.ldc_packet.specs.declared.packet.Subtype.{Subtype}
 use Rattle.ldc_packet.specs.Spelling.{subtype_code}
 use Rattle.ldc_packet.specs.declared.packet.Subtype.TheVariants.{Ack, Info}
-use Rattle.ldc_link.specs.LinkState.{LinkState}
+use Rattle.ldc_link.specs.LinkState.{LinkState, offered}
 use Rattle.ldc_queue.specs.declared.end.End.TheVariants.{A, B}
 use Rattle.ldc_queue.specs.Transcript as turn
 use Rattle.ldc_queue.specs.Transcript.{Turn}
+use Rattle.vio_tag.specs.declared.cause.Cause.TheVariants as the_cause
 use Rattle.vio_tag.specs.declared.message.Message.{Message}
 use Rattle.vio_tag.specs.declared.message.MsgBody.TheVariants.{DringData}
 use Rattle.vio_tag.specs.Spelling.{SpellsBody, canonical, envelope_code, subtype_at}
@@ -20,7 +22,7 @@ use Rattle.lane_laws.specs.DiskLog.{DiskLog}
 use Rattle.lane_laws.specs.BlockLog.{Blockage, Clear}
 use Rattle.lane_laws.specs.EndLog.{ident_of, is_stuck_with_own, range_in_work, state_of}
 use Rattle.channel_model.specs.Messages.{end_of, range_ended, range_in, seq_of, sid_of, start_of}
-use Rattle.lane_laws.specs.WorkLaws.{Acknowledges, AcknowledgesRange, Announces, AsksFor, HearsNoOther, IfRange, NamesRing, OfClientRange, OfServerRange, RangesAt, client_handshake, server_handshake}
+use Rattle.lane_laws.specs.WorkLaws.{Acknowledges, AcknowledgesRange, Announces, AsksFor, HearsNoOther, IfRange, NamesOwn, NamesRing, OfClientRange, OfServerRange, RangesAt, client_handshake, server_handshake}
 use Rattle.lane_laws.specs.WorkLog.{ClientCounts, ServerCounts}
 use Rattle.disk_model.specs.ClientPutting.{announcement, announcing, client_holds, client_kind, holding, is_announcing}
 use Rattle.disk_model.specs.ClientRule as client_rules
@@ -28,7 +30,7 @@ use Rattle.disk_model.specs.ClientState.{ClientSession, ClientState, slot_in}
 use Rattle.disk_model.specs.ClientStep.{ClientSends}
 use Rattle.channel_model.specs.EndPuts.{ComesUp, EndsOwn, EndsHandshake, Goes, PutKind}
 use Rattle.channel_model.specs.Seeing.{Seen, seen}
-use Rattle.disk_model.specs.ServerPutting.{server_kind}
+use Rattle.disk_model.specs.ServerPutting.{server_holds, server_kind}
 use Rattle.disk_model.specs.ServerRule as server_rules
 use Rattle.vio_handshake.specs.declared.handshake.Handshake.{Handshake}
 use Rattle.vio_handshake.specs.declared.handshake.Phase.{Phase}
@@ -49,7 +51,7 @@ use Rattle.lane_laws.proofs.EndsFold.{BothAre, held_session, infos_are}
 use Rattle.lane_laws.proofs.IdleLaw.{past_all}
 use Rattle.lane_laws.proofs.IdleRules.{PublishedAll, published_all}
 use Rattle.lane_laws.proofs.RangeTurns.{range_turns}
-use Rattle.lane_laws.proofs.RangesSaid.{end_is, heard_no_range, no_data, other_subtype, owed_no_range, range_is, said_is, seq_is, start_is, state_is}
+use Rattle.lane_laws.proofs.RangesSaid.{end_is, heard_no_range, ident_is, sid_is, no_data, other_subtype, owed_no_range, range_is, said_is, seq_is, start_is, state_is}
 use Rattle.lane_laws.proofs.Requesting.{held_kept}
 use Rattle.lane_laws.proofs.Ruling.{client_may}
 use Rattle.lane_laws.proofs.RulesFree.{ServerFree, TakesFree, server_free}
@@ -91,7 +93,9 @@ owed_none k phase owed link turns packet kind fits holds last =
     ap (range_in k) (said_some turns packet bytes last.messages) ∙ ap (λ (xs : List ℕ). range_in k (Some xs)) holds.bytes_are ∙ owed_no_range phase k holds.message kind may
 
 -- the end's own range, as it is said
-record SaysRange (k : ℕ) (turns : List Turn) (packet bytes : List ℕ) (seq start end state : ℕ) : Type 0 where
+record SaysRange (k : ℕ) (turns : List Turn) (packet bytes : List ℕ) (sid seq ident start end state : ℕ) : Type 0 where
+  of_session : sid_of bytes ≡ sid % 2 ^ 32
+  of_ring : ident_of bytes ≡ ident % 2 ^ 64
   range : range_ended k (half_said turns) packet ≡ Some bytes
   numbered : seq_of bytes ≡ seq
   starts : start_of bytes ≡ start
@@ -100,8 +104,10 @@ record SaysRange (k : ℕ) (turns : List Turn) (packet bytes : List ℕ) (seq st
 
 says_range : (k n : ℕ) (s : Subtype) (seq ident start end state : ℕ) (link : LinkState) (turns : List Turn) (packet : List ℕ) → subtype_code s ≡ k → seq < 2 ^ 64 → start < 2 ^ 32 → end < 2 ^ 32
     → half_said turns ++ link.to_send ≡ canonical (record { subtype = s; sid = n; body = DringData seq ident start end state }) → SaysWhole link turns packet
-    → SaysRange k turns packet (half_said turns ++ link.to_send) seq start end state
+    → SaysRange k turns packet (half_said turns ++ link.to_send) n seq ident start end state
 says_range k n s seq ident start end state link turns packet kind small_seq small_start small_end is last = record {
+  of_session = ap sid_of is ∙ sid_is s n seq ident start end state;
+  of_ring = ap ident_of is ∙ ident_is s n seq ident start end state;
   range = ap (range_in k) (said_some turns packet (half_said turns ++ link.to_send) last.messages) ∙ ap (λ (xs : List ℕ). range_in k (Some xs)) is ∙ said_is k n s seq ident start end state kind
       ∙ ap (λ (xs : List ℕ). Some xs) (sym is);
   numbered = ap seq_of is ∙ seq_is s n seq ident start end state small_seq;
@@ -109,6 +115,43 @@ says_range k n s seq ident start end state link turns packet kind small_seq smal
   ends = ap end_of is ∙ end_is s n seq ident start end state small_end;
   states = ap state_of is ∙ state_is s n seq ident start end state;
 }
+
+-- what both handshakes are by the log
+pub record AreTold (s : LaneState) (l : DiskLog) : Type 0 where
+  pub client : s.client.handshake ≡ client_handshake l
+  pub server : s.server.handshake ≡ server_handshake l
+
+-- it names the ring of its end, whose handshake is the log's
+same_sid : (n : ℕ) → sid_fault (Some n) n ≡ None
+same_sid n =
+    let same : (n == n) ≡ true = grind (arith, nat_tests) in ap (λ (b : Bool). if b then None else Some (the_cause.Sid n n)) same
+
+names_own : (h g : Handshake) (bytes : List ℕ) (named : Handshake → ℕ) → h ≡ g → sid_of bytes ≡ h.draft.sid % 2 ^ 32 → ident_of bytes ≡ named h % 2 ^ 64 → NamesOwn g (named g) bytes
+names_own h g bytes named same sid ident = record {
+  sid_is = ap (λ (n : ℕ). sid_fault (Some (g.draft.sid % 2 ^ 32)) n) (sid ∙ ap (λ (x : Handshake). x.draft.sid % 2 ^ 32) same) ∙ same_sid (g.draft.sid % 2 ^ 32);
+  ident_is = ident ∙ ap (λ (x : Handshake). named x % 2 ^ 64) same;
+}
+
+client_shaken : (s : ClientState) (rule : client_rules.ClientRule) (held : ClientState) → client_holds rule s ≡ Some held → held.handshake ≡ s.handshake
+client_shaken s client_rules.Puts held is = let same : s ≡ held = cc is in ap (λ (x : ClientState). x.handshake) (sym same)
+client_shaken s (client_rules.Says message) held is = let same : holding message s ≡ held = cc is in ap (λ (x : ClientState). x.handshake) (sym same)
+client_shaken s (client_rules.Announces one) held is =
+    let same : announcing one (holding (announcement s one) s) ≡ held = cc is in ap (λ (x : ClientState). x.handshake) (sym same)
+client_shaken s client_rules.Joins held is = absurd (cc)
+client_shaken s (client_rules.Completes one) held is = absurd (cc)
+client_shaken s (client_rules.Takes packet) held is = absurd (cc)
+client_shaken s (client_rules.Publishes one request) held is = absurd (cc)
+client_shaken s client_rules.Idles held is = absurd (cc)
+
+server_shaken : (s : ServerState) (rule : server_rules.ServerRule) (held : ServerState) → server_holds rule s ≡ Some held → held.handshake ≡ s.handshake
+server_shaken s server_rules.Puts held is = let same : s ≡ held = cc is in ap (λ (x : ServerState). x.handshake) (sym same)
+server_shaken s (server_rules.Says message) held is =
+    let same : record s { link = offered (canonical message) s.link } ≡ held = cc is in ap (λ (x : ServerState). x.handshake) (sym same)
+server_shaken s server_rules.Joins held is = absurd (cc)
+server_shaken s (server_rules.Fetches session) held is = absurd (cc)
+server_shaken s (server_rules.Serves session work) held is = absurd (cc)
+server_shaken s (server_rules.Takes packet) held is = absurd (cc)
+server_shaken s server_rules.Idles held is = absurd (cc)
 
 -- AN INFO THAT IS SAID. A client that isn't blocked announces only once all that is pending is published.
 never_own : (s : ClientState) (b : Blockage) (session : ClientSession) → ClientIs s b → b ≡ Clear → s.session ≡ Some session → session.announcing ≡ true → true ≡ false
@@ -141,6 +184,7 @@ holds_all s at client_rules.Idles held b session rule is stands clear now own = 
 record Pending (l : DiskLog) (held : ClientState) : Type 0 where
   pending : held.pending ≡ drop l.work.done l.work.issued
   done : l.work.done ≤ length l.work.issued
+  shaken : held.handshake ≡ client_handshake l
   published : (session : ClientSession) → l.blocked.client ≡ Clear → held.session ≡ Some session → session.announcing ≡ true → PublishedAll held session
 
 abbrev SaysInfo : DiskLog → List ℕ → Type 0
@@ -169,6 +213,7 @@ announces l packet held info stand sound counted last =
     ∙ ap (λ (n : ℕ). range_length n start end) (sym counted.slots) ∙ range_turns held.slots session.announced session.published some few in
     if_some (range_ended 1 (half_said l.transcript.client) packet) _ bytes says.range
     (in_client l.work.client c (λ (k : ClientCounts). Announces l k bytes) of.is (record {
+      names = names_own held.handshake (client_handshake l) bytes (λ (h : Handshake). h.draft.ident_own) stand.shaken says.of_session says.of_ring;
       next = says.numbered ∙ ap (λ (n : ℕ). wrapped (n + 1)) of.agree.infos;
       begins = says.starts ∙ ap (λ (n : ℕ). session.announced % n) counted.slots ∙ ap (λ (n : ℕ). n % l.shape.slots) of.agree.announced;
       ends = omega (arith, says.ends, below, counted.slots);
@@ -199,9 +244,9 @@ by_kind EndsHandshake l packet held stand rests sound counted says =
     if_none _ _ (owed_none 1 held.handshake.phase held.handshake.owed held.link l.transcript.client packet (inl refl) counted.handshake.owed
     (holds_owed Initiator (client_core held) l.transcript.client rests.stands says.1 says.0.some) says.0)
 
-said_info : (s : LaneState) (l : DiskLog) (packet : List ℕ) (opens : Bool) (t : ClientState) (new : List ℕ) → BothAre s l
+said_info : (s : LaneState) (l : DiskLog) (packet : List ℕ) (opens : Bool) (t : ClientState) (new : List ℕ) → BothAre s l → AreTold s l
     → ClientSends s.client (seen A s.shape.entries s.wire.wire) s.memory packet opens t new → SaysInfo l packet
-said_info s l packet opens t new both sends =
+said_info s l packet opens t new both told sends =
     let at = seen A s.shape.entries s.wire.wire in
     let rule = client_rules.client_rule s.client at in
     let requests = both.knows.all.stands.requests in
@@ -209,6 +254,7 @@ said_info s l packet opens t new both sends =
     by_kind (client_kind sends.held) l packet sends.held (record {
       pending = (held_kept s.client at rule sends.held (client_may s.client at) sends.holds).pending ∙ requests.pending;
       done = requests.done;
+      shaken = client_shaken s.client rule sends.held sends.holds ∙ told.client;
       published = λ session clear is own. holds_all s.client at rule sends.held l.blocked.client session refl sends.holds both.client clear is own;
     }) put.rests put.sound put.counted put.says
 
@@ -296,12 +342,12 @@ heard_info l packet s t opens sound shaken rests free counted (inr (inr asks)) =
 
 -- AN ACK THAT IS SAID answers the whole range in work
 abbrev SaysAck : DiskLog → List ℕ → Type 0
-SaysAck l packet = OfServerRange l (range_ended 2 (half_said l.transcript.server) packet) (AcknowledgesRange l.shape.slots l.transcript.server)
+SaysAck l packet = OfServerRange l (range_ended 2 (half_said l.transcript.server) packet) (AcknowledgesRange l.shape.slots l.transcript.server (server_handshake l))
 
-answers : (l : DiskLog) (packet : List ℕ) (held : ServerState) → IsShape l.shape → ranged held.session ≡ range_in_work l.transcript.server
+answers : (l : DiskLog) (packet : List ℕ) (held : ServerState) → held.handshake ≡ server_handshake l → IsShape l.shape → ranged held.session ≡ range_in_work l.transcript.server
     → HoldsAnswer held (half_said l.transcript.server ++ held.link.to_send) → ServerCounted l.shape held l.transcript.server l.work.server
     → SaysWhole held.link l.transcript.server packet → SaysAck l packet
-answers l packet held sound in_work a counted last =
+answers l packet held shaken sound in_work a counted last =
     let turns = l.transcript.server in
     let slots = l.shape.slots in
     let range = a.range in
@@ -316,7 +362,8 @@ answers l packet held sound in_work a counted last =
     let spans : range_length slots (start_of bytes) (end_of bytes) ≡ range_length slots range.start range.end =
     ap (λ (x : ℕ). range_length slots x (end_of bytes)) says.starts ∙ ap (λ (x : ℕ). range_length slots range.start x) says.ends in
     if_some (range_ended 2 (half_said turns) packet) _ bytes says.range
-    (in_server l.work.server c (λ (d : ServerCounts). AcknowledgesRange slots turns d bytes) of.is (record {
+    (in_server l.work.server c (λ (d : ServerCounts). AcknowledgesRange slots turns (server_handshake l) d bytes) of.is (record {
+      names = names_own held.handshake (server_handshake l) bytes (λ (h : Handshake). h.draft.ident_peer) shaken says.of_session says.of_ring;
       range = range;
       in_work = sym in_work ∙ ap ranged a.session_is ∙ a.range_is;
       seq = says.numbered;
@@ -329,24 +376,24 @@ answers l packet held sound in_work a counted last =
       finished = all_finished slots a.session held.work c turns range sound.most_slots a.finished stands order of.agree of.work_agrees;
     }))
 
-answers_by : (kind : PutKind) (l : DiskLog) (packet : List ℕ) (held : ServerState) → ServerRests held l.transcript.server → IsShape l.shape → ranged held.session ≡ range_in_work l.transcript.server
+answers_by : (kind : PutKind) (l : DiskLog) (packet : List ℕ) (held : ServerState) → held.handshake ≡ server_handshake l → ServerRests held l.transcript.server → IsShape l.shape → ranged held.session ≡ range_in_work l.transcript.server
     → ServerCounted l.shape held l.transcript.server l.work.server → PutSays kind (is_none held.handshake.owed) held.link l.transcript.server packet → SaysAck l packet
-answers_by Goes l packet held rests sound in_work counted says = if_none _ _ (goes_none 2 l.transcript.server packet says.messages)
-answers_by ComesUp l packet held rests sound in_work counted says = if_none _ _ (goes_none 2 l.transcript.server packet says.0.messages)
-answers_by EndsOwn l packet held rests sound in_work counted says =
-    answers l packet held sound in_work (counted.holds (none_is held.handshake.owed says.1) says.0.some) counted says.0
-answers_by EndsHandshake l packet held rests sound in_work counted says =
+answers_by Goes l packet held shaken rests sound in_work counted says = if_none _ _ (goes_none 2 l.transcript.server packet says.messages)
+answers_by ComesUp l packet held shaken rests sound in_work counted says = if_none _ _ (goes_none 2 l.transcript.server packet says.0.messages)
+answers_by EndsOwn l packet held shaken rests sound in_work counted says =
+    answers l packet held shaken sound in_work (counted.holds (none_is held.handshake.owed says.1) says.0.some) counted says.0
+answers_by EndsHandshake l packet held shaken rests sound in_work counted says =
     if_none _ _ (owed_none 2 held.handshake.phase held.handshake.owed held.link l.transcript.server packet (inr refl) counted.handshake.owed
     (server_holds_owed held l.transcript.server rests.stands says.1 says.0.some) says.0)
 
-said_ack : (s : LaneState) (l : DiskLog) (packet : List ℕ) (opens : Bool) (t : ServerState) → IsShape l.shape → BothAre s l
+said_ack : (s : LaneState) (l : DiskLog) (packet : List ℕ) (opens : Bool) (t : ServerState) → IsShape l.shape → BothAre s l → AreTold s l
     → ServerSends s.server (seen B s.shape.entries s.wire.wire) packet opens t → SaysAck l packet
-said_ack s l packet opens t sound both sends =
+said_ack s l packet opens t sound both told sends =
     let at = seen B s.shape.entries s.wire.wire in
     let rule = server_rules.server_rule s.server at in
     let knows = both.knows in
     let rests = server_blocked_rests s.server at sends.held l.transcript.server sends.holds knows.rests.server in
-    answers_by (server_kind sends.held) l packet sends.held rests sound (ap ranged (held_session s.server rule sends.held sends.holds) ∙ both.server.range)
+    answers_by (server_kind sends.held) l packet sends.held (server_shaken s.server rule sends.held sends.holds ∙ told.server) rests sound (ap ranged (held_session s.server rule sends.held sends.holds) ∙ both.server.range)
     (server_holds_counting l.shape s.server rule sends.held l.transcript.server l.work.server knows.rests.server knows.utters.server (server_free s.server at) sends.holds knows.counted.server)
     (put_says (is_none sends.held.handshake.owed) sends.held.link t.link l.transcript.server packet
     rests.stands.link.follows sends.packet)
@@ -375,11 +422,6 @@ server_no_other s t turns packet opens (inr (inl took)) = λ other not.
 server_no_other s t turns packet opens (inr (inr asks)) = λ other not.
     other_none other turns packet asks.message asks.hears (apart 1 other asks.hears.bytes (asks.hears.spells.subtype ∙ ap subtype_code asks.subtype_is) not)
 
--- what both handshakes are by the log
-pub record AreTold (s : LaneState) (l : DiskLog) : Type 0 where
-  pub client : s.client.handshake ≡ client_handshake l
-  pub server : s.server.handshake ≡ server_handshake l
-
 -- EACH EVENT
 took_ack : (s : LaneState) (l : DiskLog) (packet : List ℕ) (opens : Bool) (t : LaneState) → BothAre s l → AreTold s l → EndOnWire A s (Took A packet opens) t
     → HearsAck l packet × HearsNoOther 2 l.transcript.client packet
@@ -399,8 +441,8 @@ took_info s l packet opens t sound both told step =
     )
 
 wire_ranges : (s : LaneState) (l : DiskLog) (event : WireEvent) (t : LaneState) → IsShape l.shape → BothAre s l → AreTold s l → WireStep s event t → RangesAt l (OnWire event)
-wire_ranges s l (Sent A packet opens) t sound both told step = said_info s l packet opens t.client t.memory both step.step
-wire_ranges s l (Sent B packet opens) t sound both told step = said_ack s l packet opens t.server sound both step.1.step.1.0
+wire_ranges s l (Sent A packet opens) t sound both told step = said_info s l packet opens t.client t.memory both told step.step
+wire_ranges s l (Sent B packet opens) t sound both told step = said_ack s l packet opens t.server sound both told step.1.step.1.0
 wire_ranges s l (Took A packet opens) t sound both told step = took_ack s l packet opens t both told step
 wire_ranges s l (Took B packet opens) t sound both told step = took_info s l packet opens t sound both told step
 wire_ranges s l (Joined e lost) t sound both told step = tt

@@ -1,5 +1,6 @@
 -- Which messages name a range of slots, and which agree to RDX: by their bytes, as they were heard and as they are said.
-use Rattle.std.proofs.Common.{◌≡◌, ◌≢◌, ℕ, ◌%◌, ◌^◌, ◌<◌, ◌⊎◌, inl, inr, Bool, true, false, Some, None, List, refl, sym, ap, ◌∙◌, subst, arith}
+use Rattle.std.proofs.Common.{◌≡◌, ◌≢◌, ℕ, zero, suc, ◌%◌, ◌^◌, ◌<◌, ◌≤◌, ◌⊎◌, inl, inr, Bool, true, false, Some, None, List, [], ◌∷◌, refl, sym, ap, ◌∙◌, subst, arith}
+use Rattle.std.specs.Int.{byte_at}
 use Rattle.std.specs.Prelude.{◌&&◌, ◌==◌, ⊤}
 use Rattle.std.proofs.lemmas.Bool.{and_parts, eqb-true}
 use Rattle.std.proofs.lemmas.Bool.Decides.{nat_tests}
@@ -14,8 +15,9 @@ use Rattle.vio_tag.specs.Form.{HasForm, IsWellFormed}
 use Rattle.vio_tag.specs.Spelling.{SpellsBody, SpellsMessage, canonical, envelope_at, envelope_code, subtype_at}
 use Rattle.vio_handshake.specs.declared.handshake.Phase.{Phase}
 use Rattle.vio_handshake.specs.declared.handshake.Phase.TheVariants.{PeerReadyTaken}
-use Rattle.channel_model.specs.Messages.{end_of, is_range, range_if, range_in, seq_of, start_of}
-use Rattle.lane_laws.specs.EndLog.{state_of}
+use Rattle.vio_bytes.specs.Place.{big_bytes, number_at}
+use Rattle.channel_model.specs.Messages.{end_of, is_range, range_if, range_in, seq_of, sid_of, start_of}
+use Rattle.lane_laws.specs.EndLog.{ident_of, state_of}
 use Rattle.lane_laws.specs.WorkLog.{length_in, one_in}
 use Rattle.channel_model.specs.Ranges.{range_length}
 use Rattle.lane_laws.specs.Counted.{is_ready}
@@ -206,6 +208,64 @@ state_spells s state small =
 pub state_is : (s : Subtype) (n seq ident start end state : ℕ) → state_of (range_bytes s n seq ident start end state) ≡ state % 256
 state_is s n seq ident start end state =
     same_state s n seq ident start end state ∙ sym (state_spells s (state % 256) (omega arith)).body.4
+
+-- the sid and the number of the ring, as many bytes of them as their fields have
+four_bytes : (n : ℕ) → big_bytes 4 n ≡ big_bytes 4 (n % 2 ^ 32)
+four_bytes n =
+    let third : byte_at 3 n ≡ byte_at 3 (n % 2 ^ 32) = omega arith in
+    let second : byte_at 2 n ≡ byte_at 2 (n % 2 ^ 32) = omega arith in
+    let first : byte_at 1 n ≡ byte_at 1 (n % 2 ^ 32) = omega arith in
+    let last : byte_at 0 n ≡ byte_at 0 (n % 2 ^ 32) = omega arith in
+    by_bytes (byte_at 3 n) (byte_at 3 (n % 2 ^ 32)) (byte_at 2 n) (byte_at 2 (n % 2 ^ 32)) (byte_at 1 n) (byte_at 1 (n % 2 ^ 32)) (byte_at 0 n) (byte_at 0 (n % 2 ^ 32)) third second first last
+  where
+    by_bytes : (a e b f c g d h : ℕ) → a ≡ e → b ≡ f → c ≡ g → d ≡ h → a ∷ b ∷ c ∷ d ∷ [] ≡ e ∷ f ∷ g ∷ h ∷ []
+    by_bytes a e b f c g d h one two three four = cc
+
+more_bytes : (k n : ℕ) → k ≤ 8 → big_bytes k n ≡ big_bytes k (n % 2 ^ 64)
+more_bytes zero n few = refl
+more_bytes (suc k) n few = on (byte_at k n) (byte_at k (n % 2 ^ 64)) (big_bytes k n) (big_bytes k (n % 2 ^ 64)) (same_byte k (omega (arith, few))) (more_bytes k n (omega (arith, few)))
+  where
+    on : (x y : ℕ) (xs ys : List ℕ) → x ≡ y → xs ≡ ys → x ∷ xs ≡ y ∷ ys
+    on x y xs ys one others = cc
+
+    same_byte : (i : ℕ) → i < 8 → byte_at i n ≡ byte_at i (n % 2 ^ 64)
+    same_byte zero few = omega arith
+    same_byte (suc zero) few = omega arith
+    same_byte (suc (suc zero)) few = omega arith
+    same_byte (suc (suc (suc zero))) few = omega arith
+    same_byte (suc (suc (suc (suc zero)))) few = omega arith
+    same_byte (suc (suc (suc (suc (suc zero))))) few = omega arith
+    same_byte (suc (suc (suc (suc (suc (suc zero)))))) few = omega arith
+    same_byte (suc (suc (suc (suc (suc (suc (suc zero))))))) few = omega arith
+    same_byte (suc (suc (suc (suc (suc (suc (suc (suc i)))))))) few = absurd (omega (arith, few))
+
+with_names : Subtype → ℕ → ℕ → Message
+with_names s n ident = record { subtype = s; sid = n; body = DringData 0 ident 0 0 0 }
+
+with_sid : (s : Subtype) (n seq ident start end state : ℕ) → sid_of (range_bytes s n seq ident start end state) ≡ number_at 4 0 (big_bytes 4 n)
+unfolding canonical
+with_sid s n seq ident start end state = refl
+
+with_ident : (s : Subtype) (n seq ident start end state : ℕ) → ident_of (range_bytes s n seq ident start end state) ≡ number_at 8 0 (big_bytes 8 ident)
+unfolding canonical
+with_ident s n seq ident start end state = refl
+
+names_spell : (s : Subtype) (n ident : ℕ) → n < 2 ^ 32 → ident < 2 ^ 64 → SpellsMessage (canonical (with_names s n ident)) (record { subtype = s; sid = n; body = DringData 0 ident 0 0 0 })
+unfolding with_names
+names_spell s n ident small_sid small_ident =
+    canonical_spells (record { subtype = s; sid = n; body = DringData 0 ident 0 0 0 }) tt (small_sid, (omega arith, small_ident, omega arith, omega arith, omega arith))
+
+pub sid_is : (s : Subtype) (n seq ident start end state : ℕ) → sid_of (range_bytes s n seq ident start end state) ≡ n % 2 ^ 32
+unfolding with_names
+sid_is s n seq ident start end state =
+    with_sid s n seq ident start end state ∙ ap (number_at 4 0) (four_bytes n) ∙ sym (with_sid s (n % 2 ^ 32) 0 0 0 0 0)
+    ∙ sym (names_spell s (n % 2 ^ 32) 0 (omega arith) (omega arith)).sid
+
+pub ident_is : (s : Subtype) (n seq ident start end state : ℕ) → ident_of (range_bytes s n seq ident start end state) ≡ ident % 2 ^ 64
+unfolding with_names
+ident_is s n seq ident start end state =
+    with_ident s n seq ident start end state ∙ ap (number_at 8 0) (more_bytes 8 ident (omega arith)) ∙ sym (with_ident s 0 0 (ident % 2 ^ 64) 0 0 0)
+    ∙ sym (names_spell s 0 (ident % 2 ^ 64) (omega arith) (omega arith)).body.1
 
 pub is_data : (k n : ℕ) (s : Subtype) (seq ident start end state : ℕ) → subtype_code s ≡ k → is_range k (range_bytes s n seq ident start end state) ≡ true
 is_data k n s seq ident start end state kind =

@@ -88,6 +88,13 @@ WorksAt l (Works (Finished slot status)) = IsUp B l.wire.wire
 WorksAt l (Works Misplaced) = ⊥
 WorksAt l _ = ⊤
 
+-- the handshakes of both ends, by what they said and heard
+abbrev pub client_handshake : DiskLog → Handshake
+client_handshake l = handshake_of Initiator (client_offer l.shape.blocks l.shape.slots) (l.transcript.links % 2 ^ 32) l.transcript.client
+
+abbrev pub server_handshake : DiskLog → Handshake
+server_handshake l = handshake_of Responder (server_offer l.shape.blocks l.shape.slots) 0 l.transcript.server
+
 -- THE RANGES are said and heard in a session alone, and end within the ring. An INFO that is said has the next number, begins after the
 -- range before and names all that was published since, as active; but where the client was blocked with it, that is all that was accepted.
 -- One that is heard has the next number, begins after the range before and comes where all before it is answered. An ACK that is heard begins
@@ -97,18 +104,23 @@ abbrev pub IfRange : Option (List ℕ) → (List ℕ → Type 0) → Type 0
 IfRange None holds = ⊤
 IfRange (Some message) holds = holds message
 
+-- the sid and the number of the ring: a message that is heard has no other sid than the handshake of the end that hears it, where that knows
+-- one; one that is said has those of its end's session, of 4 and of 8 bytes
+pub record NamesRing (sid : Option ℕ) (ident : ℕ) (message : List ℕ) : Type 0 where
+  pub sid_is : sid_fault sid (sid_of message) ≡ None
+  pub ident_is : ident_of message ≡ ident
+
+abbrev pub NamesOwn : Handshake → ℕ → List ℕ → Type 0
+NamesOwn h ident message = NamesRing (Some (h.draft.sid % 2 ^ 32)) (ident % 2 ^ 64) message
+
 pub record Announces (l : DiskLog) (c : ClientCounts) (message : List ℕ) : Type 0 where
+  pub names : NamesOwn (client_handshake l) (client_handshake l).draft.ident_own message
   pub next : seq_of message ≡ wrapped (c.infos + 1)
   pub begins : start_of message ≡ c.announced % l.shape.slots
   pub ends : end_of message < l.shape.slots
   pub published : c.announced + range_length l.shape.slots (start_of message) (end_of message) ≡ c.published
   pub accepted : l.blocked.client ≡ Clear → c.base + c.published ≡ length l.work.issued
   pub active : state_of message ≡ 1
-
--- one that is heard has no other sid than the handshake of the end that hears it, and the number of its ring there
-pub record NamesRing (sid : Option ℕ) (ident : ℕ) (message : List ℕ) : Type 0 where
-  pub sid_is : sid_fault sid (sid_of message) ≡ None
-  pub ident_is : ident_of message ≡ ident
 
 pub record AsksFor (slots : ℕ) (turns : List Turn) (h : Handshake) (c : ServerCounts) (message : List ℕ) : Type 0 where
   pub names : NamesRing h.sid h.draft.ident_peer message
@@ -124,7 +136,8 @@ pub record Acknowledges (slots : ℕ) (h : Handshake) (c : ClientCounts) (messag
   pub announced : c.acked + range_length slots (start_of message) (end_of message) ≤ c.announced
 
 -- its number, its slots and the byte of its state are those of the INFO
-pub record AcknowledgesRange (slots : ℕ) (turns : List Turn) (c : ServerCounts) (message : List ℕ) : Type 0 where
+pub record AcknowledgesRange (slots : ℕ) (turns : List Turn) (h : Handshake) (c : ServerCounts) (message : List ℕ) : Type 0 where
+  pub names : NamesOwn h h.draft.ident_peer message
   pub range : SlotRange
   pub in_work : range_in_work turns ≡ Some range
   pub seq : seq_of message ≡ range.seq
@@ -146,12 +159,6 @@ OfServerRange l range holds = IfRange range (λ (message : List ℕ). InServer l
 abbrev pub HearsNoOther : ℕ → List Turn → List ℕ → Type 0
 HearsNoOther subtype turns packet = (other : ℕ) → other ≢ subtype → range_ended other (half_heard turns) packet ≡ None
 
-abbrev pub client_handshake : DiskLog → Handshake
-client_handshake l = handshake_of Initiator (client_offer l.shape.blocks l.shape.slots) (l.transcript.links % 2 ^ 32) l.transcript.client
-
-abbrev pub server_handshake : DiskLog → Handshake
-server_handshake l = handshake_of Responder (server_offer l.shape.blocks l.shape.slots) 0 l.transcript.server
-
 abbrev pub RangesAt : DiskLog → DiskEvent → Type 0
 RangesAt l (OnWire (Sent A packet opens)) = OfClientRange l (range_ended 1 (half_said l.transcript.client) packet) (Announces l)
 RangesAt l (OnWire (Took B packet opens)) =
@@ -161,7 +168,7 @@ RangesAt l (OnWire (Took A packet opens)) =
     OfClientRange l (range_ended 2 (half_heard l.transcript.client) packet) (Acknowledges l.shape.slots (client_handshake l))
     × HearsNoOther 2 l.transcript.client packet
 RangesAt l (OnWire (Sent B packet opens)) =
-    OfServerRange l (range_ended 2 (half_said l.transcript.server) packet) (AcknowledgesRange l.shape.slots l.transcript.server)
+    OfServerRange l (range_ended 2 (half_said l.transcript.server) packet) (AcknowledgesRange l.shape.slots l.transcript.server (server_handshake l))
 RangesAt l _ = ⊤
 
 -- THE PIECES: what is done is what the last descriptor owes next

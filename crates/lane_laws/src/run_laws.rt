@@ -128,7 +128,8 @@ pub fn what_is_done_is_the_next_piece()
 /// the slot after the one before it and names announced requests alone. Both have no other sid than the handshake of
 /// the end that hears them, and the number of its ring. Neither end hears another range. One that a server says has the
 /// number, the slots and the state of the INFO in work. It begins at the slot after the one before it and names all
-/// descriptors that were asked for since, the last finished.
+/// descriptors that were asked for since, the last finished. Each that is said has the sid and the ring's number of the
+/// end that says it.
 pub fn ranges_name_what_was_done()
     ensures { (shape : Shape) (events : List DiskEvent) (s : LaneState)
         → IsShape shape → Run LaneStep (fresh shape) events s
