@@ -45,7 +45,7 @@ of_some : {X : Type 0} (P : X → Type 0) (x y : X) → Some x ≡ Some y → P 
 of_some {X} P x y same holds = let is : x ≡ y = cc in subst P is holds
 
 -- bytes of its own that the link holds
-some_left : (own : Bool) (bytes : List ℕ) → own ≡ true → 1 ≤ length bytes → left_of own bytes ≡ Some bytes
+pub some_left : (own : Bool) (bytes : List ℕ) → own ≡ true → 1 ≤ length bytes → left_of own bytes ≡ Some bytes
 some_left true [] is some = absurd (omega (arith, some))
 some_left true (byte ∷ bytes) is some = refl
 some_left false bytes is some = false_true is

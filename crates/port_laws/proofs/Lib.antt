@@ -44,6 +44,20 @@ pub mod RuleUnforged
 pub mod RemainingFrames
 mod WayMoves
 mod WayPlain
+mod Outbox
+mod HearsIn
+mod Refusing
+mod Talking
+mod FormsOwn
+mod GroupsLearnt
+mod TakesIn
+mod TalkSteps
+mod TalkGuest
+mod TalkHub
+mod TalkRuns
+pub mod NoRefusal
+pub mod EveryRun
+pub mod RuleNoneUntold
 mod WayActs
 pub mod WayRuns
 pub mod RuleNoneLeft

@@ -84,7 +84,7 @@ same_seven : (n count : ℕ) (addresses : List (List ℕ)) → seven_of (groups_
 unfolding canonical
 same_seven n count addresses = refl
 
-seven_six : (n : ℕ) (groups : List (List ℕ)) → AreAddresses groups → AllByRecursion (λ (address : List ℕ). length address ≡ 6) (seven n groups)
+pub seven_six : (n : ℕ) (groups : List (List ℕ)) → AreAddresses groups → AllByRecursion (λ (address : List ℕ). length address ≡ 6) (seven n groups)
 seven_six zero groups six = tt
 seven_six (suc n) [] six = (refl, seven_six n [] tt)
 seven_six (suc n) (address ∷ groups) six = (six.0, seven_six n groups six.1)

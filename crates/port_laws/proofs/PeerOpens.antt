@@ -106,7 +106,7 @@ pub mine_at : (asks answers : Offer) (role : Role) (s : Sides) → (talks : Talk
 mine_at asks answers role s talks up link =
     subst (λ (b : Bool). AtPlace b (deal asks answers talks.meets.handshakes.sid) role s.mine.core.handshake s.mine.turns) talks.both (talks.meets.handshakes.mine up link)
 
-theirs_at : (asks answers : Offer) (role : Role) (s : Sides) → (talks : Talks asks answers role s) → s.theirs.state ≡ Up → is_up s.theirs.core.link ≡ true
+pub theirs_at : (asks answers : Offer) (role : Role) (s : Sides) → (talks : Talks asks answers role s) → s.theirs.state ≡ Up → is_up s.theirs.core.link ≡ true
     → AtPlace true (deal asks answers talks.meets.handshakes.sid) (other role) s.theirs.core.handshake s.theirs.turns
 theirs_at asks answers role s talks up link =
     subst (λ (b : Bool). AtPlace b (deal asks answers talks.meets.handshakes.sid) (other role) s.theirs.core.handshake s.theirs.turns) talks.both (talks.meets.handshakes.theirs up link)

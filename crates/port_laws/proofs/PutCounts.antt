@@ -104,10 +104,10 @@ pub record PutCounts (role : Role) (slots : ℕ) (queue : List (List ℕ)) (held
   pub right : SaidRight slots held.groups l (ended_by (half_said turns) packet)
 
 -- the end after the packet, but for a session that opens
-abbrev put_end : NetEndState → NetEndState
+abbrev pub put_end : NetEndState → NetEndState
 put_end held = record held { link = behind_put held.link; handshake = handshake_behind (net_kind held) held.handshake }
 
-shut_put : (role : Role) (opens : Bool) (s : NetEndState) → opens ≡ false → opened_by_put role opens s ≡ s
+pub shut_put : (role : Role) (opens : Bool) (s : NetEndState) → opens ≡ false → opened_by_put role opens s ≡ s
 shut_put Initiator false s is = refl
 shut_put Responder false s is = refl
 shut_put role true s is = true_false is
@@ -140,20 +140,20 @@ quiet_put role slots queue held l turns packet sid ended counts shut is same lef
     }
 
 -- its link holds nothing then, or a message of the handshake
-put_empty : (role : Role) (held : NetEndState) → net_opens held ≡ false → (net_core role (net_put role held)).link.to_send ≡ [] → unsaid (put_end held) ≡ None
+pub put_empty : (role : Role) (held : NetEndState) → net_opens held ≡ false → (net_core role (net_put role held)).link.to_send ≡ [] → unsaid (put_end held) ≡ None
 put_empty role held shut empty =
     let put_is : net_put role held ≡ put_end held = shut_put role (net_opens held) (put_end held) shut in
     empty_unsaid (put_end held) (sym (ap (λ (x : NetEndState). x.link.to_send) put_is) ∙ empty)
 
-short_left : (k : LinkState) (turns : List Turn) (packet : List ℕ) → SaysLast k turns packet → drop 56 k.to_send ≡ []
+pub short_left : (k : LinkState) (turns : List Turn) (packet : List ℕ) → SaysLast k turns packet → drop 56 k.to_send ≡ []
 short_left k turns packet last = drop_all 56 k.to_send (leb-true (length k.to_send) 56 last.short)
 
 -- a handshake whose message the link holds owes one
-owing_left : (own : Bool) (bytes : List ℕ) → own ≡ false → left_of own bytes ≡ None
+pub owing_left : (own : Bool) (bytes : List ℕ) → own ≡ false → left_of own bytes ≡ None
 owing_left false bytes is = refl
 owing_left true bytes is = true_false is
 
-own_left : (own : Bool) (bytes : List ℕ) → own ≡ true → 1 ≤ length bytes → left_of own bytes ≡ Some bytes
+pub own_left : (own : Bool) (bytes : List ℕ) → own ≡ true → 1 ≤ length bytes → left_of own bytes ≡ Some bytes
 own_left true [] is some = absurd (omega (arith, some))
 own_left true (byte ∷ bytes) is some = refl
 own_left false bytes is some = false_true is
@@ -164,7 +164,7 @@ half_none false [] is same = refl
 half_none false (byte ∷ half) is same = false_true same
 half_none true half is same = true_false is
 
-own_half : (role : Role) (slots : ℕ) (queue : List (List ℕ)) (held : NetEndState) (l : EndLog) (turns : List Turn) (p : NetSession) → EndCounts role slots queue held l
+pub own_half : (role : Role) (slots : ℕ) (queue : List (List ℕ)) (held : NetEndState) (l : EndLog) (turns : List Turn) (p : NetSession) → EndCounts role slots queue held l
     → EndStands role (net_core role held) turns → held.session ≡ Some p → unsaid held ≡ Some held.link.to_send → half_said turns ≡ []
 own_half role slots queue held l turns p counts stands session left =
     let here : OpenCounts role slots held.groups l.published l.gone (unsaid held) held.link.begun p l.session = open_counts role slots queue held l p counts session in
@@ -217,7 +217,7 @@ handshake_said role held turns stands owes own up some =
     subst (λ (b : Bool). Carries b held.handshake (half_said turns ++ held.link.to_send)) own (stands.carries (holds_some held.link up some)) in
     ap spoken carried.is ∙ owed_other held.handshake.phase carried.message (subst (OwedFits held.handshake.phase) carried.owed owes)
 
-not_some : (session : Option NetSession) → is_some session ≡ false → session ≡ None
+pub not_some : (session : Option NetSession) → is_some session ≡ false → session ≡ None
 not_some None is = refl
 not_some (Some p) is = true_false is
 
@@ -280,18 +280,18 @@ put_handshake role slots queue held l turns packet sid counts stands owes own up
         (other_right slots held.groups l said other)
 
 -- A PART THAT GOES ON is of the handshake: what is of the session takes one packet
-some_of : (session : Option NetSession) → is_some session ≡ true → (p : NetSession) × (session ≡ Some p)
+pub some_of : (session : Option NetSession) → is_some session ≡ true → (p : NetSession) × (session ≡ Some p)
 some_of (Some p) is = (p, refl)
 some_of None is = false_true is
 
-own_session : (role : Role) (held : NetEndState) (turns : List Turn) → EndStands role (net_core role held) turns → is_none held.handshake.owed ≡ true → is_up held.link ≡ true
+pub own_session : (role : Role) (held : NetEndState) (turns : List Turn) → EndStands role (net_core role held) turns → is_none held.handshake.owed ≡ true → is_up held.link ≡ true
     → 1 ≤ length held.link.to_send → (p : NetSession) × (held.session ≡ Some p)
 own_session role held turns stands own up some =
     let carried : CarriesOwn held.handshake (half_said turns ++ held.link.to_send) =
     subst (λ (b : Bool). Carries b held.handshake (half_said turns ++ held.link.to_send)) own (stands.carries (holds_some held.link up some)) in
     some_of held.session (stands.opened ∙ ap is_open_in carried.opened)
 
-own_short : (role : Role) (slots : ℕ) (queue : List (List ℕ)) (held : NetEndState) (l : EndLog) (turns : List Turn) → EndCounts role slots queue held l → EndStands role (net_core role held) turns
+pub own_short : (role : Role) (slots : ℕ) (queue : List (List ℕ)) (held : NetEndState) (l : EndLog) (turns : List Turn) → EndCounts role slots queue held l → EndStands role (net_core role held) turns
     → is_none held.handshake.owed ≡ true → is_up held.link ≡ true → 1 ≤ length held.link.to_send → length held.link.to_send ≤ 56
 own_short role slots queue held l turns counts stands own up some =
     let there = own_session role held turns stands own up some in

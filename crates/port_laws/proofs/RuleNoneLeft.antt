@@ -55,7 +55,7 @@ no_packets : (packets : List (List ℕ)) → length packets ≤ 0 → packets �
 no_packets [] few = refl
 no_packets (packet ∷ packets) few = absurd (omega (arith, few))
 
-no_first : (packets : List (List ℕ)) → slice_get packets 0 ≡ None → packets ≡ []
+pub no_first : (packets : List (List ℕ)) → slice_get packets 0 ≡ None → packets ≡ []
 no_first [] is = refl
 no_first (packet ∷ packets) is = absurd (cc is)
 
@@ -72,7 +72,7 @@ pub record HeardAll (s : Sides) : Type 0 where
   pub mine : said s.mine.turns ≡ heard s.theirs.turns
   pub theirs : said s.theirs.turns ≡ heard s.mine.turns
 
-heard_all : (s : Sides) → Converse Initiator s → s.lossy ≡ false → s.mine.state ≡ Up → s.theirs.state ≡ Up → s.mine.waiting ≡ [] → s.theirs.waiting ≡ [] → HeardAll s
+pub heard_all : (s : Sides) → Converse Initiator s → s.lossy ≡ false → s.mine.state ≡ Up → s.theirs.state ≡ Up → s.mine.waiting ≡ [] → s.theirs.waiting ≡ [] → HeardAll s
 heard_all s c whole up other none other_none =
     let lost = c.whole whole in
     let asked : numbered_said s.mine.turns ≡ numbered_heard s.theirs.turns =
@@ -127,7 +127,7 @@ idle_end shape e u l v finds idles log =
       within = seen_within (role_at e) shape.slots (queue_of e u) s (log_of_end e l) v counted (end_stood shape e u l finds.ready) log;
     }
 
-some_log : (log : Option SessionLog) → log ≢ None → (v : SessionLog) × (log ≡ Some v)
+pub some_log : (log : Option SessionLog) → log ≢ None → (v : SessionLog) × (log ≡ Some v)
 some_log (Some v) some = (v, refl)
 some_log None some = absurd (some refl)
 
@@ -167,8 +167,8 @@ both_left shape u l finds ways guest_idles hub_idles lossless opened =
     }
 
 -- THE END that was idle last has nothing to do
-record IdlesKept (s : PortState) (l : PortLog) : Type 0 where
-  idles : (e : End) → l.last_idle ≡ Some e → port_rule (role_at e) (net_end e s.lane) (seen_at e s.lane) ≡ Idles
+pub record IdlesKept (s : PortState) (l : PortLog) : Type 0 where
+  pub idles : (e : End) → l.last_idle ≡ Some e → port_rule (role_at e) (net_end e s.lane) (seen_at e s.lane) ≡ Idles
 
 idle_stays : (e : End) (u t : NetLaneState) → EndSteps e u Idle t → port_rule (role_at e) (net_end e t) (seen_at e t) ≡ Idles
 idle_stays A u t step =
@@ -203,16 +203,23 @@ idles_step s l (OnLane event) t kept step = record { idles = λ e is. last_idles
 idles_step s l (Receives frame) t kept step =
     record { idles = λ e is. subst (λ (x : PortState). port_rule (role_at e) (net_end e x.lane) (seen_at e x.lane) ≡ Idles) (sym step.2) (kept.idles e is) }
 
-idles_kept : (shape : NetShape) (events : List PortEvent) (s : PortState) → Run PortStep (fresh_port shape) events s → IdlesKept s (log_of after (no_events shape) events)
+pub idles_kept : (shape : NetShape) (events : List PortEvent) (s : PortState) → Run PortStep (fresh_port shape) events s → IdlesKept s (log_of after (no_events shape) events)
 idles_kept shape events s run =
     (run_lawful PortStep (λ (l : PortLog) (e : PortEvent). ⊤) after IdlesKept (λ (x : PortState) (l : PortLog) (e : PortEvent) (y : PortState) kept step. (tt, idles_step x l e y kept step))
     (fresh_port shape) s (no_events shape) events (record { idles = λ e is. none_some e is }) run).1
 
 -- AN EVENT
-moves_entries : (b : Bool) (queue : List (List ℕ)) (s : PortState) → (moves_first b queue s).lane.shape.entries ≡ s.lane.shape.entries
+pub moves_entries : (b : Bool) (queue : List (List ℕ)) (s : PortState) → (moves_first b queue s).lane.shape.entries ≡ s.lane.shape.entries
 moves_entries true [] s = refl
 moves_entries true (frame ∷ frames) s = refl
 moves_entries false queue s = refl
+
+pub moved_guest : (s u : PortState) → u.lane.guest ≡ s.lane.guest → u.lane.wire ≡ s.lane.wire → u.lane.shape.entries ≡ s.lane.shape.entries
+    → port_rule Initiator s.lane.guest (seen_at A s.lane) ≡ Idles → port_rule Initiator u.lane.guest (seen_at A u.lane) ≡ Idles
+moved_guest s u guest wire entries idles =
+    ap (λ (x : NetEndState). port_rule Initiator x (seen_at A u.lane)) guest
+    ∙ ap (λ (w : WireLog). port_rule Initiator s.lane.guest (seen A u.lane.shape.entries w.wire)) wire
+    ∙ ap (λ (n : ℕ). port_rule Initiator s.lane.guest (seen A n s.lane.wire.wire)) entries ∙ idles
 
 left_event : (shape : NetShape) (s : PortState) (l : PortLog) (event : NetEvent) (t : PortState) → IsNetShape shape → KeptWays shape s l → IdlesKept s l → TwoIdleAt l (OnLane event)
     → NetLaneStep (before event s).lane event t.lane → NoneLeftAt l (OnLane event)
@@ -224,13 +231,6 @@ left_event shape s l (Steps B Idle) t is had kept opened step = λ last clean wh
     let guest : port_rule Initiator u.lane.guest (seen_at A u.lane) ≡ Idles =
     moved_guest s u (before_guest (Steps B Idle) s) wire (moves_entries (takes_more s.lane.hub) s.queue s) (kept.idles A last) in
     both_left shape u l (finds_before shape s l (Steps B Idle) is had.kept clean) (ways_before (Steps B Idle) s l (had.ways clean)) guest step.step.0 whole (opened last clean whole)
-  where
-    moved_guest : (s u : PortState) → u.lane.guest ≡ s.lane.guest → u.lane.wire ≡ s.lane.wire → u.lane.shape.entries ≡ s.lane.shape.entries
-        → port_rule Initiator s.lane.guest (seen_at A s.lane) ≡ Idles → port_rule Initiator u.lane.guest (seen_at A u.lane) ≡ Idles
-    moved_guest s u guest wire entries idles =
-        ap (λ (x : NetEndState). port_rule Initiator x (seen_at A u.lane)) guest
-        ∙ ap (λ (w : WireLog). port_rule Initiator s.lane.guest (seen A u.lane.shape.entries w.wire)) wire
-        ∙ ap (λ (n : ℕ). port_rule Initiator s.lane.guest (seen A n s.lane.wire.wire)) entries ∙ idles
 left_event shape s l (Steps e (Published id)) t is had kept opened step = tt
 left_event shape s l (Steps e (Frame frame)) t is had kept opened step = tt
 left_event shape s l (Steps e (Took packet opens)) t is had kept opened step = tt

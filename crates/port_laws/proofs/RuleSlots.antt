@@ -101,7 +101,7 @@ left_asking None v is = is
 left_asking (Some message) v is = kind_asking (spoken message) message v is
 
 -- A FETCH
-slot_reset : (shape : NetShape) (e : End) (u : PortState) (l : PortLog) (cause : Cause) (lost : ℕ) (left : NetLeft) → Finds shape u l → WaysStand u.lane l
+pub slot_reset : (shape : NetShape) (e : End) (u : PortState) (l : PortLog) (cause : Cause) (lost : ℕ) (left : NetLeft) → Finds shape u l → WaysStand u.lane l
     → NetEndStep (role_at e) (net_end e u.lane) (seen_at e u.lane) (memory_of e u.lane) (reach_of e u.lane) (Reset cause None lost) left → ⊥
 slot_reset shape e u l cause lost left finds ways step = by_rule (port_rule (role_at e) s (seen_at e u.lane)) refl step.0
   where

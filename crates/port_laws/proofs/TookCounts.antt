@@ -65,7 +65,7 @@ risen_up Initiator before behind h up = refl
 risen_up Responder before behind h up = risen_if (is_up behind) (is_up before) h (handshake_up h) up
 
 -- WHAT THE PACKET ENDS is what became whole
-heard_send : (k m : LinkState) (packet : List ℕ) → LinkHeard k packet m → m.to_send ≡ k.to_send
+pub heard_send : (k m : LinkState) (packet : List ℕ) → LinkHeard k packet m → m.to_send ≡ k.to_send
 heard_send k m packet (ControlHeard next taken is) = ap (λ (x : LinkState). x.to_send) is
 heard_send k m packet (ReadyHeard at ready number is) = ap (λ (x : LinkState). x.to_send) is
 heard_send k m packet (PartHeard at part may number is) = ap (λ (x : LinkState). x.to_send) is

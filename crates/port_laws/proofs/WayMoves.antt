@@ -5,6 +5,7 @@ use Rattle.std.proofs.lemmas.Bool.{cases_lt}
 use Rattle.std.proofs.lemmas.List.{append-nil, append_cancel_left}
 use Rattle.std.proofs.lemmas.Nat.{mod_below}
 use Rattle.std.proofs.Math.Nat.{add-mod_right, mod-add-mod, mod-eq_of_lt, mod-mod}
+use Rattle.vio_tag.specs.Spelling.{envelope_at}
 use Rattle.channel_model.specs.Messages.{end_of, start_of}
 use Rattle.channel_model.specs.Ranges.{range_length, wrapped}
 use Rattle.port_model.specs.EndLog.{SessionLog, heard_in, heard_kind, more_published, more_taken, range_of, said_in, said_kind}
@@ -41,21 +42,37 @@ pub both_none : (xs ys : List (List ℕ)) → xs ++ ys ≡ [] → (xs ≡ []) ×
 both_none [] ys is = (refl, is)
 both_none (x ∷ xs) ys is = absurd (cc is)
 
+-- messages that speak of no ring and no groups of a session
+abbrev pub EachLow : List (List ℕ) → Type 0
+EachLow [] = ⊤
+EachLow (message ∷ messages) = (envelope_at message < 0x0042) × EachLow messages
+
+low_front : (xs ys : List (List ℕ)) → EachLow (xs ++ ys) → EachLow xs
+low_front [] ys low = tt
+low_front (x ∷ xs) ys low = (low.0, low_front xs ys low.1)
+
+pub low_rest : (xs ys : List (List ℕ)) → EachLow (xs ++ ys) → EachLow ys
+low_rest [] ys low = low
+low_rest (x ∷ xs) ys low = low_rest xs ys low.1
+
 -- no INFO and no ACK is among messages
 pub record Plain (messages : List (List ℕ)) : Type 0 where
   pub infos : infos_in messages ≡ []
   pub acks : acks_in messages ≡ []
+  pub low : EachLow messages
 
 pub plain_front : (xs ys : List (List ℕ)) → Plain (xs ++ ys) → Plain xs
 plain_front xs ys plain = record {
   infos = (both_none (infos_in xs) (infos_in ys) (sym (infos-append xs ys) ∙ plain.infos)).0;
   acks = (both_none (acks_in xs) (acks_in ys) (sym (acks-append xs ys) ∙ plain.acks)).0;
+  low = low_front xs ys plain.low;
 }
 
 pub plain_rest : (xs ys : List (List ℕ)) → Plain (xs ++ ys) → Plain ys
 plain_rest xs ys plain = record {
   infos = (both_none (infos_in xs) (infos_in ys) (sym (infos-append xs ys) ∙ plain.infos)).1;
   acks = (both_none (acks_in xs) (acks_in ys) (sym (acks-append xs ys) ∙ plain.acks)).1;
+  low = low_rest xs ys plain.low;
 }
 
 pub plain_as : (xs ys : List (List ℕ)) → ys ≡ xs → Plain ys → Plain xs
@@ -311,7 +328,7 @@ hears_kind Other slots v w going rest message is one turn mine theirs =
     mine theirs
 
 -- the message that it heard was the first that came
-first_came : (slots : ℕ) (ha ha_now sb coming rest : List (List ℕ)) (message : List ℕ) → sb ≡ ha ++ coming → ha_now ≡ ha ++ message ∷ [] → sb ≡ ha_now ++ rest → coming ≡ message ∷ rest
+pub first_came : (slots : ℕ) (ha ha_now sb coming rest : List (List ℕ)) (message : List ℕ) → sb ≡ ha ++ coming → ha_now ≡ ha ++ message ∷ [] → sb ≡ ha_now ++ rest → coming ≡ message ∷ rest
 first_came slots ha ha_now sb coming rest message before now front =
     append_cancel_left ha coming (message ∷ rest) (sym before ∙ front ∙ ap (λ (xs : List (List ℕ)). xs ++ rest) now ∙ append_assoc ha (message ∷ []) rest)
 

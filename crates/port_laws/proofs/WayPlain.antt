@@ -1,12 +1,12 @@
 -- What is said and heard before a session opens has no INFO and no ACK of a ring.
-use Rattle.std.proofs.Common.{◌≡◌, ℕ, ◌≤◌, Bool, true, false, List, [], ◌∷◌, ◌++◌, length, inl, inr, refl, sym, ap, ◌∙◌, subst, arith, length-append}
+use Rattle.std.proofs.Common.{◌≡◌, ℕ, ◌<◌, ◌≤◌, Bool, true, false, List, [], ◌∷◌, ◌++◌, length, inl, inr, refl, sym, ap, ◌∙◌, subst, arith, length-append}
 use Rattle.std.proofs.lemmas.List.{append-nil}
 use Rattle.ldc_link.specs.declared.phase.Role.{Role}
 use Rattle.ldc_link.specs.LinkState.{is_up}
 use Rattle.ldc_queue.specs.declared.end.ChannelState.TheVariants.{Up}
 use Rattle.vio_handshake.specs.declared.session.Offer.{Offer}
 use Rattle.vio_handshake.proofs.Places.{AllSaid, AttributesAnswered, AttributesSaid, Deal, PeerReadyAnswered, PeerReadySaid, PeerRingAnswered, PeerRingSaid, Place, ReadyAnswered, ReadySaid, RingAnswered, RingSaid, VersionAnswered, VersionSaid, owner}
-use Rattle.vio_tag.specs.Spelling.{canonical}
+use Rattle.vio_tag.specs.Spelling.{canonical, envelope_at}
 use Rattle.channel_model.specs.Sayings.{heard, said}
 use Rattle.channel_laws.proofs.EndStanding.{open_up}
 use Rattle.channel_laws.proofs.HandshakePlaces.{deal, open_place, place_open}
@@ -35,16 +35,33 @@ place_other d PeerReadySaid = refl
 place_other d PeerReadyAnswered = refl
 place_other d AllSaid = refl
 
-plain_one : (b : Bool) (message : List ℕ) (messages : List (List ℕ)) → spoken message ≡ Other → Plain messages → Plain (one_if b message messages)
-plain_one true message messages is plain = record {
+place_low : (d : Deal) (n : Place) → envelope_at (bytes_at d n) < 0x0042
+unfolding canonical
+place_low d VersionSaid = let is : envelope_at (bytes_at d VersionSaid) ≡ 1 = refl in omega (arith, is)
+place_low d VersionAnswered = let is : envelope_at (bytes_at d VersionAnswered) ≡ 1 = refl in omega (arith, is)
+place_low d AttributesSaid = let is : envelope_at (bytes_at d AttributesSaid) ≡ 2 = refl in omega (arith, is)
+place_low d AttributesAnswered = let is : envelope_at (bytes_at d AttributesAnswered) ≡ 2 = refl in omega (arith, is)
+place_low d RingSaid = let is : envelope_at (bytes_at d RingSaid) ≡ 3 = refl in omega (arith, is)
+place_low d RingAnswered = let is : envelope_at (bytes_at d RingAnswered) ≡ 3 = refl in omega (arith, is)
+place_low d PeerRingSaid = let is : envelope_at (bytes_at d PeerRingSaid) ≡ 3 = refl in omega (arith, is)
+place_low d PeerRingAnswered = let is : envelope_at (bytes_at d PeerRingAnswered) ≡ 3 = refl in omega (arith, is)
+place_low d ReadySaid = let is : envelope_at (bytes_at d ReadySaid) ≡ 5 = refl in omega (arith, is)
+place_low d ReadyAnswered = let is : envelope_at (bytes_at d ReadyAnswered) ≡ 5 = refl in omega (arith, is)
+place_low d PeerReadySaid = let is : envelope_at (bytes_at d PeerReadySaid) ≡ 5 = refl in omega (arith, is)
+place_low d PeerReadyAnswered = let is : envelope_at (bytes_at d PeerReadyAnswered) ≡ 5 = refl in omega (arith, is)
+place_low d AllSaid = let is : envelope_at (bytes_at d AllSaid) ≡ 5 = refl in omega (arith, is)
+
+plain_one : (b : Bool) (message : List ℕ) (messages : List (List ℕ)) → spoken message ≡ Other → envelope_at message < 0x0042 → Plain messages → Plain (one_if b message messages)
+plain_one true message messages is low plain = record {
   infos = ap (λ (k : Spoken). info_first k message (infos_in messages)) is ∙ plain.infos;
   acks = ap (λ (k : Spoken). ack_first k message (acks_in messages)) is ∙ plain.acks;
+  low = (low, plain.low);
 }
-plain_one false message messages is plain = plain
+plain_one false message messages is low plain = plain
 
 row_plain : (d : Deal) (r : Role) (places : List Place) → Plain (said_by d r places)
-row_plain d r [] = record { infos = refl; acks = refl }
-row_plain d r (n ∷ places) = plain_one (is_role r (owner n)) (bytes_at d n) (said_by d r places) (place_other d n) (row_plain d r places)
+row_plain d r [] = record { infos = refl; acks = refl; low = tt }
+row_plain d r (n ∷ places) = plain_one (is_role r (owner n)) (bytes_at d n) (said_by d r places) (place_other d n) (place_low d n) (row_plain d r places)
 
 all_plain : (d : Deal) (r : Role) (n : Place) (more messages : List (List ℕ)) → messages ≡ said_at true d r n ++ more → more ≡ [] → Plain messages
 all_plain d r n more messages is none =
@@ -65,7 +82,7 @@ closed_plain asks answers role s talks up shut = by_link (is_up s.mine.core.link
     by_link : (b : Bool) → is_up s.mine.core.link ≡ b → BothPlain (said s.mine.turns) (heard s.mine.turns)
     by_link false down =
         let below = talks.mine.below down in
-        record { said_plain = subst Plain (sym below.said_none) (record { infos = refl; acks = refl }); heard_plain = subst Plain (sym below.heard_none) (record { infos = refl; acks = refl }) }
+        record { said_plain = subst Plain (sym below.said_none) (record { infos = refl; acks = refl; low = tt }); heard_plain = subst Plain (sym below.heard_none) (record { infos = refl; acks = refl; low = tt }) }
     by_link true link =
         let d = deal asks answers talks.meets.handshakes.sid in
         let at = mine_at asks answers role s talks up link in

@@ -47,7 +47,7 @@ use Rattle.port_laws.proofs.WayMoves.{Plain, RightIn, swap_ways}
 use Rattle.port_laws.proofs.WayPlain.{BothPlain, closed_plain, open_heard, open_said}
 
 -- THE FRAMES THAT THE PEER TOOK are at most a turn of the ring
-new_taken : (log : Option SessionLog) → (or_new log).taken ≡ taken_in log
+pub new_taken : (log : Option SessionLog) → (or_new log).taken ≡ taken_in log
 new_taken None = refl
 new_taken (Some w) = refl
 
@@ -59,7 +59,7 @@ turn_of slots taken seen session frames memory p is same ring =
     let turn = here.turn in
     omega (arith, first, turn, same)
 
-turn_at : (shape : NetShape) (e : End) (u : PortState) (l : PortLog) (v : SessionLog) → Finds shape u l → state_of e u.lane.wire.wire ≡ Up → state_of (peer_of e) u.lane.wire.wire ≡ Up
+pub turn_at : (shape : NetShape) (e : End) (u : PortState) (l : PortLog) (v : SessionLog) → Finds shape u l → state_of e u.lane.wire.wire ≡ Up → state_of (peer_of e) u.lane.wire.wire ≡ Up
     → (log_of_end e l).session ≡ Some v → (or_new (log_of_end (peer_of e) l).session).taken ≤ v.seen + l.shape.slots
 turn_at shape e u l v finds up other is =
     let both = both_open (role_at e) shape.slots (queue_of e u) (net_end e u.lane) (log_of_end e l) v (end_counted shape e u l finds.ready) is in
@@ -130,14 +130,14 @@ goes_theirs (Frame frame) x y goes = refl
 goes_theirs (Joined lost) x y goes = absurd goes
 goes_theirs (Reset cause packet lost) x y goes = absurd goes
 
-peer_was_up : (shape : NetShape) (e : End) (u t : PortState) (l : PortLog) (answer : NetAnswer) (left : NetLeft) → Acts shape e u t l answer left → Goes answer → state_of (peer_of e) t.lane.wire.wire ≡ Up
+pub peer_was_up : (shape : NetShape) (e : End) (u t : PortState) (l : PortLog) (answer : NetAnswer) (left : NetLeft) → Acts shape e u t l answer left → Goes answer → state_of (peer_of e) t.lane.wire.wire ≡ Up
     → state_of (peer_of e) u.lane.wire.wire ≡ Up
 peer_was_up shape e u t l answer left acts goes up =
     sym (ap (λ (w : WireLog). state_of (peer_of e) w.wire) acts.now.wire ∙ (wire_now e u.lane answer).theirs
     ∙ goes_theirs answer (state_of e u.lane.wire.wire) (state_of (peer_of e) u.lane.wire.wire) goes) ∙ up
 
 -- A STEP OF THE GUEST
-guest_goes : (slots : ℕ) (turns : List Turn) (answer : NetAnswer) (l : EndLog) → (after_answer slots turns answer l).session ≢ None → Goes answer
+pub guest_goes : (slots : ℕ) (turns : List Turn) (answer : NetAnswer) (l : EndLog) → (after_answer slots turns answer l).session ≢ None → Goes answer
 guest_goes slots turns (Joined lost) l some = absurd (some refl)
 guest_goes slots turns (Reset cause packet lost) l some = absurd (some refl)
 guest_goes slots turns (Took packet opens) l some = tt
@@ -151,7 +151,7 @@ none_change : (f : SessionLog → SessionLog) (log : Option SessionLog) → log 
 none_change f log is = ap (change f) is
 
 -- it opens by a packet that it says
-opening_sent : (slots : ℕ) (turns : List Turn) (answer : NetAnswer) (l : EndLog) → l.session ≡ None → (after_answer slots turns answer l).session ≢ None → length (said turns) ≤ 5
+pub opening_sent : (slots : ℕ) (turns : List Turn) (answer : NetAnswer) (l : EndLog) → l.session ≡ None → (after_answer slots turns answer l).session ≢ None → length (said turns) ≤ 5
     → 6 ≤ length (said (turns_now answer turns)) → (packet : List ℕ) × (answer ≡ Sent packet true)
 opening_sent slots turns (Sent packet true) l none some few many = (packet, refl)
 opening_sent slots turns (Sent packet false) l none some few many = absurd (some (none_change _ l.session none))
@@ -163,7 +163,7 @@ opening_sent slots turns (Frame frame) l none some few many = absurd (omega (ari
 opening_sent slots turns (Joined lost) l none some few many = absurd (some refl)
 opening_sent slots turns (Reset cause packet lost) l none some few many = absurd (some refl)
 
-hub_none : (shape : NetShape) (u : PortState) (l : PortLog) → Finds shape u l → IsUp B u.lane.wire.wire → l.guest.session ≡ None → l.hub.session ≡ None
+pub hub_none : (shape : NetShape) (u : PortState) (l : PortLog) → Finds shape u l → IsUp B u.lane.wire.wire → l.guest.session ≡ None → l.hub.session ≡ None
 hub_none shape u l finds up none = by_log l.hub.session refl
   where
     by_log : (log : Option SessionLog) → l.hub.session ≡ log → l.hub.session ≡ None
@@ -249,7 +249,7 @@ guest_ways shape u t l answer left acts ways up other some =
         (guest_first shape u t l opening.0 left (subst (λ (given : NetAnswer). Acts shape A u t l given left) same acts) up other is))
 
 -- A STEP OF THE SWITCH'S END
-hub_plain : (shape : NetShape) (u t : PortState) (l : PortLog) (answer : NetAnswer) (left : NetLeft) → Acts shape B u t l answer left → Goes answer → IsUp B t.lane.wire.wire → l.hub.session ≡ None
+pub hub_plain : (shape : NetShape) (u t : PortState) (l : PortLog) (answer : NetAnswer) (left : NetLeft) → Acts shape B u t l answer left → Goes answer → IsUp B t.lane.wire.wire → l.hub.session ≡ None
     → ClosedFits l.transcript.server l.transcript.client answer
 hub_plain shape u t l answer left acts goes up none = by_log then_.hub.session refl
   where
@@ -315,11 +315,11 @@ hub_plain shape u t l answer left acts goes up none = by_log then_.hub.session r
         record { said_plain = said_same answer few many; heard_plain = subst (λ (xs : List Turn). Plain (heard xs)) now plain; front = front }
 
 -- an end in session has a peer that is up
-guest_open_up : (shape : NetShape) (u : PortState) (l : PortLog) → Finds shape u l → IsUp A u.lane.wire.wire → l.guest.session ≢ None → IsUp B u.lane.wire.wire
+pub guest_open_up : (shape : NetShape) (u : PortState) (l : PortLog) → Finds shape u l → IsUp A u.lane.wire.wire → l.guest.session ≢ None → IsUp B u.lane.wire.wire
 guest_open_up shape u l finds up some =
     let guest = open_both Initiator shape.slots [] u.lane.guest l.guest finds.ready.guest in up_open shape (lane_core u.lane) l finds.talks up (guest.opened some)
 
-hub_goes : (answer : NetAnswer) (x y : ChannelState) → (y ≡ Up → x ≡ Up) → theirs_now answer x y ≡ Up → Goes answer
+pub hub_goes : (answer : NetAnswer) (x y : ChannelState) → (y ≡ Up → x ≡ Up) → theirs_now answer x y ≡ Up → Goes answer
 hub_goes (Joined lost) x y means up = let both = peer_up x y up in absurd (both.0 (means both.1))
 hub_goes (Reset cause packet lost) x y means up = let both = peer_up x y up in absurd (both.0 (means both.1))
 hub_goes (Took packet opens) x y means up = tt
@@ -381,7 +381,7 @@ hub_ways shape u t l answer left acts ways other up some = by_log l.hub.session 
         as_now (closed_acts l.shape.slots l.transcript.server l.transcript.client answer l.hub v is goes (hub_plain shape u t l answer left acts goes up is) (subst (Now l.transcript.client l.transcript.server) is was))
 
 -- WHAT ISN'T A STEP
-never_alone : (shape : NetShape) (u : PortState) (l : PortLog) (X : Type 0) → Finds shape u l → l.guest.session ≢ None → peer_behind u.lane.wire.wire.end_b u.lane.wire.wire.end_a ≡ Up → X
+pub never_alone : (shape : NetShape) (u : PortState) (l : PortLog) (X : Type 0) → Finds shape u l → l.guest.session ≢ None → peer_behind u.lane.wire.wire.end_b u.lane.wire.wire.end_a ≡ Up → X
 never_alone shape u l X finds some up =
     let both = peer_up u.lane.wire.wire.end_b u.lane.wire.wire.end_a up in absurd (both.0 (guest_open_up shape u l finds both.1 some))
 
@@ -390,7 +390,7 @@ given_same (Queued id frame) l = refl
 given_same (Full frame) l = refl
 given_same (BadLength frame) l = refl
 
-acts_of : (shape : NetShape) (e : End) (u t : PortState) (l : PortLog) (answer : NetAnswer) → Finds shape u l → (step : EndSteps e u.lane answer t.lane)
+pub acts_of : (shape : NetShape) (e : End) (u t : PortState) (l : PortLog) (answer : NetAnswer) → Finds shape u l → (step : EndSteps e u.lane answer t.lane)
     → PortCounts shape t (after l (OnLane (Steps e answer))) → PortTalks shape (lane_core t.lane) (after l (OnLane (Steps e answer))) → Acts shape e u t l answer step.left
 acts_of shape e u t l answer finds step counts talks = record { finds = finds; step = step.step; now = step_now e u.lane t.lane answer step; counts = counts; talks = talks }
 
@@ -429,7 +429,7 @@ pub record KeptWays (shape : NetShape) (s : PortState) (l : PortLog) : Type 0 wh
 pub ways_before : (event : NetEvent) (s : PortState) (l : PortLog) → WaysStand s.lane l → WaysStand (before event s).lane l
 ways_before event s l ways = λ up other some. ways (sym (ap (λ (w : WireLog). w.wire.end_a) (before_wire event s)) ∙ up) (sym (ap (λ (w : WireLog). w.wire.end_b) (before_wire event s)) ∙ other) some
 
-ways_step : (shape : NetShape) → IsNetShape shape → (s : PortState) (l : PortLog) (event : PortEvent) (t : PortState) → KeptWays shape s l → PortStep s event t → KeptWays shape t (after l event)
+pub ways_step : (shape : NetShape) → IsNetShape shape → (s : PortState) (l : PortLog) (event : PortEvent) (t : PortState) → KeptWays shape s l → PortStep s event t → KeptWays shape t (after l event)
 ways_step shape is s l (OnLane event) t had step =
     let kept : Kept shape t (after l (OnLane event)) = kept_step shape is s l (OnLane event) t had.kept step in
     record {

@@ -10,4 +10,5 @@ pub mod RingHolds
 pub mod RingStands
 pub mod WaysStand
 pub mod NoneLeft
+pub mod NoneUntold
 pub mod NoSlotReset

@@ -31,7 +31,8 @@ pub use rest_laws::{
 pub use ring_laws::{
     a_frame_that_is_taken_is_the_next_that_was_published,
     at_most_one_announcement_of_an_end_is_on_the_way, no_end_of_a_port_resets_itself_for_a_slot,
-    no_frame_is_left_where_both_ends_are_idle, the_ring_of_each_end_holds_its_frames,
+    no_frame_is_left_where_both_ends_are_idle, no_group_is_left_untold_where_both_ends_are_idle,
+    the_ring_of_each_end_holds_its_frames,
 };
 pub use rule_laws::{
     a_frame_is_queued_or_refused_rightly, a_frame_is_taken_while_an_announcement_waits,
@@ -40,7 +41,8 @@ pub use rule_laws::{
     lost_frames_are_published_and_not_acknowledged, no_ack_goes_beyond_what_is_published,
 };
 pub use wire_laws::{
-    a_port_opens_behind_its_handshake, each_event_of_a_port_stands_by_its_ends_and_queues,
+    a_port_opens_behind_its_handshake, an_end_of_a_port_resets_itself_behind_a_loss_alone,
+    each_event_of_a_port_stands_by_its_ends_and_queues, every_run_of_a_port_is_lawful,
     what_a_port_hears_may_come, what_a_port_says_is_cut_and_numbered,
     what_changes_nothing_on_a_port_is_answered_rightly,
 };

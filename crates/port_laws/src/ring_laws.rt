@@ -9,6 +9,7 @@ ghost use Rattle.port_model.specs.PortLog.{after, no_events};
 ghost use Rattle.port_model.specs.PortState.{fresh_port, PortEvent, PortState, PortStep};
 ghost use Rattle.port_model.specs.RestLaws.{UnforgedAt};
 ghost use Rattle.port_laws.specs.NoneLeft.{NoneLeftAt};
+ghost use Rattle.port_laws.specs.NoneUntold.{NoneUntoldAt};
 ghost use Rattle.port_laws.specs.NoSlotReset.{NoSlotResetAt};
 ghost use Rattle.port_laws.specs.RingStands.{RingStands};
 ghost use Rattle.port_laws.specs.WaysStand.{WaysStand};
@@ -43,6 +44,13 @@ pub fn at_most_one_announcement_of_an_end_is_on_the_way()
 pub fn no_frame_is_left_where_both_ends_are_idle()
     ensures { (shape : NetShape) (events : List PortEvent) (s : PortState) → IsNetShape shape → Run PortStep (fresh_port shape) events s
         → Lawful NoneLeftAt after (no_events shape) events }
+{}
+
+/// On a port that nobody forged, where no packet was lost since the queues were last emptied, no group is left untold
+/// where one end is idle directly after the other. The guest told all groups that it joined, and was answered.
+pub fn no_group_is_left_untold_where_both_ends_are_idle()
+    ensures { (shape : NetShape) (events : List PortEvent) (s : PortState) → IsNetShape shape → Run PortStep (fresh_port shape) events s
+        → Lawful NoneUntoldAt after (no_events shape) events }
 {}
 
 /// On a port that nobody forged, no end resets itself for a slot of the other end's ring. Each copy of its fetches is

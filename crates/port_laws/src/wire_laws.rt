@@ -3,11 +3,11 @@
 ghost use Rattle.std.specs.Prelude.{List};
 ghost use Rattle.runs.specs.Lawful.{Lawful};
 ghost use Rattle.runs.specs.Run.{Run};
-ghost use Rattle.channel_model.specs.WireAt.{WireAnswersAt, WireHeardAt, WireSaidAt, WireTableAt};
+ghost use Rattle.channel_model.specs.WireAt.{WireAnswersAt, WireHeardAt, WireSaidAt, WireTableAt, WireUnforgedAt};
 ghost use Rattle.port_model.specs.FrameLaws.{OpeningsAt};
 ghost use Rattle.port_model.specs.NetLaneState.{IsNetShape, NetShape};
 ghost use Rattle.port_model.specs.PortLog.{after, no_events, PortLog};
-ghost use Rattle.port_model.specs.PortMay.{OfWire, sizes_in};
+ghost use Rattle.port_model.specs.PortMay.{IsLawfulPort, OfWire, sizes_in};
 ghost use Rattle.port_model.specs.PortState.{fresh_port, PortEvent, PortState, PortStep};
 
 /// Along every run of a port, forged or not, each packet that an end says is canonical and has its number, and messages
@@ -43,4 +43,17 @@ pub fn each_event_of_a_port_stands_by_its_ends_and_queues()
 pub fn what_changes_nothing_on_a_port_is_answered_rightly()
     ensures { (shape : NetShape) (events : List PortEvent) (s : PortState) → IsNetShape shape → Run PortStep (fresh_port shape) events s
         → Lawful (λ (l : PortLog) (event : PortEvent). OfWire (WireAnswersAt (sizes_in l) l.wire) event) after (no_events shape) events }
+{}
+
+/// On a port that nobody forged, an end resets itself in a step for a gap alone, and only once a packet was lost. So no
+/// message of a session is refused there, of rings or of groups.
+pub fn an_end_of_a_port_resets_itself_behind_a_loss_alone()
+    ensures { (shape : NetShape) (events : List PortEvent) (s : PortState) → IsNetShape shape → Run PortStep (fresh_port shape) events s
+        → Lawful (λ (l : PortLog) (event : PortEvent). OfWire (WireUnforgedAt l.wire) event) after (no_events shape) events }
+{}
+
+/// Every run of a port is lawful, forged or not: each event may stand after those before it, by each of the laws.
+pub fn every_run_of_a_port_is_lawful()
+    ensures { (shape : NetShape) (events : List PortEvent) (s : PortState) → IsNetShape shape → Run PortStep (fresh_port shape) events s
+        → IsLawfulPort shape events }
 {}

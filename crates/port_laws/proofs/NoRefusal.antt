@@ -1,0 +1,428 @@
+-- On a port that nobody forged an end resets itself for a gap alone, and only behind a loss: no message of a session is refused.
+use Rattle.std.proofs.Common.{◌≡◌, ◌≢◌, ℕ, ◌+◌, ◌-◌, ◌%◌, ◌≤◌, ◌⊎◌, Bool, true, false, Option, Some, None, List, [], ◌∷◌, ◌++◌, inl, inr, refl, sym, ap, ◌∙◌, subst, arith}
+use Rattle.std.specs.Prelude.{is_some}
+use Rattle.std.proofs.lemmas.Nat.{mod_below}
+use Rattle.ldc_link.specs.declared.phase.Role.TheVariants.{Initiator, Responder}
+use Rattle.ldc_link.specs.LinkState.{LinkState}
+use Rattle.ldc_queue.specs.declared.end.ChannelState.{ChannelState}
+use Rattle.ldc_queue.specs.declared.end.ChannelState.TheVariants.{Up}
+use Rattle.ldc_queue.specs.declared.end.End.{End}
+use Rattle.ldc_queue.specs.declared.end.End.TheVariants.{A, B}
+use Rattle.ldc_queue.specs.OneStream.{IsFront}
+use Rattle.ldc_queue.specs.Transcript.{Heard}
+use Rattle.ldc_queue.specs.Wire.{peer_of, state_of}
+use Rattle.runs.specs.Lawful.{Lawful, log_of}
+use Rattle.runs.specs.Run.{Run}
+use Rattle.vio_tag.specs.declared.cause.Cause.{Cause}
+use Rattle.vio_tag.specs.Spelling.{envelope_at, subtype_at}
+use Rattle.channel_model.specs.Ranges.{wrapped}
+use Rattle.channel_model.specs.Sayings.{heard, said}
+use Rattle.channel_model.specs.TranscriptLog.{TranscriptLog, transcript_of}
+use Rattle.channel_model.specs.WireAt.{IsOwnReset, IsUp, UnforgedReset, WireUnforgedAt}
+use Rattle.channel_model.specs.WireEvent.{ByRestart, ByScript, ByStep, ByTick, Giver, giver}
+use Rattle.channel_model.specs.WireLog.{WireLog}
+use Rattle.channel_laws.proofs.ConversingRuns.{hears_next}
+use Rattle.channel_laws.proofs.LinkRefuses.{link_refuses}
+use Rattle.channel_laws.proofs.PartsSaid.{PartsSaid, parts_run}
+use Rattle.channel_laws.proofs.UnforgedResets.{unforged_reset}
+use Rattle.channel_laws.specs.LaneCore.{CoreStep, end_of as core_of_end}
+use Rattle.channel_laws.specs.Resetting.{IsGapBehindLoss, LiesInSession}
+use Rattle.channel_laws.specs.Sides.{Sides, other, sides_of, swapped}
+use Rattle.port_model.proofs.OwnResets.{net_resets_own}
+use Rattle.port_model.proofs.Refuting.{true_false}
+use Rattle.port_model.proofs.Ruling.{says_of}
+use Rattle.port_model.specs.EndLog.{SessionLog, range_of}
+use Rattle.port_model.specs.NetEndRule.{Announces, Fetches, Idles, Joins as JoinsRule, NetRule, Publishes, Puts, Replies, Says, Takes, Tells, port_rule}
+use Rattle.port_model.specs.NetEndState.{NetEndState, NetSession}
+use Rattle.port_model.specs.NetEndStep.{Blocked, Frame, Idle, Joined, NetEndStep, NetFails, Published, Reset, Sent, Took}
+use Rattle.port_model.specs.NetEndTaking.{NetTakes, Resets, first_undone}
+use Rattle.port_model.specs.NetEvent.{Asked, CalmTick, Declines, Gives, Injects, Joins, Loses, NetEvent, Pokes, Steps, Ticked}
+use Rattle.port_model.specs.NetLaneState.{IsNetShape, NetLaneState, NetShape, memory_of, net_end, reach_of, role_at, seen_at}
+use Rattle.port_model.specs.NetLaneStep.{NetLaneStep}
+use Rattle.port_model.specs.PortLog.{PortLog, after, log_of_end, no_events}
+use Rattle.port_model.specs.PortMay.{OfWire}
+use Rattle.port_model.specs.PortState.{OnLane, PortEvent, PortState, PortStep, Receives, before, fresh_port}
+use Rattle.port_model.specs.RuleFacts.{RuleSays}
+use Rattle.port_model.specs.Spoken.{RangeAck, RangeInfo, Spoken, range_spoken, spoken, spoken_by}
+use Rattle.port_laws.specs.Counted.{EndCounts}
+use Rattle.port_laws.specs.NetCore.{fresh_net_core, lane_core}
+use Rattle.port_laws.specs.PortCore.{port_core, port_events}
+use Rattle.port_laws.specs.RingHolds.{RingHolds}
+use Rattle.port_laws.specs.RingStands.{RingIn, taken_by}
+use Rattle.port_laws.specs.WaysStand.{Way, Ways, WaysStand, ack_first, acks_in, info_first, infos_in, or_new}
+use Rattle.port_laws.proofs.CoreLaws.{offers_match, sizes_fit}
+use Rattle.port_laws.proofs.EndCounting.{OpenCounts, empty_unsaid, open_counts}
+use Rattle.port_laws.proofs.HearsIn.{AllAgreed, Hears, OwnRead, hears_in, mine_agreed}
+use Rattle.port_laws.proofs.LaneMoves.{event_core_step}
+use Rattle.port_laws.proofs.Outbox.{MessageFits, outbox}
+use Rattle.port_laws.proofs.PeerOpens.{PeerIn, Talks, least_heard, peer_open}
+use Rattle.port_laws.proofs.PortCounts.{PortCounts, queue_of}
+use Rattle.port_laws.proofs.PortRuns.{before_core, before_fits, fresh_port_core, lawful_along, port_fits_behind, spoken_behind}
+use Rattle.port_laws.proofs.PortTalks.{answers_of, asks_of, open_turns}
+use Rattle.port_laws.proofs.Refusing.{Expects, ack_comes, info_comes, ring_done, taken_in_session}
+use Rattle.port_laws.proofs.RingActs.{Finds, core_open, open_both, ring_of_end}
+use Rattle.port_laws.proofs.RingRuns.{finds_before}
+use Rattle.port_laws.proofs.RuleFrames.{end_acts, end_counted}
+use Rattle.port_laws.proofs.RuleRest.{up_state}
+use Rattle.port_laws.proofs.RuleSlots.{slot_reset}
+use Rattle.port_laws.proofs.PutCounts.{some_of}
+use Rattle.port_laws.proofs.StepCounts.{Acting}
+use Rattle.port_laws.proofs.TakesIn.{InSession, in_own_session, next_read}
+use Rattle.port_laws.proofs.Talking.{TalkIn, is_telling}
+use Rattle.port_laws.proofs.TalkGuest.{TalkStands, guest_sid, hub_agreed}
+use Rattle.port_laws.proofs.TalkRuns.{KeptTalk, before_talk, port_talk}
+use Rattle.port_laws.proofs.TalkSteps.{outbox_heard}
+use Rattle.port_laws.proofs.TookCounts.{free_empty, session_up}
+use Rattle.port_laws.proofs.WayMoves.{first_came, span, swap_ways}
+use Rattle.port_laws.proofs.WayRuns.{guest_open_up, new_taken, turn_at, ways_before}
+
+-- BOTH DIRECTIONS, as an end has them
+abbrev WaysAt : End → NetLaneState → PortLog → Type 0
+WaysAt e u l =
+    Ways l.shape.slots (said (transcript_of e l.transcript)) (heard (transcript_of e l.transcript)) (said (transcript_of (peer_of e) l.transcript)) (heard (transcript_of (peer_of e) l.transcript))
+    (or_new (log_of_end e l).session) (or_new (log_of_end (peer_of e) l).session)
+
+ways_at : (e : End) (u : NetLaneState) (l : PortLog) → WaysStand u l → IsUp A u.wire.wire → IsUp B u.wire.wire → l.guest.session ≢ None → WaysAt e u l
+ways_at A u l ways up other some = ways up other some
+ways_at B u l ways up other some =
+    swap_ways l.shape.slots (said l.transcript.client) (heard l.transcript.client) (said l.transcript.server) (heard l.transcript.server) (or_new l.guest.session) (or_new l.hub.session) (ways up other some)
+
+spoken_info : (m : List ℕ) → envelope_at m ≡ 0x0042 → subtype_at m ≡ 1 → spoken m ≡ RangeInfo
+spoken_info m range info = ap (λ (n : ℕ). spoken_by n (subtype_at m)) range ∙ ap range_spoken info
+
+spoken_ack : (m : List ℕ) → envelope_at m ≡ 0x0042 → subtype_at m ≡ 2 → spoken m ≡ RangeAck
+spoken_ack m range ack = ap (λ (n : ℕ). spoken_by n (subtype_at m)) range ∙ ap range_spoken ack
+
+-- WHAT AN END EXPECTS of the message that comes
+expects_at : (shape : NetShape) (e : End) (u : PortState) (l : PortLog) (k : LinkState) (bytes : List ℕ) (p : NetSession) (sid : ℕ) → Finds shape u l → state_of e u.lane.wire.wire ≡ Up
+    → state_of (peer_of e) u.lane.wire.wire ≡ Up → (net_end e u.lane).session ≡ Some p → WaysAt e u.lane l → (net_end e u.lane).link.to_send ≡ []
+    → IsFront (heard (transcript_of e l.transcript) ++ bytes ∷ []) (said (transcript_of (peer_of e) l.transcript)) → MessageFits (other (role_at e)) sid bytes → AllAgreed (net_end e u.lane).handshake sid
+    → (envelope_at bytes ≡ 0x0101 → role_at e ≡ Initiator → p.telling ≡ true) → Expects (role_at e) (record (net_end e u.lane) { link = k }) p (memory_of e u.lane) sid bytes
+expects_at shape e u l k bytes p sid finds up other_up session ways empty front fits agreed telling = record {
+  fits = fits;
+  own = agreed.own;
+  peer = agreed.peer;
+  info = λ range info.
+      let comes = info_comes slots w v bytes (infos_in rest) (acks_in ways.going) (first_info (spoken_info bytes range info)) in
+      (here.counts.peer.seq ∙ ap (λ (x : SessionLog). wrapped (x.asked + 1)) (sym mine) ∙ sym comes.seq, here.counts.peer.place ∙ ap (λ (n : ℕ). here.of_log.taken % n) (sym slots_is)
+      ∙ ap (λ (x : SessionLog). x.taken % slots) (sym mine) ∙ sym comes.start, comes.end);
+  ack = λ range ack.
+      let comes = ack_comes slots v w bytes (infos_in ways.going) (acks_in rest) (first_ack (spoken_ack bytes range ack)) in
+      let some = finds.ready.sound.some_slots in
+      let spans : v.seen + range_of slots bytes ≡ w.taken = span slots v.seen w.taken bytes (omega (arith, some, slots_is)) comes.some turn comes.start comes.end in
+      let seen : p.seen ≡ v.seen = sym here.counts.ring.seen ∙ ap (λ (x : SessionLog). x.seen) (sym mine) in
+      let own_slots : s.slots ≡ slots = counted.slots_is ∙ sym slots_is in
+      let first = ring.taken_first in
+      let same : range_of s.slots bytes ≡ range_of slots bytes = ap (λ (n : ℕ). range_of n bytes) own_slots in
+      let below = mod_below (w.taken - 1) slots (omega (arith, some, slots_is)) in (
+        ap (λ (n : ℕ). n % s.slots) seen ∙ ap (λ (n : ℕ). v.seen % n) own_slots ∙ sym comes.start,
+        omega (arith, comes.end, below, own_slots),
+        omega (arith, same, spans, seen, first, taken_is),
+        ap (λ (n : ℕ). first_undone n (memory_of e u.lane) p.seen (range_of n bytes)) own_slots
+            ∙ ring_done slots p.seen taken p.published s.frames (memory_of e u.lane) (range_of slots bytes) ring (omega (arith, spans, seen, taken_is)),
+      );
+  telling = telling;
+}
+  where
+    s : NetEndState
+    s = net_end e u.lane
+
+    slots : ℕ
+    slots = l.shape.slots
+
+    slots_is : l.shape.slots ≡ shape.slots
+    slots_is = ap (λ (z : NetShape). z.slots) finds.ready.shape_is
+
+    counted : EndCounts (role_at e) shape.slots (queue_of e u) s (log_of_end e l)
+    counted = end_counted shape e u l finds.ready
+
+    here : OpenCounts (role_at e) shape.slots s.groups (log_of_end e l).published (log_of_end e l).gone None s.link.begun p (log_of_end e l).session
+    here =
+        subst (λ (x : Option (List ℕ)). OpenCounts (role_at e) shape.slots s.groups (log_of_end e l).published (log_of_end e l).gone x s.link.begun p (log_of_end e l).session) (empty_unsaid s empty)
+        (open_counts (role_at e) shape.slots (queue_of e u) s (log_of_end e l) p counted session)
+
+    v : SessionLog
+    v = or_new (log_of_end e l).session
+
+    w : SessionLog
+    w = or_new (log_of_end (peer_of e) l).session
+
+    mine : v ≡ here.of_log
+    mine = ap or_new here.is
+
+    rest : List (List ℕ)
+    rest = front.0
+
+    came : ways.coming ≡ bytes ∷ rest
+    came = first_came slots (heard (transcript_of e l.transcript)) (heard (transcript_of e l.transcript) ++ bytes ∷ []) (said (transcript_of (peer_of e) l.transcript)) ways.coming rest bytes ways.comes refl front.1
+
+    first_info : spoken bytes ≡ RangeInfo → Way slots w v (bytes ∷ infos_in rest) (acks_in ways.going)
+    first_info is =
+        subst (λ (x : Spoken). Way slots w v (info_first x bytes (infos_in rest)) (acks_in ways.going)) is
+        (subst (λ (xs : List (List ℕ)). Way slots w v (infos_in xs) (acks_in ways.going)) came ways.theirs)
+
+    first_ack : spoken bytes ≡ RangeAck → Way slots v w (infos_in ways.going) (bytes ∷ acks_in rest)
+    first_ack is =
+        subst (λ (x : Spoken). Way slots v w (infos_in ways.going) (ack_first x bytes (acks_in rest))) is
+        (subst (λ (xs : List (List ℕ)). Way slots v w (infos_in ways.going) (acks_in xs)) came ways.mine)
+
+    turn : w.taken ≤ v.seen + slots
+    turn = subst (λ (x : SessionLog). w.taken ≤ x.seen + slots) (sym mine) (turn_at shape e u l here.of_log finds up other_up here.is)
+
+    taken : ℕ
+    taken = taken_by (state_of (peer_of e) u.lane.wire.wire) (log_of_end (peer_of e) l).session
+
+    taken_is : taken ≡ w.taken
+    taken_is = ap (λ (x : ChannelState). taken_by x (log_of_end (peer_of e) l).session) other_up ∙ sym (new_taken (log_of_end (peer_of e) l).session)
+
+    ring : RingHolds slots p.seen taken p.published s.frames (memory_of e u.lane)
+    ring = subst (λ (o : Option NetSession). RingIn slots taken o s.frames (memory_of e u.lane)) session (ring_of_end e u.lane l finds.rings up)
+
+-- A PACKET that an end in session doesn't take is a gap behind a loss
+guest_resets : (shape : NetShape) (u : PortState) (l : PortLog) (cause : Cause) (packet : List ℕ) (p : NetSession) → Finds shape u l → WaysStand u.lane l → TalkStands u.lane l → PartsSaid l.transcript.server
+    → u.lane.guest.session ≡ Some p → port_rule Initiator u.lane.guest (seen_at A u.lane) ≡ Takes packet → NetTakes Initiator u.lane.guest u.lane.guest_memory packet (Resets cause)
+    → IsGapBehindLoss u.lane.wire.lossy cause
+guest_resets shape u l cause packet p finds ways talk parts session rule takes =
+    by_hears (hears_in Initiator s l.transcript.client u.lane.guest_memory packet (Resets cause) acting.ends (session_up Initiator s l.transcript.client p acting.ends session) takes)
+  where
+    s : NetEndState
+    s = u.lane.guest
+
+    says : RuleSays Initiator s (seen_at A u.lane) (Takes packet)
+    says = says_of Initiator s (seen_at A u.lane) (Takes packet) rule
+
+    up : IsUp A u.lane.wire.wire
+    up = up_state u.lane.wire.wire.end_a says.0.up
+
+    acting : Acting Initiator shape.slots [] s l.guest l.transcript.client
+    acting = end_acts shape A u l finds.ready says.0.up
+
+    in_log : l.guest.session ≢ None
+    in_log =
+        let both = open_both Initiator shape.slots [] s l.guest finds.ready.guest in λ gone. true_false (sym (ap is_some session) ∙ both.shut gone)
+
+    other_up : IsUp B u.lane.wire.wire
+    other_up = guest_open_up shape u l finds up in_log
+
+    sides : Sides
+    sides = sides_of (lane_core u.lane) l.transcript
+
+    one_talk : Talks (asks_of shape) (answers_of shape) Initiator sides
+    one_talk = finds.talks.talks A
+
+    opened : is_some s.session ≡ true
+    opened = ap is_some session
+
+    by_hears : Hears Initiator s u.lane.guest_memory l.transcript.client packet (Resets cause) → IsGapBehindLoss u.lane.wire.lossy cause
+    by_hears (inl none) = absurd (cc none.is)
+    by_hears (inr (inr refused)) =
+        let same : cause ≡ refused.cause = cc refused.is in
+        subst (IsGapBehindLoss u.lane.wire.lossy) (sym same)
+        (link_refuses Initiator sides packet refused.cause one_talk.meets.converse one_talk.meets.links one_talk.mine.link.follows parts up says.1 refused.takes)
+    by_hears (inr (inl one)) =
+        let front : IsFront (heard (Heard packet ∷ l.transcript.client)) (said l.transcript.server) =
+        (hears_next Initiator sides packet one.from one_talk.meets.converse up says.1 one_talk.mine.link.follows one.takes).front in
+        let grown : IsFront (heard l.transcript.client ++ one.bytes ∷ []) (said l.transcript.server) = subst (λ (xs : List (List ℕ)). IsFront xs (said l.transcript.server)) one.messages front in
+        let first = outbox_heard u.lane.hub l.transcript.server l.transcript.client packet one.bytes one.messages grown in
+        let sid = s.handshake.draft.sid in
+        let before : TalkIn sid s.groups p (outbox s l.transcript.client l.transcript.server) (one.bytes ∷ outbox u.lane.hub l.transcript.server (Heard packet ∷ l.transcript.client))
+        u.lane.hub.session u.lane.hub.groups =
+        subst (λ (xs : List (List ℕ)). TalkIn sid s.groups p (outbox s l.transcript.client l.transcript.server) xs u.lane.hub.session u.lane.hub.groups) first (talk p up other_up session) in
+        let own : OwnRead one.bytes one_talk.meets.handshakes.sid =
+        next_read (asks_of shape) (answers_of shape) Initiator Responder sides one.bytes sid one_talk up opened other_up grown before.answers_fit.0 in
+        let agreed = mine_agreed (asks_of shape) (answers_of shape) Initiator sides one_talk up opened in
+        let in_it : InSession Initiator (record s { link = one.link }) p u.lane.guest_memory own.message (Resets cause) =
+        in_own_session Initiator s p u.lane.guest_memory packet l.transcript.client (Resets cause) one_talk.meets.handshakes.sid one session agreed.knows own in
+        let expects = expects_at shape A u l one.link one.bytes p sid finds up other_up session (ways_at A u.lane l ways up other_up in_log)
+        (free_empty Initiator s l.transcript.client acting.ends says.0.quiet) grown before.answers_fit.0 (guest_sid shape u.lane l finds.talks up opened).agreed
+        (λ named role. is_telling sid s.groups p (outbox s l.transcript.client l.transcript.server) (outbox u.lane.hub l.transcript.server (Heard packet ∷ l.transcript.client)) u.lane.hub.session
+        u.lane.hub.groups one.bytes before named) in
+        absurd (taken_in_session Initiator (record s { link = one.link }) p u.lane.guest_memory sid one.bytes own.message own.message.subtype own.message.body cause expects own.of own.spells refl refl
+        (sym in_it.is))
+
+hub_resets : (shape : NetShape) (u : PortState) (l : PortLog) (cause : Cause) (packet : List ℕ) (q : NetSession) → Finds shape u l → WaysStand u.lane l → TalkStands u.lane l → PartsSaid l.transcript.client
+    → u.lane.hub.session ≡ Some q → port_rule Responder u.lane.hub (seen_at B u.lane) ≡ Takes packet → NetTakes Responder u.lane.hub u.lane.hub_memory packet (Resets cause)
+    → IsGapBehindLoss u.lane.wire.lossy cause
+hub_resets shape u l cause packet q finds ways talk parts session rule takes =
+    by_hears (hears_in Responder s l.transcript.server u.lane.hub_memory packet (Resets cause) acting.ends (session_up Responder s l.transcript.server q acting.ends session) takes)
+  where
+    s : NetEndState
+    s = u.lane.hub
+
+    says : RuleSays Responder s (seen_at B u.lane) (Takes packet)
+    says = says_of Responder s (seen_at B u.lane) (Takes packet) rule
+
+    up : IsUp B u.lane.wire.wire
+    up = up_state u.lane.wire.wire.end_b says.0.up
+
+    acting : Acting Responder shape.slots u.queue s l.hub l.transcript.server
+    acting = end_acts shape B u l finds.ready says.0.up
+
+    sides : Sides
+    sides = swapped (sides_of (lane_core u.lane) l.transcript)
+
+    one_talk : Talks (asks_of shape) (answers_of shape) Responder sides
+    one_talk = finds.talks.talks B
+
+    opened : is_some s.session ≡ true
+    opened = ap is_some session
+
+    guest_in : PeerIn sides
+    guest_in =
+        let all = open_turns shape (lane_core u.lane) l B finds.talks up opened in
+        peer_open (asks_of shape) (answers_of shape) Responder sides one_talk up (least_heard all.heard_long)
+
+    guest_session : (p : NetSession) × (u.lane.guest.session ≡ Some p)
+    guest_session = some_of u.lane.guest.session guest_in.opened
+
+    in_log : l.guest.session ≢ None
+    in_log =
+        let both = open_both Initiator shape.slots [] u.lane.guest l.guest finds.ready.guest in λ gone. true_false (sym guest_in.opened ∙ both.shut gone)
+
+    by_hears : Hears Responder s u.lane.hub_memory l.transcript.server packet (Resets cause) → IsGapBehindLoss u.lane.wire.lossy cause
+    by_hears (inl none) = absurd (cc none.is)
+    by_hears (inr (inr refused)) =
+        let same : cause ≡ refused.cause = cc refused.is in
+        subst (IsGapBehindLoss u.lane.wire.lossy) (sym same)
+        (link_refuses Responder sides packet refused.cause one_talk.meets.converse one_talk.meets.links one_talk.mine.link.follows parts up says.1 refused.takes)
+    by_hears (inr (inl one)) =
+        let front : IsFront (heard (Heard packet ∷ l.transcript.server)) (said l.transcript.client) =
+        (hears_next Responder sides packet one.from one_talk.meets.converse up says.1 one_talk.mine.link.follows one.takes).front in
+        let grown : IsFront (heard l.transcript.server ++ one.bytes ∷ []) (said l.transcript.client) = subst (λ (xs : List (List ℕ)). IsFront xs (said l.transcript.client)) one.messages front in
+        let first = outbox_heard u.lane.guest l.transcript.client l.transcript.server packet one.bytes one.messages grown in
+        let sid = u.lane.guest.handshake.draft.sid in
+        let p = guest_session.0 in
+        let before : TalkIn sid u.lane.guest.groups p (one.bytes ∷ outbox u.lane.guest l.transcript.client (Heard packet ∷ l.transcript.server)) (outbox s l.transcript.server l.transcript.client) s.session s.groups =
+        subst (λ (xs : List (List ℕ)). TalkIn sid u.lane.guest.groups p xs (outbox s l.transcript.server l.transcript.client) s.session s.groups) first (talk p guest_in.up up guest_session.1) in
+        let own : OwnRead one.bytes one_talk.meets.handshakes.sid =
+        next_read (asks_of shape) (answers_of shape) Responder Initiator sides one.bytes sid one_talk up opened guest_in.up grown before.asks_fit.0 in
+        let agreed = mine_agreed (asks_of shape) (answers_of shape) Responder sides one_talk up opened in
+        let in_it : InSession Responder (record s { link = one.link }) q u.lane.hub_memory own.message (Resets cause) =
+        in_own_session Responder s q u.lane.hub_memory packet l.transcript.server (Resets cause) one_talk.meets.handshakes.sid one session agreed.knows own in
+        let expects = expects_at shape B u l one.link one.bytes q sid finds up guest_in.up session (ways_at B u.lane l ways guest_in.up up in_log)
+        (free_empty Responder s l.transcript.server acting.ends says.0.quiet) grown before.asks_fit.0 (hub_agreed shape u.lane l finds.talks guest_in.up guest_in.opened up opened)
+        (λ named role. absurd (cc role)) in
+        absurd (taken_in_session Responder (record s { link = one.link }) q u.lane.hub_memory sid one.bytes own.message own.message.subtype own.message.body cause expects own.of own.spells refl refl
+        (sym in_it.is))
+
+-- A STEP'S RESET
+takes_it : (e : End) (u : NetLaneState) (cause : Cause) (packet : List ℕ) (rule : NetRule) → port_rule (role_at e) (net_end e u) (seen_at e u) ≡ rule
+    → NetFails (role_at e) rule (net_end e u) (memory_of e u) (reach_of e u) cause (Some packet)
+    → (port_rule (role_at e) (net_end e u) (seen_at e u) ≡ Takes packet) × NetTakes (role_at e) (net_end e u) (memory_of e u) packet (Resets cause)
+takes_it e u cause packet (Takes bytes) is fails =
+    let same : bytes ≡ packet = cc fails.0 in (is ∙ ap (λ (xs : List ℕ). Takes xs) same, subst (λ (xs : List ℕ). NetTakes (role_at e) (net_end e u) (memory_of e u) xs (Resets cause)) same fails.1)
+takes_it e u cause packet (Fetches p activity) is fails = absurd (cc fails.0)
+takes_it e u cause packet Puts is fails = absurd fails
+takes_it e u cause packet (Says message) is fails = absurd fails
+takes_it e u cause packet (Replies p reply) is fails = absurd fails
+takes_it e u cause packet (Tells p) is fails = absurd fails
+takes_it e u cause packet (Announces p) is fails = absurd fails
+takes_it e u cause packet (Publishes p frame) is fails = absurd fails
+takes_it e u cause packet JoinsRule is fails = absurd fails
+takes_it e u cause packet Idles is fails = absurd fails
+
+own_gap : (w : WireLog) (lossy : Bool) (cause : Cause) → w.lossy ≡ lossy → IsGapBehindLoss lossy cause → IsOwnReset w cause
+own_gap w lossy cause is gap = record { expected = gap.expected; found = gap.found; gap = gap.gap; lossy = is ∙ gap.lossy_is }
+
+parts_at : (shape : NetShape) (s : PortState) (l : PortLog) (e : End) → IsNetShape shape → PortCounts shape s l → PartsSaid (transcript_of e l.transcript)
+parts_at shape s l A is counts =
+    subst (λ (x : TranscriptLog). PartsSaid x.client) (spoken_behind shape counts.events ∙ sym (ap (λ (x : PortLog). x.transcript) counts.log))
+    (parts_run shape.entries (asks_of shape) (answers_of shape) (port_events counts.events) (port_core s) (sizes_fit shape is) (fresh_port_core shape counts.events s counts.run)).a.parts
+parts_at shape s l B is counts =
+    subst (λ (x : TranscriptLog). PartsSaid x.server) (spoken_behind shape counts.events ∙ sym (ap (λ (x : PortLog). x.transcript) counts.log))
+    (parts_run shape.entries (asks_of shape) (answers_of shape) (port_events counts.events) (port_core s) (sizes_fit shape is) (fresh_port_core shape counts.events s counts.run)).b.parts
+
+step_resets : (shape : NetShape) (s t : PortState) (l : PortLog) (e : End) (cause : Cause) (packet : Option (List ℕ)) (lost : ℕ) → IsNetShape shape → KeptTalk shape s l → l.wire.forged ≡ false
+    → NetLaneStep (before (Steps e (Reset cause packet lost)) s).lane (Steps e (Reset cause packet lost)) t.lane → IsOwnReset l.wire cause
+step_resets shape s t l e cause packet lost is had clean step = by_packet packet refl
+  where
+    event : NetEvent
+    event = Steps e (Reset cause packet lost)
+
+    u : PortState
+    u = before event s
+
+    finds : Finds shape u l
+    finds = finds_before shape s l event is had.ways.kept clean
+
+    ways : WaysStand u.lane l
+    ways = ways_before event s l (had.ways.ways clean)
+
+    talk : TalkStands u.lane l
+    talk = before_talk event s l (had.talk clean)
+
+    lossy : l.wire.lossy ≡ u.lane.wire.lossy
+    lossy = sym (ap (λ (x : WireLog). x.lossy) finds.ready.wire)
+
+    in_session : (x : End) → e ≡ x → (bytes : List ℕ) → packet ≡ Some bytes → (p : NetSession) → (net_end x u.lane).session ≡ Some p → IsOwnReset l.wire cause
+    in_session A at bytes carried p session =
+        let fails = subst (λ (o : Option (List ℕ)). NetFails Initiator (port_rule Initiator u.lane.guest (seen_at A u.lane)) u.lane.guest u.lane.guest_memory (reach_of A u.lane) cause o) carried
+        (subst (λ (y : End). NetFails (role_at y) (port_rule (role_at y) (net_end y u.lane) (seen_at y u.lane)) (net_end y u.lane) (memory_of y u.lane) (reach_of y u.lane) cause packet) at step.step.0) in
+        let it = takes_it A u.lane cause bytes (port_rule Initiator u.lane.guest (seen_at A u.lane)) refl fails in
+        own_gap l.wire u.lane.wire.lossy cause lossy (guest_resets shape u l cause bytes p finds ways talk (parts_at shape s l B is had.ways.kept.counts) session it.0 it.1)
+    in_session B at bytes carried p session =
+        let fails = subst (λ (o : Option (List ℕ)). NetFails Responder (port_rule Responder u.lane.hub (seen_at B u.lane)) u.lane.hub u.lane.hub_memory (reach_of B u.lane) cause o) carried
+        (subst (λ (y : End). NetFails (role_at y) (port_rule (role_at y) (net_end y u.lane) (seen_at y u.lane)) (net_end y u.lane) (memory_of y u.lane) (reach_of y u.lane) cause packet) at step.step.0) in
+        let it = takes_it B u.lane cause bytes (port_rule Responder u.lane.hub (seen_at B u.lane)) refl fails in
+        own_gap l.wire u.lane.wire.lossy cause lossy (hub_resets shape u l cause bytes p finds ways talk (parts_at shape s l A is had.ways.kept.counts) session it.0 it.1)
+
+    wire_clean : u.lane.wire.forged ≡ false
+    wire_clean = ap (λ (x : WireLog). x.forged) finds.ready.wire ∙ clean
+
+    without : (bytes : List ℕ) → packet ≡ Some bytes → (net_end e u.lane).session ≡ None → IsOwnReset u.lane.wire cause ⊎ LiesInSession (core_of_end e (lane_core u.lane)) packet → IsOwnReset l.wire cause
+    without bytes carried none (inl own) = subst (λ (w : WireLog). IsOwnReset w cause) finds.ready.wire own
+    without bytes carried none (inr lies) =
+        let opened = (subst (LiesInSession (core_of_end e (lane_core u.lane))) carried lies).opened in
+        true_false (sym opened ∙ core_open e u.lane false (ap is_some none))
+
+    by_session : (bytes : List ℕ) → packet ≡ Some bytes → (session : Option NetSession) → (net_end e u.lane).session ≡ session → IsOwnReset l.wire cause
+    by_session bytes carried (Some p) session = in_session e refl bytes carried p session
+    by_session bytes carried None none =
+        without bytes carried none
+        (unforged_reset shape.entries (asks_of shape) (answers_of shape) (port_events had.ways.kept.counts.events) (lane_core u.lane) e cause packet lost (lane_core t.lane) (sizes_fit shape is)
+        (offers_match shape is)
+        (subst (Run CoreStep (fresh_net_core shape) (port_events had.ways.kept.counts.events)) (sym (before_core event s)) (fresh_port_core shape had.ways.kept.counts.events s had.ways.kept.counts.run)) wire_clean
+        (net_resets_own (role_at e) (port_rule (role_at e) (net_end e u.lane) (seen_at e u.lane)) (net_end e u.lane) (memory_of e u.lane) (reach_of e u.lane) cause packet step.step.0)
+        (event_core_step u.lane event t.lane (before_fits event s (port_fits_behind shape had.ways.kept.counts.events s had.ways.kept.counts.run)) step))
+
+    by_packet : (o : Option (List ℕ)) → packet ≡ o → IsOwnReset l.wire cause
+    by_packet (Some bytes) carried = by_session bytes carried (net_end e u.lane).session refl
+    by_packet None carried =
+        absurd (slot_reset shape e u l cause lost step.left finds ways
+        (subst (λ (o : Option (List ℕ)). NetEndStep (role_at e) (net_end e u.lane) (seen_at e u.lane) (memory_of e u.lane) (reach_of e u.lane) (Reset cause o lost) step.left) carried step.step))
+
+-- ALONG EVERY RUN
+by_giver : (by : Giver) (w : WireLog) (cause : Cause) → (w.forged ≡ false → IsOwnReset w cause) → UnforgedReset by w cause
+by_giver ByStep w cause own = own
+by_giver ByScript w cause own = tt
+by_giver ByRestart w cause own = tt
+by_giver ByTick w cause own = tt
+
+unforged_event : (shape : NetShape) (s t : PortState) (l : PortLog) (event : NetEvent) → IsNetShape shape → KeptTalk shape s l → NetLaneStep (before event s).lane event t.lane
+    → OfWire (WireUnforgedAt l.wire) (OnLane event)
+unforged_event shape s t l (Steps e (Reset cause packet lost)) is had step = by_giver (giver cause) l.wire cause (λ clean. step_resets shape s t l e cause packet lost is had clean step)
+unforged_event shape s t l (Steps e (Joined lost)) is had step = tt
+unforged_event shape s t l (Steps e (Took packet opens)) is had step = tt
+unforged_event shape s t l (Steps e (Sent packet opens)) is had step = tt
+unforged_event shape s t l (Steps e Blocked) is had step = tt
+unforged_event shape s t l (Steps e Idle) is had step = tt
+unforged_event shape s t l (Steps e (Published id)) is had step = tt
+unforged_event shape s t l (Steps e (Frame frame)) is had step = tt
+unforged_event shape s t l (Asked e lost) is had step = tt
+unforged_event shape s t l (Ticked queued lost) is had step = tt
+unforged_event shape s t l (CalmTick queued) is had step = tt
+unforged_event shape s t l (Gives e given) is had step = tt
+unforged_event shape s t l (Joins joining) is had step = tt
+unforged_event shape s t l (Loses e packet) is had step = tt
+unforged_event shape s t l (Injects e packet) is had step = tt
+unforged_event shape s t l (Pokes e at bytes) is had step = tt
+unforged_event shape s t l (Declines d) is had step = tt
+
+pub port_unforged_wire : (shape : NetShape) (events : List PortEvent) (s : PortState) → IsNetShape shape → Run PortStep (fresh_port shape) events s
+    → Lawful (λ (l : PortLog) (event : PortEvent). OfWire (WireUnforgedAt l.wire) event) after (no_events shape) events
+port_unforged_wire shape events s is run = lawful_along shape (λ (l : PortLog) (event : PortEvent). OfWire (WireUnforgedAt l.wire) event) here events s run
+  where
+    here : (events : List PortEvent) (s : PortState) (event : PortEvent) (t : PortState) → Run PortStep (fresh_port shape) events s → PortStep s event t
+        → OfWire (WireUnforgedAt (log_of after (no_events shape) events).wire) event
+    here events s (OnLane event) t run step = unforged_event shape s t (log_of after (no_events shape) events) event is (port_talk shape events s is run) step.1
+    here events s (Receives frame) t run step = tt

@@ -1,0 +1,204 @@
+-- A message of a session is refused in no field that the end at the other side filled so.
+use Rattle.std.proofs.Common.{◌≡◌, ℕ, zero, suc, ◌+◌, ◌-◌, ◌%◌, ◌<◌, ◌≤◌, Bool, true, false, Option, Some, None, List, ◌∷◌, inl, inr, refl, sym, subst, ap, ◌∙◌, arith, nat_le}
+use Rattle.std.specs.Prelude.{◌==◌, ◌&&◌, nat_lt, not, if◌then◌else◌}
+use Rattle.std.proofs.lemmas.Bool.{and_from, eq-eqb, le-leb, lt-ltb}
+use Rattle.ldc_link.specs.declared.phase.Role.{Role}
+use Rattle.ldc_link.specs.declared.phase.Role.TheVariants.{Initiator, Responder}
+use Rattle.ldc_packet.specs.declared.packet.Subtype.{Subtype}
+use Rattle.ldc_packet.specs.declared.packet.Subtype.TheVariants.{Ack, Info, Nack}
+use Rattle.vio_bytes.specs.Place.{number_at}
+use Rattle.vio_tag.specs.declared.cause.Cause.{Cause}
+use Rattle.vio_tag.specs.declared.cause.Cause.TheVariants as the_cause
+use Rattle.vio_tag.specs.declared.message.Message.{Message}
+use Rattle.vio_tag.specs.declared.message.MsgBody.{MsgBody}
+use Rattle.vio_tag.specs.declared.message.MsgBody.TheVariants.{DringData, Mcast}
+use Rattle.vio_tag.specs.Spelling.{SpellsMessage, envelope_at, subtype_at}
+use Rattle.channel_model.specs.Messages.{end_of, seq_of, start_of}
+use Rattle.channel_model.specs.Ranges.{is_other, range_length, wrapped}
+use Rattle.channel_laws.specs.EndStep.{IsOfSession}
+use Rattle.channel_laws.specs.Sides.{other}
+use Rattle.port_model.specs.EndLog.{SessionLog, range_of}
+use Rattle.port_model.specs.Groups.{groups_after}
+use Rattle.port_model.specs.NetEndState.{NetEndState, NetSession, with_session}
+use Rattle.port_model.specs.NetEndTaking.{GoesOn, NetTake, Resets, acknowledged, active, ends_outside, first_undone, freed, in_session, slot_state, takes_ack, takes_done, takes_groups, takes_info, takes_range}
+use Rattle.port_laws.specs.RingHolds.{RingHolds}
+use Rattle.port_laws.specs.WaysStand.{Comes, Goes, Rests, Way, Works}
+use Rattle.port_laws.proofs.Outbox.{MessageFits}
+use Rattle.port_laws.proofs.RingMoves.{held_state, some_frame}
+
+-- WHAT COMES of the way
+pub record InfoComes (v : SessionLog) (slots : ℕ) (m : List ℕ) : Type 0 where
+  pub seq : seq_of m ≡ wrapped (v.asked + 1)
+  pub start : start_of m ≡ v.taken % slots
+  pub end : end_of m ≡ 0xffffffff
+
+pub info_comes : (slots : ℕ) (w v : SessionLog) (m : List ℕ) (rest acks : List (List ℕ)) → Way slots w v (m ∷ rest) acks → InfoComes v slots m
+info_comes slots w v m rest acks (Goes info asking asked acked answered taken some seq start end no_ack) =
+    let same : m ≡ info = cc some in
+    record {
+      seq = ap seq_of same ∙ seq ∙ ap wrapped (sym asked);
+      start = ap start_of same ∙ start ∙ ap (λ (n : ℕ). n % slots) (sym taken);
+      end = ap end_of same ∙ end;
+    }
+info_comes slots w v m rest acks (Rests asking asked acked answered taken none no_ack) = absurd (cc none)
+info_comes slots w v m rest acks (Works asking asked busy answered none no_ack) = absurd (cc none)
+info_comes slots w v m rest acks (Comes ack asking asked acked answered some none one_ack start end) = absurd (cc none)
+
+pub record AckComes (v w : SessionLog) (slots : ℕ) (m : List ℕ) : Type 0 where
+  pub start : start_of m ≡ v.seen % slots
+  pub end : end_of m ≡ (w.taken - 1) % slots
+  pub some : v.seen < w.taken
+
+pub ack_comes : (slots : ℕ) (v w : SessionLog) (m : List ℕ) (infos rest : List (List ℕ)) → Way slots v w infos (m ∷ rest) → AckComes v w slots m
+ack_comes slots v w m infos rest (Comes ack asking asked acked answered some none one_ack start end) =
+    let same : m ≡ ack = cc one_ack in
+    record { start = ap start_of same ∙ start; end = ap end_of same ∙ end; some = some }
+ack_comes slots v w m infos rest (Rests asking asked acked answered taken none no_ack) = absurd (cc no_ack)
+ack_comes slots v w m infos rest (Goes info asking asked acked answered taken some seq start end no_ack) = absurd (cc no_ack)
+ack_comes slots v w m infos rest (Works asking asked busy answered none no_ack) = absurd (cc no_ack)
+
+-- THE SLOTS that an ACK names are DONE
+all_done : (slots : ℕ) (memory : List ℕ) (number count : ℕ) → ((j : ℕ) → number ≤ j → j < number + count → slot_state (j % slots) memory ≡ 4) → first_undone slots memory number count ≡ None
+all_done slots memory number zero done = refl
+all_done slots memory number (suc count) done =
+    let here : (slot_state (number % slots) memory == 4) ≡ true = eq-eqb (slot_state (number % slots) memory) 4 (done number (omega arith) (omega arith)) in
+    ap (λ (b : Bool). if b then first_undone slots memory (number + 1) count else Some (the_cause.NotDone (number % slots) (slot_state (number % slots) memory))) here
+    ∙ all_done slots memory (number + 1) count (λ j from below. done j (omega (arith, from)) (omega (arith, below)))
+
+pub ring_done : (slots seen taken published : ℕ) (frames : List (List ℕ)) (memory : List ℕ) (count : ℕ) → RingHolds slots seen taken published frames memory → seen + count ≡ taken
+    → first_undone slots memory seen count ≡ None
+ring_done slots seen taken published frames memory count ring is = all_done slots memory seen count each
+  where
+    each : (j : ℕ) → seen ≤ j → j < seen + count → slot_state (j % slots) memory ≡ 4
+    each j from below =
+        let less : j < taken = omega (arith, below, is) in
+        let first = ring.taken_first in
+        let held = ring.held in
+        let turn = ring.turn in
+        let there = some_frame frames (j - seen) (omega (arith, from, less, first, held)) in
+        held_state memory (j % slots) 4 there.0 ((ring.each j from (omega (arith, less, first, turn))).done less there.0 there.1)
+
+-- TESTS that pass
+past : (b : Bool) (x y : NetTake) → b ≡ false → (if b then x else y) ≡ y
+past true x y is = absurd (cc is)
+past false x y is = refl
+
+at_once : (b : Bool) (x y : NetTake) → b ≡ true → (if b then x else y) ≡ x
+at_once true x y is = refl
+at_once false x y is = absurd (cc is)
+
+same_is : (expected found : ℕ) → expected ≡ found → is_other expected found ≡ false
+same_is expected found same = ap (λ (b : Bool). if b then false else true) (eq-eqb expected found same)
+
+no_end : (slots end : ℕ) → end ≡ 0xffffffff → (not (end == 0xffffffff) && nat_le slots end) ≡ false
+no_end slots end is = ap (λ (b : Bool). not b && nat_le slots end) (eq-eqb end 0xffffffff is)
+
+never : (take answer : NetTake) (cause : Cause) → take ≡ answer → ((c : Cause) → answer ≡ Resets c → ⊥) → take ≡ Resets cause → ⊥
+never take answer cause is not_ resets = not_ cause (sym is ∙ resets)
+
+goes : (t : NetEndState) (opens : Bool) (memory : List ℕ) (c : Cause) → GoesOn t opens memory ≡ Resets c → ⊥
+goes t opens memory c is = cc is
+
+-- what an end in session expects of a message
+pub record Expects (role : Role) (s : NetEndState) (p : NetSession) (memory : List ℕ) (sid : ℕ) (m : List ℕ) : Type 0 where
+  pub fits : MessageFits (other role) sid m
+  pub own : s.handshake.draft.ident_own ≡ sid
+  pub peer : s.handshake.draft.ident_peer ≡ sid
+  pub info : envelope_at m ≡ 0x0042 → subtype_at m ≡ 1 → (p.seq ≡ seq_of m) × (p.place ≡ start_of m) × (end_of m ≡ 0xffffffff)
+  pub ack : envelope_at m ≡ 0x0042 → subtype_at m ≡ 2 → (p.seen % s.slots ≡ start_of m) × (end_of m < s.slots) × (p.seen + range_of s.slots m ≤ p.published)
+      × (first_undone s.slots memory p.seen (range_of s.slots m) ≡ None)
+  pub telling : envelope_at m ≡ 0x0101 → role ≡ Initiator → p.telling ≡ true
+
+info_goes : (s : NetEndState) (p : NetSession) (memory : List ℕ) (seq ident start end : ℕ) → s.handshake.draft.ident_peer ≡ ident → p.seq ≡ seq → p.place ≡ start → end ≡ 0xffffffff
+    → takes_info s p memory seq ident start end ≡ GoesOn (with_session (active p seq start) s) false memory
+info_goes s p memory seq ident start end named number begins ends =
+    past (is_other s.handshake.draft.ident_peer ident) (Resets (the_cause.Ident s.handshake.draft.ident_peer ident)) _ (same_is s.handshake.draft.ident_peer ident named)
+    ∙ past (is_other p.seq seq) (Resets (the_cause.Seq p.seq seq)) _ (same_is p.seq seq number)
+    ∙ past (is_other p.place start) (Resets (the_cause.Slot p.place start)) _ (same_is p.place start begins)
+    ∙ past (ends_outside s end) (Resets (the_cause.RangeEnd end)) _ (no_end s.handshake.draft.peer_slots end ends)
+
+ack_goes : (s : NetEndState) (p : NetSession) (memory : List ℕ) (ident start end : ℕ) → s.handshake.draft.ident_own ≡ ident → p.seen % s.slots ≡ start → end < s.slots
+    → p.seen + range_length s.slots start end ≤ p.published → first_undone s.slots memory p.seen (range_length s.slots start end) ≡ None
+    → takes_ack s p memory ident start end
+    ≡ GoesOn (acknowledged p (range_length s.slots start end) s) false (freed s.slots p.seen (range_length s.slots start end) memory)
+ack_goes s p memory ident start end named begins ends within done =
+    past (is_other s.handshake.draft.ident_own ident) (Resets (the_cause.Ident s.handshake.draft.ident_own ident)) _ (same_is s.handshake.draft.ident_own ident named)
+    ∙ past (is_other (p.seen % s.slots) start) (Resets (the_cause.Slot (p.seen % s.slots) start)) _ (same_is (p.seen % s.slots) start begins)
+    ∙ at_once (nat_lt end s.slots && nat_le (p.seen + range_length s.slots start end) p.published) (takes_range s p memory (range_length s.slots start end)) (Resets (the_cause.RangeEnd end))
+    (and_from (nat_lt end s.slots) (nat_le (p.seen + range_length s.slots start end) p.published) (lt-ltb end s.slots ends) (le-leb (p.seen + range_length s.slots start end) p.published within))
+    ∙ ap (takes_done s p memory (range_length s.slots start end)) done
+
+-- A MESSAGE, by its bytes
+module _ (role : Role) (s : NetEndState) (p : NetSession) (memory : List ℕ) (sid : ℕ) (m : List ℕ) (expects : Expects role s p memory sid m) where
+  info_taken : (seq ident start end state : ℕ) (cause : Cause) → envelope_at m ≡ 0x0042 → subtype_at m ≡ 1 → (seq ≡ seq_of m) × (start ≡ start_of m) × (end ≡ end_of m)
+      → takes_info s p memory seq ident start end ≡ Resets cause → ident ≡ sid → ⊥
+  info_taken seq ident start end state cause range info reads_ resets named =
+      let all = expects.info range info in
+      never (takes_info s p memory seq ident start end) (GoesOn (with_session (active p seq start) s) false memory) cause
+      (info_goes s p memory seq ident start end (expects.peer ∙ sym named) (all.0 ∙ sym reads_.0) (all.1 ∙ sym reads_.1) (reads_.2 ∙ all.2))
+      (goes (with_session (active p seq start) s) false memory) resets
+
+  ack_taken : (ident start end : ℕ) (cause : Cause) → envelope_at m ≡ 0x0042 → subtype_at m ≡ 2 → (start ≡ start_of m) × (end ≡ end_of m) → takes_ack s p memory ident start end ≡ Resets cause
+      → ident ≡ sid → ⊥
+  ack_taken ident start end cause range ack reads_ resets named =
+      let all = expects.ack range ack in
+      let same : range_length s.slots start end ≡ range_of s.slots m =
+      ap (λ (n : ℕ). range_length s.slots n end) reads_.0 ∙ ap (range_length s.slots (start_of m)) reads_.1 in
+      let within = all.2 in
+      never (takes_ack s p memory ident start end)
+      (GoesOn (acknowledged p (range_length s.slots start end) s) false (freed s.slots p.seen (range_length s.slots start end) memory)) cause
+      (ack_goes s p memory ident start end (expects.own ∙ sym named) (all.0 ∙ sym reads_.0) (subst (λ (n : ℕ). n < s.slots) (sym reads_.1) all.1)
+      (omega (arith, same, within)) (ap (first_undone s.slots memory p.seen) same ∙ all.3))
+      (goes (acknowledged p (range_length s.slots start end) s) false (freed s.slots p.seen (range_length s.slots start end) memory)) resets
+
+  not_nack : envelope_at m ≡ 0x0042 → subtype_at m ≡ 4 → ⊥
+  not_nack range nack =
+      elim (expects.fits.range range).subtype [
+        | inl one ↦ omega (arith, one, nack)
+        | inr two ↦ omega (arith, two, nack)
+      ]
+
+  ident_named : (ident : ℕ) → envelope_at m ≡ 0x0042 → ident ≡ number_at 8 16 m → ident ≡ sid
+  ident_named ident range is = is ∙ (expects.fits.range range).ident
+
+groups_go : (s : NetEndState) (p : NetSession) (memory : List ℕ) (set count : ℕ) (addresses : List (List ℕ)) (groups : Option (List (List ℕ))) (cause : Cause)
+    → takes_groups s p memory set count addresses groups ≡ Resets cause → ⊥
+groups_go s p memory set count addresses None cause is = cc is
+groups_go s p memory set count addresses (Some groups) cause is = cc is
+
+told_goes : (s : NetEndState) (p : NetSession) (memory : List ℕ) (b : Bool) (cause : Cause) → b ≡ true
+    → (if b then GoesOn (with_session (record p { telling = false }) s) false memory else Resets the_cause.Order) ≡ Resets cause → ⊥
+told_goes s p memory true cause is resets = cc resets
+told_goes s p memory false cause is resets = absurd (cc is)
+
+wrong_code : {X : Type 0} (a b c : ℕ) → a ≡ b → a ≡ c → (b ≡ c → ⊥) → X
+wrong_code {X} a b c one two not_ = absurd (not_ (sym one ∙ two))
+
+pub taken_in_session : (role : Role) (s : NetEndState) (p : NetSession) (memory : List ℕ) (sid : ℕ) (m : List ℕ) (message : Message) (subtype : Subtype) (b : MsgBody) (cause : Cause)
+    → Expects role s p memory sid m → IsOfSession b → SpellsMessage m message → message.subtype ≡ subtype → message.body ≡ b → in_session role s p memory message subtype b ≡ Resets cause → ⊥
+taken_in_session role s p memory sid m message subtype b cause expects of spells subtype_is body_is = by_kind role subtype b expects of (spells_as subtype b subtype_is body_is)
+  where
+    spells_as : (x : Subtype) (y : MsgBody) → message.subtype ≡ x → message.body ≡ y → SpellsMessage m (record { subtype = x; sid = message.sid; body = y })
+    spells_as x y one two =
+        subst (λ (z : MsgBody). SpellsMessage m (record { subtype = x; sid = message.sid; body = z })) two
+        (subst (λ (z : Subtype). SpellsMessage m (record { subtype = z; sid = message.sid; body = message.body })) one spells)
+
+    by_kind : (r : Role) (x : Subtype) (y : MsgBody) → Expects r s p memory sid m → IsOfSession y → SpellsMessage m (record { subtype = x; sid = message.sid; body = y })
+        → in_session r s p memory message x y ≡ Resets cause → ⊥
+    by_kind Initiator Info (DringData seq ident start end state) ex is sp resets =
+        info_taken Initiator s p memory sid m ex seq ident start end state cause sp.envelope sp.subtype (sp.body.0, sp.body.2, sp.body.3) resets (ident_named Initiator s p memory sid m ex ident sp.envelope sp.body.1)
+    by_kind Responder Info (DringData seq ident start end state) ex is sp resets =
+        info_taken Responder s p memory sid m ex seq ident start end state cause sp.envelope sp.subtype (sp.body.0, sp.body.2, sp.body.3) resets (ident_named Responder s p memory sid m ex ident sp.envelope sp.body.1)
+    by_kind Initiator Ack (DringData seq ident start end state) ex is sp resets =
+        ack_taken Initiator s p memory sid m ex ident start end cause sp.envelope sp.subtype (sp.body.2, sp.body.3) resets (ident_named Initiator s p memory sid m ex ident sp.envelope sp.body.1)
+    by_kind Responder Ack (DringData seq ident start end state) ex is sp resets =
+        ack_taken Responder s p memory sid m ex ident start end cause sp.envelope sp.subtype (sp.body.2, sp.body.3) resets (ident_named Responder s p memory sid m ex ident sp.envelope sp.body.1)
+    by_kind Initiator Nack (DringData seq ident start end state) ex is sp resets = not_nack Initiator s p memory sid m ex sp.envelope sp.subtype
+    by_kind Responder Nack (DringData seq ident start end state) ex is sp resets = not_nack Responder s p memory sid m ex sp.envelope sp.subtype
+    by_kind Responder Info (Mcast set count addresses) ex is sp resets = groups_go s p memory set count addresses (groups_after set count addresses s.groups) cause resets
+    by_kind Initiator Ack (Mcast set count addresses) ex is sp resets = told_goes s p memory p.telling cause (ex.telling sp.envelope refl) resets
+    by_kind Initiator Info (Mcast set count addresses) ex is sp resets = wrong_code (subtype_at m) 2 1 (ex.fits.groups sp.envelope).subtype sp.subtype (λ same. cc same)
+    by_kind Initiator Nack (Mcast set count addresses) ex is sp resets = wrong_code (subtype_at m) 2 4 (ex.fits.groups sp.envelope).subtype sp.subtype (λ same. cc same)
+    by_kind Responder Ack (Mcast set count addresses) ex is sp resets = wrong_code (subtype_at m) 1 2 (ex.fits.groups sp.envelope).subtype sp.subtype (λ same. cc same)
+    by_kind Responder Nack (Mcast set count addresses) ex is sp resets = wrong_code (subtype_at m) 1 4 (ex.fits.groups sp.envelope).subtype sp.subtype (λ same. cc same)
+    by_kind r x _ ex is sp resets = absurd is

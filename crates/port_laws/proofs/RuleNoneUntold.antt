@@ -1,0 +1,114 @@
+-- Where an end of a port is idle directly after the other, where nobody forged and nothing was lost, the guest told all its groups.
+use Rattle.std.proofs.Common.{◌≡◌, ◌≢◌, ℕ, Bool, true, false, Option, Some, None, List, [], ◌++◌, length, drop, refl, sym, subst, ap, ◌∙◌, arith}
+use Rattle.std.specs.Prelude.{◌&&◌, is_some, not}
+use Rattle.std.proofs.lemmas.List.{drop_all}
+use Rattle.ldc_link.specs.declared.phase.Role.TheVariants.{Initiator, Responder}
+use Rattle.ldc_queue.specs.declared.end.ChannelState.TheVariants.{Up}
+use Rattle.ldc_queue.specs.declared.end.End.TheVariants.{A, B}
+use Rattle.ldc_queue.specs.Transcript.{Turn}
+use Rattle.runs.specs.Lawful.{Lawful, log_of}
+use Rattle.runs.specs.Run.{Run}
+use Rattle.channel_model.specs.Sayings.{heard, said}
+use Rattle.channel_model.specs.WireLog.{WireLog}
+use Rattle.channel_laws.specs.Sides.{sides_of}
+use Rattle.port_model.proofs.Refuting.{true_false}
+use Rattle.port_model.proofs.Ruling.{says_of}
+use Rattle.port_model.specs.EndLog.{SessionLog}
+use Rattle.port_model.specs.FrameLaws.{InSession, ToldAll}
+use Rattle.port_model.specs.NetEndRule.{Idles, port_rule}
+use Rattle.port_model.specs.NetEndState.{GroupsReply, NetEndState, NetSession}
+use Rattle.port_model.specs.NetEndStep.{Idle}
+use Rattle.port_model.specs.NetEvent.{CalmTick, NetEvent, Steps}
+use Rattle.port_model.specs.NetLaneState.{IsNetShape, NetShape, seen_at}
+use Rattle.port_model.specs.NetLaneStep.{NetLaneStep}
+use Rattle.port_model.specs.PortLog.{PortLog, after, no_events}
+use Rattle.port_model.specs.PortState.{OnLane, PortEvent, PortState, PortStep, Receives, before, fresh_port, takes_more}
+use Rattle.port_model.specs.RestLaws.{TwoIdleAt}
+use Rattle.port_model.specs.RuleFacts.{IfOpen, MayListen}
+use Rattle.port_laws.specs.Counted.{GroupCounts, unsaid}
+use Rattle.port_laws.specs.NetCore.{lane_core, one_if}
+use Rattle.port_laws.specs.NoneUntold.{NoneUntoldAt}
+use Rattle.port_laws.proofs.EndCounting.{OpenCounts, empty_unsaid}
+use Rattle.port_laws.proofs.Outbox.{count_groups, listed, outbox}
+use Rattle.port_laws.proofs.PortCounts.{before_guest, before_wire, ready_before}
+use Rattle.port_laws.proofs.PortRuns.{lawful_along}
+use Rattle.port_laws.proofs.RingActs.{Finds}
+use Rattle.port_laws.proofs.RingRuns.{finds_before}
+use Rattle.port_laws.proofs.RuleFrames.{both_open, end_acts}
+use Rattle.port_laws.proofs.RuleIdle.{rule_left}
+use Rattle.port_laws.proofs.RuleNoneLeft.{IdlesKept, heard_all, idles_kept, moved_guest, moves_entries, no_first, some_log}
+use Rattle.port_laws.proofs.RuleRest.{up_state}
+use Rattle.port_laws.proofs.RuleTwoIdle.{two_idle_event}
+use Rattle.port_laws.proofs.Talking.{owed_replies, reply_in}
+use Rattle.port_laws.proofs.TalkGuest.{TalkStands}
+use Rattle.port_laws.proofs.TalkRuns.{KeptTalk, before_talk, port_talk}
+use Rattle.port_laws.proofs.TookCounts.{free_empty}
+
+none_out : (s : NetEndState) (mine theirs : List Turn) → said mine ≡ heard theirs → s.link.to_send ≡ [] → outbox s mine theirs ≡ []
+none_out s mine theirs all empty =
+    ap (λ (xs : List (List ℕ)). drop (length (heard theirs)) xs ++ listed (unsaid s)) all
+    ∙ ap (λ (xs : List (List ℕ)). xs ++ listed (unsaid s)) (drop_all (length (heard theirs)) (heard theirs) (omega arith)) ∙ ap listed (empty_unsaid s empty)
+
+none_telling : (b : Bool) → one_if b ≡ 0 → b ≡ false
+none_telling false is = refl
+none_telling true is = absurd (omega (arith, is))
+
+told_by : (untold telling : Bool) → (untold && not telling) ≡ false → telling ≡ false → untold ≡ false
+told_by false telling idle none = refl
+told_by true false idle none = true_false idle
+told_by true true idle none = true_false none
+
+both_told : (shape : NetShape) (u : PortState) (l : PortLog) → Finds shape u l → TalkStands u.lane l → port_rule Initiator u.lane.guest (seen_at A u.lane) ≡ Idles
+    → port_rule Responder u.lane.hub (seen_at B u.lane) ≡ Idles → l.wire.lossy ≡ false → (l.guest.session ≢ None) × (l.hub.session ≢ None) → InSession l.guest.session (ToldAll l)
+both_told shape u l finds talk guest_idles hub_idles lossless opened =
+    let guest_says = says_of Initiator u.lane.guest (seen_at A u.lane) Idles guest_idles in
+    let hub_says = says_of Responder u.lane.hub (seen_at B u.lane) Idles hub_idles in
+    let up : u.lane.wire.wire.end_a ≡ Up = up_state u.lane.wire.wire.end_a guest_says.0.up in
+    let other : u.lane.wire.wire.end_b ≡ Up = up_state u.lane.wire.wire.end_b hub_says.0.up in
+    let whole : u.lane.wire.lossy ≡ false = ap (λ (w : WireLog). w.lossy) finds.ready.wire ∙ lossless in
+    let all = heard_all (sides_of (lane_core u.lane) l.transcript) (finds.talks.talks A).meets.converse whole up other (no_first u.lane.wire.wire.to_a guest_says.1) (no_first u.lane.wire.wire.to_b hub_says.1) in
+    let guest = some_log l.guest.session opened.0 in
+    let hub = some_log l.hub.session opened.1 in
+    let both = both_open Initiator shape.slots [] u.lane.guest l.guest guest.0 finds.ready.guest guest.1 in
+    let hub_both = both_open Responder shape.slots u.queue u.lane.hub l.hub hub.0 finds.ready.hub hub.1 in
+    let listens : MayListen both.p = subst (λ (x : Option NetSession). IfOpen x MayListen) both.is guest_says.2 in
+    let hub_listens : MayListen hub_both.p = subst (λ (x : Option NetSession). IfOpen x MayListen) hub_both.is hub_says.2 in
+    let empty = free_empty Initiator u.lane.guest l.transcript.client (end_acts shape A u l finds.ready guest_says.0.up).ends guest_says.0.quiet in
+    let hub_empty = free_empty Responder u.lane.hub l.transcript.server (end_acts shape B u l finds.ready hub_says.0.up).ends hub_says.0.quiet in
+    let talking = talk both.p up other both.is in
+    let asks = ap count_groups (none_out u.lane.guest l.transcript.client l.transcript.server all.mine empty) in
+    let answers = ap count_groups (none_out u.lane.hub l.transcript.server l.transcript.client all.theirs hub_empty) in
+    let owed : owed_replies u.lane.hub.session ≡ 0 = ap (λ (o : Option GroupsReply). one_if (is_some o)) (ap reply_in hub_both.is ∙ hub_listens.0) in
+    let counted = talking.counted in
+    let telling : both.p.telling ≡ false = none_telling both.p.telling (omega (arith, counted, asks, answers, owed)) in
+    let left = rule_left Initiator u.lane.guest (seen_at A u.lane) both.p guest_says.0 guest_says.1 both.is listens guest_idles in
+    let untold : both.p.untold ≡ false = told_by both.p.untold both.p.telling (left.told refl) telling in
+    let here : OpenCounts Initiator shape.slots u.lane.guest.groups l.guest.published l.guest.gone None u.lane.guest.link.begun both.p l.guest.session =
+    subst (λ (x : Option (List ℕ)). OpenCounts Initiator shape.slots u.lane.guest.groups l.guest.published l.guest.gone x u.lane.guest.link.begun both.p l.guest.session)
+    (empty_unsaid u.lane.guest empty) both.open_is in
+    let groups : GroupCounts both.p u.lane.guest.groups here.of_log = here.counts.guest in
+    subst (λ (o : Option SessionLog). InSession o (ToldAll l)) (sym here.is)
+    (groups.named untold ∙ ap (λ (xs : List (List ℕ)). Some xs) finds.ready.members, groups.answered telling untold)
+
+-- AN EVENT
+told_event : (shape : NetShape) (s : PortState) (l : PortLog) (event : NetEvent) (t : PortState) → IsNetShape shape → KeptTalk shape s l → IdlesKept s l → TwoIdleAt l (OnLane event)
+    → NetLaneStep (before event s).lane event t.lane → NoneUntoldAt l (OnLane event)
+told_event shape s l (Steps A Idle) t is had kept opened step = λ last clean whole.
+    both_told shape s l (finds_before shape s l (Steps A Idle) is had.ways.kept clean) (had.talk clean) step.step.0 (kept.idles B last) whole (opened last clean whole)
+told_event shape s l (Steps B Idle) t is had kept opened step = λ last clean whole.
+    let u : PortState = before (Steps B Idle) s in
+    both_told shape u l (finds_before shape s l (Steps B Idle) is had.ways.kept clean) (before_talk (Steps B Idle) s l (had.talk clean))
+    (moved_guest s u (before_guest (Steps B Idle) s) (before_wire (Steps B Idle) s) (moves_entries (takes_more s.lane.hub) s.queue s) (kept.idles A last)) step.step.0 whole (opened last clean whole)
+told_event shape s l _ t is had kept opened step = tt
+
+pub port_none_untold : (shape : NetShape) (events : List PortEvent) (s : PortState) → IsNetShape shape → Run PortStep (fresh_port shape) events s → Lawful NoneUntoldAt after (no_events shape) events
+port_none_untold shape events s is run = lawful_along shape NoneUntoldAt here events s run
+  where
+    here : (events : List PortEvent) (s : PortState) (event : PortEvent) (t : PortState) → Run PortStep (fresh_port shape) events s → PortStep s event t
+        → NoneUntoldAt (log_of after (no_events shape) events) event
+    here events s (OnLane event) t run step =
+        let l : PortLog = log_of after (no_events shape) events in
+        let had = port_talk shape events s is run in
+        told_event shape s l event t is had (idles_kept shape events s run)
+        (two_idle_event shape s l event t had.ways.kept.counts (ready_before shape s l (CalmTick 0) is had.ways.kept.counts) step.1) step.1
+    here events s (Receives frame) t run step = tt

@@ -1,0 +1,221 @@
+-- What an end of a port in session, which nobody forged, notes of the packet that it takes.
+use Rattle.std.proofs.Common.{◌≡◌, ℕ, ◌+◌, ◌*◌, ◌⊎◌, Bool, true, false, Option, Some, None, List, [], ◌∷◌, ◌++◌, length, inl, inr, refl, sym, subst, ap, ◌∙◌, arith}
+use Rattle.std.specs.Prelude.{◌==◌, if◌then◌else◌, Ok, ◌≤◌, zero, suc, drop, take as first_of}
+use Rattle.std.proofs.lemmas.Bool.{eq-eqb}
+use Rattle.std.proofs.lemmas.List.{length-append, length-drop, length-take}
+use Rattle.std.specs.List.{flat_map}
+use Rattle.ldc_link.specs.declared.phase.Role.{Role}
+use Rattle.ldc_link.specs.declared.phase.Role.TheVariants.{Initiator, Responder}
+use Rattle.ldc_packet.specs.declared.packet.Subtype.{Subtype}
+use Rattle.ldc_packet.specs.declared.packet.Subtype.TheVariants.{Ack, Info, Nack}
+use Rattle.ldc_queue.specs.declared.end.ChannelState.TheVariants.{Up}
+use Rattle.ldc_queue.specs.OneStream.{IsFront}
+use Rattle.ldc_queue.specs.Transcript.{Turn}
+use Rattle.vio_handshake.specs.declared.session.Offer.{Offer}
+use Rattle.vio_handshake.specs.Rules.{is_declined, sid_fault}
+use Rattle.vio_tag.specs.declared.message.Message.{Message}
+use Rattle.vio_tag.specs.declared.message.MsgBody.{MsgBody}
+use Rattle.vio_tag.specs.declared.message.MsgBody.TheVariants.{DringData, Mcast}
+use Rattle.vio_tag.specs.Spelling.{SpellsBody, SpellsMessage, addresses_at, envelope_at, envelope_code}
+use Rattle.vio_tag.specs.declared.cause.Cause.{Cause}
+use Rattle.vio_tag.specs.declared.cause.Cause.TheVariants as the_cause
+use Rattle.channel_model.specs.Sayings.{heard, said}
+use Rattle.channel_laws.proofs.HandshakePlaces.{IsOwn, deal}
+use Rattle.channel_laws.proofs.HandshakesPlaced.{envelope_reads, next_own, own_code}
+use Rattle.channel_laws.specs.EndStep.{IsOfSession}
+use Rattle.channel_laws.specs.Sides.{Sides}
+use Rattle.port_model.specs.Groups.{groups_after}
+use Rattle.port_model.specs.NetEndState.{GroupsReply, NetEndState, NetSession, with_session}
+use Rattle.port_model.specs.NetEndTaking.{GoesOn, NetTake, active, hears_message, in_session, reads, replying, sid_first, takes_groups}
+use Rattle.port_model.specs.Spoken.{addresses_of, count_of, set_of, seven_of}
+use Rattle.port_laws.proofs.HearsIn.{HearsOne, OwnRead, decodes_as, own_read}
+use Rattle.port_laws.proofs.MessageDoes.{Acks, Asks, Declines, MessageDoes, Names, Told}
+use Rattle.port_laws.proofs.Outbox.{MessageFits, is_groups}
+use Rattle.port_laws.proofs.PeerOpens.{Talks}
+use Rattle.port_laws.proofs.Talking.{ReplyAgrees}
+
+-- THE NEXT MESSAGE is one of the session, and is read as that
+pub next_is_own : (asks answers : Offer) (role : Role) (s : Sides) (bytes : List ℕ) → (talks : Talks asks answers role s) → s.mine.state ≡ Up → s.mine.core.is_open ≡ true → s.theirs.state ≡ Up
+    → IsFront (heard s.mine.turns ++ bytes ∷ []) (said s.theirs.turns) → IsOwn (deal asks answers talks.meets.handshakes.sid) bytes
+next_is_own asks answers role s bytes talks up opened other_up front =
+    next_own asks answers role s bytes (record { mine = talks.mine; theirs = talks.theirs }) talks.meets.handshakes up opened other_up front
+
+fitting_long : (role : Role) (sid : ℕ) (bytes : List ℕ) → MessageFits role sid bytes → (envelope_at bytes ≡ 0x0042) ⊎ (envelope_at bytes ≡ 0x0101) → length bytes ≡ 56
+fitting_long role sid bytes fits (inl is) = (fits.range is).long
+fitting_long role sid bytes fits (inr is) = (fits.groups is).long
+
+pub next_read : (asks answers : Offer) (role r : Role) (s : Sides) (bytes : List ℕ) (sid : ℕ) → (talks : Talks asks answers role s) → s.mine.state ≡ Up → s.mine.core.is_open ≡ true → s.theirs.state ≡ Up
+    → IsFront (heard s.mine.turns ++ bytes ∷ []) (said s.theirs.turns) → MessageFits r sid bytes → OwnRead bytes talks.meets.handshakes.sid
+next_read asks answers role r s bytes sid talks up opened other_up front fits =
+    let own = next_is_own asks answers role s bytes talks up opened other_up front in
+    let envelope : envelope_at bytes ≡ envelope_code own.message.body = ap envelope_at own.is ∙ envelope_reads own.message own.body in
+    own_read (deal asks answers talks.meets.handshakes.sid) bytes own talks.meets.handshakes.small
+    (fitting_long r sid bytes fits (by_code (envelope_code own.message.body) envelope (own_code own.message.body own.body)))
+  where
+    by_code : (code : ℕ) → envelope_at bytes ≡ code → (code ≡ 0x0042) ⊎ (code ≡ 0x0101) → (envelope_at bytes ≡ 0x0042) ⊎ (envelope_at bytes ≡ 0x0101)
+    by_code code is (inl one) = inl (is ∙ one)
+    by_code code is (inr two) = inr (is ∙ two)
+
+-- so it is taken as the session does
+pub record InSession (role : Role) (s : NetEndState) (p : NetSession) (memory : List ℕ) (message : Message) (take : NetTake) : Type 0 where
+  pub hears : take ≡ hears_message role s memory (Some p) message
+  pub is : take ≡ in_session role s p memory message message.subtype message.body
+
+same_number : (n : ℕ) → sid_fault (Some n) n ≡ None
+same_number n = ap (λ (b : Bool). if b then None else Some (the_cause.Sid n n)) (eq-eqb n n refl)
+
+pub in_own_session : (role : Role) (s : NetEndState) (p : NetSession) (memory packet : List ℕ) (turns : List Turn) (take : NetTake) (sid : ℕ) → (one : HearsOne role s memory turns packet take)
+    → s.session ≡ Some p → s.handshake.sid ≡ Some sid → (own : OwnRead one.bytes sid) → InSession role (record s { link = one.link }) p memory own.message take
+in_own_session role s p memory packet turns take sid one session knows own =
+    let decoded : one.decoded ≡ Ok own.message = decodes_as one.bytes own.message one.decoded own.form own.spells one.decodes in
+    let fault : sid_fault s.handshake.sid own.message.sid ≡ None =
+    ap (λ (n : ℕ). sid_fault s.handshake.sid n) own.sid_is ∙ ap (λ (x : Option ℕ). sid_fault x sid) knows ∙ same_number sid in
+    let hears : take ≡ hears_message role (record s { link = one.link }) memory (Some p) own.message =
+    one.is ∙ ap (reads role (record s { link = one.link }) memory) decoded ∙ ap (λ (o : Option NetSession). hears_message role (record s { link = one.link }) memory o own.message) session in
+    record {
+      hears = hears;
+      is = hears ∙ ap (λ (o : Option Cause). sid_first o (in_session role (record s { link = one.link }) p memory own.message own.message.subtype own.message.body)) fault;
+    }
+
+-- WHAT THE GUEST NOTES
+pub record GuestNotes (s t : NetEndState) (p q : NetSession) (m : List ℕ) : Type 0 where
+  pub session : t.session ≡ Some q
+  pub groups : t.groups ≡ s.groups
+  pub handshake : t.handshake ≡ s.handshake
+  pub sends : t.link.to_send ≡ s.link.to_send
+  pub reply : q.reply ≡ p.reply
+  pub told : is_groups m ≡ true → q.telling ≡ false
+  pub same : is_groups m ≡ false → q.telling ≡ p.telling
+
+range_groups : (m : List ℕ) → envelope_at m ≡ 0x0042 → is_groups m ≡ false
+range_groups m is = ap (λ (n : ℕ). n == 0x0101) is
+
+groups_groups : (m : List ℕ) → envelope_at m ≡ 0x0101 → is_groups m ≡ true
+groups_groups m is = ap (λ (n : ℕ). n == 0x0101) is
+
+wrong : {X : Type 0} (b : Bool) → b ≡ true → b ≡ false → X
+wrong {X} b one two = let never : true ≡ false = sym one ∙ two in absurd (cc never)
+
+of_session : {X : Type 0} (s : Subtype) (b : MsgBody) → IsOfSession b → is_declined s b ≡ true → X
+of_session {X} Info (DringData seq ident start end state) of is = absurd (cc is)
+of_session {X} Ack (DringData seq ident start end state) of is = absurd (cc is)
+of_session {X} Nack (DringData seq ident start end state) of is = absurd (cc is)
+of_session {X} Info (Mcast set count addresses) of is = absurd (cc is)
+of_session {X} Ack (Mcast set count addresses) of is = absurd (cc is)
+of_session {X} Nack (Mcast set count addresses) of is = absurd (cc is)
+of_session {X} s _ of is = absurd of
+
+pub guest_notes : (s t : NetEndState) (p : NetSession) (memory new m : List ℕ) (message : Message) → IsOfSession message.body → SpellsMessage m message
+    → MessageDoes Initiator s p memory message.subtype message.body t new → (q : NetSession) × GuestNotes s t p q m
+guest_notes s t p memory new m message of spells (Asks seq ident start end state info body place same is) =
+    let range : envelope_at m ≡ 0x0042 = spells.envelope ∙ ap envelope_code body in (
+      active p seq start,
+      record {
+        session = ap (λ (x : NetEndState). x.session) is;
+        groups = ap (λ (x : NetEndState). x.groups) is;
+        handshake = ap (λ (x : NetEndState). x.handshake) is;
+        sends = ap (λ (x : NetEndState). x.link.to_send) is;
+        reply = refl;
+        told = λ one. wrong (is_groups m) one (range_groups m range);
+        same = λ none. refl;
+      },
+    )
+guest_notes s t p memory new m message of spells (Acks seq ident start end state ack body begins inside within done same is) =
+    let range : envelope_at m ≡ 0x0042 = spells.envelope ∙ ap envelope_code body in (
+      _,
+      record {
+        session = ap (λ (x : NetEndState). x.session) is;
+        groups = ap (λ (x : NetEndState). x.groups) is;
+        handshake = ap (λ (x : NetEndState). x.handshake) is;
+        sends = ap (λ (x : NetEndState). x.link.to_send) is;
+        reply = refl;
+        told = λ one. wrong (is_groups m) one (range_groups m range);
+        same = λ none. refl;
+      },
+    )
+guest_notes s t p memory new m message of spells (Names set count addresses groups reply answers role info body same is) = absurd (cc role)
+guest_notes s t p memory new m message of spells (Told set count addresses role ack body telling same is) =
+    let groups : envelope_at m ≡ 0x0101 = spells.envelope ∙ ap envelope_code body in (
+      record p { telling = false },
+      record {
+        session = ap (λ (x : NetEndState). x.session) is;
+        groups = ap (λ (x : NetEndState). x.groups) is;
+        handshake = ap (λ (x : NetEndState). x.handshake) is;
+        sends = ap (λ (x : NetEndState). x.link.to_send) is;
+        reply = refl;
+        told = λ one. refl;
+        same = λ none. wrong (is_groups m) (groups_groups m groups) none;
+      },
+    )
+guest_notes s t p memory new m message of spells (Declines h declined same is) = of_session message.subtype message.body of declined
+
+-- WHAT THE SWITCH'S END NOTES of a range
+pub record HubNotes (s t : NetEndState) (p q : NetSession) (m : List ℕ) : Type 0 where
+  pub session : t.session ≡ Some q
+  pub handshake : t.handshake ≡ s.handshake
+  pub sends : t.link.to_send ≡ s.link.to_send
+  pub range : is_groups m ≡ false
+  pub groups : t.groups ≡ s.groups
+  pub reply : q.reply ≡ p.reply
+
+-- and of groups
+pub record HubLearns (s t : NetEndState) (q : NetSession) (m : List ℕ) : Type 0 where
+  pub session : t.session ≡ Some q
+  pub handshake : t.handshake ≡ s.handshake
+  pub sends : t.link.to_send ≡ s.link.to_send
+  pub named : is_groups m ≡ true
+  pub groups : t.groups ≡ addresses_of m
+  pub answer : GroupsReply
+  pub reply : q.reply ≡ Some answer
+  pub agrees : ReplyAgrees answer
+
+range_notes : (s t : NetEndState) (p q : NetSession) (m : List ℕ) → envelope_at m ≡ 0x0042 → q.reply ≡ p.reply → t.session ≡ Some q → t.handshake ≡ s.handshake → t.link.to_send ≡ s.link.to_send
+    → t.groups ≡ s.groups → HubNotes s t p q m
+range_notes s t p q m range reply session handshake sends groups =
+    record { session = session; handshake = handshake; sends = sends; range = range_groups m range; groups = groups; reply = reply }
+
+addresses_long : (n at : ℕ) (bytes : List ℕ) → at + 6 * n ≤ length bytes → length (flat_map (λ (address : List ℕ). address) (addresses_at at n bytes)) ≡ 6 * n
+addresses_long zero at bytes within = omega arith
+addresses_long (suc n) at bytes within =
+    let rest = addresses_long n (at + 6) bytes (omega (arith, within)) in
+    let all = length-append (first_of 6 (drop at bytes)) (flat_map (λ (address : List ℕ). address) (addresses_at (at + 6) n bytes)) in
+    omega (arith, rest, all, length-take 6 (drop at bytes), length-drop at bytes, within)
+
+pub hub_notes : (s t : NetEndState) (p : NetSession) (memory new m : List ℕ) (message : Message) (opens : Bool) → IsOfSession message.body → SpellsMessage m message → length m ≡ 56
+    → (envelope_at m ≡ 0x0101 → groups_after (set_of m) (count_of m) (seven_of m) s.groups ≡ Some (addresses_of m))
+    → GoesOn t opens new ≡ in_session Responder s p memory message message.subtype message.body → MessageDoes Responder s p memory message.subtype message.body t new
+    → (q : NetSession) × (HubNotes s t p q m ⊎ HubLearns s t q m)
+hub_notes s t p memory new m message opens of spells long learns goes (Asks seq ident start end state info body place same is) =
+    (active p seq start, inl (range_notes s t p (active p seq start) m (spells.envelope ∙ ap envelope_code body) refl (ap (λ (x : NetEndState). x.session) is) (ap (λ (x : NetEndState). x.handshake) is)
+    (ap (λ (x : NetEndState). x.link.to_send) is) (ap (λ (x : NetEndState). x.groups) is)))
+hub_notes s t p memory new m message opens of spells long learns goes (Acks seq ident start end state ack body begins inside within done same is) =
+    (_, inl (range_notes s t p _ m (spells.envelope ∙ ap envelope_code body) refl (ap (λ (x : NetEndState). x.session) is) (ap (λ (x : NetEndState). x.handshake) is)
+    (ap (λ (x : NetEndState). x.link.to_send) is) (ap (λ (x : NetEndState). x.groups) is)))
+hub_notes s t p memory new m message opens of spells long learns goes (Names set count addresses groups reply answers role info body same is) =
+    let named : envelope_at m ≡ 0x0101 = spells.envelope ∙ ap envelope_code body in
+    let fields : SpellsBody m (Mcast set count addresses) = subst (SpellsBody m) body spells.body in
+    let known : groups_after set count addresses s.groups ≡ Some (addresses_of m) =
+    ap (λ (n : ℕ). groups_after n count addresses s.groups) fields.0 ∙ ap (λ (n : ℕ). groups_after (set_of m) n addresses s.groups) fields.1
+    ∙ ap (λ (xs : List (List ℕ)). groups_after (set_of m) (count_of m) xs s.groups) fields.2 ∙ learns named in
+    let answer : GroupsReply = record { subtype = Ack; set = set; count = count; addresses = addresses } in
+    let takes : GoesOn t opens new ≡ GoesOn (with_session (replying answer p) (record s { groups = addresses_of m })) false memory =
+    goes ∙ ap (λ (x : Subtype). in_session Responder s p memory message x message.body) info ∙ ap (in_session Responder s p memory message Info) body
+    ∙ ap (takes_groups s p memory set count addresses) known in
+    let left : t ≡ with_session (replying answer p) (record s { groups = addresses_of m }) = cc takes in (
+      replying answer p,
+      inr (record {
+        session = ap (λ (x : NetEndState). x.session) left;
+        handshake = ap (λ (x : NetEndState). x.handshake) left;
+        sends = ap (λ (x : NetEndState). x.link.to_send) left;
+        named = groups_groups m named;
+        groups = ap (λ (x : NetEndState). x.groups) left;
+        answer = answer;
+        reply = refl;
+        agrees = record {
+          subtype = refl;
+          long = ap (λ (xs : List (List ℕ)). length (flat_map (λ (address : List ℕ). address) xs)) fields.2 ∙ addresses_long 7 10 m (omega (arith, long));
+        };
+      }),
+    )
+hub_notes s t p memory new m message opens of spells long learns goes (Told set count addresses role ack body telling same is) = absurd (cc role)
+hub_notes s t p memory new m message opens of spells long learns goes (Declines h declined same is) = of_session message.subtype message.body of declined

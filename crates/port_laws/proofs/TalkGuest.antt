@@ -1,0 +1,347 @@
+-- A step of a guest keeps what is known of all that is on the way between it and the switch's end.
+use Rattle.std.proofs.Common.{◌≡◌, ◌≢◌, ℕ, ◌^◌, ◌<◌, ◌≤◌, Bool, true, false, Option, Some, None, List, [], ◌∷◌, ◌++◌, length, drop, inl, inr, refl, sym, subst, ap, ◌∙◌, arith}
+use Rattle.std.specs.Prelude.{is_none, is_some, zero, suc}
+use Rattle.std.proofs.lemmas.List.{append-nil}
+use Rattle.ldc_link.specs.declared.phase.Role.{Role}
+use Rattle.ldc_link.specs.declared.phase.Role.TheVariants.{Initiator, Responder}
+use Rattle.ldc_link.specs.LinkState.{is_up}
+use Rattle.ldc_queue.specs.declared.end.End.TheVariants.{A, B}
+use Rattle.ldc_queue.specs.OneStream.{IsFront}
+use Rattle.ldc_queue.specs.Transcript.{Heard, Said, Turn}
+use Rattle.vio_handshake.specs.declared.handshake.Handshake.{Handshake}
+use Rattle.channel_model.specs.Sayings.{heard, said}
+use Rattle.channel_model.specs.WireAt.{IsUp}
+use Rattle.channel_laws.specs.Sides.{sides_of, swapped}
+use Rattle.channel_laws.specs.Standing.{EndStands}
+use Rattle.port_model.proofs.Refuting.{none_some, true_false}
+use Rattle.port_model.proofs.Ruling.{says_of}
+use Rattle.port_model.specs.NetEndPutting.{net_holds, opened_by_put}
+use Rattle.port_model.specs.NetEndRule.{Fetches, Publishes, port_rule}
+use Rattle.port_model.specs.NetEndState.{NetEndState, NetSession, first_id, opened_session}
+use Rattle.port_model.specs.NetEndStep.{Blocked, Frame, Idle, Joined, NetAnswer, NetLeft, Published, Reset, Sent, Took, published, taken}
+use Rattle.port_model.specs.NetEndTaking.{GoesOn, NetTakes, Resets}
+use Rattle.port_model.specs.NetEvent.{Steps}
+use Rattle.port_model.specs.NetLaneState.{NetLaneState, NetShape, seen_at, reach_of}
+use Rattle.port_model.specs.PortLog.{PortLog, after}
+use Rattle.port_model.specs.PortState.{OnLane, PortState}
+use Rattle.port_laws.specs.Counted.{left_of, unsaid}
+use Rattle.port_laws.specs.NetCore.{lane_core, net_core, one_if}
+use Rattle.port_laws.proofs.EndCounting.{empty_unsaid}
+use Rattle.port_laws.proofs.FormsOwn.{MayForm, PutsIt, formed_by, opens_unsaid, sends_own}
+use Rattle.port_laws.proofs.HearsIn.{AllAgreed, Hears, OwnRead, hears_in, mine_agreed, theirs_agreed}
+use Rattle.port_laws.proofs.MessageDoes.{Does, TakeDoes, message_does}
+use Rattle.port_laws.proofs.Outbox.{listed, low_fits, low_none, low_tells, outbox, unheard}
+use Rattle.port_laws.proofs.PortTalks.{PortTalks, answers_of, asks_of}
+use Rattle.port_laws.proofs.PutCounts.{not_some, own_session, owing_left, put_end}
+use Rattle.port_laws.proofs.RingActs.{Acts, acting_at, acts_up_at, open_both, turned_at}
+use Rattle.port_laws.proofs.RingEvents.{Goes, turns_at, turns_now}
+use Rattle.port_laws.proofs.SessionsHeard.{grown_most, said_grown}
+use Rattle.port_laws.proofs.StepCounts.{Acting}
+use Rattle.port_laws.proofs.TakesIn.{GuestNotes, InSession, guest_notes, in_own_session, next_read}
+use Rattle.port_laws.proofs.Talking.{RepliesAgree, TalkIn, owed_replies, guest_hears, reply_in, same_talk}
+use Rattle.port_laws.proofs.TalkSteps.{GuestForms, guest_forms, outbox_heard, outbox_put}
+use Rattle.port_laws.proofs.TookCounts.{free_empty, session_open, session_up}
+use Rattle.port_laws.proofs.WayMoves.{EachLow, Plain}
+use Rattle.port_laws.proofs.WayPlain.{closed_plain, open_said}
+use Rattle.port_laws.proofs.WayRuns.{guest_goes, hub_none, opening_sent, peer_was_up}
+
+-- BOTH ENDS, and what they said and heard
+abbrev pub Between : NetEndState → NetEndState → List Turn → List Turn → NetSession → Type 0
+Between guest hub client server p =
+    TalkIn guest.handshake.draft.sid guest.groups p (outbox guest client server) (outbox hub server client) hub.session hub.groups
+
+abbrev pub TalkStands : NetLaneState → PortLog → Type 0
+TalkStands u l = (p : NetSession) → IsUp A u.wire.wire → IsUp B u.wire.wire → u.guest.session ≡ Some p → Between u.guest u.hub l.transcript.client l.transcript.server p
+
+-- an end of a guest as it is now
+pub guest_as : (s t : NetEndState) (q : NetSession) (asks now answers : List (List ℕ)) (session : Option NetSession) (known : List (List ℕ)) → t.groups ≡ s.groups → t.handshake ≡ s.handshake → now ≡ asks
+    → TalkIn s.handshake.draft.sid s.groups q asks answers session known → TalkIn t.handshake.draft.sid t.groups q now answers session known
+guest_as s t q asks now answers session known groups handshake same talk =
+    subst (λ (h : Handshake). TalkIn h.draft.sid t.groups q now answers session known) (sym handshake)
+    (subst (λ (xs : List (List ℕ)). TalkIn s.handshake.draft.sid xs q now answers session known) (sym groups)
+    (subst (λ (xs : List (List ℕ)). TalkIn s.handshake.draft.sid s.groups q xs answers session known) (sym same) talk))
+
+same_left : (s t : NetEndState) → t.handshake ≡ s.handshake → t.link.to_send ≡ s.link.to_send → unsaid t ≡ unsaid s
+same_left s t handshake sends =
+    ap (λ (h : Handshake). left_of (is_none h.owed) t.link.to_send) handshake ∙ ap (left_of (is_none s.handshake.owed)) sends
+
+pub same_outbox : (s t : NetEndState) (mine theirs : List Turn) → t.handshake ≡ s.handshake → t.link.to_send ≡ s.link.to_send → outbox t mine theirs ≡ outbox s mine theirs
+same_outbox s t mine theirs handshake sends = ap (λ (o : Option (List ℕ)). unheard (said mine) (heard theirs) ++ listed o) (same_left s t handshake sends)
+
+-- THE SESSION'S NUMBER, where nobody forged
+pub record GuestSid (u : NetLaneState) : Type 0 where
+  pub agreed : AllAgreed u.guest.handshake u.guest.handshake.draft.sid
+  pub small : u.guest.handshake.draft.sid < 2 ^ 32
+
+pub guest_sid : (shape : NetShape) (u : NetLaneState) (l : PortLog) → PortTalks shape (lane_core u) l → IsUp A u.wire.wire → is_some u.guest.session ≡ true → GuestSid u
+guest_sid shape u l talks up opened =
+    let one = talks.talks A in
+    let agreed = mine_agreed (asks_of shape) (answers_of shape) Initiator (sides_of (lane_core u) l.transcript) one up opened in
+    record {
+      agreed = subst (AllAgreed u.guest.handshake) (sym agreed.draft) agreed;
+      small = subst (λ (n : ℕ). n < 2 ^ 32) (sym agreed.draft) one.meets.handshakes.small;
+    }
+
+pub hub_agreed : (shape : NetShape) (u : NetLaneState) (l : PortLog) → PortTalks shape (lane_core u) l → IsUp A u.wire.wire → is_some u.guest.session ≡ true → IsUp B u.wire.wire → is_some u.hub.session ≡ true
+    → AllAgreed u.hub.handshake u.guest.handshake.draft.sid
+hub_agreed shape u l talks up opened other_up other_opened =
+    let one = talks.talks A in
+    let agreed = mine_agreed (asks_of shape) (answers_of shape) Initiator (sides_of (lane_core u) l.transcript) one up opened in
+    subst (AllAgreed u.hub.handshake) (sym agreed.draft) (theirs_agreed (asks_of shape) (answers_of shape) Initiator (sides_of (lane_core u) l.transcript) one other_up other_opened)
+
+-- AN END WITHOUT A SESSION says what is low
+low_drop : (n : ℕ) (messages : List (List ℕ)) → EachLow messages → EachLow (drop n messages)
+low_drop zero messages low = low
+low_drop (suc n) [] low = tt
+low_drop (suc n) (m ∷ messages) low = low_drop n messages low.1
+
+pub low_outbox : (s : NetEndState) (mine theirs : List Turn) → EachLow (said mine) → unsaid s ≡ None → EachLow (outbox s mine theirs)
+low_outbox s mine theirs low none =
+    let u = unheard (said mine) (heard theirs) in
+    subst EachLow (sym (ap (λ (o : Option (List ℕ)). u ++ listed o) none ∙ append-nil u)) (low_drop (length (heard theirs)) (said mine) low)
+
+pub shut_unsaid : (role : Role) (s : NetEndState) (turns : List Turn) → EndStands role (net_core role s) turns → s.session ≡ None → unsaid s ≡ None
+shut_unsaid role s turns stands none = by_up (is_up s.link) refl
+  where
+    by_send : (b : Bool) → is_none s.handshake.owed ≡ b → is_up s.link ≡ true → (bytes : List ℕ) → s.link.to_send ≡ bytes → unsaid s ≡ None
+    by_send b own up [] is = empty_unsaid s is
+    by_send false own up (byte ∷ bytes) is = owing_left (is_none s.handshake.owed) s.link.to_send own
+    by_send true own up (byte ∷ bytes) is =
+        let some : 1 ≤ length s.link.to_send = omega (arith, ap length is) in
+        let there = own_session role s turns stands own up some in
+        none_some there.0 (sym none ∙ there.1)
+
+    by_up : (b : Bool) → is_up s.link ≡ b → unsaid s ≡ None
+    by_up false down = empty_unsaid s (stands.below down).left
+    by_up true up = by_send (is_none s.handshake.owed) refl up s.link.to_send refl
+
+-- WHAT NO SESSION SAID YET
+low_talk : (sid : ℕ) (groups : List (List ℕ)) (q : NetSession) (asks answers : List (List ℕ)) (session : Option NetSession) (known : List (List ℕ)) → EachLow asks → EachLow answers → session ≡ None
+    → known ≡ [] → q.telling ≡ false → q.reply ≡ None → TalkIn sid groups q asks answers session known
+low_talk sid groups q asks answers session known asks_low answers_low none nothing telling reply =
+    let owed : owed_replies session ≡ 0 = ap (λ (o : Option NetSession). owed_replies o) none in
+    subst (TalkIn sid groups q asks answers session) (sym nothing)
+    (record {
+      asks_fit = low_fits Initiator sid asks asks_low;
+      answers_fit = low_fits Responder sid answers answers_low;
+      counted = omega (arith, low_none asks asks_low, low_none answers answers_low, owed, ap one_if telling);
+      tells = low_tells groups 0 asks asks_low;
+      front = refl;
+      reply = subst (λ (o : Option NetSession). RepliesAgree (reply_in o)) (sym none) tt;
+      quiet = reply;
+    })
+
+pub one_session : {X : Type 0} (o : Option X) (x y : X) → o ≡ Some x → o ≡ Some y → x ≡ y
+one_session {X} o x y one two = let both : Some x ≡ Some y = sym one ∙ two in cc both
+
+-- a session that opens tells nothing yet
+opened_fresh : (s : NetEndState) (base : ℕ) (q : NetSession) → s.session ≡ Some q → s.session ≡ Some (opened_session base) → (q.telling ≡ false) × (q.reply ≡ None)
+opened_fresh s base q now is =
+    let same : q ≡ opened_session base = one_session s.session q (opened_session base) now is in (ap (λ (x : NetSession). x.telling) same, ap (λ (x : NetSession). x.reply) same)
+
+-- A STEP IN SESSION
+module _ (shape : NetShape) (u t : PortState) (l : PortLog) (left : NetLeft) (p q : NetSession) (session : u.lane.guest.session ≡ Some p) (now : left.end.session ≡ Some q) (other_up : IsUp B u.lane.wire.wire)
+    (was : Between u.lane.guest u.lane.hub l.transcript.client l.transcript.server p) where
+  abbrev s : NetEndState
+  s = u.lane.guest
+
+  abbrev Now : List Turn → Type 0
+  Now turns = Between left.end u.lane.hub turns l.transcript.server q
+
+  some_same : {X : Type 0} (o : Option X) (x y : X) → o ≡ Some x → o ≡ Some y → x ≡ y
+  some_same {X} o x y one two = let both : Some x ≡ Some y = sym one ∙ two in cc both
+
+  -- with the same link, handshake and groups
+  quiet_now : (now_is : NetSession) → left.end.session ≡ Some now_is → left.end.groups ≡ s.groups → left.end.handshake ≡ s.handshake → left.end.link.to_send ≡ s.link.to_send → now_is.telling ≡ p.telling
+      → now_is.reply ≡ p.reply → Now l.transcript.client
+  quiet_now now_is is groups handshake sends telling reply =
+      let same : now_is ≡ q = some_same left.end.session now_is q is now in
+      guest_as s left.end q (outbox s l.transcript.client l.transcript.server) (outbox left.end l.transcript.client l.transcript.server) (outbox u.lane.hub l.transcript.server l.transcript.client)
+      u.lane.hub.session u.lane.hub.groups groups handshake (same_outbox s left.end l.transcript.client l.transcript.server handshake sends)
+      (same_talk s.handshake.draft.sid s.groups p q (outbox s l.transcript.client l.transcript.server) (outbox u.lane.hub l.transcript.server l.transcript.client) u.lane.hub.session u.lane.hub.session
+      u.lane.hub.groups (ap (λ (x : NetSession). x.telling) (sym same) ∙ telling) (ap (λ (x : NetSession). x.reply) (sym same) ∙ reply) refl was)
+
+  may_form : GuestSid u.lane → (acting : Acting Initiator shape.slots [] s l.guest l.transcript.client) → MayForm Initiator s.handshake.draft.sid s p
+  may_form sid acting = record { session = session; agreed = sid.agreed; small = sid.small; empty = λ quiet. free_empty Initiator s l.transcript.client acting.ends quiet }
+
+  forms_now : (held : NetEndState) → Acting Initiator shape.slots [] s l.guest l.transcript.client → GuestSid u.lane
+      → net_holds (port_rule Initiator s (seen_at A u.lane)) s (reach_of A u.lane) ≡ Some held → GuestForms held s s.handshake.draft.sid l.transcript.client l.transcript.server (outbox u.lane.hub l.transcript.server l.transcript.client) u.lane.hub.session u.lane.hub.groups
+  forms_now held acting sid holds =
+      guest_forms s held p s.handshake.draft.sid l.transcript.client l.transcript.server (outbox u.lane.hub l.transcript.server l.transcript.client) u.lane.hub.session u.lane.hub.groups session
+      acting.counts.groups sid.small refl
+      (formed_by Initiator s.handshake.draft.sid s (seen_at A u.lane) (reach_of A u.lane) (port_rule Initiator s (seen_at A u.lane)) held p (may_form sid acting) refl holds) was
+
+  -- it takes a packet
+  took_now : (packet : List ℕ) (opens : Bool) → Acting Initiator shape.slots [] s l.guest l.transcript.client → PortTalks shape (lane_core u.lane) l → IsUp A u.lane.wire.wire
+      → IsFront (heard (Heard packet ∷ l.transcript.client)) (said l.transcript.server) → NetTakes Initiator s u.lane.guest_memory packet (GoesOn left.end opens left.own) → Now (Heard packet ∷ l.transcript.client)
+  took_now packet opens acting talks up front takes =
+      by_hears (hears_in Initiator s l.transcript.client u.lane.guest_memory packet (GoesOn left.end opens left.own) acting.ends (session_up Initiator s l.transcript.client p acting.ends session) takes)
+    where
+      opened : is_some s.session ≡ true
+      opened = ap is_some session
+
+      by_hears : Hears Initiator s u.lane.guest_memory l.transcript.client packet (GoesOn left.end opens left.own) → Now (Heard packet ∷ l.transcript.client)
+      by_hears (inl none) =
+          let took : GoesOn left.end opens left.own ≡ GoesOn (record s { link = none.link }) false u.lane.guest_memory = none.is in
+          let same : left.end ≡ record s { link = none.link } = cc took in
+          let here : Now l.transcript.client =
+          quiet_now p (ap (λ (x : NetEndState). x.session) same ∙ session) (ap (λ (x : NetEndState). x.groups) same) (ap (λ (x : NetEndState). x.handshake) same)
+          (ap (λ (x : NetEndState). x.link.to_send) same ∙ none.sends) refl refl in
+          subst (λ (xs : List (List ℕ)). TalkIn left.end.handshake.draft.sid left.end.groups q (outbox left.end l.transcript.client l.transcript.server)
+          (unheard (said l.transcript.server) xs ++ listed (unsaid u.lane.hub)) u.lane.hub.session u.lane.hub.groups) (sym none.messages) here
+      by_hears (inr (inl one)) =
+          let sides = sides_of (lane_core u.lane) l.transcript in
+          let talk = talks.talks A in
+          let grown : IsFront (heard l.transcript.client ++ one.bytes ∷ []) (said l.transcript.server) = subst (λ (xs : List (List ℕ)). IsFront xs (said l.transcript.server)) one.messages front in
+          let first = outbox_heard u.lane.hub l.transcript.server l.transcript.client packet one.bytes one.messages grown in
+          let before : TalkIn s.handshake.draft.sid s.groups p (outbox s l.transcript.client l.transcript.server) (one.bytes ∷ outbox u.lane.hub l.transcript.server (Heard packet ∷ l.transcript.client))
+          u.lane.hub.session u.lane.hub.groups =
+          subst (λ (xs : List (List ℕ)). TalkIn s.handshake.draft.sid s.groups p (outbox s l.transcript.client l.transcript.server) xs u.lane.hub.session u.lane.hub.groups) first was in
+          let own : OwnRead one.bytes talk.meets.handshakes.sid =
+          next_read (asks_of shape) (answers_of shape) Initiator Responder sides one.bytes s.handshake.draft.sid talk up opened other_up grown before.answers_fit.0 in
+          let agreed = mine_agreed (asks_of shape) (answers_of shape) Initiator sides talk up opened in
+          let in_it : InSession Initiator (record s { link = one.link }) p u.lane.guest_memory own.message (GoesOn left.end opens left.own) =
+          in_own_session Initiator s p u.lane.guest_memory packet l.transcript.client (GoesOn left.end opens left.own) talk.meets.handshakes.sid one session agreed.knows own in
+          let does : Does Initiator (record s { link = one.link }) p u.lane.guest_memory own.message.subtype own.message.body left.end opens left.own =
+          subst (TakeDoes Initiator (record s { link = one.link }) p u.lane.guest_memory own.message.subtype own.message.body) (sym in_it.hears)
+          (message_does Initiator (record s { link = one.link }) p u.lane.guest_memory own.message (session_open Initiator s l.transcript.client p acting.ends session)) in
+          let noted = guest_notes (record s { link = one.link }) left.end p u.lane.guest_memory left.own one.bytes own.message own.of own.spells does.does in
+          let notes : GuestNotes (record s { link = one.link }) left.end p noted.0 one.bytes = noted.1 in
+          let same : noted.0 ≡ q = some_same left.end.session noted.0 q notes.session now in
+          guest_as s left.end q (outbox s l.transcript.client l.transcript.server) (outbox left.end (Heard packet ∷ l.transcript.client) l.transcript.server)
+          (outbox u.lane.hub l.transcript.server (Heard packet ∷ l.transcript.client)) u.lane.hub.session u.lane.hub.groups notes.groups notes.handshake
+          (same_outbox s left.end l.transcript.client l.transcript.server notes.handshake (notes.sends ∙ one.sends))
+          (subst (λ (x : NetSession). TalkIn s.handshake.draft.sid s.groups x (outbox s l.transcript.client l.transcript.server)
+          (outbox u.lane.hub l.transcript.server (Heard packet ∷ l.transcript.client)) u.lane.hub.session u.lane.hub.groups) same
+          (guest_hears s.handshake.draft.sid s.groups p noted.0 (outbox s l.transcript.client l.transcript.server) (outbox u.lane.hub l.transcript.server (Heard packet ∷ l.transcript.client))
+          u.lane.hub.session u.lane.hub.groups one.bytes notes.told notes.same notes.reply before))
+      by_hears (inr (inr refused)) = let never : GoesOn left.end opens left.own ≡ Resets refused.cause = refused.is in absurd (cc never)
+
+-- EACH ANSWER in session
+guest_in : (shape : NetShape) (u t : PortState) (l : PortLog) (answer : NetAnswer) (left : NetLeft) (p q : NetSession) → Acts shape A u t l answer left → Goes answer → u.lane.guest.session ≡ Some p
+    → left.end.session ≡ Some q → IsUp A u.lane.wire.wire → IsUp B u.lane.wire.wire → IsFront (heard (turns_now answer l.transcript.client)) (said l.transcript.server)
+    → Between u.lane.guest u.lane.hub l.transcript.client l.transcript.server p → Between left.end u.lane.hub (turns_now answer l.transcript.client) l.transcript.server q
+guest_in shape u t l (Joined lost) left p q acts goes session now up other front was = absurd goes
+guest_in shape u t l (Reset cause packet lost) left p q acts goes session now up other front was = absurd goes
+guest_in shape u t l Idle left p q acts goes session now up other front was =
+    let same : left.end ≡ u.lane.guest = ap (λ (x : NetLeft). x.end) acts.step.1 in
+    quiet_now shape u t l left p q session now other was p (ap (λ (x : NetEndState). x.session) same ∙ session) (ap (λ (x : NetEndState). x.groups) same) (ap (λ (x : NetEndState). x.handshake) same)
+    (ap (λ (x : NetEndState). x.link.to_send) same) refl refl
+guest_in shape u t l (Published id) left p q acts goes session now up other front was =
+    let step = acts.step in
+    let says = says_of Initiator u.lane.guest (seen_at A u.lane) (Publishes step.session step.frame) step.rule in
+    let same : left.end ≡ record u.lane.guest { session = Some (published step.session) } = ap (λ (x : NetLeft). x.end) step.is in
+    let here : step.session ≡ p = one_session u.lane.guest.session step.session p says.0.in_session.session session in
+    quiet_now shape u t l left p q session now other was (published step.session) (ap (λ (x : NetEndState). x.session) same) (ap (λ (x : NetEndState). x.groups) same)
+    (ap (λ (x : NetEndState). x.handshake) same) (ap (λ (x : NetEndState). x.link.to_send) same) (ap (λ (x : NetSession). x.telling) here) (ap (λ (x : NetSession). x.reply) here)
+guest_in shape u t l (Frame frame) left p q acts goes session now up other front was =
+    let step = acts.step in
+    let says = says_of Initiator u.lane.guest (seen_at A u.lane) (Fetches step.session step.activity) step.rule in
+    let same : left.end ≡ record u.lane.guest { session = Some (taken u.lane.guest step.session step.activity); last = frame } = ap (λ (x : NetLeft). x.end) step.is in
+    let here : step.session ≡ p = one_session u.lane.guest.session step.session p says.0.session session in
+    quiet_now shape u t l left p q session now other was (taken u.lane.guest step.session step.activity) (ap (λ (x : NetEndState). x.session) same) (ap (λ (x : NetEndState). x.groups) same)
+    (ap (λ (x : NetEndState). x.handshake) same) (ap (λ (x : NetEndState). x.link.to_send) same) (ap (λ (x : NetSession). x.telling) here) (ap (λ (x : NetSession). x.reply) here)
+guest_in shape u t l Blocked left p q acts goes session now up other front was =
+    let acting = acting_at shape A u l acts.finds up in
+    let sid = guest_sid shape u.lane l acts.finds.talks up (ap is_some session) in
+    let forms = forms_now shape u t l left p q session now other was left.end acting sid acts.step.0 in
+    let same : forms.q ≡ q = one_session left.end.session forms.q q forms.session_is now in
+    guest_as u.lane.guest left.end q (outbox left.end l.transcript.client l.transcript.server) (outbox left.end l.transcript.client l.transcript.server)
+    (outbox u.lane.hub l.transcript.server l.transcript.client) u.lane.hub.session u.lane.hub.groups forms.groups forms.handshake refl
+    (subst (λ (x : NetSession). TalkIn u.lane.guest.handshake.draft.sid u.lane.guest.groups x (outbox left.end l.transcript.client l.transcript.server)
+    (outbox u.lane.hub l.transcript.server l.transcript.client) u.lane.hub.session u.lane.hub.groups) same forms.talk)
+guest_in shape u t l (Sent packet opens) left p q acts goes session now up other front was =
+    let step = acts.step in
+    let acting = acting_at shape A u l acts.finds up in
+    let sid = guest_sid shape u.lane l acts.finds.talks up (ap is_some session) in
+    let forms = forms_now shape u t l left p q session now other was step.held acting sid step.holds in
+    let puts : PutsIt step.held left.end l.transcript.client packet =
+    sends_own Initiator shape.slots [] u.lane.guest l.guest l.transcript.client (seen_at A u.lane) u.lane.guest_memory (reach_of A u.lane) packet opens left forms.q acting step sid.agreed.owed forms.session_is in
+    let same : forms.q ≡ q = one_session left.end.session forms.q q (puts.session ∙ forms.session_is) now in
+    guest_as u.lane.guest left.end q (outbox step.held l.transcript.client l.transcript.server) (outbox left.end (Said packet ∷ l.transcript.client) l.transcript.server)
+    (outbox u.lane.hub l.transcript.server l.transcript.client) u.lane.hub.session u.lane.hub.groups (puts.groups ∙ forms.groups) (puts.handshake ∙ forms.handshake)
+    (outbox_put step.held left.end l.transcript.client l.transcript.server packet puts (acts.finds.talks.front other))
+    (subst (λ (x : NetSession). TalkIn u.lane.guest.handshake.draft.sid u.lane.guest.groups x (outbox step.held l.transcript.client l.transcript.server)
+    (outbox u.lane.hub l.transcript.server l.transcript.client) u.lane.hub.session u.lane.hub.groups) same forms.talk)
+guest_in shape u t l (Took packet opens) left p q acts goes session now up other front was =
+    took_now shape u t l left p q session now other was packet opens (acting_at shape A u l acts.finds up) acts.finds.talks up front acts.step.1
+
+-- IT OPENS
+guest_opens : (shape : NetShape) (u t : PortState) (l : PortLog) (packet : List ℕ) (left : NetLeft) (q : NetSession) → Acts shape A u t l (Sent packet true) left → IsUp A t.lane.wire.wire → IsUp B t.lane.wire.wire
+    → l.guest.session ≡ None → u.lane.hub.groups ≡ [] → left.end.session ≡ Some q → Between left.end u.lane.hub (Said packet ∷ l.transcript.client) l.transcript.server q
+guest_opens shape u t l packet left q acts up other none nothing now =
+    let turned = turned_at shape A u t l (Sent packet true) left acts tt in
+    let few = turned.few none in
+    let then_ = after l (OnLane (Steps A (Sent packet true))) in
+    let up_before = acts_up_at shape A u t l (Sent packet true) left acts tt in
+    let other_before = peer_was_up shape A u t l (Sent packet true) left acts tt other in
+    let hub_shut : l.hub.session ≡ None = hub_none shape u l acts.finds other_before none in
+    let hub = open_both Responder shape.slots u.queue u.lane.hub l.hub acts.finds.ready.hub in
+    let guest = open_both Initiator shape.slots [] t.lane.guest then_.guest acts.counts.guest in
+    let opened : is_some t.lane.guest.session ≡ true = guest.opened (λ gone. none_some _ (sym gone)) in
+    let short : length (said (Said packet ∷ l.transcript.client)) ≤ 6 =
+    omega (arith, few, grown_most _ (said l.transcript.client) (said (Said packet ∷ l.transcript.client)) (said_grown l.transcript.client packet)) in
+    let mine : Plain (said (Said packet ∷ l.transcript.client)) =
+    open_said (asks_of shape) (answers_of shape) Initiator (sides_of (lane_core t.lane) then_.transcript) (acts.talks.talks A) up opened short in
+    let theirs = closed_plain (asks_of shape) (answers_of shape) Responder (swapped (sides_of (lane_core u.lane) l.transcript)) (acts.finds.talks.talks B) other_before (hub.shut hub_shut) in
+    let none_here : u.lane.hub.session ≡ None = not_some u.lane.hub.session (hub.shut hub_shut) in
+    let hub_acting = acting_at shape B u l acts.finds other_before in
+    let asks_low = low_outbox left.end (Said packet ∷ l.transcript.client) l.transcript.server mine.low
+    (opens_unsaid Initiator shape.slots [] u.lane.guest l.guest l.transcript.client (seen_at A u.lane) u.lane.guest_memory (reach_of A u.lane) packet true left (acting_at shape A u l acts.finds up_before) acts.step refl) in
+    let answers_low = low_outbox u.lane.hub l.transcript.server (Said packet ∷ l.transcript.client) theirs.said_plain.low (shut_unsaid Responder u.lane.hub l.transcript.server hub_acting.ends none_here) in
+    let step = acts.step in
+    let from : left.end.session ≡ Some (opened_session (first_id (put_end step.held))) =
+    ap (λ (x : NetLeft). x.end.session) step.is ∙ ap (λ (b : Bool). (opened_by_put Initiator b (put_end step.held)).session) (sym step.opens_is) in
+    let fresh = opened_fresh left.end (first_id (put_end step.held)) q now from in
+    low_talk left.end.handshake.draft.sid left.end.groups q (outbox left.end (Said packet ∷ l.transcript.client) l.transcript.server)
+    (outbox u.lane.hub l.transcript.server (Said packet ∷ l.transcript.client)) u.lane.hub.session u.lane.hub.groups asks_low answers_low none_here nothing fresh.0 fresh.1
+
+-- A STEP
+pub guest_talk : (shape : NetShape) (u t : PortState) (l : PortLog) (answer : NetAnswer) (left : NetLeft) → Acts shape A u t l answer left → (u.lane.hub.session ≡ None → u.lane.hub.groups ≡ [])
+    → TalkStands u.lane l → TalkStands t.lane (after l (OnLane (Steps A answer)))
+guest_talk shape u t l answer left acts nothing talk q up other some = as_now (by_session u.lane.guest.session refl)
+  where
+    then_ : PortLog
+    then_ = after l (OnLane (Steps A answer))
+
+    now : left.end.session ≡ Some q
+    now = ap (λ (x : NetEndState). x.session) (sym acts.now.end) ∙ some
+
+    as_now : Between left.end u.lane.hub (turns_now answer l.transcript.client) l.transcript.server q → Between t.lane.guest t.lane.hub then_.transcript.client then_.transcript.server q
+    as_now one =
+        let turns = turns_at A l.transcript answer in
+        subst (λ (xs : List Turn). Between t.lane.guest t.lane.hub xs then_.transcript.server q) (sym turns.mine)
+        (subst (λ (xs : List Turn). Between t.lane.guest t.lane.hub (turns_now answer l.transcript.client) xs q) (sym turns.theirs)
+        (subst (λ (x : NetEndState). Between t.lane.guest x (turns_now answer l.transcript.client) l.transcript.server q) (sym acts.now.peer_end)
+        (subst (λ (x : NetEndState). Between x u.lane.hub (turns_now answer l.transcript.client) l.transcript.server q) (sym acts.now.end) one)))
+
+    front : IsFront (heard (turns_now answer l.transcript.client)) (said l.transcript.server)
+    front =
+        let turns = turns_at A l.transcript answer in
+        subst (λ (xs : List Turn). IsFront (heard xs) (said l.transcript.server)) turns.mine (subst (λ (xs : List Turn). IsFront (heard then_.transcript.client) (said xs)) turns.theirs (acts.talks.front_a up))
+
+    in_log : then_.guest.session ≢ None
+    in_log =
+        let both = open_both Initiator shape.slots [] t.lane.guest then_.guest acts.counts.guest in λ gone. true_false (sym (ap is_some some) ∙ both.shut gone)
+
+    goes : Goes answer
+    goes = guest_goes l.shape.slots l.transcript.client answer l.guest in_log
+
+    up_before : IsUp A u.lane.wire.wire
+    up_before = acts_up_at shape A u t l answer left acts goes
+
+    other_before : IsUp B u.lane.wire.wire
+    other_before = peer_was_up shape A u t l answer left acts goes other
+
+    by_session : (session : Option NetSession) → u.lane.guest.session ≡ session → Between left.end u.lane.hub (turns_now answer l.transcript.client) l.transcript.server q
+    by_session (Some p) is = guest_in shape u t l answer left p q acts goes is now up_before other_before front (talk p up_before other_before is)
+    by_session None is =
+        let before = open_both Initiator shape.slots [] u.lane.guest l.guest acts.finds.ready.guest in
+        let none : l.guest.session ≡ None = before.none is in
+        let turned = turned_at shape A u t l answer left acts goes in
+        let opening = opening_sent l.shape.slots l.transcript.client answer l.guest none in_log (turned.few none) (turned.many in_log) in
+        let same : answer ≡ Sent opening.0 true = opening.1 in
+        let hub = open_both Responder shape.slots u.queue u.lane.hub l.hub acts.finds.ready.hub in
+        let hub_shut : u.lane.hub.session ≡ None = not_some u.lane.hub.session (hub.shut (hub_none shape u l acts.finds other_before none)) in
+        subst (λ (given : NetAnswer). Between left.end u.lane.hub (turns_now given l.transcript.client) l.transcript.server q) (sym same)
+        (guest_opens shape u t l opening.0 left q (subst (λ (given : NetAnswer). Acts shape A u t l given left) same acts) up other none (nothing hub_shut) now)

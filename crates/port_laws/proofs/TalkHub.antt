@@ -1,0 +1,431 @@
+-- A step of the switch's end keeps what is known of all that is on the way between it and a guest in session.
+use Rattle.std.proofs.Common.{◌≡◌, ◌≢◌, ℕ, ◌<◌, ◌⊎◌, Bool, true, false, Option, Some, None, List, [], ◌∷◌, ◌++◌, inl, inr, refl, sym, subst, ap, ◌∙◌, arith}
+use Rattle.std.specs.Prelude.{is_some, Result, Ok, Err, ⊤}
+use Rattle.std.proofs.lemmas.Bool.{eqb-true}
+use Rattle.cookie_copy.specs.Reach.{Reach}
+use Rattle.ldc_link.specs.declared.phase.Role.TheVariants.{Initiator, Responder}
+use Rattle.ldc_link.specs.LinkState.{cleared}
+use Rattle.ldc_link.specs.Taking.{Heard as HeardBy, LinkTake, TakesBytes, Unheard}
+use Rattle.ldc_queue.specs.declared.end.ChannelState.{ChannelState}
+use Rattle.ldc_queue.specs.declared.end.ChannelState.TheVariants.{Up}
+use Rattle.ldc_queue.specs.declared.end.End.TheVariants.{A, B}
+use Rattle.ldc_queue.specs.OneStream.{IsFront}
+use Rattle.ldc_queue.specs.Transcript.{Heard, Said, Turn}
+use Rattle.vio_handshake.specs.Rules.{Faults, Goes as GoesTake, GoesOpen, HandshakeTake, handshake_take}
+use Rattle.vio_tag.specs.declared.message.Message.{Message}
+use Rattle.vio_tag.specs.declared.message.TagFault.{TagFault}
+use Rattle.vio_tag.specs.Spelling.{envelope_at}
+use Rattle.channel_model.specs.Messages.{ended_by}
+use Rattle.channel_model.specs.Sayings.{half_heard, heard, said}
+use Rattle.channel_model.specs.Seeing.{Seen}
+use Rattle.channel_model.specs.WireAt.{IsUp}
+use Rattle.channel_model.specs.WireLog.{WireLog}
+use Rattle.channel_laws.proofs.LinkCases.{link_heard}
+use Rattle.channel_laws.specs.Sides.{sides_of, swapped}
+use Rattle.channel_laws.specs.Standing.{EndStands}
+use Rattle.port_model.proofs.Refuting.{none_some, true_false}
+use Rattle.port_model.proofs.Ruling.{says_of}
+use Rattle.port_model.specs.NetEndPutting.{holding, net_holds}
+use Rattle.port_model.specs.NetEndRule.{Announces, Fetches, Idles, Joins, NetRule, Publishes, Puts, Replies, Says, Takes, Tells, port_rule}
+use Rattle.port_model.specs.NetEndState.{GroupsReply, NetEndState, NetSession, opened_net_end}
+use Rattle.port_model.specs.NetEndStep.{Blocked, Frame, Idle, Joined, NetAnswer, NetEndStep, NetLeft, Published, Reset, Sent, Took, published, taken}
+use Rattle.port_model.specs.NetEndTaking.{GoesOn, HearsLink, HearsWhole, NetTakes, Resets, by_handshake, hears_message, reads, risen}
+use Rattle.port_model.specs.NetEvent.{Steps}
+use Rattle.port_model.specs.NetLaneState.{NetShape, reach_of, seen_at}
+use Rattle.port_model.specs.PortLog.{PortLog, after}
+use Rattle.port_model.specs.PortState.{OnLane, PortState}
+use Rattle.port_model.specs.RuleFacts.{IfOpen, MayListen}
+use Rattle.port_model.specs.Spoken.{addresses_of}
+use Rattle.port_laws.specs.Counted.{unsaid}
+use Rattle.port_laws.specs.NetCore.{is_begun, lane_core, net_core, net_core_at, one_if}
+use Rattle.port_laws.proofs.EndCounting.{empty_unsaid}
+use Rattle.port_laws.proofs.FormsOwn.{MayForm, PutsIt, formed_by, sends_own}
+use Rattle.port_laws.proofs.GroupsLearnt.{Fresh, learnt}
+use Rattle.port_laws.proofs.HearsIn.{Hears, OwnRead, hears_in, mine_agreed}
+use Rattle.port_laws.proofs.MessageDoes.{Does, TakeDoes, message_does}
+use Rattle.port_laws.proofs.Outbox.{is_groups, listed, low_fits, low_none, outbox, unheard}
+use Rattle.port_laws.proofs.PortTalks.{PortTalks, answers_of, asks_of}
+use Rattle.port_laws.proofs.RingActs.{Acts, acting_at, acts_up_at, open_both}
+use Rattle.port_laws.proofs.RingEvents.{Goes, theirs_now, turns_at, turns_now, wire_now}
+use Rattle.port_laws.proofs.SessionsHeard.{Grown, heard_grown}
+use Rattle.port_laws.proofs.StepCounts.{Acting}
+use Rattle.port_laws.proofs.TakesIn.{HubLearns, HubNotes, InSession, hub_notes, in_own_session, next_read}
+use Rattle.port_laws.proofs.Talking.{RepliesAgree, TalkIn, hub_hears, hub_learns, reply_in, same_talk}
+use Rattle.port_laws.proofs.TalkGuest.{Between, TalkStands, guest_sid, hub_agreed, low_outbox, one_session, same_outbox, shut_unsaid}
+use Rattle.port_laws.proofs.TalkSteps.{HubForms, hub_forms, outbox_heard, outbox_put}
+use Rattle.port_laws.proofs.TookCounts.{free_empty, heard_send, session_open, session_up}
+use Rattle.port_laws.proofs.WayActs.{ClosedFits}
+use Rattle.port_laws.proofs.WayMoves.{EachLow, low_rest}
+use Rattle.port_laws.proofs.WayPlain.{closed_plain}
+use Rattle.port_laws.proofs.WayRuns.{guest_open_up, hub_goes, hub_plain, peer_was_up}
+
+named_in : (m : List ℕ) → is_groups m ≡ true → envelope_at m ≡ 0x0101
+named_in m is = eqb-true (envelope_at m) 0x0101 is
+
+-- IN SESSION
+module _ (shape : NetShape) (u t : PortState) (l : PortLog) (left : NetLeft) (p q : NetSession) (session : u.lane.hub.session ≡ Some q) (fresh : Fresh [] u.lane.guest.groups)
+    (was : Between u.lane.guest u.lane.hub l.transcript.client l.transcript.server p) where
+  abbrev sid : ℕ
+  sid = u.lane.guest.handshake.draft.sid
+
+  abbrev Now : List Turn → Type 0
+  Now turns = Between u.lane.guest left.end l.transcript.client turns p
+
+  quiet_now : (now_is : NetSession) → left.end.session ≡ Some now_is → left.end.groups ≡ u.lane.hub.groups → left.end.handshake ≡ u.lane.hub.handshake → left.end.link.to_send ≡ u.lane.hub.link.to_send
+      → now_is.reply ≡ q.reply → Now l.transcript.server
+  quiet_now now_is is groups handshake sends reply =
+      let same : reply_in left.end.session ≡ reply_in u.lane.hub.session = ap reply_in is ∙ reply ∙ sym (ap reply_in session) in
+      subst (λ (xs : List (List ℕ)). TalkIn sid u.lane.guest.groups p (outbox u.lane.guest l.transcript.client l.transcript.server) (outbox left.end l.transcript.server l.transcript.client) left.end.session xs)
+      (sym groups)
+      (subst (λ (xs : List (List ℕ)). TalkIn sid u.lane.guest.groups p (outbox u.lane.guest l.transcript.client l.transcript.server) xs left.end.session u.lane.hub.groups)
+      (sym (same_outbox u.lane.hub left.end l.transcript.server l.transcript.client handshake sends))
+      (same_talk sid u.lane.guest.groups p p (outbox u.lane.guest l.transcript.client l.transcript.server) (outbox u.lane.hub l.transcript.server l.transcript.client) u.lane.hub.session left.end.session
+      u.lane.hub.groups refl refl same was))
+
+  forms_now : (held : NetEndState) → Acting Responder shape.slots u.queue u.lane.hub l.hub l.transcript.server → MayForm Responder sid u.lane.hub q
+      → net_holds (port_rule Responder u.lane.hub (seen_at B u.lane)) u.lane.hub (reach_of B u.lane) ≡ Some held
+      → HubForms held u.lane.hub sid u.lane.guest.groups p (outbox u.lane.guest l.transcript.client l.transcript.server) l.transcript.client l.transcript.server
+  forms_now held acting may holds =
+      hub_forms u.lane.hub held q sid u.lane.guest.groups p (outbox u.lane.guest l.transcript.client l.transcript.server) l.transcript.client l.transcript.server session
+      (formed_by Responder sid u.lane.hub (seen_at B u.lane) (reach_of B u.lane) (port_rule Responder u.lane.hub (seen_at B u.lane)) held q may refl holds) was
+
+  took_now : (packet : List ℕ) (opens : Bool) → Acting Responder shape.slots u.queue u.lane.hub l.hub l.transcript.server → PortTalks shape (lane_core u.lane) l → IsUp A u.lane.wire.wire → IsUp B u.lane.wire.wire
+      → q.reply ≡ None → IsFront (heard (Heard packet ∷ l.transcript.server)) (said l.transcript.client) → NetTakes Responder u.lane.hub u.lane.hub_memory packet (GoesOn left.end opens left.own)
+      → Now (Heard packet ∷ l.transcript.server)
+  took_now packet opens acting talks up other_up listens front takes =
+      by_hears (hears_in Responder u.lane.hub l.transcript.server u.lane.hub_memory packet (GoesOn left.end opens left.own) acting.ends (session_up Responder u.lane.hub l.transcript.server q acting.ends session) takes)
+    where
+      opened : is_some u.lane.hub.session ≡ true
+      opened = ap is_some session
+
+      by_hears : Hears Responder u.lane.hub u.lane.hub_memory l.transcript.server packet (GoesOn left.end opens left.own) → Now (Heard packet ∷ l.transcript.server)
+      by_hears (inl none) =
+          let took : GoesOn left.end opens left.own ≡ GoesOn (record u.lane.hub { link = none.link }) false u.lane.hub_memory = none.is in
+          let same : left.end ≡ record u.lane.hub { link = none.link } = cc took in
+          let here : Now l.transcript.server =
+          quiet_now q (ap (λ (x : NetEndState). x.session) same ∙ session) (ap (λ (x : NetEndState). x.groups) same) (ap (λ (x : NetEndState). x.handshake) same)
+          (ap (λ (x : NetEndState). x.link.to_send) same ∙ none.sends) refl in
+          subst (λ (xs : List (List ℕ)). TalkIn sid u.lane.guest.groups p (unheard (said l.transcript.client) xs ++ listed (unsaid u.lane.guest))
+          (outbox left.end l.transcript.server l.transcript.client) left.end.session left.end.groups) (sym none.messages) here
+      by_hears (inr (inr refused)) = let never : GoesOn left.end opens left.own ≡ Resets refused.cause = refused.is in absurd (cc never)
+      by_hears (inr (inl one)) = by_notes noted.1
+        where
+          grown : IsFront (heard l.transcript.server ++ one.bytes ∷ []) (said l.transcript.client)
+          grown = subst (λ (xs : List (List ℕ)). IsFront xs (said l.transcript.client)) one.messages front
+
+          asks : List (List ℕ)
+          asks = outbox u.lane.guest l.transcript.client (Heard packet ∷ l.transcript.server)
+
+          first : outbox u.lane.guest l.transcript.client l.transcript.server ≡ one.bytes ∷ asks
+          first = outbox_heard u.lane.guest l.transcript.client l.transcript.server packet one.bytes one.messages grown
+
+          before : TalkIn sid u.lane.guest.groups p (one.bytes ∷ asks) (outbox u.lane.hub l.transcript.server l.transcript.client) u.lane.hub.session u.lane.hub.groups
+          before = subst (λ (xs : List (List ℕ)). TalkIn sid u.lane.guest.groups p xs (outbox u.lane.hub l.transcript.server l.transcript.client) u.lane.hub.session u.lane.hub.groups) first was
+
+          own : OwnRead one.bytes (talks.talks B).meets.handshakes.sid
+          own = next_read (asks_of shape) (answers_of shape) Responder Initiator (swapped (sides_of (lane_core u.lane) l.transcript)) one.bytes sid (talks.talks B) other_up opened up grown before.asks_fit.0
+
+          in_it : InSession Responder (record u.lane.hub { link = one.link }) q u.lane.hub_memory own.message (GoesOn left.end opens left.own)
+          in_it =
+              in_own_session Responder u.lane.hub q u.lane.hub_memory packet l.transcript.server (GoesOn left.end opens left.own) (talks.talks B).meets.handshakes.sid one session
+              (mine_agreed (asks_of shape) (answers_of shape) Responder (swapped (sides_of (lane_core u.lane) l.transcript)) (talks.talks B) other_up opened).knows own
+
+          does : Does Responder (record u.lane.hub { link = one.link }) q u.lane.hub_memory own.message.subtype own.message.body left.end opens left.own
+          does =
+              subst (TakeDoes Responder (record u.lane.hub { link = one.link }) q u.lane.hub_memory own.message.subtype own.message.body) (sym in_it.hears)
+              (message_does Responder (record u.lane.hub { link = one.link }) q u.lane.hub_memory own.message (session_open Responder u.lane.hub l.transcript.server q acting.ends session))
+
+          noted : (now : NetSession) × (HubNotes (record u.lane.hub { link = one.link }) left.end q now one.bytes ⊎ HubLearns (record u.lane.hub { link = one.link }) left.end now one.bytes)
+          noted =
+              hub_notes (record u.lane.hub { link = one.link }) left.end q u.lane.hub_memory left.own one.bytes own.message opens own.of own.spells own.long
+              (λ named. learnt u.lane.guest.groups u.lane.hub.groups one.bytes fresh before.front (before.tells.0 named)) in_it.is does.does
+
+          with_out : (known : List (List ℕ)) → left.end.groups ≡ known → left.end.handshake ≡ u.lane.hub.handshake → left.end.link.to_send ≡ u.lane.hub.link.to_send
+              → TalkIn sid u.lane.guest.groups p asks (outbox u.lane.hub l.transcript.server l.transcript.client) left.end.session known → Now (Heard packet ∷ l.transcript.server)
+          with_out known groups handshake sends talk =
+              subst (λ (xs : List (List ℕ)). TalkIn sid u.lane.guest.groups p asks (outbox left.end l.transcript.server l.transcript.client) left.end.session xs) (sym groups)
+              (subst (λ (xs : List (List ℕ)). TalkIn sid u.lane.guest.groups p asks xs left.end.session known)
+              (sym (same_outbox u.lane.hub left.end l.transcript.server l.transcript.client handshake sends)) talk)
+
+          by_notes : HubNotes (record u.lane.hub { link = one.link }) left.end q noted.0 one.bytes ⊎ HubLearns (record u.lane.hub { link = one.link }) left.end noted.0 one.bytes
+              → Now (Heard packet ∷ l.transcript.server)
+          by_notes (inl notes) =
+              with_out u.lane.hub.groups notes.groups notes.handshake (notes.sends ∙ one.sends)
+              (hub_hears sid u.lane.guest.groups p asks (outbox u.lane.hub l.transcript.server l.transcript.client) u.lane.hub.session left.end.session u.lane.hub.groups one.bytes notes.range
+              (ap reply_in notes.session ∙ notes.reply ∙ sym (ap reply_in session)) before)
+          by_notes (inr learns) =
+              with_out (addresses_of one.bytes) learns.groups learns.handshake (learns.sends ∙ one.sends)
+              (hub_learns sid u.lane.guest.groups p asks (outbox u.lane.hub l.transcript.server l.transcript.client) u.lane.hub.session left.end.session u.lane.hub.groups one.bytes learns.answer
+              (before.tells.0 (named_in one.bytes learns.named)) learns.named (ap reply_in session ∙ listens) (ap reply_in learns.session ∙ learns.reply) learns.agrees before)
+
+hub_in : (shape : NetShape) (u t : PortState) (l : PortLog) (answer : NetAnswer) (left : NetLeft) (p q : NetSession) → Acts shape B u t l answer left → Goes answer → u.lane.hub.session ≡ Some q
+    → u.lane.guest.session ≡ Some p → Fresh [] u.lane.guest.groups → IsUp A u.lane.wire.wire → IsUp B u.lane.wire.wire → IsFront (heard (turns_now answer l.transcript.server)) (said l.transcript.client)
+    → Between u.lane.guest u.lane.hub l.transcript.client l.transcript.server p → Between u.lane.guest left.end l.transcript.client (turns_now answer l.transcript.server) p
+hub_in shape u t l (Joined lost) left p q acts goes session guest fresh up other front was = absurd goes
+hub_in shape u t l (Reset cause packet lost) left p q acts goes session guest fresh up other front was = absurd goes
+hub_in shape u t l Idle left p q acts goes session guest fresh up other front was =
+    let same : left.end ≡ u.lane.hub = ap (λ (x : NetLeft). x.end) acts.step.1 in
+    quiet_now shape u t l left p q session fresh was q (ap (λ (x : NetEndState). x.session) same ∙ session) (ap (λ (x : NetEndState). x.groups) same) (ap (λ (x : NetEndState). x.handshake) same)
+    (ap (λ (x : NetEndState). x.link.to_send) same) refl
+hub_in shape u t l (Published id) left p q acts goes session guest fresh up other front was =
+    let step = acts.step in
+    let says = says_of Responder u.lane.hub (seen_at B u.lane) (Publishes step.session step.frame) step.rule in
+    let same : left.end ≡ record u.lane.hub { session = Some (published step.session) } = ap (λ (x : NetLeft). x.end) step.is in
+    let here : step.session ≡ q = one_session u.lane.hub.session step.session q says.0.in_session.session session in
+    quiet_now shape u t l left p q session fresh was (published step.session) (ap (λ (x : NetEndState). x.session) same) (ap (λ (x : NetEndState). x.groups) same) (ap (λ (x : NetEndState). x.handshake) same)
+    (ap (λ (x : NetEndState). x.link.to_send) same) (ap (λ (x : NetSession). x.reply) here)
+hub_in shape u t l (Frame frame) left p q acts goes session guest fresh up other front was =
+    let step = acts.step in
+    let says = says_of Responder u.lane.hub (seen_at B u.lane) (Fetches step.session step.activity) step.rule in
+    let same : left.end ≡ record u.lane.hub { session = Some (taken u.lane.hub step.session step.activity); last = frame } = ap (λ (x : NetLeft). x.end) step.is in
+    let here : step.session ≡ q = one_session u.lane.hub.session step.session q says.0.session session in
+    quiet_now shape u t l left p q session fresh was (taken u.lane.hub step.session step.activity) (ap (λ (x : NetEndState). x.session) same) (ap (λ (x : NetEndState). x.groups) same)
+    (ap (λ (x : NetEndState). x.handshake) same) (ap (λ (x : NetEndState). x.link.to_send) same) (ap (λ (x : NetSession). x.reply) here)
+hub_in shape u t l Blocked left p q acts goes session guest fresh up other front was =
+    let acting = acting_at shape B u l acts.finds other in
+    let agreed = hub_agreed shape u.lane l acts.finds.talks up (ap is_some guest) other (ap is_some session) in
+    let small = (guest_sid shape u.lane l acts.finds.talks up (ap is_some guest)).small in
+    let forms = forms_now shape u t l left p q session fresh was left.end acting
+    (record { session = session; agreed = agreed; small = small; empty = λ quiet. free_empty Responder u.lane.hub l.transcript.server acting.ends quiet }) acts.step.0 in
+    subst (λ (xs : List (List ℕ)). TalkIn u.lane.guest.handshake.draft.sid u.lane.guest.groups p (outbox u.lane.guest l.transcript.client l.transcript.server)
+    (outbox left.end l.transcript.server l.transcript.client) left.end.session xs) (sym forms.groups_are) forms.talk
+hub_in shape u t l (Sent packet opens) left p q acts goes session guest fresh up other front was =
+    let step = acts.step in
+    let acting = acting_at shape B u l acts.finds other in
+    let agreed = hub_agreed shape u.lane l acts.finds.talks up (ap is_some guest) other (ap is_some session) in
+    let small = (guest_sid shape u.lane l acts.finds.talks up (ap is_some guest)).small in
+    let forms = forms_now shape u t l left p q session fresh was step.held acting
+    (record { session = session; agreed = agreed; small = small; empty = λ quiet. free_empty Responder u.lane.hub l.transcript.server acting.ends quiet }) step.holds in
+    let puts : PutsIt step.held left.end l.transcript.server packet =
+    sends_own Responder shape.slots u.queue u.lane.hub l.hub l.transcript.server (seen_at B u.lane) u.lane.hub_memory (reach_of B u.lane) packet opens left forms.q acting step agreed.owed forms.session_is in
+    subst (λ (xs : List (List ℕ)). TalkIn u.lane.guest.handshake.draft.sid u.lane.guest.groups p (outbox u.lane.guest l.transcript.client l.transcript.server)
+    (outbox left.end (Said packet ∷ l.transcript.server) l.transcript.client) left.end.session xs) (sym (puts.groups ∙ forms.groups_are))
+    (subst (λ (o : Option NetSession). TalkIn u.lane.guest.handshake.draft.sid u.lane.guest.groups p (outbox u.lane.guest l.transcript.client l.transcript.server)
+    (outbox left.end (Said packet ∷ l.transcript.server) l.transcript.client) o u.lane.hub.groups) (sym puts.session)
+    (subst (λ (xs : List (List ℕ)). TalkIn u.lane.guest.handshake.draft.sid u.lane.guest.groups p (outbox u.lane.guest l.transcript.client l.transcript.server) xs step.held.session u.lane.hub.groups)
+    (sym (outbox_put step.held left.end l.transcript.server l.transcript.client packet puts (acts.finds.talks.front_a up))) forms.talk))
+hub_in shape u t l (Took packet opens) left p q acts goes session guest fresh up other front was =
+    let says = says_of Responder u.lane.hub (seen_at B u.lane) (Takes packet) acts.step.0 in
+    let listens : MayListen q = subst (λ (x : Option NetSession). IfOpen x MayListen) session says.2 in
+    took_now shape u t l left p q session fresh was packet opens (acting_at shape B u l acts.finds other) acts.finds.talks up other listens.0 front acts.step.1
+
+-- WITHOUT A SESSION
+pub record ShutLeft (s t : NetEndState) : Type 0 where
+  pub groups : t.groups ≡ s.groups
+  pub reply : reply_in t.session ≡ None
+
+record ShutTook (s t : NetEndState) : Type 0 where
+  groups : t.groups ≡ s.groups
+  reply : reply_in t.session ≡ None
+  sends : t.link.to_send ≡ s.link.to_send
+
+shut_took : (s t : NetEndState) (memory packet new : List ℕ) (opens : Bool) → s.session ≡ None → NetTakes Responder s memory packet (GoesOn t opens new) → ShutTook s t
+shut_took s t memory packet new opens none takes = by_link takes.link takes.takes takes.hears
+  where
+    by_take : (r : NetEndState) → r.session ≡ None → r.groups ≡ s.groups → r.link.to_send ≡ s.link.to_send → (x : HandshakeTake) → GoesOn t opens new ≡ by_handshake Responder r memory x → ShutTook s t
+    by_take r shut groups sends (GoesTake h) is =
+        let same : t ≡ record r { handshake = h } = cc is in
+        record { groups = ap (λ (x : NetEndState). x.groups) same ∙ groups; reply = ap (λ (x : NetEndState). reply_in x.session) same ∙ ap reply_in shut; sends = ap (λ (x : NetEndState). x.link.to_send) same ∙ sends }
+    by_take r shut groups sends (GoesOpen h) is =
+        let same : t ≡ opened_net_end (record r { handshake = h }) = cc is in
+        record { groups = ap (λ (x : NetEndState). x.groups) same ∙ groups; reply = ap (λ (x : NetEndState). reply_in x.session) same; sends = ap (λ (x : NetEndState). x.link.to_send) same ∙ sends }
+    by_take r shut groups sends (Faults cause) is = absurd (cc is)
+
+    by_decoded : (r : NetEndState) → r.session ≡ None → r.groups ≡ s.groups → r.link.to_send ≡ s.link.to_send → (d : Result Message TagFault) → GoesOn t opens new ≡ reads Responder r memory d → ShutTook s t
+    by_decoded r shut groups sends (Ok m) is =
+        by_take r shut groups sends (handshake_take r.handshake m) (is ∙ ap (λ (o : Option NetSession). hears_message Responder r memory o m) shut)
+    by_decoded r shut groups sends (Err fault) is = absurd (cc is)
+
+    by_whole : (r : NetEndState) → r.session ≡ None → r.groups ≡ s.groups → r.link.to_send ≡ s.link.to_send → (whole : Option (List ℕ)) → HearsWhole Responder r memory whole (GoesOn t opens new) → ShutTook s t
+    by_whole r shut groups sends None is =
+        let took : GoesOn t opens new ≡ GoesOn r false memory = is in
+        let same : t ≡ r = cc took in
+        record { groups = ap (λ (x : NetEndState). x.groups) same ∙ groups; reply = ap (λ (x : NetEndState). reply_in x.session) same ∙ ap reply_in shut; sends = ap (λ (x : NetEndState). x.link.to_send) same ∙ sends }
+    by_whole r shut groups sends (Some bytes) hears = by_decoded (record r { link = cleared r.link }) shut groups sends hears.0 hears.2
+
+    by_link : (link : LinkTake) → TakesBytes s.link packet link → HearsLink Responder s memory link (GoesOn t opens new) → ShutTook s t
+    by_link (HeardBy k) took hears =
+        by_whole (record s { link = k; handshake = risen Responder s.link k s.handshake }) none refl (heard_send s.link k packet (link_heard s.link k packet took)) k.whole hears
+    by_link (Unheard cause) took is = absurd (cc is)
+
+-- what it holds then
+shut_held : (s : NetEndState) (at : Seen) (reach : Reach) (rule : NetRule) (held : NetEndState) → s.session ≡ None → port_rule Responder s at ≡ rule → net_holds rule s reach ≡ Some held
+    → (held.session ≡ None) × (held.groups ≡ s.groups)
+shut_held s at reach Puts held none is same =
+    let kept : s ≡ held = cc same in (ap (λ (x : NetEndState). x.session) (sym kept) ∙ none, ap (λ (x : NetEndState). x.groups) (sym kept))
+shut_held s at reach (Says message) held none is same =
+    let kept : holding message s ≡ held = cc same in (ap (λ (x : NetEndState). x.session) (sym kept) ∙ none, ap (λ (x : NetEndState). x.groups) (sym kept))
+shut_held s at reach (Replies p reply) held none is same = none_some p (sym none ∙ (says_of Responder s at (Replies p reply) is).0.session)
+shut_held s at reach (Fetches p activity) held none is same = none_some p (sym none ∙ (says_of Responder s at (Fetches p activity) is).0.session)
+shut_held s at reach (Tells p) held none is same = none_some p (sym none ∙ (says_of Responder s at (Tells p) is).0.in_session.session)
+shut_held s at reach (Announces p) held none is same = none_some p (sym none ∙ (says_of Responder s at (Announces p) is).0.in_session.session)
+shut_held s at reach Joins held none is same = none_some held same
+shut_held s at reach (Takes packet) held none is same = none_some held same
+shut_held s at reach (Publishes p frame) held none is same = none_some held same
+shut_held s at reach Idles held none is same = none_some held same
+
+-- a session that isn't open stays so, but by what it takes
+abbrev pub ShutStays : NetAnswer → NetEndState → Type 0
+ShutStays (Took packet opens) t = ⊤
+ShutStays _ t = t.session ≡ None
+
+pub record ShutAfter (answer : NetAnswer) (s t : NetEndState) : Type 0 where
+  pub left : ShutLeft s t
+  pub stays : ShutStays answer t
+
+pub shut_after : (s : NetEndState) (at : Seen) (memory : List ℕ) (reach : Reach) (answer : NetAnswer) (left : NetLeft) → s.session ≡ None → Goes answer → NetEndStep Responder s at memory reach answer left
+    → ShutAfter answer s left.end
+shut_after s at memory reach (Joined lost) left none goes step = absurd goes
+shut_after s at memory reach (Reset cause packet lost) left none goes step = absurd goes
+shut_after s at memory reach Idle left none goes step =
+    let same : left.end ≡ s = ap (λ (x : NetLeft). x.end) step.1 in
+    record {
+      left = record { groups = ap (λ (x : NetEndState). x.groups) same; reply = ap (λ (x : NetEndState). reply_in x.session) same ∙ ap reply_in none };
+      stays = ap (λ (x : NetEndState). x.session) same ∙ none;
+    }
+shut_after s at memory reach (Published id) left none goes step =
+    none_some step.session (sym none ∙ (says_of Responder s at (Publishes step.session step.frame) step.rule).0.in_session.session)
+shut_after s at memory reach (Frame frame) left none goes step = none_some step.session (sym none ∙ (says_of Responder s at (Fetches step.session step.activity) step.rule).0.session)
+shut_after s at memory reach Blocked left none goes step =
+    let held = shut_held s at reach (port_rule Responder s at) left.end none refl step.0 in record { left = record { groups = held.1; reply = ap reply_in held.0 }; stays = held.0 }
+shut_after s at memory reach (Sent packet opens) left none goes step =
+    let held = shut_held s at reach (port_rule Responder s at) step.held none refl step.holds in
+    let session : left.end.session ≡ step.held.session = ap (λ (x : NetLeft). x.end.session) step.is in
+    record { left = record { groups = ap (λ (x : NetLeft). x.end.groups) step.is ∙ held.1; reply = ap reply_in (session ∙ held.0) }; stays = session ∙ held.0 }
+shut_after s at memory reach (Took packet opens) left none goes step =
+    let took = shut_took s left.end memory packet left.own opens none step.1 in record { left = record { groups = took.groups; reply = took.reply }; stays = tt }
+
+-- WHAT IS ON THE WAY then
+not_low : (m : List ℕ) → envelope_at m < 0x0042 → is_groups m ≡ false
+not_low m low = by_test (is_groups m) refl
+  where
+    by_test : (b : Bool) → is_groups m ≡ b → is_groups m ≡ false
+    by_test false is = is
+    by_test true is = absurd (omega (arith, named_in m is, low))
+
+shut_same : (sid : ℕ) (groups : List (List ℕ)) (p : NetSession) (asks answers now : List (List ℕ)) (session after_session : Option NetSession) (known : List (List ℕ)) → EachLow answers → EachLow now
+    → reply_in session ≡ None → reply_in after_session ≡ None → TalkIn sid groups p asks answers session known → TalkIn sid groups p asks now after_session known
+shut_same sid groups p asks answers now session after_session known low low_now none none_now talk =
+    let counted = talk.counted in
+    record {
+      asks_fit = talk.asks_fit;
+      answers_fit = low_fits Responder sid now low_now;
+      counted = omega (arith, counted, low_none answers low, low_none now low_now, ap (λ (o : Option GroupsReply). one_if (is_some o)) none, ap (λ (o : Option GroupsReply). one_if (is_some o)) none_now);
+      tells = talk.tells;
+      front = talk.front;
+      reply = subst RepliesAgree (sym none_now) tt;
+      quiet = talk.quiet;
+    }
+
+abbrev HeardAs : PortState → PortLog → NetSession → List (List ℕ) → Option NetSession → List (List ℕ) → Type 0
+HeardAs u l p now after_session messages =
+    TalkIn u.lane.guest.handshake.draft.sid u.lane.guest.groups p (unheard (said l.transcript.client) messages ++ listed (unsaid u.lane.guest)) now after_session u.lane.hub.groups
+
+asks_now : (shape : NetShape) (u : PortState) (l : PortLog) (answer : NetAnswer) (p : NetSession) (now : List (List ℕ)) (after_session : Option NetSession) → Goes answer → reply_in after_session ≡ None
+    → ClosedFits l.transcript.server l.transcript.client answer
+    → TalkIn u.lane.guest.handshake.draft.sid u.lane.guest.groups p (outbox u.lane.guest l.transcript.client l.transcript.server) now after_session u.lane.hub.groups
+    → TalkIn u.lane.guest.handshake.draft.sid u.lane.guest.groups p (outbox u.lane.guest l.transcript.client (turns_now answer l.transcript.server)) now after_session u.lane.hub.groups
+asks_now shape u l (Joined lost) p now after_session goes none fits talk = absurd goes
+asks_now shape u l (Reset cause packet lost) p now after_session goes none fits talk = absurd goes
+asks_now shape u l Idle p now after_session goes none fits talk = talk
+asks_now shape u l Blocked p now after_session goes none fits talk = talk
+asks_now shape u l (Published id) p now after_session goes none fits talk = talk
+asks_now shape u l (Frame frame) p now after_session goes none fits talk = talk
+asks_now shape u l (Sent packet opens) p now after_session goes none fits talk = talk
+asks_now shape u l (Took packet opens) p now after_session goes none fits talk = by_ended (ended_by (half_heard l.transcript.server) packet) (heard_grown l.transcript.server packet)
+  where
+    by_ended : (o : Option (List ℕ)) → Grown o (heard l.transcript.server) (heard (Heard packet ∷ l.transcript.server)) → HeardAs u l p now after_session (heard (Heard packet ∷ l.transcript.server))
+    by_ended None is = subst (HeardAs u l p now after_session) (sym is) talk
+    by_ended (Some m) is =
+        let front : IsFront (heard l.transcript.server ++ m ∷ []) (said l.transcript.client) = subst (λ (xs : List (List ℕ)). IsFront xs (said l.transcript.client)) is fits.front in
+        let low : EachLow (m ∷ []) = low_rest (heard l.transcript.server) (m ∷ []) (subst EachLow is fits.heard_plain.low) in
+        let first = outbox_heard u.lane.guest l.transcript.client l.transcript.server packet m is front in
+        hub_hears u.lane.guest.handshake.draft.sid u.lane.guest.groups p (outbox u.lane.guest l.transcript.client (Heard packet ∷ l.transcript.server)) now after_session after_session u.lane.hub.groups m
+        (not_low m low.0) refl
+        (subst (λ (xs : List (List ℕ)). TalkIn u.lane.guest.handshake.draft.sid u.lane.guest.groups p xs now after_session u.lane.hub.groups) first talk)
+
+-- A STEP
+pub hub_talk : (shape : NetShape) (u t : PortState) (l : PortLog) (answer : NetAnswer) (left : NetLeft) → Acts shape B u t l answer left → Fresh [] u.lane.guest.groups → TalkStands u.lane l
+    → TalkStands t.lane (after l (OnLane (Steps B answer)))
+hub_talk shape u t l answer left acts fresh talk p up other some = as_now (by_session u.lane.hub.session refl)
+  where
+    then_ : PortLog
+    then_ = after l (OnLane (Steps B answer))
+
+    guest_some : u.lane.guest.session ≡ Some p
+    guest_some = ap (λ (x : NetEndState). x.session) (sym acts.now.peer_end) ∙ some
+
+    in_log : l.guest.session ≢ None
+    in_log =
+        let both = open_both Initiator shape.slots [] u.lane.guest l.guest acts.finds.ready.guest in λ gone. true_false (sym (ap is_some guest_some) ∙ both.shut gone)
+
+    theirs : theirs_now answer u.lane.wire.wire.end_b u.lane.wire.wire.end_a ≡ Up
+    theirs = sym (ap (λ (w : WireLog). w.wire.end_a) acts.now.wire ∙ (wire_now B u.lane answer).theirs) ∙ up
+
+    goes : Goes answer
+    goes = hub_goes answer u.lane.wire.wire.end_b u.lane.wire.wire.end_a (λ guest_up. guest_open_up shape u l acts.finds guest_up in_log) theirs
+
+    guest_before : IsUp A u.lane.wire.wire
+    guest_before = peer_was_up shape B u t l answer left acts goes up
+
+    up_before : IsUp B u.lane.wire.wire
+    up_before = acts_up_at shape B u t l answer left acts goes
+
+    turns : then_.transcript.server ≡ turns_now answer l.transcript.server
+    turns = (turns_at B l.transcript answer).mine
+
+    same : then_.transcript.client ≡ l.transcript.client
+    same = (turns_at B l.transcript answer).theirs
+
+    front : IsFront (heard (turns_now answer l.transcript.server)) (said l.transcript.client)
+    front = subst (λ (xs : List Turn). IsFront (heard xs) (said l.transcript.client)) turns (subst (λ (xs : List Turn). IsFront (heard then_.transcript.server) (said xs)) same (acts.talks.front other))
+
+    as_now : Between u.lane.guest left.end l.transcript.client (turns_now answer l.transcript.server) p → Between t.lane.guest t.lane.hub then_.transcript.client then_.transcript.server p
+    as_now one =
+        subst (λ (xs : List Turn). Between t.lane.guest t.lane.hub then_.transcript.client xs p) (sym turns)
+        (subst (λ (xs : List Turn). Between t.lane.guest t.lane.hub xs (turns_now answer l.transcript.server) p) (sym same)
+        (subst (λ (x : NetEndState). Between x t.lane.hub l.transcript.client (turns_now answer l.transcript.server) p) (sym acts.now.peer_end)
+        (subst (λ (x : NetEndState). Between u.lane.guest x l.transcript.client (turns_now answer l.transcript.server) p) (sym acts.now.end) one)))
+
+    was : Between u.lane.guest u.lane.hub l.transcript.client l.transcript.server p
+    was = talk p guest_before up_before guest_some
+
+    stands_now : EndStands Responder (net_core Responder t.lane.hub) then_.transcript.server
+    stands_now = subst (λ (x : ChannelState). EndStands Responder (net_core_at Responder (is_begun x) t.lane.hub) then_.transcript.server) other (acts.talks.talks B).mine
+
+    shut_now : left.end.session ≡ None → unsaid left.end ≡ None
+    shut_now none =
+        subst (λ (x : NetEndState). unsaid x ≡ None) acts.now.end
+        (shut_unsaid Responder t.lane.hub then_.transcript.server stands_now (ap (λ (x : NetEndState). x.session) acts.now.end ∙ none))
+
+    -- nothing of a session is held
+    none_left : u.lane.hub.session ≡ None → (given : NetAnswer) → answer ≡ given → ShutStays given left.end → unsaid left.end ≡ None
+    none_left none (Took packet opens) is stays =
+        let step = subst (λ (given : NetAnswer). Acts shape B u t l given left) is acts in
+        let says = says_of Responder u.lane.hub (seen_at B u.lane) (Takes packet) step.step.0 in
+        let took = shut_took u.lane.hub left.end u.lane.hub_memory packet left.own opens none step.step.1 in
+        empty_unsaid left.end (took.sends ∙ free_empty Responder u.lane.hub l.transcript.server (acting_at shape B u l acts.finds up_before).ends says.0.quiet)
+    none_left none (Sent packet opens) is stays = shut_now stays
+    none_left none Idle is stays = shut_now stays
+    none_left none Blocked is stays = shut_now stays
+    none_left none (Published id) is stays = shut_now stays
+    none_left none (Frame frame) is stays = shut_now stays
+    none_left none (Joined lost) is stays = shut_now stays
+    none_left none (Reset cause packet lost) is stays = shut_now stays
+
+    by_session : (session : Option NetSession) → u.lane.hub.session ≡ session → Between u.lane.guest left.end l.transcript.client (turns_now answer l.transcript.server) p
+    by_session (Some q) is = hub_in shape u t l answer left p q acts goes is guest_some fresh guest_before up_before front was
+    by_session None is =
+        let before = open_both Responder shape.slots u.queue u.lane.hub l.hub acts.finds.ready.hub in
+        let none : l.hub.session ≡ None = before.none is in
+        let fits = hub_plain shape u t l answer left acts goes other none in
+        let plain = closed_plain (asks_of shape) (answers_of shape) Responder (swapped (sides_of (lane_core u.lane) l.transcript)) (acts.finds.talks.talks B) up_before (before.shut none) in
+        let low = low_outbox u.lane.hub l.transcript.server l.transcript.client plain.said_plain.low
+        (shut_unsaid Responder u.lane.hub l.transcript.server (acting_at shape B u l acts.finds up_before).ends is) in
+        let here = shut_after u.lane.hub (seen_at B u.lane) u.lane.hub_memory (reach_of B u.lane) answer left is goes acts.step in
+        let low_now = low_outbox left.end (turns_now answer l.transcript.server) l.transcript.client fits.said_plain.low (none_left is answer refl here.stays) in
+        subst (λ (xs : List (List ℕ)). TalkIn u.lane.guest.handshake.draft.sid u.lane.guest.groups p (outbox u.lane.guest l.transcript.client (turns_now answer l.transcript.server))
+        (outbox left.end (turns_now answer l.transcript.server) l.transcript.client) left.end.session xs) (sym here.left.groups)
+        (asks_now shape u l answer p (outbox left.end (turns_now answer l.transcript.server) l.transcript.client) left.end.session goes here.left.reply fits
+        (shut_same u.lane.guest.handshake.draft.sid u.lane.guest.groups p (outbox u.lane.guest l.transcript.client l.transcript.server) (outbox u.lane.hub l.transcript.server l.transcript.client)
+        (outbox left.end (turns_now answer l.transcript.server) l.transcript.client) u.lane.hub.session left.end.session u.lane.hub.groups low low_now (ap reply_in is) here.left.reply was))

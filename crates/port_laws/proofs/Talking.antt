@@ -1,0 +1,237 @@
+-- What is on the way between both ends of a port in session fits, and of groups there is one thing under way while the guest waits for it.
+use Rattle.std.proofs.Common.{◌≡◌, ℕ, ◌+◌, ◌≤◌, Bool, true, false, Option, Some, None, List, [], ◌∷◌, ◌++◌, length, refl, sym, subst, ap, ◌∙◌, arith, length-append}
+use Rattle.std.specs.Prelude.{is_some, ⊤, take}
+use Rattle.std.specs.List.{flat_map}
+use Rattle.std.proofs.lemmas.Bool.{eq-eqb}
+use Rattle.std.proofs.lemmas.List.{length-take, take-append-le}
+use Rattle.ldc_link.specs.declared.phase.Role.TheVariants.{Initiator, Responder}
+use Rattle.ldc_packet.specs.declared.packet.Subtype.TheVariants.{Ack}
+use Rattle.vio_tag.specs.Spelling.{envelope_at}
+use Rattle.port_model.specs.NetEndState.{GroupsReply, NetSession}
+use Rattle.port_model.specs.Spoken.{addresses_of}
+use Rattle.port_laws.specs.NetCore.{one_if}
+use Rattle.port_laws.proofs.Outbox.{EachFits, EachTells, MessageFits, SaysGroups, SaysRange, TellsSome, count-append, count_groups, fits_more, is_groups, none_tells, tells_more}
+
+-- an answer that the switch's end owes agrees, and has the addresses of a message
+pub record ReplyAgrees (r : GroupsReply) : Type 0 where
+  pub subtype : r.subtype ≡ Ack
+  pub long : length (flat_map (λ (address : List ℕ). address) r.addresses) ≡ 42
+
+abbrev pub RepliesAgree : Option GroupsReply → Type 0
+RepliesAgree None = ⊤
+RepliesAgree (Some r) = ReplyAgrees r
+
+abbrev pub reply_in : Option NetSession → Option GroupsReply
+reply_in None = None
+reply_in (Some q) = q.reply
+
+abbrev pub owed_replies : Option NetSession → ℕ
+owed_replies session = one_if (is_some (reply_in session))
+
+-- BOTH ENDS: the guest in this session with its groups, what it asks and what is answered, and the switch's end
+pub record TalkIn (sid : ℕ) (groups : List (List ℕ)) (p : NetSession) (asks answers : List (List ℕ)) (session : Option NetSession) (known : List (List ℕ)) : Type 0 where
+  pub asks_fit : EachFits Initiator sid asks
+  pub answers_fit : EachFits Responder sid answers
+  pub counted : count_groups asks + owed_replies session + count_groups answers ≡ one_if p.telling
+  pub tells : EachTells groups (length known) asks
+  pub front : known ≡ take (length known) groups
+  pub reply : RepliesAgree (reply_in session)
+  pub quiet : p.reply ≡ None
+
+none_in : (m : List ℕ) → count_groups (m ∷ []) ≡ 0 → one_if (is_groups m) ≡ 0
+none_in m none = omega (arith, none)
+
+known_few : (groups known : List (List ℕ)) → known ≡ take (length known) groups → length known ≤ length groups
+known_few groups known front =
+    let long : length known ≡ length (take (length known) groups) = ap length front in omega (arith, long, length-take (length known) groups)
+
+-- THE GUEST says a range
+pub guest_ranges : (sid : ℕ) (groups : List (List ℕ)) (p q : NetSession) (asks answers : List (List ℕ)) (session : Option NetSession) (known : List (List ℕ)) (m : List ℕ)
+    → SaysRange Initiator sid m → q.telling ≡ p.telling → q.reply ≡ p.reply → TalkIn sid groups p asks answers session known → TalkIn sid groups q (asks ++ m ∷ []) answers session known
+guest_ranges sid groups p q asks answers session known m says telling reply talk =
+    let counted = talk.counted in
+    let none = says.none in
+    record {
+      asks_fit = fits_more Initiator sid asks (m ∷ []) talk.asks_fit (says.fits, tt);
+      answers_fit = talk.answers_fit;
+      counted = omega (arith, counted, none, count-append asks (m ∷ []), ap one_if telling);
+      tells = tells_more groups (length known) asks (m ∷ []) talk.tells (none_tells groups (length known) (m ∷ []) none);
+      front = talk.front;
+      reply = talk.reply;
+      quiet = reply ∙ talk.quiet;
+    }
+
+-- it tells its groups
+pub guest_tells : (sid : ℕ) (groups : List (List ℕ)) (p q : NetSession) (asks answers : List (List ℕ)) (session : Option NetSession) (known : List (List ℕ)) (m : List ℕ)
+    → SaysGroups Initiator sid m → ((known_of : ℕ) → known_of ≤ length groups → TellsSome groups known_of m) → p.telling ≡ false → q.telling ≡ true → q.reply ≡ p.reply
+    → TalkIn sid groups p asks answers session known → TalkIn sid groups q (asks ++ m ∷ []) answers session known
+guest_tells sid groups p q asks answers session known m says tells before now reply talk =
+    let counted = talk.counted in
+    let one = says.one in
+    record {
+      asks_fit = fits_more Initiator sid asks (m ∷ []) talk.asks_fit (says.fits, tt);
+      answers_fit = talk.answers_fit;
+      counted = omega (arith, counted, one, count-append asks (m ∷ []), ap one_if before, ap one_if now);
+      tells = tells_more groups (length known) asks (m ∷ []) talk.tells ((λ is. tells (length known) (known_few groups known talk.front)), tt);
+      front = talk.front;
+      reply = talk.reply;
+      quiet = reply ∙ talk.quiet;
+    }
+
+-- it hears what comes first
+one_most : (b : Bool) → one_if b ≤ 1
+one_most true = omega arith
+one_most false = omega arith
+
+told_now : (b was now : Bool) (rest : ℕ) → rest + one_if b ≡ one_if was → (b ≡ true → now ≡ false) → (b ≡ false → now ≡ was) → rest ≡ one_if now
+told_now true was now rest is told same = omega (arith, is, one_most was, ap one_if (told refl))
+told_now false was now rest is told same = omega (arith, is, ap one_if (same refl))
+
+pub guest_hears : (sid : ℕ) (groups : List (List ℕ)) (p q : NetSession) (asks answers : List (List ℕ)) (session : Option NetSession) (known : List (List ℕ)) (m : List ℕ)
+    → (is_groups m ≡ true → q.telling ≡ false) → (is_groups m ≡ false → q.telling ≡ p.telling) → q.reply ≡ p.reply → TalkIn sid groups p asks (m ∷ answers) session known
+    → TalkIn sid groups q asks answers session known
+guest_hears sid groups p q asks answers session known m told same reply talk =
+    let counted = talk.counted in
+    record {
+      asks_fit = talk.asks_fit;
+      answers_fit = talk.answers_fit.1;
+      counted = told_now (is_groups m) p.telling q.telling (count_groups asks + owed_replies session + count_groups answers) (omega (arith, counted)) told same;
+      tells = talk.tells;
+      front = talk.front;
+      reply = talk.reply;
+      quiet = reply ∙ talk.quiet;
+    }
+
+pub is_telling : (sid : ℕ) (groups : List (List ℕ)) (p : NetSession) (asks answers : List (List ℕ)) (session : Option NetSession) (known : List (List ℕ)) (m : List ℕ)
+    → TalkIn sid groups p asks (m ∷ answers) session known → envelope_at m ≡ 0x0101 → p.telling ≡ true
+is_telling sid groups p asks answers session known m talk is = by_telling p.telling refl
+  where
+    by_telling : (b : Bool) → p.telling ≡ b → p.telling ≡ true
+    by_telling true one = one
+    by_telling false none =
+        let counted = talk.counted in
+        let here : is_groups m ≡ true = eq-eqb (envelope_at m) 0x0101 is in
+        absurd (omega (arith, counted, ap one_if here, ap one_if none))
+
+-- THE SWITCH'S END says what speaks of no groups
+pub hub_ranges : (sid : ℕ) (groups : List (List ℕ)) (p : NetSession) (asks answers : List (List ℕ)) (session now : Option NetSession) (known : List (List ℕ)) (m : List ℕ)
+    → MessageFits Responder sid m → count_groups (m ∷ []) ≡ 0 → reply_in now ≡ reply_in session → TalkIn sid groups p asks answers session known
+    → TalkIn sid groups p asks (answers ++ m ∷ []) now known
+hub_ranges sid groups p asks answers session now known m fits none same talk =
+    let counted = talk.counted in
+    let owed : owed_replies now ≡ owed_replies session = ap (λ (o : Option GroupsReply). one_if (is_some o)) same in
+    record {
+      asks_fit = talk.asks_fit;
+      answers_fit = fits_more Responder sid answers (m ∷ []) talk.answers_fit (fits, tt);
+      counted = omega (arith, counted, none, owed, count-append answers (m ∷ []));
+      tells = talk.tells;
+      front = talk.front;
+      reply = subst RepliesAgree (sym same) talk.reply;
+      quiet = talk.quiet;
+    }
+
+-- it answers
+pub hub_replies : (sid : ℕ) (groups : List (List ℕ)) (p : NetSession) (asks answers : List (List ℕ)) (session now : Option NetSession) (known : List (List ℕ)) (m : List ℕ) (r : GroupsReply)
+    → SaysGroups Responder sid m → reply_in session ≡ Some r → reply_in now ≡ None → TalkIn sid groups p asks answers session known → TalkIn sid groups p asks (answers ++ m ∷ []) now known
+hub_replies sid groups p asks answers session now known m r says before none talk =
+    let counted = talk.counted in
+    let one = says.one in
+    let owed : owed_replies session ≡ 1 = ap (λ (o : Option GroupsReply). one_if (is_some o)) before in
+    let owes : owed_replies now ≡ 0 = ap (λ (o : Option GroupsReply). one_if (is_some o)) none in
+    record {
+      asks_fit = talk.asks_fit;
+      answers_fit = fits_more Responder sid answers (m ∷ []) talk.answers_fit (says.fits, tt);
+      counted = omega (arith, counted, one, owed, owes, count-append answers (m ∷ []));
+      tells = talk.tells;
+      front = talk.front;
+      reply = subst RepliesAgree (sym none) tt;
+      quiet = talk.quiet;
+    }
+
+-- it hears what speaks of no groups
+pub hub_hears : (sid : ℕ) (groups : List (List ℕ)) (p : NetSession) (asks answers : List (List ℕ)) (session now : Option NetSession) (known : List (List ℕ)) (m : List ℕ)
+    → is_groups m ≡ false → reply_in now ≡ reply_in session → TalkIn sid groups p (m ∷ asks) answers session known → TalkIn sid groups p asks answers now known
+hub_hears sid groups p asks answers session now known m not_ same talk =
+    let counted = talk.counted in
+    let owed : owed_replies now ≡ owed_replies session = ap (λ (o : Option GroupsReply). one_if (is_some o)) same in
+    record {
+      asks_fit = talk.asks_fit.1;
+      answers_fit = talk.answers_fit;
+      counted = omega (arith, counted, owed, ap one_if not_);
+      tells = talk.tells.1;
+      front = talk.front;
+      reply = subst RepliesAgree (sym same) talk.reply;
+      quiet = talk.quiet;
+    }
+
+-- it hears groups, which it knows then
+front_taken : (many : ℕ) (groups : List (List ℕ)) → many ≤ length groups → take many groups ≡ take (length (take many groups)) groups
+front_taken many groups few =
+    let long : length (take many groups) ≡ many = omega (arith, length-take many groups, few) in ap (λ (n : ℕ). take n groups) (sym long)
+
+pub hub_learns : (sid : ℕ) (groups : List (List ℕ)) (p : NetSession) (asks answers : List (List ℕ)) (session now : Option NetSession) (known : List (List ℕ)) (m : List ℕ) (r : GroupsReply)
+    (some : TellsSome groups (length known) m) → is_groups m ≡ true → reply_in session ≡ None → reply_in now ≡ Some r → ReplyAgrees r → TalkIn sid groups p (m ∷ asks) answers session known
+    → TalkIn sid groups p asks answers now (addresses_of m)
+hub_learns sid groups p asks answers session now known m r some is before after_is agrees talk =
+    let counted = talk.counted in
+    let owed : owed_replies session ≡ 0 = ap (λ (o : Option GroupsReply). one_if (is_some o)) before in
+    let owes : owed_replies now ≡ 1 = ap (λ (o : Option GroupsReply). one_if (is_some o)) after_is in
+    let most = one_most p.telling in
+    let one = ap one_if is in
+    subst (TalkIn sid groups p asks answers now) (sym some.is)
+    (record {
+      asks_fit = talk.asks_fit.1;
+      answers_fit = talk.answers_fit;
+      counted = omega (arith, counted, owed, owes, one);
+      tells = none_tells groups (length (take some.many groups)) asks (omega (arith, counted, one, most));
+      front = front_taken some.many groups some.inside;
+      reply = subst RepliesAgree (sym after_is) agrees;
+      quiet = talk.quiet;
+    })
+
+-- NOTHING of this changes
+pub same_talk : (sid : ℕ) (groups : List (List ℕ)) (p q : NetSession) (asks answers : List (List ℕ)) (session now : Option NetSession) (known : List (List ℕ))
+    → q.telling ≡ p.telling → q.reply ≡ p.reply → reply_in now ≡ reply_in session → TalkIn sid groups p asks answers session known → TalkIn sid groups q asks answers now known
+same_talk sid groups p q asks answers session now known telling reply same talk =
+    let counted = talk.counted in
+    let owed : owed_replies now ≡ owed_replies session = ap (λ (o : Option GroupsReply). one_if (is_some o)) same in
+    record {
+      asks_fit = talk.asks_fit;
+      answers_fit = talk.answers_fit;
+      counted = omega (arith, counted, owed, ap one_if telling);
+      tells = talk.tells;
+      front = talk.front;
+      reply = subst RepliesAgree (sym same) talk.reply;
+      quiet = reply ∙ talk.quiet;
+    }
+
+-- the guest joins one more group
+more_tells : (groups : List (List ℕ)) (address : List ℕ) (known : ℕ) (asks : List (List ℕ)) → EachTells groups known asks → EachTells (groups ++ address ∷ []) known asks
+more_tells groups address known [] tells = tt
+more_tells groups address known (m ∷ asks) tells = (
+  λ is.
+      let one = tells.0 is in
+      record {
+        set = one.set;
+        few = one.few;
+        many = one.many;
+        is = one.is ∙ sym (take-append-le one.many groups (address ∷ []) one.inside);
+        more = one.more;
+        inside = omega (arith, one.inside, length-append groups (address ∷ []));
+      },
+  more_tells groups address known asks tells.1,
+)
+
+pub guest_joins : (sid : ℕ) (groups : List (List ℕ)) (address : List ℕ) (p q : NetSession) (asks answers : List (List ℕ)) (session : Option NetSession) (known : List (List ℕ))
+    → q.telling ≡ p.telling → q.reply ≡ p.reply → TalkIn sid groups p asks answers session known → TalkIn sid (groups ++ address ∷ []) q asks answers session known
+guest_joins sid groups address p q asks answers session known telling reply talk =
+    let counted = talk.counted in
+    record {
+      asks_fit = talk.asks_fit;
+      answers_fit = talk.answers_fit;
+      counted = omega (arith, counted, ap one_if telling);
+      tells = more_tells groups address (length known) asks talk.tells;
+      front = talk.front ∙ sym (take-append-le (length known) groups (address ∷ []) (known_few groups known talk.front));
+      reply = talk.reply;
+      quiet = reply ∙ talk.quiet;
+    }
