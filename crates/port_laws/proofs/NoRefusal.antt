@@ -103,9 +103,12 @@ expects_at shape e u l k bytes p sid finds up other_up session ways empty front 
   own = agreed.own;
   peer = agreed.peer;
   info = λ range info.
-      let comes = info_comes slots w v bytes (infos_in rest) (acks_in ways.going) (first_info (spoken_info bytes range info)) in
-      (here.counts.peer.seq ∙ ap (λ (x : SessionLog). wrapped (x.asked + 1)) (sym mine) ∙ sym comes.seq, here.counts.peer.place ∙ ap (λ (n : ℕ). here.of_log.taken % n) (sym slots_is)
-      ∙ ap (λ (x : SessionLog). x.taken % slots) (sym mine) ∙ sym comes.start, comes.end);
+      let comes = info_comes slots w v bytes (infos_in rest) (acks_in ways.going) (first_info (spoken_info bytes range info)) in (
+        here.counts.peer.seq ∙ ap (λ (x : SessionLog). wrapped (x.asked + 1)) (sym mine) ∙ sym comes.seq,
+        here.counts.peer.place ∙ ap (λ (n : ℕ). here.of_log.taken % n) (sym slots_is)
+            ∙ ap (λ (x : SessionLog). x.taken % slots) (sym mine) ∙ sym comes.start,
+        comes.end,
+      );
   ack = λ range ack.
       let comes = ack_comes slots v w bytes (infos_in ways.going) (acks_in rest) (first_ack (spoken_ack bytes range ack)) in
       let some = finds.ready.sound.some_slots in

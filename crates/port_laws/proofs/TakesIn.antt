@@ -185,12 +185,16 @@ pub hub_notes : (s t : NetEndState) (p : NetSession) (memory new m : List ℕ) (
     → (envelope_at m ≡ 0x0101 → groups_after (set_of m) (count_of m) (seven_of m) s.groups ≡ Some (addresses_of m))
     → GoesOn t opens new ≡ in_session Responder s p memory message message.subtype message.body → MessageDoes Responder s p memory message.subtype message.body t new
     → (q : NetSession) × (HubNotes s t p q m ⊎ HubLearns s t q m)
-hub_notes s t p memory new m message opens of spells long learns goes (Asks seq ident start end state info body place same is) =
-    (active p seq start, inl (range_notes s t p (active p seq start) m (spells.envelope ∙ ap envelope_code body) refl (ap (λ (x : NetEndState). x.session) is) (ap (λ (x : NetEndState). x.handshake) is)
-    (ap (λ (x : NetEndState). x.link.to_send) is) (ap (λ (x : NetEndState). x.groups) is)))
-hub_notes s t p memory new m message opens of spells long learns goes (Acks seq ident start end state ack body begins inside within done same is) =
-    (_, inl (range_notes s t p _ m (spells.envelope ∙ ap envelope_code body) refl (ap (λ (x : NetEndState). x.session) is) (ap (λ (x : NetEndState). x.handshake) is)
-    (ap (λ (x : NetEndState). x.link.to_send) is) (ap (λ (x : NetEndState). x.groups) is)))
+hub_notes s t p memory new m message opens of spells long learns goes (Asks seq ident start end state info body place same is) = (
+  active p seq start,
+  inl (range_notes s t p (active p seq start) m (spells.envelope ∙ ap envelope_code body) refl (ap (λ (x : NetEndState). x.session) is) (ap (λ (x : NetEndState). x.handshake) is)
+      (ap (λ (x : NetEndState). x.link.to_send) is) (ap (λ (x : NetEndState). x.groups) is)),
+)
+hub_notes s t p memory new m message opens of spells long learns goes (Acks seq ident start end state ack body begins inside within done same is) = (
+  _,
+  inl (range_notes s t p _ m (spells.envelope ∙ ap envelope_code body) refl (ap (λ (x : NetEndState). x.session) is) (ap (λ (x : NetEndState). x.handshake) is)
+      (ap (λ (x : NetEndState). x.link.to_send) is) (ap (λ (x : NetEndState). x.groups) is)),
+)
 hub_notes s t p memory new m message opens of spells long learns goes (Names set count addresses groups reply answers role info body same is) =
     let named : envelope_at m ≡ 0x0101 = spells.envelope ∙ ap envelope_code body in
     let fields : SpellsBody m (Mcast set count addresses) = subst (SpellsBody m) body spells.body in

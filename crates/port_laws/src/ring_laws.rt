@@ -46,7 +46,7 @@ pub fn no_frame_is_left_where_both_ends_are_idle()
         → Lawful NoneLeftAt after (no_events shape) events }
 {}
 
-/// On a port that nobody forged, where no packet was lost since the queues were last emptied, no group is left untold
+/// On a port that nobody forged, where nothing was lost since the queues were last emptied, no group is left untold
 /// where one end is idle directly after the other. The guest told all groups that it joined, and was answered.
 pub fn no_group_is_left_untold_where_both_ends_are_idle()
     ensures { (shape : NetShape) (events : List PortEvent) (s : PortState) → IsNetShape shape → Run PortStep (fresh_port shape) events s
