@@ -17,6 +17,7 @@ mod links;
 mod offers;
 mod ports;
 mod requests;
+mod resets;
 
 use cases::{Tally, run_file};
 use disks::Disk;

@@ -2,12 +2,12 @@
 
 ghost use Rattle.std.specs.Prelude.{◌≡◌, ◌+◌, ◌*◌, ◌≤◌, length, IfSome};
 ghost use Rattle.cookie_copy.specs.Faults.{PagesWithin};
-ghost use Rattle.port_frames.specs.Memories.{HoldsRing};
 
 use crate::answers::net_text;
 use crate::cases::Stage;
 use crate::digits::{packet, runs_of, shown, word_of};
 use crate::disks::{memory_of, table_of};
+use crate::resets::went_on;
 use dom_memory::Memory;
 use ldc_link::Role;
 use ldc_queue::{Channel, End};
@@ -26,8 +26,8 @@ pub struct Port {
     guest_table: MapTable,
     hub_table: MapTable,
     given: u64,
-    ghost guest_ring: { HoldsRing guest.slots guest_memory },
-    ghost hub_ring: { HoldsRing hub.slots hub_memory },
+    ghost guest_ring: { 8192 + 2048 * guest.slots ≤ length guest_memory },
+    ghost hub_ring: { 8192 + 2048 * hub.slots ≤ length hub_memory },
     ghost guest_pages: { PagesWithin guest_table (length guest_memory) },
     ghost hub_pages: { PagesWithin hub_table (length hub_memory) },
     ghost guest_ids: { guest.next_id ≤ given },
@@ -43,6 +43,9 @@ const PAGES: u32 = 17;
 /// So many rounds of both ends open their sessions.
 const ROUNDS: u32 = 24;
 
+/// The slots of a port whose ends hear what they refuse.
+const SLOTS: u32 = 8;
+
 impl Stage for Port {
     // `port SLOTS`.
     fn begin(alloc: Global, words: &[&str]) -> Option<Port> {
@@ -57,16 +60,31 @@ impl Stage for Port {
             ["guest"] => net_text(alloc, &self.step_guest()),
             ["hub"] => net_text(alloc, &self.step_hub()),
             ["opens"] => shown(alloc, &self.opens()),
-            ["guest", "resets"] => shown(alloc, &self.guest.reset(&mut self.channel)),
-            ["hub", "resets"] => shown(alloc, &self.hub.reset(&mut self.channel)),
+            [end, "resets"] => shown(alloc, &self.reset_end(at_end(end)?)),
             ["guest", "joins", address] => shown(alloc, &self.guest.join_group(packet(address)?)),
-            ["guest", "sends", count, byte] => shown(alloc, &self.guest_sends(count, byte)?),
-            ["hub", "sends", count, byte] => shown(alloc, &self.hub_sends(count, byte)?),
+            [end, "sends", count, byte] => {
+                let [byte]: [u8; 1] = packet(byte)?;
+                shown(
+                    alloc,
+                    &self.sends(at_end(end)?, count.parse::<usize>().ok()?, byte)?,
+                )
+            }
+            [end, "resets", "within", count] => {
+                shown(
+                    alloc,
+                    &went_on(alloc, at_end(end)?, count.parse::<u32>().ok()?)?,
+                )
+            }
             ["guest", "memory", at] => bytes_at(alloc, &self.guest_memory, at),
             ["hub", "memory", at] => bytes_at(alloc, &self.hub_memory, at),
             ["guest", call] => asked(alloc, &self.guest, call),
             ["hub", call] => asked(alloc, &self.hub, call),
             [end, "hears", bytes] => self.hears(alloc, end, bytes),
+            [end, "after", count, "hears", bytes] => {
+                let mut other = Port::new(alloc, SLOTS)?;
+                other.steps(count.parse::<u32>().ok()?);
+                other.hears(alloc, end, bytes)
+            }
             [end, "finds", at, bytes] => self.finds(alloc, end, at, bytes),
             _ => None,
         }
@@ -74,7 +92,8 @@ impl Stage for Port {
 }
 
 impl Port {
-    fn new(alloc: Global, slots: u32) -> Option<Port> {
+    /// A port with rings of so many slots, 2 to 64, whose ends aren't configured.
+    pub fn new(alloc: Global, slots: u32) -> Option<Port> {
         if slots < 2 || slots > 64 {
             return None;
         }
@@ -88,6 +107,41 @@ impl Port {
             hub_table: table_of(alloc, PAGES)?,
             given: 0,
         })
+    }
+
+    /// One step of an end.
+    pub fn step_end(&mut self, end: End) -> NetOut {
+        match end {
+            End::A => self.step_guest(),
+            End::B => self.step_hub(),
+        }
+    }
+
+    /// Resets an end, and tells how many frames are lost.
+    pub fn reset_end(&mut self, end: End) -> u32 {
+        match end {
+            End::A => self.guest.reset(&mut self.channel),
+            End::B => self.hub.reset(&mut self.channel),
+        }
+    }
+
+    /// Whether both sessions are open, the groups told, and no frame held.
+    pub fn rests(&self) -> bool {
+        self.guest.told_groups()
+            && self.hub.in_session()
+            && self.guest.held() == 0
+            && self.hub.held() == 0
+    }
+
+    /// Gives an end so many times a byte as a frame.
+    pub fn sends(&mut self, end: End, count: usize, byte: u8) -> Option<Result<u64, SendFault>> {
+        let frame = [byte; 1515];
+        let frame = frame.get(..count)?;
+        self.given = self.given.checked_add(1)?;
+        match end {
+            End::A => Some(self.guest.send(frame)),
+            End::B => Some(self.hub.send(frame)),
+        }
     }
 
     fn step_guest(&mut self) -> NetOut {
@@ -108,46 +162,24 @@ impl Port {
         )
     }
 
+    // So many steps of both ends, in turn.
+    fn steps(&mut self, count: u32) {
+        for k in 0..count {
+            let _out = self.step_end(in_turn(k));
+        }
+    }
+
     // Whether rounds of both ends open the sessions of both.
     fn opens(&mut self) -> bool {
-        for _ in 0..ROUNDS {
-            let _guest = self.step_guest();
-            let _hub = self.step_hub();
-        }
+        self.steps(2 * ROUNDS);
         self.guest.in_session() && self.hub.in_session()
-    }
-
-    // So many times a byte as a frame.
-    fn guest_sends(&mut self, count: &str, byte: &str) -> Option<Result<u64, SendFault>> {
-        let [byte]: [u8; 1] = packet(byte)?;
-        let frame = [byte; 1515];
-        let frame = frame.get(..count.parse::<usize>().ok()?)?;
-        self.given = self.given.checked_add(1)?;
-        Some(self.guest.send(frame))
-    }
-
-    fn hub_sends(&mut self, count: &str, byte: &str) -> Option<Result<u64, SendFault>> {
-        let [byte]: [u8; 1] = packet(byte)?;
-        let frame = [byte; 1515];
-        let frame = frame.get(..count.parse::<usize>().ok()?)?;
-        self.given = self.given.checked_add(1)?;
-        Some(self.hub.send(frame))
     }
 
     // The step of an end that hears a packet, `it`, which the other end never put.
     fn hears(&mut self, alloc: Global, end: &str, bytes: &str) -> Option<String> {
-        let packet = packet(bytes)?;
-        let text = match end {
-            "guest" => {
-                self.channel.forge(End::A, &packet).ok()?;
-                net_text(alloc, &self.step_guest())?
-            }
-            "hub" => {
-                self.channel.forge(End::B, &packet).ok()?;
-                net_text(alloc, &self.step_hub())?
-            }
-            _ => return None,
-        };
+        let (at, packet) = (at_end(end)?, packet(bytes)?);
+        self.channel.forge(at, &packet).ok()?;
+        let text = net_text(alloc, &self.step_end(at))?;
         text.as_str().replace(alloc, bytes, "it").ok()
     }
 
@@ -164,6 +196,19 @@ impl Port {
             }
             _ => None,
         }
+    }
+}
+
+/// Whose step is the one of this number: the guest begins.
+pub fn in_turn(number: u32) -> End {
+    if number % 2 == 0 { End::A } else { End::B }
+}
+
+fn at_end(word: &str) -> Option<End> {
+    match word {
+        "guest" => Some(End::A),
+        "hub" => Some(End::B),
+        _ => None,
     }
 }
 
