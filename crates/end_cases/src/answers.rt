@@ -6,6 +6,7 @@ use std::alloc::Global;
 use vdisk_client::ClientOut;
 use vdisk_server::ServerOut;
 use vio_tag::Cause;
+use vnet_port::NetOut;
 
 /// What a link put.
 pub fn sent_text(alloc: Global, out: &SendOut) -> Option<String> {
@@ -43,6 +44,23 @@ pub fn server_text(alloc: Global, out: &ServerOut) -> Option<String> {
         ServerOut::Desc { slot, bytes } => {
             let word = word_of(alloc, bytes)?;
             format!(in alloc; "fetched {slot} {word}").ok()
+        }
+        other => shown(alloc, other),
+    }
+}
+
+/// What an end of a port did.
+pub fn net_text(alloc: Global, out: &NetOut) -> Option<String> {
+    match out {
+        NetOut::Took { packet, opens } => passed(alloc, "took", packet, *opens),
+        NetOut::Sent { packet, opens } => passed(alloc, "sent", packet, *opens),
+        NetOut::Reset {
+            cause,
+            packet,
+            lost,
+        } => {
+            let text = fault(alloc, *cause, packet.as_ref())?;
+            format!(in alloc; "{text} lost {lost}").ok()
         }
         other => shown(alloc, other),
     }

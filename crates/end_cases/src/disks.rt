@@ -195,7 +195,8 @@ fn pages_of(slots: u32) -> u32
     (128 * slots).div_ceil(8192) + 4 * slots
 }
 
-fn memory_of(alloc: Global, pages: u32) -> Option<Memory>
+/// The memory of so many pages.
+pub fn memory_of(alloc: Global, pages: u32) -> Option<Memory>
     requires some { 1 ≤ pages }
     requires most { pages ≤ 1028 }
     ensures { IfSome result (λ memory. length memory ≡ 8192 * pages) }
@@ -203,8 +204,8 @@ fn memory_of(alloc: Global, pages: u32) -> Option<Memory>
     Memory::new(alloc, pages).ok()
 }
 
-// Each page at its own index.
-fn table_of(alloc: Global, pages: u32) -> Option<MapTable>
+/// The table that grants so many pages, each at its own index.
+pub fn table_of(alloc: Global, pages: u32) -> Option<MapTable>
     requires some { 1 ≤ pages }
     requires most { pages ≤ 1028 }
     ensures { IfSome result (λ table. PagesWithin table (8192 * pages)) }
