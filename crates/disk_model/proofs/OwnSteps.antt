@@ -20,7 +20,8 @@ use Rattle.disk_model.specs.ClientState.{ClientSession, ClientState, slot_in}
 use Rattle.disk_model.specs.ClientStep.{ClientFails}
 use Rattle.disk_model.specs.ClientTaking as client
 use Rattle.channel_model.specs.EndPuts.{handshake_risen}
-use Rattle.channel_model.specs.Ranges.{is_other, range_length}
+use Rattle.channel_model.specs.Ranges.{is_other}
+use Rattle.dring.specs.Slots.{range_length}
 use Rattle.disk_model.specs.ServerRule as server_rule
 use Rattle.disk_model.specs.ServerState.{Ends, Progress, ServerSession, ServerState, SlotRange, Work}
 use Rattle.disk_model.specs.ServerStep.{ServerFails, WorkFails}

@@ -1,7 +1,7 @@
 -- One step of a disk's client, and what comes of a request. The step is the first rule that applies, and one line says what comes of
 -- it; no two lines hold of one state.
 use Rattle.std.specs.Prelude.{◌≡◌, ◌≢◌, ℕ, ◌+◌, ◌-◌, ◌*◌, ◌^◌, ◌<◌, ◌==◌, max, Bool, true, false, if◌then◌else◌, List, [], ◌∷◌, ◌++◌, drop, length, Option, Some, None, slice_get}
-use Rattle.dring.specs.Slots.{free_state, slot_bytes}
+use Rattle.dring.specs.Slots.{done_state, free_state, slot_bytes}
 use Rattle.ldc_link.specs.Calls.{Puts as PutsPacket}
 use Rattle.ldc_queue.specs.declared.end.End.TheVariants.{A}
 use Rattle.vdisk_msg.specs.declared.desc.DiskDesc.{DiskDesc}
@@ -71,7 +71,7 @@ pub record ClientCompletes (s : ClientState) (at : Seen) (memory : List ℕ) (id
   pub request : Request
   pub rule : client_rule s at ≡ Completes session
   pub front : slice_get s.pending 0 ≡ Some request
-  pub done : (completed_descriptor s session memory).state ≡ 4
+  pub done : (completed_descriptor s session memory).state ≡ done_state
   pub id_is : id ≡ session.base + session.completed
   pub operation_is : operation ≡ operation_of request
   pub status_is : status ≡ (completed_descriptor s session memory).status

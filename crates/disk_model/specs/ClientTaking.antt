@@ -13,7 +13,8 @@ use Rattle.vio_tag.specs.declared.message.TagFault.{TagFault}
 use Rattle.vio_tag.specs.Decoding.{Decodes}
 use Rattle.vio_handshake.specs.Rules.{Faults, Goes, GoesOpen, HandshakeTake, handshake_take, sid_fault}
 use Rattle.disk_model.specs.ClientState.{ClientSession, ClientState, slot_in}
-use Rattle.channel_model.specs.Ranges.{is_other, range_length}
+use Rattle.channel_model.specs.Ranges.{is_other}
+pub use Rattle.dring.specs.Slots.{range_length}
 
 -- the client goes on so, or resets for a cause
 pub data ClientTake : Type 0 where

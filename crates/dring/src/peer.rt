@@ -4,7 +4,7 @@ ghost use Rattle.std.specs.Prelude.{◌≡◌, ◌≢◌, ◌+◌, ◌-◌, ◌*
 ghost use Rattle.cookie_copy.specs.Faults.{PagesWithin, both_up, first_copy_fault};
 ghost use Rattle.cookie_copy.specs.Moved.{moved_in, moved_out};
 ghost use Rattle.cookie_copy.specs.declared.fault.Access.TheVariants.{Read, Write};
-ghost use Rattle.dring.specs.Slots.{IsSlotSize, ready_state};
+ghost use Rattle.dring.specs.Slots.{IsSlotSize, range_length, ready_state};
 ghost use Rattle.dring.specs.Reaching.{IsSlotOf, RefusesFetch, ring_cookies};
 
 use crate::ring::{VIO_DESC_READY, place};
@@ -39,6 +39,16 @@ pub fn slot_of(id: u64, base: u64, slots: u32) -> u32
     ensures within { result < slots }
 {
     ((id - base) % slots as u64) as u32
+}
+
+/// The number of slots from `start` to `end`, both among them, around a ring of so many.
+pub fn range_length(slots: u32, start: u32, end: u32) -> u32
+    requires some { slots ≢ 0 }
+    ensures length { result ≡ range_length slots start end }
+    ensures within { result ≤ slots }
+{
+    let slots = slots as u64;
+    ((end as u64 + slots - start as u64 % slots) % slots + 1) as u32
 }
 
 /// Copies a descriptor in. It is looked at only after the copy: `NotReady` where its state isn't READY.

@@ -1,4 +1,4 @@
-ghost use Rattle.std.specs.Prelude.{◌≡◌, ◌≢◌, ◌≤◌, length, OnErr, OnOk};
+ghost use Rattle.std.specs.Prelude.{◌≡◌, ◌≢◌, ◌≤◌, None, length, OnErr, OnOk};
 ghost use Rattle.vio_io.specs.Causes.{Rose, next_count};
 ghost use Rattle.vio_io.specs.Stores.{IsUnitRange, KeepsOutside, ReadsRange, WritesRange};
 ghost use Rattle.flat_store.specs.Files.{Lacked, MovedOnce, SyncedOnce};
@@ -76,6 +76,7 @@ impl<F: ImageFile> Store for FileStore<F> {
         requires { IsUnitRange (F.size self.old.file) at (length bytes.now) }
         ensures told { OnOk result (WritesRange (F.content self.old.file) (F.content self.new.file) at bytes.now) }
         ensures outside { KeepsOutside (F.content self.old.file) (F.content self.new.file) at (length bytes.now) }
+        ensures untold { F.content self.old.file ≡ None → F.content self.new.file ≡ None }
         ensures size { F.size self.new.file ≡ F.size self.old.file }
         ensures calls { self.new.calls ≡ next_count self.old.calls }
         ensures flushes { self.new.flushes ≡ self.old.flushes }
@@ -158,6 +159,7 @@ fn write_whole<F: ImageFile>(file: &mut F, at: u64, bytes: &[u8]) -> Result<(), 
     requires { IsUnitRange (F.size file.old) at (length bytes.now) }
     ensures told { OnOk result (WritesRange (F.content file.old) (F.content file.new) at bytes.now) }
     ensures outside { KeepsOutside (F.content file.old) (F.content file.new) at (length bytes.now) }
+    ensures untold { F.content file.old ≡ None → F.content file.new ≡ None }
     ensures size { F.size file.new ≡ F.size file.old }
     ensures succeeded { OnOk result (MovedOnce (F.calls file.old) (F.calls file.new)) }
     ensures lacked { OnErr result (Lacked (F.calls file.old) (F.calls file.new)) }

@@ -1,4 +1,4 @@
-ghost use Rattle.std.specs.Prelude.{◌≡◌, ℕ, ◌≤◌, List, Option, length, IfOk, IfSome};
+ghost use Rattle.std.specs.Prelude.{◌≡◌, ℕ, ◌≤◌, List, Option, None, length, IfOk, IfSome};
 ghost use Rattle.vio_io.specs.Stores.{IsUnitRange, KeepsOutside};
 ghost use Rattle.flat_store.specs.Files.{FileCalls, ReadsFront, WritesFront, after_move, after_sync};
 
@@ -36,13 +36,14 @@ pub trait ImageFile: Drop {
         ensures size { size self.new ≡ size self.old };
 
     /// One call: writes the range from the place `at`, or a front of it, and answers how many bytes it wrote. Whatever it
-    /// answers, the bytes outside the range stay.
+    /// answers, the bytes outside the range stay, and what isn't told before isn't told after it.
     fn write_some(&mut self, at: u64, bytes: &[u8]) -> Result<usize, FileFault>
         requires { IsUnitRange (size self.old) at (length bytes.now) }
         ensures within { IfOk result (λ n. n ≤ length bytes.now) }
         ensures calls { calls self.new ≡ after_move (length bytes.now) result (calls self.old) }
         ensures told { IfOk result (λ n. WritesFront (content self.old) (content self.new) at n bytes.now) }
         ensures outside { KeepsOutside (content self.old) (content self.new) at (length bytes.now) }
+        ensures untold { content self.old ≡ None → content self.new ≡ None }
         ensures interrupted { result ≡ Err FileFault.Interrupted → content self.new ≡ content self.old }
         ensures size { size self.new ≡ size self.old };
 

@@ -70,6 +70,7 @@ impl<F: ImageFile> Store for HostDisk<F> {
         requires { IsUnitRange (size_of F.ImageFile self.old) at (length bytes.now) }
         ensures told { OnOk result (WritesRange (content_of F.ImageFile self.old) (content_of F.ImageFile self.new) at bytes.now) }
         ensures outside { KeepsOutside (content_of F.ImageFile self.old) (content_of F.ImageFile self.new) at (length bytes.now) }
+        ensures untold { content_of F.ImageFile self.old ≡ None → content_of F.ImageFile self.new ≡ None }
         ensures size { size_of F.ImageFile self.new ≡ size_of F.ImageFile self.old }
         ensures calls { calls_of self.new ≡ next_count (calls_of self.old) }
         ensures flushes { flushes_of self.new ≡ flushes_of self.old }

@@ -1,4 +1,4 @@
-ghost use Rattle.std.specs.Prelude.{◌≡◌, ◌≤◌, ◌↔◌, Some, length, [], replicate, refl, IsErr, IsTrue, IfOk, OnErr, OnOk};
+ghost use Rattle.std.specs.Prelude.{◌≡◌, ◌≤◌, ◌↔◌, Some, None, length, [], replicate, refl, IsErr, IsTrue, IfOk, OnErr, OnOk};
 ghost use Rattle.vio_io.specs.Causes.{Rose, next_count};
 ghost use Rattle.vio_io.specs.FaultPlan.{after_call, fails_next, unused};
 ghost use Rattle.vio_io.specs.Stores.{IsUnitRange, KeepsOutside, ReadsRange, WritesRange};
@@ -87,6 +87,7 @@ impl Store for ZeroStore {
         requires { IsUnitRange (length self.old.bytes) at (length bytes.now) }
         ensures told { OnOk result (WritesRange (Some self.old.bytes) (Some self.new.bytes) at bytes.now) }
         ensures outside { KeepsOutside (Some self.old.bytes) (Some self.new.bytes) at (length bytes.now) }
+        ensures untold { Some self.old.bytes ≡ None → Some self.new.bytes ≡ None }
         ensures size { length self.new.bytes ≡ length self.old.bytes }
         ensures calls { self.new.plan.calls ≡ next_count self.old.plan.calls }
         ensures flushes { self.new.flushes ≡ self.old.flushes }

@@ -6,7 +6,7 @@ use Rattle.ldc_link.specs.Putting.{owes, owes_control, owes_in}
 use Rattle.ldc_queue.specs.declared.end.End.TheVariants.{A, B}
 use Rattle.vio_tag.specs.declared.message.Message.{Message}
 use Rattle.vio_handshake.specs.declared.handshake.Handshake.{Handshake}
-use Rattle.channel_model.specs.Ranges.{range_length}
+use Rattle.dring.specs.Slots.{range_length}
 use Rattle.channel_model.specs.Sayings.{half_said}
 use Rattle.channel_model.specs.Seeing.{Seen}
 use Rattle.disk_model.specs.ClientPutting.{client_holds, is_announcing}

@@ -16,7 +16,7 @@ use Rattle.disk_model.specs.ClientState.{ClientSession, ClientState, joined_clie
 use Rattle.disk_model.specs.ClientTaking.{acknowledged}
 use Rattle.disk_model.specs.LaneState.{Shape}
 use Rattle.disk_model.specs.Offering.{client_offer}
-use Rattle.channel_model.specs.Ranges.{range_length}
+use Rattle.dring.specs.Slots.{range_length}
 use Rattle.lane_laws.proofs.ClientTaken.{ClientAcked, ClientHearsPart, ClientHandshakes, ClientTook}
 use Rattle.channel_laws.proofs.EndStanding.{open_declines}
 use Rattle.channel_laws.proofs.HandshakeFitting.{joined_fits, row_fits}

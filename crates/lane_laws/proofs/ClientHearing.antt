@@ -6,7 +6,7 @@ use Rattle.vio_tag.specs.declared.message.Message.{Message}
 use Rattle.disk_model.specs.ClientPutting.{is_announcing}
 use Rattle.disk_model.specs.ClientState.{ClientSession, ClientState}
 use Rattle.disk_model.specs.ClientTaking.{ClientTake, ClientTakes, GoesOn, Resets}
-use Rattle.channel_model.specs.Ranges.{range_length}
+use Rattle.dring.specs.Slots.{range_length}
 use Rattle.channel_laws.proofs.EndStanding.{heard_leaves}
 use Rattle.lane_laws.proofs.ClientAnswers.{Answers, comes_to, goes_by}
 use Rattle.lane_laws.proofs.Sharing.{in_order}

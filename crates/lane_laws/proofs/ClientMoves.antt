@@ -25,7 +25,7 @@ use Rattle.disk_model.specs.ClientTaking.{ClientTake, ClientTakes, GoesOn, Hears
 use Rattle.disk_model.specs.DiskEvent.{Accepted, Admitted, Full, Refused}
 use Rattle.channel_model.specs.EndPuts.{ComesUp, EndsHandshake, EndsOwn, Goes, PutKind, ending, kind_in, put_opens}
 use Rattle.disk_model.specs.Offering.{client_offer}
-use Rattle.channel_model.specs.Ranges.{range_length}
+use Rattle.dring.specs.Slots.{range_length}
 use Rattle.channel_model.specs.Seeing.{Seen}
 use Rattle.channel_laws.specs.EndCore.{EndCore, holds}
 use Rattle.channel_laws.specs.EndStep.{EndBegins, EndFails, EndHears, EndSays, EndStays, EndWaits, HandshakeTakes, HearsWhole, Holding, Holds, HoldsOn, HoldsOwed, HoldsOwn, IsOfSession, KeepsOwn, LinkFails, MayTake, WholeFails}

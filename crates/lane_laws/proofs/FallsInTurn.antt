@@ -8,7 +8,8 @@ use Rattle.ldc_queue.specs.declared.end.ChannelState.TheVariants.{Up}
 use Rattle.ldc_queue.specs.declared.end.End.{End}
 use Rattle.ldc_queue.specs.declared.end.End.TheVariants.{A, B}
 use Rattle.ldc_queue.specs.Transcript.{Heard as Heard_, Turn}
-use Rattle.channel_model.specs.Ranges.{range_length, wrapped}
+use Rattle.channel_model.specs.Ranges.{wrapped}
+use Rattle.dring.specs.Slots.{range_length}
 use Rattle.channel_model.specs.Sayings.{heard}
 use Rattle.channel_model.specs.Seeing.{seen}
 use Rattle.channel_model.specs.WireAt.{IsUp}

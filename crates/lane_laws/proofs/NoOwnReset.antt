@@ -15,7 +15,7 @@ use Rattle.dring.proofs.Turning.{slot_fits}
 use Rattle.dring.specs.declared.peer.RingFault.{RingFault}
 use Rattle.dring.specs.declared.peer.RingFault.TheVariants as refused
 use Rattle.dring.specs.Reaching.{RefusesFetch}
-use Rattle.dring.specs.Slots.{slot_bytes}
+use Rattle.dring.specs.Slots.{done_state, slot_bytes}
 use Rattle.ldc_queue.specs.declared.end.ChannelState.{ChannelState}
 use Rattle.ldc_queue.specs.declared.end.ChannelState.TheVariants.{Up}
 use Rattle.ldc_queue.specs.declared.end.End.TheVariants.{A, B}
@@ -88,7 +88,7 @@ working shape events s v sound run clean up is =
 -- THE CLIENT finds its acknowledged slot DONE
 pub client_finds_done : (shape : Shape) (events : List DiskEvent) (s : LaneState) (session : ClientSession) → IsShape shape → Run LaneStep (fresh shape) events s
     → (log_of after (nothing_yet shape) events).wire.forged ≡ false → client_rules.client_rule s.client (seen A s.shape.entries s.wire.wire) ≡ client_rules.Completes session
-    → (completed_descriptor s.client session s.memory).state ≡ 4
+    → (completed_descriptor s.client session s.memory).state ≡ done_state
 client_finds_done shape events s session sound run clean rule =
     let l = log_of after (nothing_yet shape) events in
     let at = seen A s.shape.entries s.wire.wire in

@@ -20,7 +20,8 @@ use Rattle.lane_laws.specs.DiskLog.{DiskLog, after, nothing_yet}
 use Rattle.disk_model.specs.LaneState.{IsShape, LaneState, Shape, fresh}
 use Rattle.disk_model.specs.LaneStep.{LaneStep}
 use Rattle.channel_model.specs.Messages.{end_of, is_range, range_if, seq_of, start_of}
-use Rattle.channel_model.specs.Ranges.{range_length, wrapped}
+use Rattle.channel_model.specs.Ranges.{wrapped}
+use Rattle.dring.specs.Slots.{range_length}
 use Rattle.channel_model.specs.Sayings.{heard, said}
 use Rattle.disk_model.specs.ServerState.{ServerSession, Work}
 use Rattle.channel_model.specs.TranscriptLog.{TranscriptLog}

@@ -19,7 +19,7 @@ use Rattle.vio_bytes.specs.Place.{big_bytes, number_at}
 use Rattle.channel_model.specs.Messages.{end_of, is_range, range_if, range_in, seq_of, sid_of, start_of}
 use Rattle.lane_laws.specs.EndLog.{ident_of, state_of}
 use Rattle.lane_laws.specs.WorkLog.{length_in, one_in}
-use Rattle.channel_model.specs.Ranges.{range_length}
+use Rattle.dring.specs.Slots.{range_length}
 use Rattle.lane_laws.specs.Counted.{is_ready}
 use Rattle.vio_handshake.specs.declared.handshake.Handshake.{Handshake}
 use Rattle.channel_laws.proofs.HandshakeCases.{HandshakeTook, row_apart}

@@ -4,7 +4,7 @@ use Rattle.std.specs.Prelude.{slice_get, slice_index, zero, suc}
 use Rattle.std.proofs.lemmas.Bool.{cases_lt}
 use Rattle.std.proofs.lemmas.Nat.{mod_below}
 use Rattle.std.proofs.lemmas.Option.{slice_get_within}
-use Rattle.dring.specs.Slots.{OneSlot, free_state, slot_bytes}
+use Rattle.dring.specs.Slots.{OneSlot, done_state, free_state, slot_bytes}
 use Rattle.ldc_queue.specs.declared.end.End.TheVariants.{A}
 use Rattle.vdisk_msg.specs.declared.desc.DiskDesc.{DiskDesc}
 use Rattle.vdisk_msg.specs.declared.request.Request.{Request}
@@ -166,7 +166,7 @@ completes_slot s l id operation status bytes t known step =
     let below : slot < n = mod_below (l.work.done - k.base) n (some_slots s l known) in
     let place : c.session.completed ≡ l.work.done - k.base = omega (arith, done) in
     let same_slot : c.session.completed % s.client.slots ≡ slot = ap (λ (m : ℕ). c.session.completed % m) (slots_are s l known.stands) ∙ ap (λ (x : ℕ). x % n) place in
-    let state : (disk_desc_of (slot_bytes 128 slot s.memory)).state ≡ 4 = subst (λ (j : ℕ). (disk_desc_of (slot_bytes 128 j s.memory)).state ≡ 4) same_slot c.done in
+    let state : (disk_desc_of (slot_bytes 128 slot s.memory)).state ≡ done_state = subst (λ (j : ℕ). (disk_desc_of (slot_bytes 128 j s.memory)).state ≡ done_state) same_slot c.done in
     let entry = some_entry l.ring slot (omega (arith, below, known.ring.holds.long)) in
     let is_done = done_slot r slot entry.0 (slot_bytes 128 slot s.memory) (known.ring.holds.each slot entry.0 entry.1) (sym (first_number (slot_bytes 128 slot s.memory)) ∙ state) in
     let sizes = sizes_of s l slot known.pages below in

@@ -18,7 +18,8 @@ use Rattle.lane_laws.specs.WorkLog.{ServerCounts, change_server, length_in, one_
 use Rattle.channel_model.specs.EndPuts.{handshake_risen}
 use Rattle.disk_model.specs.LaneState.{Shape}
 use Rattle.disk_model.specs.Offering.{server_offer}
-use Rattle.channel_model.specs.Ranges.{range_length, wrapped}
+use Rattle.channel_model.specs.Ranges.{wrapped}
+use Rattle.dring.specs.Slots.{range_length}
 use Rattle.disk_model.specs.ServerState.{ServerSession, ServerState, SlotRange, Work, joined_server, restarted_server}
 use Rattle.channel_laws.specs.Grounds.{has_named}
 use Rattle.lane_laws.proofs.ClientTaken.{HearsMessage}

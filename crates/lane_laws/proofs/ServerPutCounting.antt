@@ -17,7 +17,8 @@ use Rattle.lane_laws.specs.WorkLog.{ServerCounts, change_server, length_in, one_
 use Rattle.channel_model.specs.EndPuts.{ComesUp, EndsOwn, EndsHandshake, Goes, PutKind, handshake_behind}
 use Rattle.disk_model.specs.LaneState.{Shape}
 use Rattle.disk_model.specs.Offering.{server_offer}
-use Rattle.channel_model.specs.Ranges.{range_length, wrapped}
+use Rattle.channel_model.specs.Ranges.{wrapped}
+use Rattle.dring.specs.Slots.{range_length}
 use Rattle.disk_model.specs.ServerPutting.{answered, server_holds, session_behind}
 use Rattle.disk_model.specs.ServerRule.{Fetches, Joins, Puts, Idles, Says, ServerRule, Serves, Takes}
 use Rattle.disk_model.specs.ServerState.{ServerSession, ServerState, SlotRange, Work}

@@ -3,7 +3,7 @@
 -- an end has still to put (that it is put, and that it is taken), and for each request one that it is published, two for the INFO that
 -- announces it, one that it is done, and twelve for the server: ten that it is served and two for the ACK that answers it. A request counts
 -- as if it were announced and answered alone: an INFO that announces several lowers the number by two for each.
-use Rattle.std.specs.Prelude.{ℕ, ◌+◌, ◌-◌, ◌*◌, ◌%◌, Bool, true, false, length, Option, Some, None}
+use Rattle.std.specs.Prelude.{ℕ, ◌+◌, ◌^◌, ◌-◌, ◌*◌, ◌%◌, Bool, true, false, length, Option, Some, None}
 use Rattle.ldc_queue.specs.declared.end.ChannelState.{ChannelState}
 use Rattle.ldc_queue.specs.declared.end.ChannelState.TheVariants.{Down, Up, Resetting}
 use Rattle.ldc_queue.specs.Wire.{Wire}
@@ -40,7 +40,7 @@ asked_in None = 0
 asked_in (Some s) = s.asked
 
 abbrev pub unfinished : ServerSession → ℕ
-unfinished s = ((s.asked + 18446744073709551616) - s.finished) % 18446744073709551616
+unfinished s = ((s.asked + 2 ^ 64) - s.finished) % 2 ^ 64
 
 -- the pieces that are left of a descriptor of so many units: two for each unit, one for a flush
 abbrev pub pieces_left : ℕ → Progress → ℕ

@@ -1,5 +1,5 @@
 -- Which steps of an end lower what remains, and what a server takes.
-use Rattle.std.specs.Prelude.{◌≡◌, List, [], ◌∷◌, ℕ, ◌+◌, ◌*◌, ◌<◌, ◌≤◌, ◌⊎◌, ⊤, length, Option, Some, None}
+use Rattle.std.specs.Prelude.{◌≡◌, List, [], ◌∷◌, ℕ, ◌+◌, ◌*◌, ◌^◌, ◌<◌, ◌≤◌, ◌⊎◌, ⊤, length, Option, Some, None}
 use Rattle.disk_model.specs.ClientState.{ClientState}
 use Rattle.disk_model.specs.DiskEvent.{Desc, DiskEvent, Done, Finished, Moved, OnWire, Published, Stored, Worked, Works}
 use Rattle.disk_model.specs.ServerState.{ServerSession, ServerState}
@@ -11,7 +11,7 @@ use Rattle.lane_laws.specs.Remaining.{asked_in, server_packets, serving_left, to
 -- a server's counts fit into 8 bytes
 abbrev pub CountsFit : Option ServerSession → Type 0
 CountsFit None = ⊤
-CountsFit (Some session) = (session.asked < 18446744073709551616) × (session.finished < 18446744073709551616)
+CountsFit (Some session) = (session.asked < 2 ^ 64) × (session.finished < 2 ^ 64)
 
 -- THE STEPS of an end that take nothing: it joins, puts a packet, publishes or completes a request, fetches a descriptor, does a piece of
 -- it, or gives it its status

@@ -1,6 +1,6 @@
 -- What a client writes into its ring, one slot at a time, also where somebody forges packets and memory.
 use Rattle.std.specs.Prelude.{◌≡◌, ℕ, ◌-◌, ◌<◌, List, Some, drop, slice_get, slice_index}
-use Rattle.dring.specs.Slots.{OneSlot, free_slot, free_state, slot_bytes}
+use Rattle.dring.specs.Slots.{OneSlot, done_state, free_slot, free_state, slot_bytes}
 use Rattle.vdisk_msg.specs.declared.request.Request.{Request}
 use Rattle.vdisk_msg.specs.Descriptor.{canonical, disk_desc_of}
 use Rattle.vdisk_msg.specs.Requested.{descriptor_of}
@@ -30,7 +30,7 @@ pub record SlotPublished (s : LaneState) (id : ℕ) (t : LaneState) : Type 0 whe
 pub record SlotFreed (s : LaneState) (status : ℕ) (t : LaneState) : Type 0 where
   pub session : ClientSession
   pub open_is : s.client.session ≡ Some session
-  pub done : (disk_desc_of (slot_bytes 128 (slot_in s.client session.completed) s.memory)).state ≡ 4
+  pub done : (disk_desc_of (slot_bytes 128 (slot_in s.client session.completed) s.memory)).state ≡ done_state
   pub status_is : status ≡ (disk_desc_of (slot_bytes 128 (slot_in s.client session.completed) s.memory)).status
   pub slot : FreesSlot s.client.slots (slot_in s.client session.completed) s.memory t.memory
 

@@ -27,7 +27,8 @@ use Rattle.channel_model.specs.OwnMemory.{own_table}
 use Rattle.disk_model.specs.LaneState.{pages_of}
 use Rattle.disk_model.specs.Offering.{client_offer, server_offer}
 use Rattle.disk_model.specs.ServerState.{SlotRange}
-use Rattle.channel_model.specs.Ranges.{range_length, wrapped}
+use Rattle.channel_model.specs.Ranges.{wrapped}
+use Rattle.dring.specs.Slots.{range_length}
 use Rattle.lane_laws.specs.BlockLog.{Clear}
 use Rattle.lane_laws.specs.DiskLog.{DiskLog}
 use Rattle.channel_model.specs.Messages.{end_of, range_ended, seq_of, sid_of, start_of}

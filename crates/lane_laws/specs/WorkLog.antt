@@ -10,7 +10,7 @@ use Rattle.channel_model.specs.Sayings.{half_heard, half_said}
 use Rattle.channel_model.specs.TranscriptLog.{TranscriptLog}
 use Rattle.channel_model.specs.WireEvent.{Joined, Reset, Sent, Took, WireEvent}
 use Rattle.disk_model.specs.DiskEvent.{Accepted, Asks, Desc, DiskEvent, Done, Finished, Full, Misplaced, Moved, Off, OnWire, Published, Refused, Calms, Started, Stopped, Stored, Switches, Works}
-use Rattle.channel_model.specs.Ranges.{range_length}
+use Rattle.dring.specs.Slots.{range_length}
 use Rattle.channel_model.specs.Messages.{end_of, opening_sid, range_ended, start_of}
 
 -- the client's open session, counted without bound: the done ones in it are all that are done less the base

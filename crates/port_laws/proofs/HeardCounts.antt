@@ -14,7 +14,8 @@ use Rattle.vio_tag.specs.declared.message.MsgBody.TheVariants.{DringData, DringU
 use Rattle.vio_tag.specs.Form.{HasForm, IsWellFormed}
 use Rattle.vio_tag.specs.Spelling.{SpellsBody, SpellsMessage, envelope_code}
 use Rattle.channel_model.specs.Messages.{end_of, start_of}
-use Rattle.channel_model.specs.Ranges.{range_length, wrapped}
+use Rattle.channel_model.specs.Ranges.{wrapped}
+use Rattle.dring.specs.Slots.{range_length}
 use Rattle.port_model.proofs.Refuting.{false_true}
 use Rattle.port_model.specs.EndLog.{EndLog, SessionLog, acked_by, acked_in, change, heard_in, heard_kind, hears_log, range_of}
 use Rattle.port_model.specs.FramesStand.{CountsStand, FramesStand}

@@ -14,7 +14,7 @@ use Rattle.vio_tag.specs.declared.message.MsgBody.TheVariants.{Attr, DringData, 
 use Rattle.vio_tag.specs.Form.{HasForm, IsWellFormed}
 use Rattle.vio_tag.specs.Spelling.{SpellsBody, SpellsMessage, envelope_code, subtype_at}
 use Rattle.vio_bytes.specs.Place.{number_at}
-use Rattle.channel_model.specs.Ranges.{range_length}
+use Rattle.dring.specs.Slots.{range_length}
 use Rattle.port_laws.proofs.MessageDoes.{Acks, Asks, Declines, MessageDoes, Names, TakeDoes, Told, message_does}
 use Rattle.port_laws.specs.LetsGo.{InOrder, LetsGo, TakeLetsGo, TakeLetsNoneGo, acks}
 use Rattle.port_model.proofs.Refuting.{false_true}

@@ -8,7 +8,7 @@ use Rattle.cookie_copy.specs.Faults.{is_up}
 use Rattle.cookie_copy.specs.Moved.{moved_in, moved_out, moved_spots, place_of}
 use Rattle.cookie_copy.specs.Reach.{Reach}
 use Rattle.dring.proofs.Turning.{length-free_slots}
-use Rattle.dring.specs.Slots.{free_slots, free_state}
+use Rattle.dring.specs.Slots.{free_slots, free_state, range_length}
 use Rattle.ldc_link.specs.declared.phase.Role.{Role}
 use Rattle.ldc_link.specs.declared.phase.Role.TheVariants.{Initiator, Responder}
 use Rattle.ldc_link.specs.LinkState.{LinkState, cleared}
@@ -30,7 +30,6 @@ use Rattle.vio_tag.specs.declared.message.TagFault.{TagFault}
 use Rattle.vnet_msg.proofs.FrameSlots.{long}
 use Rattle.vnet_msg.specs.Descriptor.{canonical, net_desc_of}
 use Rattle.vnet_msg.specs.Frames.{IsFrame, buffer_place, frame_buffer, frame_desc, header, memory_pages}
-use Rattle.channel_model.specs.Ranges.{range_length}
 use Rattle.channel_model.specs.Seeing.{Seen}
 use Rattle.channel_model.specs.TranscriptLog.{transcript_of}
 use Rattle.channel_laws.specs.Standing.{EndStands, is_open_in}

@@ -8,7 +8,7 @@ use Rattle.cookie_copy.specs.declared.fault.CopyFault.{CopyFault}
 use Rattle.cookie_copy.specs.Faults.{first_copy_fault}
 use Rattle.cookie_copy.specs.Moved.{moved_in, moved_spots, place_of}
 use Rattle.cookie_copy.specs.Reach.{Reach}
-use Rattle.dring.specs.Slots.{free_slots, free_state, ready_state}
+use Rattle.dring.specs.Slots.{free_slots, free_state, range_length, ready_state}
 use Rattle.ldc_link.specs.declared.phase.Role.{Role}
 use Rattle.ldc_link.specs.declared.phase.Role.TheVariants.{Initiator, Responder}
 use Rattle.ldc_link.specs.LinkState.{cleared}
@@ -27,7 +27,7 @@ use Rattle.vio_tag.specs.declared.message.TagFault.{TagFault}
 use Rattle.vnet_msg.specs.declared.desc.NetDesc.{NetDesc}
 use Rattle.vnet_msg.specs.Descriptor.{canonical, net_desc_of}
 use Rattle.vnet_msg.specs.Frames.{buffer_place, frame_buffer, frame_desc, header, holds_frame, memory_pages}
-use Rattle.channel_model.specs.Ranges.{is_other, range_length}
+use Rattle.channel_model.specs.Ranges.{is_other}
 use Rattle.channel_model.specs.Seeing.{Seen}
 use Rattle.port_model.specs.Fetching.{Fetched, IsFrame, NotReady, Refuses, copied, described, fetched, frame_fault, mark_fault, marked, read, slot_read, slots_cookies}
 use Rattle.port_model.specs.Groups.{groups_after}

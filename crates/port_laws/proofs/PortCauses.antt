@@ -22,7 +22,8 @@ use Rattle.vio_tag.specs.declared.message.Message.{Message}
 use Rattle.vio_tag.specs.declared.message.MsgBody.{MsgBody}
 use Rattle.vio_tag.specs.declared.message.MsgBody.TheVariants.{DringData, Mcast}
 use Rattle.vio_tag.specs.declared.message.TagFault.{TagFault}
-use Rattle.channel_model.specs.Ranges.{is_other, range_length}
+use Rattle.channel_model.specs.Ranges.{is_other}
+use Rattle.dring.specs.Slots.{range_length}
 use Rattle.channel_model.specs.TranscriptLog.{transcript_of}
 use Rattle.channel_laws.proofs.CoreLaws.{stands_a, stands_b}
 use Rattle.channel_laws.proofs.EndCases.{stays_risen}

@@ -18,7 +18,7 @@ use Rattle.vio_handshake.specs.Rules.{Faults, Goes, GoesOpen, HandshakeTake, han
 use Rattle.vio_tag.specs.declared.message.Message.{Message}
 use Rattle.vio_tag.specs.declared.message.MsgBody.{MsgBody}
 use Rattle.vio_tag.specs.declared.message.TagFault.{TagFault}
-use Rattle.channel_model.specs.Ranges.{range_length}
+use Rattle.dring.specs.Slots.{range_length}
 use Rattle.channel_model.specs.Seeing.{Seen}
 use Rattle.channel_laws.proofs.PacketsTaken.{unforged_took}
 use Rattle.channel_laws.specs.LaneCore.{end_of}

@@ -16,7 +16,7 @@ use Rattle.vio_tag.specs.declared.message.MsgBody.{MsgBody}
 use Rattle.vio_tag.specs.declared.message.TagFault.{TagFault}
 use Rattle.vnet_msg.specs.Frames.{IsFrame}
 use Rattle.channel_model.specs.EndPuts.{handshake_behind}
-use Rattle.channel_model.specs.Ranges.{range_length}
+use Rattle.dring.specs.Slots.{range_length}
 use Rattle.channel_model.specs.Seeing.{Seen}
 use Rattle.cookie_copy.specs.Reach.{Reach}
 use Rattle.channel_laws.specs.Standing.{EndStands, is_open_in}

@@ -4,7 +4,7 @@ use Rattle.ldc_packet.specs.declared.packet.Subtype.{Subtype}
 use Rattle.ldc_packet.specs.declared.packet.Subtype.TheVariants.{Ack}
 use Rattle.vio_tag.specs.declared.message.MsgBody.{MsgBody}
 use Rattle.vio_tag.specs.declared.message.MsgBody.TheVariants.{DringData}
-use Rattle.channel_model.specs.Ranges.{range_length}
+use Rattle.dring.specs.Slots.{range_length}
 use Rattle.channel_laws.specs.Standing.{is_open_in}
 use Rattle.port_model.specs.NetEndState.{NetEndState, NetSession, first_id, opened_session}
 use Rattle.port_model.specs.NetEndTaking.{GoesOn, NetTake, Resets}

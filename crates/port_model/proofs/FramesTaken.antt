@@ -16,7 +16,8 @@ use Rattle.vio_tag.specs.declared.message.Message.{Message}
 use Rattle.vio_tag.specs.declared.message.MsgBody.{MsgBody}
 use Rattle.vio_tag.specs.declared.message.MsgBody.TheVariants.{DringData, Mcast}
 use Rattle.vio_tag.specs.declared.message.TagFault.{TagFault}
-use Rattle.channel_model.specs.Ranges.{is_other, range_length}
+use Rattle.channel_model.specs.Ranges.{is_other}
+use Rattle.dring.specs.Slots.{range_length}
 use Rattle.port_model.specs.FramesStand.{CountsStand, FramesStand}
 use Rattle.port_model.specs.Groups.{groups_after}
 use Rattle.port_model.specs.NetEndState.{NetEndState, NetSession, opened_net_end, with_session}

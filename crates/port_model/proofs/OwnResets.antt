@@ -5,7 +5,7 @@ use Rattle.cookie_copy.specs.declared.fault.Access.TheVariants.{Read}
 use Rattle.cookie_copy.specs.declared.fault.CopyFault.{CopyFault}
 use Rattle.cookie_copy.specs.Faults.{first_copy_fault}
 use Rattle.cookie_copy.specs.Moved.{moved_in}
-use Rattle.dring.specs.Slots.{ready_state}
+use Rattle.dring.specs.Slots.{range_length, ready_state}
 use Rattle.ldc_link.specs.declared.phase.Role.{Role}
 use Rattle.ldc_link.specs.declared.phase.Role.TheVariants.{Initiator, Responder}
 use Rattle.ldc_link.specs.LinkState.{cleared}
@@ -22,7 +22,7 @@ use Rattle.vio_tag.specs.declared.message.TagFault.{TagFault}
 use Rattle.vnet_msg.specs.declared.desc.NetDesc.{NetDesc}
 use Rattle.vnet_msg.specs.Descriptor.{net_desc_of}
 use Rattle.vnet_msg.specs.Frames.{frame_in, holds_frame, moved_size}
-use Rattle.channel_model.specs.Ranges.{is_other, range_length}
+use Rattle.channel_model.specs.Ranges.{is_other}
 use Rattle.cookie_copy.specs.Reach.{Reach}
 use Rattle.channel_model.specs.WireEvent.{ByStep, giver}
 use Rattle.channel_model.proofs.OwnCauses.{IsOwn, OwnLink, link_own}

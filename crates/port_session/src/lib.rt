@@ -11,4 +11,4 @@ mod session;
 
 pub use membership::{groups_after, seven};
 pub use offering::port_offer;
-pub use session::{MembershipReply, PortSession, RingActivity, range_length};
+pub use session::{MembershipReply, PortSession, RingActivity};

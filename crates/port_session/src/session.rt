@@ -1,7 +1,7 @@
 // An open session.
 
 ghost use Rattle.std.specs.Prelude.{◌≡◌, ◌≢◌, ◌+◌, ◌-◌, ◌%◌, ◌^◌, ◌<◌, ◌≤◌, ◌&&◌, not, nat_le, nat_lt, true, false, None, Some};
-ghost use Rattle.channel_model.specs.Ranges.{range_length, wrapped};
+ghost use Rattle.channel_model.specs.Ranges.{wrapped};
 ghost use Rattle.port_model.specs.NetEndStep.{published};
 ghost use Rattle.port_model.specs.NetEndTaking.{active, replying};
 ghost use Rattle.port_model.specs.NetEndState.{opened_session, unseen_in};
@@ -327,15 +327,4 @@ impl PortSession {
             ..self
         }
     }
-}
-
-/// The number of slots from `start` to `end`, both among them, around a ring of so many.
-pub fn range_length(slots: u32, start: u32, end: u32) -> u32
-    requires few { slots ≤ 64 }
-    requires start { start < slots }
-    requires end { end < slots }
-    ensures length { result ≡ range_length slots start end }
-    ensures within { result ≤ slots }
-{
-    (end + slots - start) % slots + 1
 }

@@ -3,6 +3,7 @@
 ghost use Rattle.std.specs.Prelude.{◌≡◌, ◌+◌, ◌<◌, ◌≤◌, ◌==◌, if◌then◌else◌, length, drop, take};
 ghost use Rattle.ldc_queue.specs.ChannelView.{ChannelView};
 ghost use Rattle.vio_bytes.specs.Range.{range_at};
+ghost use Rattle.dring.specs.Slots.{done_state};
 ghost use Rattle.vdisk_msg.specs.Check.{most_bytes};
 ghost use Rattle.vdisk_msg.specs.Requested.{buffer_of};
 ghost use Rattle.vdisk_msg.specs.Requests.{given_count};
@@ -64,7 +65,7 @@ impl ClientEnd {
         requires requests { RequestsStand self.old }
         requires room { HoldsRing self.old.slots memory.old }
         requires slot { slot ≡ completed_slot self.old session }
-        requires done { (completed_descriptor self.old session memory.old).state ≡ 4 }
+        requires done { (completed_descriptor self.old session memory.old).state ≡ done_state }
         requires status { status ≡ (completed_descriptor self.old session memory.old).status }
         ensures step { (channel : ChannelView) → rule_of self.old channel ≡ Completes session
             → Steps self.old channel memory.old out.new self.new channel memory.new }

@@ -4,11 +4,11 @@ ghost use Rattle.std.specs.Prelude.{◌≡◌, ◌≢◌, ◌<◌, ◌≤◌, �
 ghost use Rattle.ldc_queue.specs.declared.end.ChannelState.TheVariants.{Up};
 ghost use Rattle.vio_handshake.specs.Rules.{handshake_take};
 ghost use Rattle.vio_handshake.specs.declared.handshake.Phase.TheVariants.{Down};
-ghost use Rattle.channel_model.specs.Ranges.{range_length};
 
 use crate::answers::ClientOut;
 use crate::end::ClientEnd;
 use crate::session::OpenSession;
+use dring::range_length;
 use ldc_link::TakeOut;
 use ldc_packet::Subtype;
 use ldc_queue::{Channel, End};
@@ -162,15 +162,4 @@ impl ClientEnd {
         self.session = Some(session.acknowledged(count));
         Ok(())
     }
-}
-
-/// The number of slots from `start` to `end`, both among them, around a ring of so many.
-fn range_length(slots: u32, start: u32, end: u32) -> u32
-    requires few { slots ≤ 256 }
-    requires start { start < slots }
-    requires end { end < slots }
-    ensures length { result ≡ range_length slots start end }
-    ensures within { result ≤ slots }
-{
-    (end + slots - start) % slots + 1
 }

@@ -1,9 +1,10 @@
 // The session of a server: what its client announced, and how far that is done.
 
 ghost use Rattle.std.specs.Prelude.{◌≡◌, ◌<◌};
-ghost use Rattle.channel_model.specs.Ranges.{range_length};
+ghost use Rattle.dring.specs.Slots.{range_length};
 ghost use Rattle.disk_model.specs.ServerState.{opened_server};
 
+use dring::range_length;
 use std::marker::Model;
 
 /// A range of slots, from `start` to `end` around the ring, as an INFO named it.
@@ -72,7 +73,6 @@ impl SlotRange {
         requires some { 0 < slots }
         ensures { result ≡ range_length slots self.now.start self.now.end }
     {
-        let slots = slots as u64;
-        (self.end as u64 + slots - self.start as u64 % slots) % slots + 1
+        range_length(slots, self.start, self.end) as u64
     }
 }

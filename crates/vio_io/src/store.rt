@@ -1,4 +1,4 @@
-ghost use Rattle.std.specs.Prelude.{◌≡◌, ℕ, ◌<◌, ◌≤◌, ◌↔◌, List, Option, length, IsTrue, OnErr, OnOk, IfSome};
+ghost use Rattle.std.specs.Prelude.{◌≡◌, ℕ, ◌<◌, ◌≤◌, ◌↔◌, List, Option, None, length, IsTrue, OnErr, OnOk, IfSome};
 ghost use Rattle.vio_io.specs.Causes.{Rose, next_count};
 ghost use Rattle.vio_io.specs.Stores.{IsUnitRange, KeepsOutside, ReadsRange, WritesRange};
 
@@ -39,10 +39,12 @@ pub trait Store: Drop {
         ensures once { OnErr result (faults self.new ≡ next_count (faults self.old)) };
 
     /// Writes exactly the range from the place `at`. After `Failed` the bytes outside it stay.
+    /// What isn't told before isn't told after it.
     fn write_at(&mut self, at: u64, bytes: &[u8]) -> Result<(), Failed>
         requires { IsUnitRange (size self.old) at (length bytes.now) }
         ensures told { OnOk result (WritesRange (content self.old) (content self.new) at bytes.now) }
         ensures outside { KeepsOutside (content self.old) (content self.new) at (length bytes.now) }
+        ensures untold { content self.old ≡ None → content self.new ≡ None }
         ensures size { size self.new ≡ size self.old }
         ensures calls { calls self.new ≡ next_count (calls self.old) }
         ensures flushes { flushes self.new ≡ flushes self.old }

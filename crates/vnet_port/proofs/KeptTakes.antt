@@ -22,7 +22,8 @@ use Rattle.vio_tag.specs.declared.message.TagFault.{TagFault}
 use Rattle.vio_tag.specs.Decoding.{Decodes}
 use Rattle.vio_tag.specs.Form.{IsWellFormed}
 use Rattle.channel_model.specs.EndPuts.{handshake_risen}
-use Rattle.channel_model.specs.Ranges.{is_other, range_length}
+use Rattle.channel_model.specs.Ranges.{is_other}
+use Rattle.dring.specs.Slots.{range_length}
 use Rattle.port_model.specs.Groups.{at_most_seven, groups_after, set_groups, with_groups, without_groups}
 use Rattle.port_model.specs.NetEndState.{NetEndState, NetSession, with_session}
 use Rattle.port_model.specs.NetEndTaking.{GoesOn, HearsLink, HearsWhole, NetTake, NetTakes, Resets, active, by_handshake, ends_outside, first_undone, hears_message, in_session, opens_by_take, reads, refused, replying, risen, sid_first, takes_ack, takes_done, takes_groups, takes_info, takes_range, told}

@@ -15,11 +15,12 @@ ghost use Rattle.port_frames.specs.Memories.{HoldsRing};
 use crate::net_out::NetOut;
 use crate::port_end::PortEnd;
 use dom_memory::Memory;
+use dring::range_length;
 use ldc_link::{Role, TakeOut};
 use ldc_packet::Subtype;
 use ldc_queue::Channel;
 use port_frames::{first_undone, free_slots};
-use port_session::{MembershipReply, PortSession, groups_after, range_length};
+use port_session::{MembershipReply, PortSession, groups_after};
 use vio_handshake::HsOut;
 use vio_tag::{Cause, Message, MsgBody, TagFault, decode};
 

@@ -21,7 +21,8 @@ use Rattle.disk_model.specs.ClientTaking as taking
 use Rattle.disk_model.specs.DiskEvent.{Accepted, Admitted, Asks, Calm, CalmReset, CalmRestart, CalmStart, CalmStop, CalmTick, Desc, DiskEvent, Done, Finished, Full, Misplaced, Moved, Off, OnWire, Published, Refused, Calms, Started, Stopped, Stored, Switched, Switches, Worked, Works}
 use Rattle.disk_model.specs.LaneState.{LaneState}
 use Rattle.disk_model.specs.LaneStep.{EndOnWire, LaneStep, ResetBy, RestStep, TurnStep, WireStep, WorkStep}
-use Rattle.channel_model.specs.Ranges.{is_other, range_length}
+use Rattle.channel_model.specs.Ranges.{is_other}
+use Rattle.disk_model.specs.ClientTaking.{range_length}
 use Rattle.channel_model.specs.Seeing.{seen}
 use Rattle.lane_laws.proofs.Requesting.{held_kept, sent_kept}
 use Rattle.lane_laws.proofs.RingPages.{same_pages}
