@@ -1,12 +1,12 @@
 -- From the words of a line to the line, and what a line that spells an event says of the names.
-use Rattle.std.proofs.Common.{◌≡◌, ◌<◌, inl, inr, ℕ, false, List, [], ◌∷◌, length, Option, Some, None, IfNone, OnSome, sym, subst}
+use Rattle.std.proofs.Common.{◌≡◌, ◌<◌, inl, inr, ℕ, false, List, [], ◌∷◌, length, Option, Some, None, IfNone, sym, subst}
 use Rattle.domain_script.specs.declared.event.DiskDecl.{DiskDecl}
 use Rattle.domain_script.specs.declared.event.Event.{Event}
 use Rattle.domain_script.specs.declared.event.Event.TheVariants.{Blank, Disk}
 use Rattle.domain_script.specs.declared.fields.LaneKind.TheVariants as lanes
 use Rattle.domain_script.specs.declared.rows.RowKind.{RowKind}
 use Rattle.domain_script.specs.Declarations.{IsDisk}
-use Rattle.domain_script.specs.NamesState.{CanDeclare, CanNote, IsFree, NamesState}
+use Rattle.domain_script.specs.NamesState.{CanDeclare, IsFree, NamesState}
 use Rattle.domain_script.specs.Printed.{CanPrint}
 use Rattle.domain_script.specs.Rows.{row_named}
 use Rattle.domain_script.specs.Words.{words}
@@ -24,12 +24,6 @@ pub none_spelled : (line : List ℕ) (ws : List (List ℕ)) (names : NamesState)
     → IfNone found ((event : Event) → SpellsWords ws names event → ⊥) → IfNone found ((event : Event) → Spells line names event → ⊥)
 none_spelled line ws names None is not_blank none = no_event line ws names is not_blank none
 none_spelled line ws names (Some done) is not_blank none = tt
-
--- its words spell what it spells
-pub some_spelled : (line : List ℕ) (ws : List (List ℕ)) (names : NamesState) (event : Event) (found : Option Unit) → words line ≡ ws
-    → OnSome found (SpellsWords ws names event) → OnSome found (Spells line names event)
-some_spelled line ws names event None is spells = tt
-some_spelled line ws names event (Some done) is spells = inr (subst (λ (l : List (List ℕ)). SpellsWords l names event) (sym is) spells)
 
 -- A LINE THAT SPELLS AN EVENT says of it what printing it asks for
 blank_printable : (names : NamesState) → CanPrint names Blank
@@ -49,14 +43,6 @@ can_print line names event (inr spells) = printable_words (words line) names eve
 
 pub is_declared : (line : List ℕ) (names : NamesState) (event : Event) → Spells line names event → IsDeclared names event
 is_declared line names event spells = (can_print line names event spells).fits
-
--- so that it may be noted
-note_of : (names : NamesState) (event : Event) → CanPrint names event → CanNote names event
-note_of names (Disk disk) can = can.stands.0
-note_of names event can = tt
-
-pub can_note : (line : List ℕ) (names : NamesState) (event : Event) → Spells line names event → CanNote names event
-can_note line names event spells = note_of names event (can_print line names event spells)
 
 -- a declaration is within the limits, and comes before any other line that isn't blank
 pub record Declares (names : NamesState) (disk : DiskDecl) : Type 0 where

@@ -83,9 +83,6 @@ no_sample_too words mode.EndOnly image number asks also = absurd asks
 pub one_sample : (words : List (List ℕ)) (number other : ℕ) → AsksSample words number → AsksSample words other → other ≡ number
 one_sample words number other asks also = cc (asks_sample words number asks, asks_sample words other also)
 
-pub no_dump_too : (words : List (List ℕ)) (number : ℕ) → AsksDump words → AsksSample words number → ⊥
-no_dump_too words number dump also = cc (ap wanted dump, asks_sample words number also)
-
 -- so that what holds of a command's mode and image holds of those that the words ask for
 pub as_asked : (P : Mode → List ℕ → Type 0) (words : List (List ℕ)) (shown other : Mode) (image name : List ℕ) → AsksFor shown words image → AsksFor other words name → P shown image → P other name
 as_asked P words shown other image name asks also holds =

@@ -1,5 +1,5 @@
 -- A sample script has no fault, and its source never fails.
-use Rattle.std.proofs.Common.{◌≡◌, ◌≢◌, refl, ℕ, ◌<◌, ◌≤◌, sym, ap, arith, true}
+use Rattle.std.proofs.Common.{◌≡◌, ◌≢◌, refl, ℕ, arith, true}
 use Rattle.ldom_sample.specs.Sample.{SpellSample, sample_events, sample_names, sample_text}
 use Rattle.ldom_sample.proofs.Sampling.{text_spells}
 use Rattle.domain_script.specs.ScriptLines.{script_lines}

@@ -20,7 +20,7 @@ use std::alloc::Global;
 use std::marker::Model;
 use vio_bytes::{NoMemory, put_u8};
 use vio_tag::Cause;
-use vnet_msg::{decode, holds_frame};
+use vnet_msg::{SLOT, decode, holds_frame};
 
 /// Why no frame was taken from a slot.
 #[derive(Clone, Copy)]
@@ -112,7 +112,7 @@ impl LastFrame {
             → FrameOf result (fetched s (reach_over channel.now table.now peer.old) slot) self.old peer.old self.new peer.new }
         ensures same_length { length peer.new ≡ length peer.old }
     {
-        let bytes = match fetch::<64>(channel, end, table, peer, ring, slot) {
+        let bytes = match fetch::<SLOT>(channel, end, table, peer, ring, slot) {
             Ok(bytes) => bytes,
             Err(fault) => return Err(slot_fault(fault)),
         };
@@ -127,7 +127,7 @@ impl LastFrame {
             Ok(()) => {}
             Err(fault) => return Err(copy_refused(fault)),
         }
-        match mark::<64>(channel, end, table, peer, ring, slot, done_header(desc.ack)) {
+        match mark::<SLOT>(channel, end, table, peer, ring, slot, done_header(desc.ack)) {
             Ok(()) => {}
             Err(fault) => return Err(copy_refused(fault)),
         }

@@ -9,9 +9,10 @@ ghost use Rattle.port_frames.specs.Memories.{HoldsRing};
 use dom_memory::Memory;
 use dring::{Ring, VIO_DESC_DONE};
 use vio_tag::Cause;
+use vnet_msg::SLOT;
 
 /// The ring of so many slots, at the front of the memory.
-pub fn ring_of(slots: u32) -> Ring<64>
+pub fn ring_of(slots: u32) -> Ring<SLOT>
     ensures { result.slots ≡ slots }
 {
     Ring::new(slots)

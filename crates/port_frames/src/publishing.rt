@@ -10,7 +10,7 @@ use crate::own_slots::ring_of;
 use dom_memory::Memory;
 use dring::VIO_DESC_READY;
 use map_table::Cookie;
-use vnet_msg::{NetDesc, encode};
+use vnet_msg::{NetDesc, SLOT, encode};
 
 /// The bytes before a frame in its buffer.
 const BEFORE: usize = 6;
@@ -80,7 +80,7 @@ pub fn put_frame(memory: &mut Memory, slots: u32, slot: u32, frame: &[u8])
     ensures same_length { length memory.new ≡ length memory.old }
 {
     put_buffer(memory, buffer_place(slot), frame);
-    let mut bytes = [0; 64];
+    let mut bytes = [0; SLOT];
     encode(&frame_desc(slot, frame.len()), &mut bytes);
     ring_of(slots).publish(memory, slot, &bytes);
 }

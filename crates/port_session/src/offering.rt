@@ -9,9 +9,7 @@ use ldc_link::Role;
 use map_table::Cookie;
 use vio_handshake::Offer;
 use vio_tag::{NetAttr, put_net_attr};
-
-/// The bytes of a slot of a ring.
-const SLOT: u32 = 64;
+use vnet_msg::SLOT;
 
 /// The highest version is 1.1.
 const MINOR: u16 = 1;
@@ -32,7 +30,7 @@ pub fn port_offer(role: Role, address: &[u8; 6], slots: u32) -> Offer
         class: class_of(role),
         attr: put_net_attr(&device_of(address)),
         slots,
-        slot_size: SLOT,
+        slot_size: SLOT as u32,
         count: 1,
         cookies: ring_cookies(slots),
         both_rings: true,
@@ -74,7 +72,7 @@ fn ring_cookies(slots: u32) -> [Cookie; 14]
     let mut cookies = [Cookie::NONE; 14];
     cookies[0] = Cookie {
         address: 0,
-        size: (SLOT * slots) as u64,
+        size: SLOT as u64 * slots as u64,
     };
     cookies
 }

@@ -1,5 +1,5 @@
 -- A whole run, put together from its declarations and its other lines.
-use Rattle.std.proofs.Common.{◌≡◌, ◌≢◌, inl, inr, ℕ, ◌+◌, ◌*◌, ◌<◌, Bool, true, false, List, [], ◌∷◌, ◌++◌, length, refl, sym, ◌∙◌, ap, subst, length-append, arith, Option, Some, None, IfSome, IsTrue, ◌↔◌, zero, suc}
+use Rattle.std.proofs.Common.{◌≡◌, ◌≢◌, inl, inr, ℕ, ◌+◌, ◌<◌, Bool, true, false, List, [], ◌∷◌, ◌++◌, length, refl, sym, ◌∙◌, ap, subst, length-append, arith, Option, Some, None, IsTrue, ◌↔◌, zero, suc}
 use Rattle.std.specs.Io.KnownBytes.{IsAtEnd, Keeps, prepend_known}
 use Rattle.runs.specs.Run.{Run, run_append, run_push}
 use Rattle.vio_io.specs.declared.host.AttachFault.{AttachFault}
@@ -20,7 +20,6 @@ use Rattle.script_laws.specs.Going.{RunsAll, RunsLines}
 use Rattle.ldom_report.specs.Stops.{IsReaders}
 use Rattle.script_laws.specs.Attached.{AreOpening, AttachesAt, ImageStands, is_opening}
 use Rattle.script_laws.specs.Opening.{Opened, Opens, OpensAndStops}
-use Rattle.world_parts.specs.Declared.{blocks_of}
 use Rattle.world_parts.specs.Lines.{EventStep, line_of}
 use Rattle.world_parts.specs.Parts.{Fits, FitsSoFar}
 use Rattle.ldom_report.specs.LinesEnd.{counted_lines}
@@ -129,10 +128,6 @@ none_start s opening event are = record {
 -- a line came that is neither blank nor a declaration
 not_opening : (opening : List Event) (event : Event) → is_opening event ≡ false → AreOpening (opening ++ event ∷ []) → ⊥
 not_opening opening event other are = let halves = opening_halves opening (event ∷ []) are in cc (halves.1.0, other)
-
-attached_there : (events : List Event) (rest : Option (List ℕ)) → AttachesAt events rest → AreOpening events → IsAtEnd rest
-attached_there events rest (inl last) are = last.1
-attached_there events rest (inr first) are = absurd (not_opening first.opening first.event first.other (subst AreOpening first.events_are are))
 
 -- what was read, its events said otherwise
 abbrev read_as : (start left : Option (List ℕ)) (events all : List Event) (names : NamesState) (count : ℕ)

@@ -1,5 +1,5 @@
 -- The plain run on scripts whose text is known.
-use Rattle.std.proofs.Common.{◌≡◌, ℕ, ◌+◌, ◌≤◌, List, [], ◌∷◌, ◌++◌, length, take, drop, refl, sym, ◌∙◌, ap, arith, append_assoc, length-append}
+use Rattle.std.proofs.Common.{◌≡◌, ℕ, ◌+◌, ◌≤◌, List, [], ◌∷◌, ◌++◌, length, take, drop, sym, ◌∙◌, ap, arith, append_assoc, length-append}
 use Rattle.std.proofs.lemmas.List.{take_at, drop-append-le, drop-take, length-take-le, length-drop}
 use Rattle.std.specs.Prelude.{codes, decimal}
 use Rattle.std.proofs.lemmas.Fmt.{decimal_digit}
@@ -13,7 +13,6 @@ use Rattle.disk_law.specs.Requests.{written}
 use Rattle.vdisk_msg.proofs.Repeated.{length-repeated}
 use Rattle.kept_requests.specs.BlockWord.{blocks_text}
 use Rattle.script_laws.specs.PlainRun.{plain_text}
-use Rattle.script_laws.specs.Quiet.{IsQuiet}
 
 -- `disk d0 64 RING QUEUE`
 abbrev pub first_disk : ℕ → ℕ → DiskDecl
@@ -36,16 +35,6 @@ text_2 = decimal_digit 2 (omega arith)
 text_5 : decimal 5 ≡ codes "5"
 text_5 = decimal_digit 5 (omega arith)
 
--- the third request finds a ring of two slots full
-abbrev three_writes : Fill → List Event
-three_writes fill =
-    Disk (first_disk 2 8) ∷ Issue 0 (Write 0 1 fill) ∷ Issue 0 (Write 1 1 fill) ∷ Issue 0 (Write 2 1 fill) ∷ Settle ∷ []
-
-a_full_ring : (content : List ℕ) (fill : Fill)
-    → plain_text (first_disk 2 8) content (three_writes fill)
-    ≡ codes "full d0\ndone d0 0 write 0\ndone d0 1 write 0\nsettled\nend lines=5 accepted=2 done=2 pending=0 resets=0 frames=0 status=0\n"
-a_full_ring content fill = simp (text_0, text_1, text_2, text_5)
-
 -- refused for the range, refused for the count
 abbrev bad_writes : Fill → List Event
 bad_writes fill =
@@ -59,9 +48,6 @@ refusals content fill = simp (text_0, text_1, text_5)
 
 text_4 : decimal 4 ≡ codes "4"
 text_4 = decimal_digit 4 (omega arith)
-
-refusals_quiet : (fill : Fill) → IsQuiet (first_disk 8 16) (bad_writes fill)
-refusals_quiet fill = (refl, (refl, (refl, (refl, (tt, tt)))))
 
 -- a write of two blocks from a place on, and then what is read from the block before them on
 read_over : (content bytes : List ℕ) → 2560 ≤ length content → length bytes ≡ 1024

@@ -9,11 +9,9 @@ use Rattle.domain_script.specs.Spells.{Spells}
 use Rattle.domain_script.proofs.Disks.{are_disks_push}
 use Rattle.domain_script.proofs.ScriptLemmas.{taken_more, taken_none}
 use Rattle.domain_script.proofs.Spelling.{declared_first}
-use Rattle.ldom_report.specs.declared.status.Status.{Status}
 use Rattle.script_laws.specs.Attached.{AreOpening, is_opening}
-use Rattle.script_laws.specs.Opening.{Opens, OpensAndStops}
-use Rattle.ldom_report.specs.LinesEnd.{counted_lines}
-use Rattle.script_laws.specs.Reading.{ReadsEvent, StopsAt}
+use Rattle.script_laws.specs.Opening.{Opens}
+use Rattle.script_laws.specs.Reading.{ReadsEvent}
 use Rattle.domain_script.specs.ScriptEvents.{AllSpell, no_names}
 use Rattle.script_laws.specs.Script.{ReadSoFar}
 use Rattle.script_laws.proofs.LineCases.{ends, noted_disks, stays_ended}
@@ -81,14 +79,6 @@ opens start rest left event names after count next so_far reads is few not_openi
   other = not_opening;
   ended = ap (λ (n : NamesState). n.ended) reads.noted_is ∙ ends names event (other_line event not_opening);
 }
-
-pub opens_and_stops : (start rest now : Option (List ℕ)) (held : List ℕ) (why : Status) (names after : NamesState) (count lines : ℕ) → OpensSoFar start rest names count → StopsAt why rest held now names count 0 → lines ≡ counted_lines why count → after ≡ names
-    → OpensAndStops start now why after lines
-opens_and_stops start rest now held why names after count lines so_far stops is same = subst (λ (n : NamesState). OpensAndStops start now why n lines) (sym same) (record {
-  opening = so_far.opening;
-  are = so_far.are;
-  stopped = record { left = rest; count = count; read = so_far.read; held = held; stop = stops; lines_are = is };
-})
 
 -- after the declarations none comes, so an event that is spelled is for one of the disks that were declared before
 pub still_ended : (rest left : Option (List ℕ)) (event : Event) (names after : NamesState) → ReadsEvent rest left names event after → names.ended ≡ true → after.ended ≡ true

@@ -24,7 +24,6 @@ use Rattle.script_laws.proofs.ScriptLaws.{script_admits, script_calls, script_fa
 use Rattle.script_laws.proofs.ReadLemmas.{read_disks, read_few}
 use Rattle.script_laws.proofs.Sizes.{lanes_long}
 use Rattle.world_parts.specs.Declared.{bytes_needed}
-use Rattle.world_parts.specs.Endings.{ending}
 use Rattle.world_parts.specs.Script.{FitsScript, all_lines, events_of, journal_of}
 
 not_last : {A : Type 0} (xs : List A) (y : A) (ys : List A) → [] ≡ xs ++ y ∷ ys → ⊥

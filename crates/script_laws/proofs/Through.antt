@@ -12,13 +12,13 @@ use Rattle.world_laws.specs.Rounds.{Each}
 use Rattle.world_laws.specs.Settle.{OfLane, SettleEntry}
 use Rattle.world_laws.specs.Sums.{IsUnforged}
 use Rattle.world_laws.proofs.Along.{lane_step, lines_run}
-use Rattle.world_laws.specs.Lines.{Line, LineBegins, entries_of_lines}
+use Rattle.world_laws.specs.Lines.{Line, entries_of_lines}
 use Rattle.world_laws.specs.Lines as script
 use Rattle.world_laws.specs.World.{WorldState, WorldStep}
 use Rattle.ldom_entries.specs.declared.entry.Entry.{Entry}
 use Rattle.world_parts.specs.Declared.{shapes_of, world_of}
 use Rattle.world_parts.specs.Lines.{EventStep, all_happened, line_of}
-use Rattle.world_parts.specs.Script.{FitsScript, LastStarts, ScriptParts, all_lines, journal_of, with_last}
+use Rattle.world_parts.specs.Script.{FitsScript, LastStarts, ScriptParts, all_lines, journal_of}
 use Rattle.world_laws.proofs.ByLines.{unforged_begun, unforged_behind}
 use Rattle.world_laws.proofs.LeftOver.{NamesBelow, cut_below, lines_below}
 use Rattle.script_laws.proofs.DiskShapes.{fresh_shapes, many_shapes}

@@ -81,20 +81,6 @@ read_refused rest left line piece line_after piece_after Memory told moves =
 read_refused rest left line piece line_after piece_after Source told moves = absurd moves
 read_refused rest left line piece line_after piece_after Many told moves = absurd moves
 
--- what a refused part leaves of the line
-pub refused_same : (line piece line_after piece_after : List ℕ) (fault : LinesFault) → MovesPart piece line (Err fault) piece_after line_after → line_after ≡ line
-refused_same line piece line_after piece_after Long moves = moves.1
-refused_same line piece line_after piece_after Memory moves = moves.1
-refused_same line piece line_after piece_after Source moves = absurd moves
-refused_same line piece line_after piece_after Many moves = absurd moves
-
--- a part is refused for its own cause
-pub refused_not_source : (line piece line_after piece_after : List ℕ) (fault : LinesFault) → MovesPart piece line (Err fault) piece_after line_after → fault ≢ Source
-refused_not_source line piece line_after piece_after Long moves = λ is. cc
-refused_not_source line piece line_after piece_after Memory moves = λ is. cc
-refused_not_source line piece line_after piece_after Source moves = absurd moves
-refused_not_source line piece line_after piece_after Many moves = λ is. cc
-
 -- a list is empty where a test for a byte says so
 pub none_there : (xs : List ℕ) (more : Bool) → (xs ≢ [] → more ≡ true) → more ≡ false → xs ≡ []
 none_there [] more tells is = refl

@@ -32,6 +32,9 @@ pub(crate) const NCOOKIES: usize = 3;
 /// The most cookies of one descriptor.
 pub(crate) const MOST_COOKIES: u32 = 3;
 
+/// The bytes of a slot of a port's ring: a descriptor's head and the most cookies that it has.
+pub const SLOT: usize = 64;
+
 /// The fewest bytes of a frame: two addresses and the type.
 pub const LEAST_FRAME: u32 = 14;
 

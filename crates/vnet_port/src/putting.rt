@@ -107,7 +107,7 @@ impl PortEnd {
         ensures memory { memory.new ≡ cleared_if result self.old.slots memory.old }
         ensures same_length { length memory.new ≡ length memory.old }
     {
-        if self.handshake.next().is_none() {
+        if !self.handshake.owes() {
             return false;
         }
         self.end_owed(memory)

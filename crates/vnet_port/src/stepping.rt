@@ -50,7 +50,7 @@ impl PortEnd {
         if self.link.owes() {
             return self.put_rest(channel, memory, out);
         }
-        if self.handshake.next().is_some() {
+        if self.handshake.owes() {
             return self.say_next(channel, memory, out);
         }
         match self.session {

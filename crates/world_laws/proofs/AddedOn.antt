@@ -1,29 +1,25 @@
 -- The same of a journal that entries are added to: each turn adds its own after those of the turns before.
-use Rattle.std.proofs.Common.{◌≡◌, ℕ, ◌+◌, ◌<◌, ◌≤◌, Bool, true, false, List, [], ◌∷◌, ◌++◌, length, take, slice_get, slice_set, Some, refl, sym, ap, ◌∙◌, append_assoc, append-nil}
+use Rattle.std.proofs.Common.{◌≡◌, ℕ, ◌+◌, ◌<◌, ◌≤◌, Bool, true, false, List, [], ◌∷◌, ◌++◌, length, take, slice_set, sym, ap, ◌∙◌, append_assoc, append-nil}
 use Rattle.std.specs.Prelude.{◌&&◌}
 use Rattle.ldc_queue.specs.declared.end.End.TheVariants.{A, B}
-use Rattle.disk_model.specs.LaneState.{LaneState}
 use Rattle.world_laws.specs.Settle.{SettleEntry, Settled, most_rounds}
 use Rattle.world_laws.specs.Ticks.{no_marks}
 use Rattle.world_laws.specs.Lines.{LineBegins, LineMoves}
 use Rattle.world_laws.specs.Lines as script
 use Rattle.world_laws.specs.World.{WorldState}
 use Rattle.world_laws.proofs.GoingOn.{nothing_gone, one_round, one_round_ticked, run_out, settled, wants_in_names, wants_in_round, wants_in_ticks}
-use Rattle.world_laws.proofs.NamesOn.{names_begin, names_go_on}
+use Rattle.world_laws.proofs.NamesOn.{names_begin}
 use Rattle.world_laws.proofs.RoundsOn.{round_begins, round_goes_on, round_wants, round_wants_server}
-use Rattle.world_laws.proofs.TicksOn.{none_ticked, one_ticked, ticks_begin, ticks_want}
+use Rattle.world_laws.proofs.TicksOn.{ticks_begin, ticks_want}
 use Rattle.world_laws.specs.Added.{Added}
 use Rattle.world_laws.specs.Going.{GoneOn}
-use Rattle.world_laws.specs.Names.{NamesUpTo, name_of}
+use Rattle.world_laws.specs.Names.{NamesUpTo}
 use Rattle.world_laws.specs.RoundMade.{LaneMade, RoundBegun, RoundUpTo, all_true}
-use Rattle.world_laws.specs.TicksMade.{LaneTicked, TicksBegun, TicksUpTo}
+use Rattle.world_laws.specs.TicksMade.{TicksBegun, TicksUpTo}
 
 -- NOTHING IS ADDED, entries are, and more after them
 pub none_added : (Holds : List SettleEntry → Type 0) (old : List SettleEntry) → Holds [] → Added Holds old old
 none_added Holds old holds = record { entries = []; is = sym (append-nil old); holds = holds }
-
-pub some_added : (Holds : List SettleEntry → Type 0) (old new entries : List SettleEntry) → new ≡ old ++ entries → Holds entries → Added Holds old new
-some_added Holds old new entries is holds = record { entries = entries; is = is; holds = holds }
 
 pub both_added : (First Second Both : List SettleEntry → Type 0) (old mid new : List SettleEntry) → ((one two : List SettleEntry) → First one → Second two → Both (one ++ two)) → Added First old mid
     → Added Second mid new → Added Both old new
@@ -66,19 +62,6 @@ client_adds_front k start w v old mid new quiet calm up made =
 pub ticks_add_none : (w : WorldState) (had : List Bool) (old : List SettleEntry) → Added (λ es. TicksUpTo 0 w had es false had w) old old
 ticks_add_none w had old = none_added (λ es. TicksUpTo 0 w had es false had w) old (ticks_begin w had)
 
-pub tick_adds : (k : ℕ) (start w v : WorldState) (old mid new : List SettleEntry) (had have marks : List Bool) (some mark : Bool) → Added (λ es. TicksUpTo k start had es some have w) old mid
-    → slice_get have k ≡ Some mark → Added (λ es. LaneTicked k mark true w es v) mid new → k < length have → marks ≡ slice_set have k true
-    → Added (λ es. TicksUpTo (k + 1) start had es true marks v) old new
-tick_adds k start w v old mid new had have marks some mark up now ticked less is =
-    both_added (λ es. TicksUpTo k start had es some have w) (λ es. LaneTicked k mark true w es v) (λ es. TicksUpTo (k + 1) start had es true marks v) old mid new
-    (λ one two first second. one_ticked k start w v one two had have marks some mark first now second less is) up ticked
-
-pub no_tick_adds : (k : ℕ) (start w : WorldState) (old new : List SettleEntry) (had have : List Bool) (some mark : Bool) → Added (λ es. TicksUpTo k start had es some have w) old new
-    → slice_get have k ≡ Some mark → LaneTicked k mark false w [] w → k < length have → Added (λ es. TicksUpTo (k + 1) start had es some have w) old new
-no_tick_adds k start w old new had have some mark up now none less =
-    also_added (λ es. TicksUpTo k start had es some have w) (λ es. TicksUpTo (k + 1) start had es some have w) old new
-    (λ es at. none_ticked k start w es had have some mark at now none less) up
-
 pub ticks_add_front : (k : ℕ) (start now : WorldState) (old new : List SettleEntry) (had have : List Bool) (some : Bool) → Added (λ es. TicksUpTo k start had es some have now) old new
     → k ≤ length start.lanes → Added (λ es. TicksBegun start had es now) old new
 ticks_add_front k start now old new had have some up within =
@@ -87,13 +70,6 @@ ticks_add_front k start now old new had have some up within =
 -- THE NAMES
 pub names_add_none : (w : WorldState) (quiet : List Bool) (old : List SettleEntry) → Added (λ es. NamesUpTo 0 w quiet es) old old
 names_add_none w quiet old = none_added (λ es. NamesUpTo 0 w quiet es) old (names_begin w quiet)
-
-pub name_adds : (k : ℕ) (w : WorldState) (quiet : List Bool) (old mid new : List SettleEntry) (calm : Bool) (lane : LaneState) → Added (λ es. NamesUpTo k w quiet es) old mid
-    → slice_get w.lanes k ≡ Some lane → slice_get quiet k ≡ Some calm → new ≡ mid ++ name_of k calm lane → Added (λ es. NamesUpTo (k + 1) w quiet es) old new
-name_adds k w quiet old mid new calm lane up there mark is =
-    both_added (λ es. NamesUpTo k w quiet es) (λ es. es ≡ name_of k calm lane) (λ es. NamesUpTo (k + 1) w quiet es) old mid new
-    (λ one two first second. names_go_on k w quiet one two calm lane first there mark second) up
-    (some_added (λ es. es ≡ name_of k calm lane) mid new (name_of k calm lane) is refl)
 
 -- THE ROUNDS OF A SETTLE
 pub rounds_add_none : (start : WorldState) (had quiet : List Bool) (old : List SettleEntry) → take (length start.lanes) had ≡ no_marks start.lanes → Added (λ es. GoneOn start 0 es had quiet start) old old

@@ -59,10 +59,6 @@ names_go_on k w quiet entries one calm lane up there mark is =
           ∙ ap₂ (λ (m : List Bool) (l : List LaneState). names 0 m l) (sym marks) (sym lanes);
     }
 
--- a lane that is named, and one that isn't
-pub names_lane : (k : ℕ) (calm : Bool) (lane : LaneState) → (calm && (if waits_on lane then false else true)) ≡ false → Unsettled k ∷ [] ≡ name_of k calm lane
-names_lane k calm lane is = ap (λ (b : Bool). if b then [] else Unsettled k ∷ []) (sym is)
-
 pub names_none : (k : ℕ) (calm : Bool) (lane : LaneState) → (calm && (if waits_on lane then false else true)) ≡ true → [] ≡ name_of k calm lane
 names_none k calm lane is = ap (λ (b : Bool). if b then [] else Unsettled k ∷ []) (sym is)
 
