@@ -6,7 +6,7 @@ returns-then-ne-clause-step c = c.rejoin.ensures.step c.args.memory.now c.args.t
 pub returns-then-owes-clause-step : goal.returns-then-owes-clause-step
 returns-then-owes-clause-step c = c.put_rest.ensures.step c.args.table.now c.args.peer.now
 
-pub returns-then-owes-2-clause-step : goal.returns-then-is_some-clause-step
+pub returns-then-owes-2-clause-step : goal.returns-then-owes-2-clause-step
 returns-then-owes-2-clause-step c = c.say_next.ensures.step c.args.table.now c.args.peer.now
 
 pub returns-in-None-clause-step : goal.returns-in-None-clause-step
