@@ -179,14 +179,14 @@ pub fn pages_of_a_lane_stay_granted()
         → IsIdentity s.table (pages_of s.shape) }
 {}
 
-/// What a client writes into its ring at a step of a lane, forged or not: as its session opens each slot holds nothing.
-/// A request that is published stands, READY, in the slot of its number. The slot of a request that is done was DONE,
-/// with the status that the completion carries, and is FREE. Its other bytes are as they were. No other slot changes,
-/// though a write's bytes are put into its buffer in the same step.
+/// What a client writes into its memory at a step of a lane, forged or not: as its session opens each slot holds
+/// nothing. A request that is published stands, READY, in the slot of its number, and a write's bytes in the slot's
+/// buffer. The slot of a request that is done was DONE, with the status that the completion carries, and is FREE. Its
+/// other bytes are as they were. No other slot and no other buffer changes.
 pub fn a_client_writes_one_slot()
     ensures opens { (shape : Shape) (events : List DiskEvent) (s t : LaneState) (packet : List ℕ)
         → IsShape shape → Run LaneStep (fresh shape) events s → LaneStep s (OnWire (Sent A packet true)) t
-        → SlotsCleared t }
+        → SlotsCleared s t }
     ensures publishes { (shape : Shape) (events : List DiskEvent) (s t : LaneState) (id : ℕ)
         → IsShape shape → Run LaneStep (fresh shape) events s → LaneStep s (Works (Published id)) t
         → SlotPublished s id t }
