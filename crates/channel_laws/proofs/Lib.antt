@@ -44,3 +44,4 @@ pub mod EndsAtRest
 pub mod KnownAttributes
 pub mod PacketCauses
 pub mod CausesSaid
+pub mod LossesTold

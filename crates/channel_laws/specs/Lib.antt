@@ -19,3 +19,4 @@ pub mod PacketsLeft
 pub mod EndsAtRest
 pub mod KnownAttributes
 pub mod PacketCauses
+pub mod LossStands

@@ -14,9 +14,9 @@ pub use end_laws::{
     what_an_end_hears_may_come, what_an_end_says_is_cut_and_numbered,
 };
 pub use pair_laws::{
-    an_end_resets_itself_behind_a_loss_or_for_its_session, events_stand_by_both_ends,
-    links_stand_at_one_place, open_sessions_of_both_ends_are_one, two_ends_converse,
-    what_an_end_heard_is_as_the_other_has_it,
+    a_wire_is_lossy_behind_a_loss, an_end_resets_itself_behind_a_loss_or_for_its_session,
+    events_stand_by_both_ends, links_stand_at_one_place, open_sessions_of_both_ends_are_one,
+    two_ends_converse, what_an_end_heard_is_as_the_other_has_it,
 };
 pub use session_laws::{
     a_packet_resets_a_session_for_its_first_cause, open_sessions_know_each_others_attributes,

@@ -1,12 +1,12 @@
 // What holds of two ends on a channel, of any kind of lane, where nobody forged.
 
-ghost use Rattle.std.specs.Prelude.{◌≡◌, ◌⊎◌, ℕ, List, Option, false, true};
+ghost use Rattle.std.specs.Prelude.{◌≡◌, ◌⊎◌, ℕ, List, [], Option, false, true};
 ghost use Rattle.runs.specs.Lawful.{log_of, Lawful};
 ghost use Rattle.runs.specs.Run.{Run};
 ghost use Rattle.ldc_link.specs.declared.phase.Role.TheVariants.{Initiator};
 ghost use Rattle.ldc_queue.specs.OneStream.{IsFront};
 ghost use Rattle.ldc_queue.specs.Transcript.{numbered_heard, numbered_said};
-ghost use Rattle.ldc_queue.specs.Wire.{peer_of};
+ghost use Rattle.ldc_queue.specs.Wire.{peer_of, waiting_for};
 ghost use Rattle.ldc_queue.specs.declared.end.End.TheVariants.{A, B};
 ghost use Rattle.ldc_queue.specs.declared.end.End.{End};
 ghost use Rattle.vio_handshake.specs.Offers.{Match};
@@ -17,9 +17,10 @@ ghost use Rattle.channel_model.specs.TranscriptLog.{transcript_of};
 ghost use Rattle.channel_model.specs.WireAt.{IsOwnReset, IsUp};
 ghost use Rattle.channel_model.specs.WireEvent.{ByStep, Reset, giver};
 ghost use Rattle.channel_laws.specs.Conversing.{Converse};
-ghost use Rattle.channel_laws.specs.CoreLog.{after, nothing_yet, RoomStands, TableAt, UpStands};
+ghost use Rattle.channel_laws.specs.CoreLog.{after, nothing_yet, CoreLog, RoomStands, TableAt, UpStands};
 ghost use Rattle.channel_laws.specs.LaneCore.{end_of, fresh_core, role_of, transcript_behind, CoreEvent, CoreFits, CoreStep, LaneCore, OnChannel};
 ghost use Rattle.channel_laws.specs.LinkPlaces.{LinksAt};
+ghost use Rattle.channel_laws.specs.LossStands.{Empties, LossStands};
 ghost use Rattle.channel_laws.specs.OneSession.{AreOneSession};
 ghost use Rattle.channel_laws.specs.Resetting.{LiesInSession};
 ghost use Rattle.channel_laws.specs.Sides.{sides_of};
@@ -106,4 +107,18 @@ pub fn events_stand_by_both_ends()
         → s.wire ≡ (log_of after (nothing_yet entries) events).wire }
     ensures up { (entries : ℕ) (asks answers : Offer) (events : List CoreEvent) (s : LaneCore)
         → CoreFits entries asks answers → Run CoreStep (fresh_core entries asks answers) events s → UpStands s }
+{}
+
+/// Along every run of two ends on a channel, forged or not, the wire is lossy exactly where a packet was lost behind
+/// the last event that emptied the queues. Such an event begins an end anew that was up, or closes one. Behind it
+/// nothing waits for either end.
+pub fn a_wire_is_lossy_behind_a_loss()
+    ensures lossy { (entries : ℕ) (asks answers : Offer) (events : List CoreEvent) (s : LaneCore)
+        → CoreFits entries asks answers → Run CoreStep (fresh_core entries asks answers) events s
+        → s.wire.lossy ≡ true → LossStands entries events }
+    ensures lost { (entries : ℕ) (asks answers : Offer) (events : List CoreEvent) (s : LaneCore)
+        → CoreFits entries asks answers → Run CoreStep (fresh_core entries asks answers) events s
+        → LossStands entries events → s.wire.lossy ≡ true }
+    ensures emptied { (l : CoreLog) (event : CoreEvent) (e : End) → Empties l event
+        → waiting_for e (after l event).wire.wire ≡ [] }
 {}

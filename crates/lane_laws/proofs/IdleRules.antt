@@ -16,7 +16,7 @@ use Rattle.disk_model.specs.ServerRule as server
 use Rattle.disk_model.specs.ServerState.{ServerSession, ServerState, SlotRange, Work}
 
 -- a packet of the link's handshake is one that is owed
-control_in : (ph : LinkPhase) (k : LinkState) → owes_in ph ≡ true → is_some (owed_in ph k) ≡ true
+pub control_in : (ph : LinkPhase) (k : LinkState) → owes_in ph ≡ true → is_some (owed_in ph k) ≡ true
 control_in phase.OwesVersInfo k is = refl
 control_in phase.OwesRts k is = refl
 control_in phase.OwesRdx k is = refl
@@ -96,10 +96,16 @@ pub record ClientRestsAt (s : ClientState) (at : Seen) : Type 0 where
   pub rests : RestsIn s
   pub first : at.first ≡ None
 
+-- or it publishes, and owes nothing either
+pub record ClientPublishesAt (s : ClientState) (at : Seen) : Type 0 where
+  pub free : owes s.link ≡ false
+  pub owed : s.handshake.owed ≡ None
+  pub first : at.first ≡ None
+
 abbrev WhereRestsAt : ClientState → Seen → client.ClientRule → Type 0
 WhereRestsAt s at client.Idles = ClientRestsAt s at
 WhereRestsAt s at (client.Announces session) = PublishedAll s session
-WhereRestsAt s at (client.Publishes session request) = at.first ≡ None
+WhereRestsAt s at (client.Publishes session request) = ClientPublishesAt s at
 WhereRestsAt s at _ = ⊤
 
 with_first : (s : ClientState) (at : Seen) (rule : client.ClientRule) → at.first ≡ None → WhereRests s rule → WhereRestsAt s at rule
@@ -110,7 +116,7 @@ with_first s at (client.Takes packet) none rests = tt
 with_first s at client.Puts none rests = tt
 with_first s at (client.Says message) none rests = tt
 with_first s at (client.Announces session) none rests = rests
-with_first s at (client.Publishes session request) none rests = none
+with_first s at (client.Publishes session request) none rests = record { free = rests.0; owed = rests.1; first = none }
 
 takes_rests : (s : ClientState) (at : Seen) (first : Option (List ℕ)) → at.first ≡ first → WhereRestsAt s at (client.takes_first first (client.puts_first s))
 takes_rests s at None is = with_first s at (client.puts_first s) is (puts_rests s (owes s.link) refl)
@@ -144,7 +150,7 @@ ClientGoes s at (client.Completes session) = ⊤
 ClientGoes s at (client.Takes packet) = CompletedAll s
 ClientGoes s at client.Puts = CompletedAll s
 ClientGoes s at (client.Says message) = CompletedAll s
-ClientGoes s at (client.Publishes session request) = CompletedAll s × (at.first ≡ None)
+ClientGoes s at (client.Publishes session request) = CompletedAll s × ClientPublishesAt s at
 ClientGoes s at (client.Announces session) = CompletedAll s × PublishedAll s session
 ClientGoes s at client.Idles = ClientIdles s at
 

@@ -177,3 +177,4 @@ pub mod LaneChannel
 pub mod EndMoves
 pub mod Speaking
 pub mod RangesTold
+pub mod LossRuns

@@ -1,34 +1,48 @@
 -- An end does what its session has to do before it takes a packet, and a client takes before it publishes.
-use Rattle.std.proofs.Common.{◌≡◌, ◌+◌, false, Option, Some, None, List, [], sym, ap, ◌∙◌, subst, arith, length}
-use Rattle.ldc_link.specs.Putting.{owes}
+use Rattle.std.proofs.Common.{◌≡◌, ℕ, ◌+◌, ◌-◌, ◌≤◌, Bool, true, false, Option, Some, None, List, [], refl, sym, ap, ◌∙◌, subst, arith, length, length-drop}
+use Rattle.std.specs.Prelude.{◌&&◌, ◌||◌, is_none, is_some}
+use Rattle.cookie_copy.specs.Reach.{Reach}
+use Rattle.ldc_link.specs.LinkState.{LinkState}
+use Rattle.ldc_link.specs.Putting.{owes, owes_control, owes_in}
+use Rattle.ldc_link.specs.declared.phase.Role.TheVariants.{Initiator}
+use Rattle.ldc_queue.specs.declared.end.End.{End}
 use Rattle.ldc_queue.specs.declared.end.End.TheVariants.{A, B}
 use Rattle.ldc_queue.specs.Wire.{waiting_for}
 use Rattle.vdisk_msg.specs.declared.request.Request.{Request}
+use Rattle.vio_handshake.specs.declared.handshake.Handshake.{Handshake}
+use Rattle.vio_tag.specs.declared.cause.Cause.{Cause}
 use Rattle.channel_model.specs.Seeing.{Seen}
-use Rattle.channel_model.specs.WireEvent.{Blocked, Declines, Idle, Injected, Joined, Lost, Poked, Reset, Sent, Took, WireEvent}
-use Rattle.disk_model.specs.ClientPutting.{client_holds}
+use Rattle.channel_model.specs.WireEvent.{Blocked, ByRestart, ByScript, ByStep, ByTick, Declines, Giver, Idle, Injected, Joined, Lost, Poked, Reset, Sent, Took, WireEvent, giver}
+use Rattle.disk_model.specs.ClientPutting.{client_holds, is_announcing}
 use Rattle.disk_model.specs.ClientRule as client
-use Rattle.disk_model.specs.ClientState.{ClientSession, ClientState}
+use Rattle.disk_model.specs.ClientState.{ClientSession, ClientState, joined_client}
+use Rattle.disk_model.specs.ClientStep.{ClientFails}
 use Rattle.disk_model.specs.DiskEvent.{Asks, Calms, Desc, DiskEvent, Done, Finished, Misplaced, Moved, OnWire, Published, Stored, Switches, Worked, Works}
 use Rattle.disk_model.specs.LaneState.{LaneState}
-use Rattle.disk_model.specs.LaneStep.{LaneStep, WireStep, WorkStep}
+use Rattle.disk_model.specs.LaneStep.{CallsReset, EndOnWire, LaneStep, ResetBy, WireStep, WorkStep, reach}
 use Rattle.disk_model.specs.ServerRule as server
-use Rattle.disk_model.specs.ServerState.{ServerSession, SlotRange, Work}
+use Rattle.disk_model.specs.ServerState.{ServerSession, ServerState, SlotRange, Work, joined_server, restarted_server}
+use Rattle.disk_model.specs.ServerStep.{ServerFails}
 use Rattle.lane_laws.specs.BlockLog.{Clear}
+use Rattle.lane_laws.specs.ChannelEnds.{client_core}
 use Rattle.lane_laws.specs.Counted.{InServerOrder, RangeStands}
 use Rattle.lane_laws.specs.DiskLog.{DiskLog}
-use Rattle.lane_laws.specs.OrderLaws.{HasAnswered, HasCompleted, OrderAt}
+use Rattle.lane_laws.specs.OrderLaws.{HasAnswered, HasCompleted, HasPublished, OrderAt, OwesNothing, PublishesAt, PutsAt, ServesAt, TakesAt}
+use Rattle.lane_laws.specs.RuleFacts.{ClientMay}
 use Rattle.lane_laws.specs.Sound.{InOrder}
 use Rattle.lane_laws.specs.WorkLog.{ClientCounts, ServerCounts}
 use Rattle.lane_laws.proofs.BlockedLaw.{Told, client_to_put, server_to_put}
-use Rattle.lane_laws.proofs.ClientFolds.{not_stuck}
+use Rattle.lane_laws.proofs.ClientFolds.{calm_up, not_stuck, sends_some}
 use Rattle.lane_laws.proofs.Counting.{OfServer, of_client, of_server}
 use Rattle.lane_laws.proofs.EndsFold.{BothAre}
 use Rattle.channel_laws.proofs.EndsAtRest.{none_waits}
-use Rattle.lane_laws.proofs.IdleLaw.{not_below, same_waiting, some_client, some_server}
-use Rattle.lane_laws.proofs.IdleRules.{CompletedAll, ClientGoes, client_goes}
-use Rattle.lane_laws.proofs.RulesFree.{ServerFree, TakesFree, publishes_free, server_free}
+use Rattle.lane_laws.proofs.IdleLaw.{not_below, past_all, same_waiting, some_client, some_server}
+use Rattle.lane_laws.proofs.IdleRules.{ClientGoes, ClientPublishesAt, CompletedAll, PublishedAll, client_goes, client_idles, control_in, published_all, server_idles}
+use Rattle.lane_laws.proofs.RangeLaw.{never_own}
+use Rattle.lane_laws.proofs.Ruling.{client_may}
+use Rattle.lane_laws.proofs.RulesFree.{ServerFree, TakesFree, owes_nothing, puts_calm, puts_owe, server_free, takes_calm}
 use Rattle.lane_laws.proofs.Sharing.{in_order}
+use Rattle.lane_laws.proofs.Speaking.{holds_owed}
 use Rattle.lane_laws.proofs.WorkNumbers.{Grounded, at_client, at_server, order_of}
 
 -- THE CLIENT
@@ -58,14 +72,133 @@ putting_completed s l held grounded is =
     let at = at_client s in
     completed_in_log s l grounded (holds_completed s.client at (client.client_rule s.client at) held is (client_goes s.client at))
 
-publishes_order : (s : LaneState) (l : DiskLog) (session : ClientSession) (request : Request) → Grounded s l → BothAre s l
-    → client.client_rule s.client (at_client s) ≡ client.Publishes session request → HasCompleted l × (waiting_for A l.wire.wire ≡ []) × (l.blocked.client ≡ Clear)
-publishes_order s l session request grounded both rule =
-    let goes : ClientGoes s.client (at_client s) (client.Publishes session request) = subst (ClientGoes s.client (at_client s)) rule (client_goes s.client (at_client s)) in (
-      completed_in_log s l grounded goes.0,
-      same_waiting A s l grounded (none_waits (waiting_for A s.wire.wire) goes.1),
-      not_stuck s.client.link l.blocked.client both.client.link (publishes_free s.client (at_client s) session request rule),
+-- it owes nothing of its link's handshake where its link owes no packet
+control_free : (k : LinkState) (b : Bool) → owes_control k ≡ b → owes k ≡ false → b ≡ false
+control_free k true is free = let never : true ≡ false = sym (control_in k.phase k is) ∙ free in absurd (cc)
+control_free k false is free = refl
+
+client_owes_nothing : (s : LaneState) (l : DiskLog) → Told s l → owes_control s.client.link ≡ false → s.client.handshake.owed ≡ None → OwesNothing A l
+client_owes_nothing s l told calm none =
+    (ap owes_in (sym told.client_phase) ∙ calm, ap (λ (h : Handshake). h.owed) (sym told.are.client) ∙ none)
+
+server_owes_nothing : (s : LaneState) (l : DiskLog) → Told s l → owes s.server.link ≡ false → s.server.handshake.owed ≡ None → OwesNothing B l
+server_owes_nothing s l told free none = (
+  ap owes_in (sym told.server_phase) ∙ control_free s.server.link (owes_control s.server.link) refl free,
+  ap (λ (h : Handshake). h.owed) (sym told.are.server) ∙ none,
+)
+
+publishes_order : (s : LaneState) (l : DiskLog) (session : ClientSession) (request : Request) → Told s l
+    → client.client_rule s.client (at_client s) ≡ client.Publishes session request → PublishesAt l
+publishes_order s l session request told rule =
+    let goes : ClientGoes s.client (at_client s) (client.Publishes session request) = subst (ClientGoes s.client (at_client s)) rule (client_goes s.client (at_client s)) in
+    let rests : ClientPublishesAt s.client (at_client s) = goes.1 in (
+      completed_in_log s l told.grounded goes.0,
+      client_owes_nothing s l told (control_free s.client.link (owes_control s.client.link) refl rests.free) rests.owed,
+      same_waiting A s l told.grounded (none_waits (waiting_for A s.wire.wire) rests.first),
+      not_stuck s.client.link l.blocked.client told.both.client.link rests.free,
     )
+
+-- IT TAKES
+first_false : (a b c : Bool) → (a || b || c) ≡ false → a ≡ false
+first_false false b c is = refl
+first_false true b c is = absurd (cc)
+
+client_may_take : (s : LaneState) (l : DiskLog) (packet : List ℕ) → Told s l → client.client_rule s.client (at_client s) ≡ client.Takes packet → TakesAt A l
+client_may_take s l packet told rule = (
+  completed_in_log s l told.grounded (subst (ClientGoes s.client (at_client s)) rule (client_goes s.client (at_client s))),
+  client_owes_nothing s l told
+      (first_false (owes_control s.client.link) (is_some s.client.handshake.owed) (is_none s.client.session && owes s.client.link) (takes_calm s.client (at_client s) packet rule))
+      (owes_nothing s.client (at_client s) packet rule),
+)
+
+client_fails : (s : ClientState) (rule : client.ClientRule) (memory : List ℕ) (cause : Cause) (packet : List ℕ) (P : Type 0) → ClientFails rule s memory cause (Some packet)
+    → ((bytes : List ℕ) → rule ≡ client.Takes bytes → P) → P
+client_fails s (client.Takes bytes) memory cause packet P fails taking = taking bytes refl
+client_fails s (client.Completes session) memory cause packet P fails taking = let never : Some packet ≡ None = fails.0 in absurd (cc)
+client_fails s client.Joins memory cause packet P fails taking = absurd fails
+client_fails s client.Puts memory cause packet P fails taking = absurd fails
+client_fails s (client.Says message) memory cause packet P fails taking = absurd fails
+client_fails s (client.Announces session) memory cause packet P fails taking = absurd fails
+client_fails s (client.Publishes session request) memory cause packet P fails taking = absurd fails
+client_fails s client.Idles memory cause packet P fails taking = absurd fails
+
+-- IT PUTS: where it owes nothing it isn't urgent, and announces
+quiet_link : (s : LaneState) (l : DiskLog) (session : Option ClientSession) (b : Bool) → Told s l → owes_control s.client.link ≡ false → s.client.handshake.owed ≡ None
+    → s.client.session ≡ session → owes s.client.link ≡ b → (is_none session && b) ≡ false
+quiet_link s l (Some session) b told calm none is owing = refl
+quiet_link s l None false told calm none is owing = refl
+quiet_link s l None true told calm none is owing =
+    let some = sends_some s.client.link (calm_up s.client.link calm owing) owing in
+    let holds = holds_owed Initiator (client_core s.client) l.transcript.client told.grounded.knows.rests.client.stands (ap is_announcing is) some in
+    let never : Some holds.message ≡ None = sym holds.owed_is ∙ none in absurd (cc)
+
+all_false : (a b c : Bool) → a ≡ false → b ≡ false → c ≡ false → (a || b || c) ≡ false
+all_false false false false no_a no_b no_c = refl
+all_false true b c no_a no_b no_c = absurd (cc)
+all_false false true c no_a no_b no_c = absurd (cc)
+all_false false false true no_a no_b no_c = absurd (cc)
+
+client_calm : (s : LaneState) (l : DiskLog) → Told s l → OwesNothing A l → client.is_urgent s.client ≡ false
+client_calm s l told nothing =
+    let calm : owes_control s.client.link ≡ false = ap owes_in told.client_phase ∙ nothing.0 in
+    let none : s.client.handshake.owed ≡ None = ap (λ (h : Handshake). h.owed) told.are.client ∙ nothing.1 in
+    all_false (owes_control s.client.link) (is_some s.client.handshake.owed) (is_none s.client.session && owes s.client.link) calm (ap is_some none)
+    (quiet_link s l s.client.session (owes s.client.link) told calm none refl refl)
+
+announcing_own : (s : LaneState) (l : DiskLog) (own : Bool) → Told s l → s.client.handshake.owed ≡ None → 1 ≤ length s.client.link.to_send → is_announcing s.client.session ≡ own → own ≡ true
+announcing_own s l true told none some is = refl
+announcing_own s l false told none some is =
+    let holds = holds_owed Initiator (client_core s.client) l.transcript.client told.grounded.knows.rests.client.stands is some in
+    let never : Some holds.message ≡ None = sym holds.owed_is ∙ none in absurd (cc)
+
+holds_published : (s : LaneState) (l : DiskLog) (rule : client.ClientRule) (held : ClientState) (session : ClientSession) → Told s l → OwesNothing A l
+    → client.client_rule s.client (at_client s) ≡ rule → client_holds rule s.client ≡ Some held → s.client.session ≡ Some session → l.blocked.client ≡ Clear → PublishedAll s.client session
+holds_published s l client.Puts held session told nothing rule is now clear =
+    let calm : owes_control s.client.link ≡ false = ap owes_in told.client_phase ∙ nothing.0 in
+    let none : s.client.handshake.owed ≡ None = ap (λ (h : Handshake). h.owed) told.are.client ∙ nothing.1 in
+    let owing = puts_owe s.client (at_client s) rule in
+    let some = sends_some s.client.link (calm_up s.client.link calm owing) owing in
+    let own = announcing_own s l (is_announcing s.client.session) told none some refl in
+    let never : true ≡ false = never_own s.client l.blocked.client session told.both.client clear now (ap is_announcing (sym now) ∙ own) in absurd (cc)
+holds_published s l (client.Says message) held session told nothing rule is now clear =
+    let may : ClientMay s.client (at_client s) (client.Says message) = subst (ClientMay s.client (at_client s)) rule (client_may s.client (at_client s)) in
+    let never : Some message ≡ None = sym may.2 ∙ ap (λ (h : Handshake). h.owed) told.are.client ∙ nothing.1 in absurd (cc)
+holds_published s l (client.Announces one) held session told nothing rule is now clear =
+    let may : ClientMay s.client (at_client s) (client.Announces one) = subst (ClientMay s.client (at_client s)) rule (client_may s.client (at_client s)) in
+    let both : Some one ≡ Some session = sym may.3 ∙ now in
+    let same : one ≡ session = cc in
+    subst (PublishedAll s.client) same (published_all s.client (at_client s) one rule)
+holds_published s l client.Joins held session told nothing rule is now clear = absurd (cc)
+holds_published s l (client.Completes one) held session told nothing rule is now clear = absurd (cc)
+holds_published s l (client.Takes packet) held session told nothing rule is now clear = absurd (cc)
+holds_published s l (client.Publishes one request) held session told nothing rule is now clear = absurd (cc)
+holds_published s l client.Idles held session told nothing rule is now clear = absurd (cc)
+
+published_in_log : (s : LaneState) (l : DiskLog) (held : ClientState) → Told s l → OwesNothing A l → client_holds (client.client_rule s.client (at_client s)) s.client ≡ Some held → HasPublished l
+published_in_log s l held told nothing is =
+    let grounded = told.grounded in
+    some_client s.client.session l.work.done l.work.client (λ (c : ClientCounts). l.blocked.client ≡ Clear → c.base + c.published ≡ length l.work.issued)
+    grounded.knows.counted.client.agrees (λ session c now has. λ clear.
+    let of = of_client s.client.session session l.work.done l.work.client now grounded.knows.counted.client.agrees in
+    let both : Some of.counts ≡ Some c = sym of.is ∙ has in
+    let same : of.counts ≡ c = cc in
+    let order : InOrder (length s.client.pending) session =
+    in_order (length s.client.pending) s.client.session session now grounded.knows.all.sound.counts in
+    let stand = grounded.knows.all.stands.requests in
+    let published = past_all s.client.pending (session.published - session.completed)
+    (holds_published s l (client.client_rule s.client (at_client s)) held session told nothing refl is now clear) in
+    subst (λ (k : ClientCounts). k.base + k.published ≡ length l.work.issued) same
+    (omega (arith, of.agree.base, of.agree.published, of.agree.completed, published, order.published, order.completed, order.acked, order.announced, ap length stand.pending, length-drop l.work.done l.work.issued, stand.done)))
+
+client_may_put : (s : LaneState) (l : DiskLog) (held : ClientState) → Told s l → client_holds (client.client_rule s.client (at_client s)) s.client ≡ Some held → PutsAt A l
+client_may_put s l held told is = (
+  client_to_put s l held told is,
+  putting_completed s l held told.grounded is,
+  λ nothing. (
+    same_waiting A s l told.grounded (none_waits (waiting_for A s.wire.wire) (puts_calm s.client (at_client s) held is (client_calm s l told nothing))),
+    published_in_log s l held told nothing is,
+  ),
+)
 
 -- THE SERVER
 answered_in_log : (s : LaneState) (l : DiskLog) → Grounded s l → TakesFree s.server → HasAnswered l
@@ -83,41 +216,79 @@ answered_in_log s l grounded free =
 server_clear : (s : LaneState) (l : DiskLog) → BothAre s l → owes s.server.link ≡ false → l.blocked.server ≡ Clear
 server_clear s l both free = not_stuck s.server.link l.blocked.server both.server.link free
 
-fetches_clear : (s : LaneState) (l : DiskLog) (session : ServerSession) → BothAre s l → server.server_rule s.server (at_server s) ≡ server.Fetches session → l.blocked.server ≡ Clear
-fetches_clear s l session both rule =
-    let free : ServerFree s.server (server.Fetches session) = subst (ServerFree s.server) rule (server_free s.server (at_server s)) in server_clear s l both free.0.free
+fetches_clear : (s : LaneState) (l : DiskLog) (session : ServerSession) → Told s l → server.server_rule s.server (at_server s) ≡ server.Fetches session → ServesAt l
+fetches_clear s l session told rule =
+    let free : ServerFree s.server (server.Fetches session) = subst (ServerFree s.server) rule (server_free s.server (at_server s)) in
+    (server_owes_nothing s l told free.0.free free.0.owed, server_clear s l told.both free.0.free)
 
-serves_clear : (s : LaneState) (l : DiskLog) (session : ServerSession) (work : Work) → BothAre s l → server.server_rule s.server (at_server s) ≡ server.Serves session work
-    → l.blocked.server ≡ Clear
-serves_clear s l session work both rule =
-    let free : ServerFree s.server (server.Serves session work) = subst (ServerFree s.server) rule (server_free s.server (at_server s)) in server_clear s l both free.0.free
+serves_clear : (s : LaneState) (l : DiskLog) (session : ServerSession) (work : Work) → Told s l → server.server_rule s.server (at_server s) ≡ server.Serves session work → ServesAt l
+serves_clear s l session work told rule =
+    let free : ServerFree s.server (server.Serves session work) = subst (ServerFree s.server) rule (server_free s.server (at_server s)) in
+    (server_owes_nothing s l told free.0.free free.0.owed, server_clear s l told.both free.0.free)
+
+server_may_take : (s : LaneState) (l : DiskLog) (packet : List ℕ) → Told s l → server.server_rule s.server (at_server s) ≡ server.Takes packet → TakesAt B l
+server_may_take s l packet told rule =
+    let free : TakesFree s.server = subst (ServerFree s.server) rule (server_free s.server (at_server s)) in
+    (answered_in_log s l told.grounded free, server_owes_nothing s l told free.free free.owed, server_clear s l told.both free.free)
+
+server_fails : (s : ServerState) (rule : server.ServerRule) (reach : Reach) (cause : Cause) (packet new : List ℕ) (P : Type 0) → ServerFails rule s reach cause (Some packet) new
+    → ((bytes : List ℕ) → rule ≡ server.Takes bytes → P) → P
+server_fails s (server.Takes bytes) reach cause packet new P fails taking = taking bytes refl
+server_fails s (server.Fetches session) reach cause packet new P fails taking = let never : Some packet ≡ None = fails.0 in absurd (cc)
+server_fails s (server.Serves session work) reach cause packet new P fails taking = let never : Some packet ≡ None = fails.0 in absurd (cc)
+server_fails s server.Joins reach cause packet new P fails taking = absurd fails
+server_fails s server.Puts reach cause packet new P fails taking = absurd fails
+server_fails s (server.Says message) reach cause packet new P fails taking = absurd fails
+server_fails s server.Idles reach cause packet new P fails taking = absurd fails
+
+-- A RESET that carries a packet is one by the end's own step, which takes it
+calls_none : (s behind : LaneState) (cause : Cause) (e : End) (packet : List ℕ) (lost : ℕ) (t : LaneState) → CallsReset s behind cause e (Some packet) lost t → ⊥
+calls_none s behind cause e packet lost t calls = let never : Some packet ≡ None = calls.0 in absurd (cc)
+
+reset_order : (by : Giver) (e : End) (s : LaneState) (l : DiskLog) (cause : Cause) (packet : List ℕ) (lost : ℕ) (t : LaneState) → Told s l → ResetBy by e s cause (Some packet) lost t → TakesAt e l
+reset_order ByStep A s l cause packet lost t told step =
+    client_fails s.client (client.client_rule s.client (at_client s)) s.memory cause packet (TakesAt A l) step.step.0 (λ bytes rule. client_may_take s l bytes told rule)
+reset_order ByStep B s l cause packet lost t told step =
+    server_fails s.server (server.server_rule s.server (at_server s)) (reach s (at_server s).both) cause packet t.memory (TakesAt B l) step.1.step.1.0
+    (λ bytes rule. server_may_take s l bytes told rule)
+reset_order ByScript A s l cause packet lost t told step = absurd (calls_none s (record s { client = joined_client s.client }) cause A packet lost t step)
+reset_order ByScript B s l cause packet lost t told step = absurd (calls_none s (record s { server = joined_server s.server }) cause B packet lost t step.1)
+reset_order ByRestart A s l cause packet lost t told step = absurd step
+reset_order ByRestart B s l cause packet lost t told step = absurd (calls_none s (record s { server = restarted_server s.server }) cause B packet lost t step.1)
+reset_order ByTick A s l cause packet lost t told step = absurd (calls_none s (record s { client = joined_client s.client }) cause A packet lost t step.1)
+reset_order ByTick B s l cause packet lost t told step = absurd step
+
+-- AN IDLE END
+idle_order : (e : End) (s : LaneState) (l : DiskLog) (t : LaneState) → Told s l → EndOnWire e s (Idle e) t → OwesNothing e l
+idle_order A s l t told step =
+    let idles = client_idles s.client (at_client s) step.step.0 in
+    client_owes_nothing s l told (control_free s.client.link (owes_control s.client.link) refl idles.rests.rests.free) idles.rests.rests.owed
+idle_order B s l t told step = let idles = server_idles s.server (at_server s) step.1.step.1.0 in server_owes_nothing s l told idles.free idles.owed
 
 -- EACH EVENT
 wire_order : (s : LaneState) (l : DiskLog) (event : WireEvent) (t : LaneState) → Told s l → WireStep s event t → OrderAt l (OnWire event)
-wire_order s l (Took A packet opens) t told step =
-    completed_in_log s l told.grounded (subst (ClientGoes s.client (at_client s)) step.step.0 (client_goes s.client (at_client s)))
-wire_order s l (Took B packet opens) t told step =
-    let free : TakesFree s.server = subst (ServerFree s.server) step.1.step.1.0 (server_free s.server (at_server s)) in
-    (answered_in_log s l told.grounded free, server_clear s l told.both free.free)
-wire_order s l (Sent A packet opens) t told step = putting_completed s l step.step.held told.grounded step.step.holds
-wire_order s l (Sent B packet opens) t told step = tt
-wire_order s l (Blocked A) t told step = (putting_completed s l t.client told.grounded step.step.0, client_to_put s l t.client told step.step.0)
+wire_order s l (Took A packet opens) t told step = client_may_take s l packet told step.step.0
+wire_order s l (Took B packet opens) t told step = server_may_take s l packet told step.1.step.1.0
+wire_order s l (Sent A packet opens) t told step = client_may_put s l step.step.held told step.step.holds
+wire_order s l (Sent B packet opens) t told step = server_to_put s l step.1.step.1.0.held told step.1.step.1.0.holds
+wire_order s l (Blocked A) t told step = client_may_put s l t.client told step.step.0
 wire_order s l (Blocked B) t told step = server_to_put s l t.server told step.1.step.1.0
+wire_order s l (Reset e cause (Some packet) lost) t told step = reset_order (giver cause) e s l cause packet lost t told step
+wire_order s l (Reset e cause None lost) t told step = tt
+wire_order s l (Idle e) t told step = idle_order e s l t told step
 wire_order s l (Joined e lost) t told step = tt
-wire_order s l (Idle e) t told step = tt
-wire_order s l (Reset e cause packet lost) t told step = tt
 wire_order s l (Lost e packet) t told step = tt
 wire_order s l (Injected e packet) t told step = tt
 wire_order s l (Poked e at bytes) t told step = tt
 wire_order s l (Declines d) t told step = tt
 
 work_order : (s : LaneState) (l : DiskLog) (event : Worked) (t : LaneState) → Told s l → WorkStep s event t → OrderAt l (Works event)
-work_order s l (Published id) t told step = publishes_order s l step.step.session step.step.request told.grounded told.both step.step.rule
+work_order s l (Published id) t told step = publishes_order s l step.step.session step.step.request told step.step.rule
 work_order s l (Done id operation status bytes) t told step = tt
-work_order s l (Desc slot bytes) t told step = fetches_clear s l step.1.step.1.0.session told.both step.1.step.1.0.rule
-work_order s l (Moved unit fault) t told step = serves_clear s l step.1.step.1.0.session step.1.step.1.0.work told.both step.1.step.1.0.rule
-work_order s l (Stored operation block count failed) t told step = serves_clear s l step.1.step.1.0.session step.1.step.1.0.work told.both step.1.step.1.0.rule
-work_order s l (Finished slot status) t told step = serves_clear s l step.1.step.1.0.session step.1.step.1.0.work told.both step.1.step.1.0.rule
+work_order s l (Desc slot bytes) t told step = fetches_clear s l step.1.step.1.0.session told step.1.step.1.0.rule
+work_order s l (Moved unit fault) t told step = serves_clear s l step.1.step.1.0.session step.1.step.1.0.work told step.1.step.1.0.rule
+work_order s l (Stored operation block count failed) t told step = serves_clear s l step.1.step.1.0.session step.1.step.1.0.work told step.1.step.1.0.rule
+work_order s l (Finished slot status) t told step = serves_clear s l step.1.step.1.0.session step.1.step.1.0.work told step.1.step.1.0.rule
 work_order s l Misplaced t told step = tt
 
 pub order_at : (s : LaneState) (l : DiskLog) (event : DiskEvent) (t : LaneState) → Told s l → LaneStep s event t → OrderAt l event

@@ -1,6 +1,8 @@
 -- Each piece of a descriptor is the next that it owes, of its own operation, place and size, and refused for its own fault.
 use Rattle.std.proofs.Common.{◌≡◌, ℕ, zero, suc, ◌+◌, ◌-◌, ◌*◌, ◌/◌, ◌%◌, ◌<◌, ◌≤◌, min, Bool, true, false, Option, Some, List, [], ◌∷◌, ◌++◌, take, refl, sym, ap, ◌∙◌, subst, arith}
-use Rattle.std.specs.Prelude.{if◌then◌else◌, ◌==◌}
+use Rattle.std.specs.Prelude.{if◌then◌else◌, ◌==◌, slice_index}
+use Rattle.std.proofs.lemmas.Bool.{eqb-true}
+use Rattle.dring.specs.Slots.{ready_state}
 use Rattle.cookie_copy.specs.declared.fault.Access.{Access}
 use Rattle.cookie_copy.specs.declared.fault.Access.TheVariants.{Read, Write}
 use Rattle.cookie_copy.specs.declared.fault.CopyFault.{CopyFault}
@@ -19,8 +21,8 @@ use Rattle.channel_model.specs.OwnMemory.{own_table}
 use Rattle.disk_model.specs.LaneState.{LaneState, pages_of}
 use Rattle.disk_model.specs.LaneStep.{LaneStep, WorkStep, reach}
 use Rattle.disk_model.specs.ServerState.{Ends, Flushes, Gathers, Gives, Progress, Reads, ServerSession, Work, Writes}
-use Rattle.disk_model.specs.ServerStep.{ServerFinishes, ServerMoves, ServerStores}
-use Rattle.disk_model.specs.ServerWork.{MovesIn, StoresIn, desc_of, unit_length}
+use Rattle.disk_model.specs.ServerStep.{ServerFetches, ServerFinishes, ServerMoves, ServerStores}
+use Rattle.disk_model.specs.ServerWork.{MovesIn, StoresIn, desc_of, slot_fetched, unit_length}
 use Rattle.lane_laws.proofs.RulesFree.{ServerFree, ServesFree, server_free}
 use Rattle.lane_laws.specs.Counted.{UnitFits, UnitIn}
 use Rattle.lane_laws.proofs.Counting.{OfServer, of_server}
@@ -185,13 +187,18 @@ finished_piece s t l slot status working step =
       slot_is = step.slot_is ∙ slot_in_log s l step.session step.session.finished now.counts.finished working.grounded free.0.session_is now.finished;
     })
 
+fetched_ready : (s t : LaneState) (slot : ℕ) (bytes : List ℕ) → ServerFetches s.server (at_server s) (reach s (at_server s).both) slot bytes t.server t.memory → slice_index bytes 0 ≡ ready_state
+fetched_ready s t slot bytes fetches =
+    ap (λ (xs : List ℕ). slice_index xs 0) fetches.bytes_are
+    ∙ eqb-true (slice_index (slot_fetched s.server (reach s (at_server s).both) slot) 0) ready_state fetches.fetched.1
+
 work_pieces : (s : LaneState) (l : DiskLog) (event : Worked) (t : LaneState) → Working s l → WorkStep s event t → PiecesAt l (Works event)
 work_pieces s l (Moved unit why) t working step = moved_piece s t l unit why working step.1.step.1.0
 work_pieces s l (Stored operation block count failed) t working step = stored_piece s t l operation block count failed step.0 working step.1.step.1.0
 work_pieces s l (Finished slot status) t working step = finished_piece s t l slot status working step.1.step.1.0
 work_pieces s l (Published id) t working step = tt
 work_pieces s l (Done id operation status bytes) t working step = tt
-work_pieces s l (Desc slot bytes) t working step = tt
+work_pieces s l (Desc slot bytes) t working step = fetched_ready s t slot bytes step.1.step.1.0
 work_pieces s l Misplaced t working step = tt
 
 pub pieces_at : (s : LaneState) (l : DiskLog) (event : DiskEvent) (t : LaneState) → Working s l → LaneStep s event t → PiecesAt l event

@@ -12,6 +12,7 @@ use Rattle.ldc_link.specs.LinkState.{LinkState, offered}
 use Rattle.ldc_queue.specs.declared.end.End.TheVariants.{A, B}
 use Rattle.ldc_queue.specs.Transcript as turn
 use Rattle.ldc_queue.specs.Transcript.{Turn}
+use Rattle.vio_bytes.specs.Place.{number_at}
 use Rattle.vio_tag.specs.declared.cause.Cause.TheVariants as the_cause
 use Rattle.vio_tag.specs.declared.message.Message.{Message}
 use Rattle.vio_tag.specs.declared.message.MsgBody.TheVariants.{DringData}
@@ -21,7 +22,7 @@ use Rattle.channel_model.specs.WireEvent.{Blocked, Declines, Idle, Injected, Joi
 use Rattle.lane_laws.specs.DiskLog.{DiskLog}
 use Rattle.lane_laws.specs.BlockLog.{Blockage, Clear}
 use Rattle.lane_laws.specs.EndLog.{ident_of, is_stuck_with_own, range_in_work, state_of}
-use Rattle.channel_model.specs.Messages.{end_of, range_ended, range_in, seq_of, sid_of, start_of}
+use Rattle.channel_model.specs.Messages.{end_of, ended_by, range_ended, range_in, seq_of, sid_of, start_of}
 use Rattle.lane_laws.specs.WorkLaws.{Acknowledges, AcknowledgesRange, Announces, AsksFor, HearsNoOther, IfRange, NamesOwn, NamesRing, OfClientRange, OfServerRange, RangesAt, client_handshake, server_handshake}
 use Rattle.lane_laws.specs.WorkLog.{ClientCounts, ServerCounts}
 use Rattle.disk_model.specs.ClientPutting.{announcement, announcing, client_holds, client_kind, holding, is_announcing}
@@ -52,7 +53,7 @@ use Rattle.lane_laws.proofs.EndsFold.{BothAre, held_session, infos_are}
 use Rattle.lane_laws.proofs.IdleLaw.{past_all}
 use Rattle.lane_laws.proofs.IdleRules.{PublishedAll, published_all}
 use Rattle.lane_laws.proofs.RangeTurns.{range_turns}
-use Rattle.lane_laws.proofs.RangesSaid.{end_is, heard_no_range, ident_is, sid_is, no_data, other_subtype, owed_no_range, range_is, said_is, seq_is, start_is, state_is}
+use Rattle.lane_laws.proofs.RangesSaid.{data_no_group, end_is, heard_no_group, heard_no_range, ident_is, sid_is, no_data, other_subtype, owed_no_range, range_is, said_is, seq_is, start_is, state_is}
 use Rattle.lane_laws.proofs.Requesting.{held_kept}
 use Rattle.lane_laws.proofs.Ruling.{client_may}
 use Rattle.lane_laws.proofs.RulesFree.{ServerFree, TakesFree, server_free}
@@ -155,7 +156,7 @@ server_shaken s (server_rules.Takes packet) held is = absurd (cc)
 server_shaken s server_rules.Idles held is = absurd (cc)
 
 -- AN INFO THAT IS SAID. A client that isn't blocked announces only once all that is pending is published.
-never_own : (s : ClientState) (b : Blockage) (session : ClientSession) → ClientIs s b → b ≡ Clear → s.session ≡ Some session → session.announcing ≡ true → true ≡ false
+pub never_own : (s : ClientState) (b : Blockage) (session : ClientSession) → ClientIs s b → b ≡ Clear → s.session ≡ Some session → session.announcing ≡ true → true ≡ false
 never_own s b session stands clear is own =
     let now : is_announcing (Some session) ≡ (true && is_stuck_with_own b s.handshake.owed) =
     subst (λ (o : Option ClientSession). is_announcing o ≡ (is_some o && is_stuck_with_own b s.handshake.owed)) is stands.announcing in
@@ -407,21 +408,57 @@ other_none k turns packet message hears none = ap (range_in k) (heard_some turns
 apart : (code k : ℕ) (bytes : List ℕ) → subtype_at bytes ≡ code → k ≢ code → range_in k (Some bytes) ≡ None
 apart code k bytes is other = other_subtype k bytes (λ (same : subtype_at bytes ≡ k). other (sym same ∙ is))
 
+no_message : (turns : List Turn) (packet message : List ℕ) → ended_by (half_heard turns) packet ≡ None → ended_by (half_heard turns) packet ≡ Some message → ⊥
+no_message turns packet message none some = let never : None ≡ Some message = sym none ∙ some in absurd (cc)
+
+whole_is : (turns : List Turn) (packet message : List ℕ) (one : Message) (hears : HearsMessage turns packet one) → number_at 2 2 hears.bytes ≢ 0x0101
+    → ended_by (half_heard turns) packet ≡ Some message → number_at 2 2 message ≢ 0x0101
+whole_is turns packet message one hears not some =
+    let both : Some hears.bytes ≡ Some message = sym (heard_some turns packet hears.bytes hears.messages) ∙ some in
+    let same : hears.bytes ≡ message = cc in
+    subst (λ (xs : List ℕ). number_at 2 2 xs ≢ 0x0101) same not
+
 client_no_other : (s t : ClientState) (turns : List Turn) (packet : List ℕ) → ClientTook s turns packet t → HearsNoOther 2 turns packet
-client_no_other s t turns packet (inl part) = λ other not. ap (range_in other) (heard_none turns packet part.messages)
-client_no_other s t turns packet (inr (inl took)) = λ other not.
-    other_none other turns packet took.message took.hears
-    (heard_no_range other took.hears.bytes took.message took.hears.spells took.hears.form (no_data s.handshake took.handshake took.message took.opens took.took))
-client_no_other s t turns packet (inr (inr acked)) = λ other not.
-    other_none other turns packet acked.message acked.hears (apart 2 other acked.hears.bytes (acked.hears.spells.subtype ∙ ap subtype_code acked.subtype_is) not)
+client_no_other s t turns packet (inl part) = record {
+  ranges = λ other not. ap (range_in other) (heard_none turns packet part.messages);
+  groups = λ message some. absurd (no_message turns packet message (heard_none turns packet part.messages) some);
+}
+client_no_other s t turns packet (inr (inl took)) = record {
+  ranges = λ other not.
+      other_none other turns packet took.message took.hears
+      (heard_no_range other took.hears.bytes took.message took.hears.spells took.hears.form (no_data s.handshake took.handshake took.message took.opens took.took));
+  groups = λ message some.
+      whole_is turns packet message took.message took.hears
+      (heard_no_group took.hears.bytes took.message s.handshake took.handshake took.opens took.hears.spells took.hears.form took.took) some;
+}
+client_no_other s t turns packet (inr (inr acked)) = record {
+  ranges = λ other not.
+      other_none other turns packet acked.message acked.hears (apart 2 other acked.hears.bytes (acked.hears.spells.subtype ∙ ap subtype_code acked.subtype_is) not);
+  groups = λ message some.
+      whole_is turns packet message acked.message acked.hears
+      (data_no_group acked.hears.bytes acked.message acked.seq acked.ident acked.start acked.end acked.state acked.hears.spells acked.body_is) some;
+}
 
 server_no_other : (s t : ServerState) (turns : List Turn) (packet : List ℕ) (opens : Bool) → ServerTook s turns packet t opens → HearsNoOther 1 turns packet
-server_no_other s t turns packet opens (inl part) = λ other not. ap (range_in other) (heard_none turns packet part.messages)
-server_no_other s t turns packet opens (inr (inl took)) = λ other not.
-    other_none other turns packet took.message took.hears
-    (heard_no_range other took.hears.bytes took.message took.hears.spells took.hears.form (no_data s.handshake took.handshake took.message opens took.took))
-server_no_other s t turns packet opens (inr (inr asks)) = λ other not.
-    other_none other turns packet asks.message asks.hears (apart 1 other asks.hears.bytes (asks.hears.spells.subtype ∙ ap subtype_code asks.subtype_is) not)
+server_no_other s t turns packet opens (inl part) = record {
+  ranges = λ other not. ap (range_in other) (heard_none turns packet part.messages);
+  groups = λ message some. absurd (no_message turns packet message (heard_none turns packet part.messages) some);
+}
+server_no_other s t turns packet opens (inr (inl took)) = record {
+  ranges = λ other not.
+      other_none other turns packet took.message took.hears
+      (heard_no_range other took.hears.bytes took.message took.hears.spells took.hears.form (no_data s.handshake took.handshake took.message opens took.took));
+  groups = λ message some.
+      whole_is turns packet message took.message took.hears
+      (heard_no_group took.hears.bytes took.message s.handshake took.handshake opens took.hears.spells took.hears.form took.took) some;
+}
+server_no_other s t turns packet opens (inr (inr asks)) = record {
+  ranges = λ other not.
+      other_none other turns packet asks.message asks.hears (apart 1 other asks.hears.bytes (asks.hears.spells.subtype ∙ ap subtype_code asks.subtype_is) not);
+  groups = λ message some.
+      whole_is turns packet message asks.message asks.hears
+      (data_no_group asks.hears.bytes asks.message asks.range.seq asks.ident asks.range.start asks.range.end asks.range.state asks.hears.spells asks.body_is) some;
+}
 
 -- EACH EVENT
 took_ack : (s : LaneState) (l : DiskLog) (packet : List ℕ) (opens : Bool) (t : LaneState) → BothAre s l → AreTold s l → EndOnWire A s (Took A packet opens) t

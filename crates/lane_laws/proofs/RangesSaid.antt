@@ -115,6 +115,25 @@ apart_data _ apart = tt
 pub no_data : (h g : Handshake) (message : Message) (opens : Bool) → HandshakeTook h message g opens → IsNoData message.body
 no_data h g message opens took = apart_data message.body (row_apart h g message opens took.row)
 
+-- NO MESSAGE OF GROUPS
+no_group : (b : MsgBody) → (IsOfSession b → ⊥) → HasForm b → envelope_code b ≢ 0x0101
+no_group (Plain envelope) apart (inl form) is = absurd (omega (arith, is, form))
+no_group (Plain envelope) apart (inr form) is = absurd (omega (arith, is, form))
+no_group (Ver major minor class) apart form is = absurd (omega (arith, is))
+no_group (Attr bytes) apart form is = absurd (omega (arith, is))
+no_group (DringReg ident slots slot_size options count cookies) apart form is = absurd (omega (arith, is))
+no_group (DringUnreg ident) apart form is = absurd (omega (arith, is))
+no_group Rdx apart form is = absurd (omega (arith, is))
+no_group (DringData seq ident start end state) apart form is = absurd (apart tt)
+no_group (Mcast set count addresses) apart form is = absurd (apart tt)
+
+pub heard_no_group : (bytes : List ℕ) (m : Message) (h g : Handshake) (opens : Bool) → SpellsMessage bytes m → IsWellFormed m → HandshakeTook h m g opens → number_at 2 2 bytes ≢ 0x0101
+heard_no_group bytes m h g opens spells form took is = no_group m.body (row_apart h g m opens took.row) form (sym spells.envelope ∙ is)
+
+pub data_no_group : (bytes : List ℕ) (m : Message) (seq ident start end state : ℕ) → SpellsMessage bytes m → m.body ≡ DringData seq ident start end state → number_at 2 2 bytes ≢ 0x0101
+data_no_group bytes m seq ident start end state spells body is =
+    absurd (omega (arith, ap envelope_code body, spells.envelope, is))
+
 -- what a handshake owes
 owed_in : (phase : Phase) (k n : ℕ) (s : Subtype) (b : MsgBody) → (k ≡ 1) ⊎ (k ≡ 2) → MayOwe phase s b → range_in k (Some (canonical (record { subtype = s; sid = n; body = b }))) ≡ None
 owed_in phase k n Nack b kind may =

@@ -17,7 +17,9 @@ use Rattle.lane_laws.proofs.MemoryStanding.{desc_long}
 use Rattle.lane_laws.proofs.RingWrites.{behind_ring, equal_slots, one_after_same}
 use Rattle.lane_laws.specs.MemoryStands.{memory_long}
 use Rattle.lane_laws.specs.RingSlots.{SameSlots}
-use Rattle.lane_laws.specs.SlotsWritten.{FreesSlot, PublishesSlot}
+use Rattle.lane_laws.specs.SlotsWritten.{FreesSlot, PublishesSlot, buffered, buffers}
+use Rattle.lane_laws.proofs.BehindRing.{freed_behind, published_behind}
+use Rattle.lane_laws.proofs.Changes.{filled}
 
 ring_room : (slots : ℕ) (memory : List ℕ) → length memory ≡ memory_long slots → 128 * slots ≤ length memory
 ring_room slots memory long = omega (arith, long)
@@ -29,6 +31,11 @@ filled_behind (Read block count) slots slot memory few below long = equal_slots 
 filled_behind (Write block count fill) slots slot memory few below long =
     behind_ring slots (buffer_place slots slot) (written fill count) memory (omega arith) (omega (arith, length-repeated fill 0 (512 * count), few, below, long))
 filled_behind Flush slots slot memory few below long = equal_slots slots memory memory refl
+
+same_filled : (request : Request) (slot : ℕ) (there : List ℕ) → filled request (32768 * slot) there ≡ buffered request slot there
+same_filled (Read block count) slot there = refl
+same_filled (Write block count fill) slot there = refl
+same_filled Flush slot there = refl
 
 -- A REQUEST IS PUBLISHED: its slot is its descriptor, and no other slot changes
 pub publishes_slot : (blocks slots slot id : ℕ) (request : Request) (memory : List ℕ) → defect blocks request ≡ None → slot < slots → length memory ≡ memory_long slots
@@ -42,6 +49,7 @@ publishes_slot blocks slots slot id request memory none below long =
     record {
       one = one_after_same slots slot memory filled (published_memory slots slot id request memory) same (one_slot_front 128 slots slot desc filled below (omega (arith, whole)) room);
       there = slot_reads_back 128 slots slot desc filled below whole room;
+      buffer = published_behind request slots slot id memory (is_admitted blocks request none).most below long ∙ same_filled request slot (buffers slots memory);
     }
 
 -- A SLOT IS FREED: its state, no other byte of it, and no other slot
@@ -59,6 +67,7 @@ frees_slot slots slot memory below long =
       one = one_slot_front 128 slots slot (free_state ∷ []) memory below (omega arith) room;
       there = ap (λ (bytes : List ℕ). slice_index bytes 0) front ∙ free_byte (slot_bytes 128 slot memory);
       rest = ap (drop 1) front ∙ other_bytes (slot_bytes 128 slot memory);
+      buffers_stay = freed_behind slots slot memory below long;
     }
 
 -- THE RING IS CLEARED

@@ -6,6 +6,7 @@ use Rattle.cookie_copy.specs.Faults.{is_up}
 use Rattle.ldc_link.specs.Putting.{owes, owes_control}
 use Rattle.vdisk_msg.specs.declared.request.Request.{Request}
 use Rattle.vio_tag.specs.declared.message.Message.{Message}
+use Rattle.disk_model.specs.ClientPutting.{client_holds}
 use Rattle.disk_model.specs.ClientRule as client
 use Rattle.disk_model.specs.ClientState.{ClientSession, ClientState}
 use Rattle.channel_model.specs.Seeing.{Seen}
@@ -69,6 +70,56 @@ puts_owe s at rule = subst (PublishesFree s) rule (up_free s at (is_up at.state)
 pub takes_calm : (s : ClientState) (at : Seen) (packet : List ℕ) → client.client_rule s at ≡ client.Takes packet → client.is_urgent s ≡ false
 takes_calm s at packet rule = subst (PublishesFree s) rule (up_free s at (is_up at.state))
 
+-- where nothing is urgent, a client puts only where nothing waits for it
+abbrev PutsCalm : ClientState → Seen → client.ClientRule → Type 0
+PutsCalm s at client.Puts = client.is_urgent s ≡ false → at.first ≡ None
+PutsCalm s at (client.Says message) = client.is_urgent s ≡ false → at.first ≡ None
+PutsCalm s at (client.Announces session) = client.is_urgent s ≡ false → at.first ≡ None
+PutsCalm s at _ = ⊤
+
+all_calm : (s : ClientState) (at : Seen) (rule : client.ClientRule) → (client.is_urgent s ≡ false → at.first ≡ None) → PutsCalm s at rule
+all_calm s at client.Puts calm = calm
+all_calm s at (client.Says message) calm = calm
+all_calm s at (client.Announces session) calm = calm
+all_calm s at client.Joins calm = tt
+all_calm s at (client.Completes session) calm = tt
+all_calm s at (client.Takes packet) calm = tt
+all_calm s at (client.Publishes session request) calm = tt
+all_calm s at client.Idles calm = tt
+
+first_calm : (s : ClientState) (at : Seen) (first : Option (List ℕ)) → at.first ≡ first → PutsCalm s at (client.takes_first first (client.puts_first s))
+first_calm s at None is = all_calm s at (client.puts_first s) (λ calm. is)
+first_calm s at (Some packet) is = tt
+
+urgent_calm : (s : ClientState) (at : Seen) (b : Bool) → client.is_urgent s ≡ b → PutsCalm s at (if b then client.puts_first s else client.takes_first at.first (client.puts_first s))
+urgent_calm s at true is = all_calm s at (client.puts_first s) (λ calm. let never : true ≡ false = sym is ∙ calm in absurd (cc))
+urgent_calm s at false is = first_calm s at at.first refl
+
+done_calm : (s : ClientState) (at : Seen) (session : ClientSession) (b : Bool) → PutsCalm s at (if b then client.Completes session else client.puts_or_takes s at)
+done_calm s at session true = tt
+done_calm s at session false = urgent_calm s at (client.is_urgent s) refl
+
+open_calm : (s : ClientState) (at : Seen) (open_one : Option ClientSession) → PutsCalm s at (client.completes_first open_one (client.puts_or_takes s at))
+open_calm s at None = urgent_calm s at (client.is_urgent s) refl
+open_calm s at (Some session) = done_calm s at session (nat_lt session.completed session.acked)
+
+up_calm : (s : ClientState) (at : Seen) (b : Bool) → PutsCalm s at (if b then client.completes_first s.session (client.puts_or_takes s at) else client.Joins)
+up_calm s at true = open_calm s at s.session
+up_calm s at false = tt
+
+put_calm : (s : ClientState) (at : Seen) (rule : client.ClientRule) (held : ClientState) → client_holds rule s ≡ Some held → PutsCalm s at rule → client.is_urgent s ≡ false → at.first ≡ None
+put_calm s at client.Puts held is calm = calm
+put_calm s at (client.Says message) held is calm = calm
+put_calm s at (client.Announces session) held is calm = calm
+put_calm s at client.Joins held is calm = absurd (cc)
+put_calm s at (client.Completes session) held is calm = absurd (cc)
+put_calm s at (client.Takes packet) held is calm = absurd (cc)
+put_calm s at (client.Publishes session request) held is calm = absurd (cc)
+put_calm s at client.Idles held is calm = absurd (cc)
+
+pub puts_calm : (s : ClientState) (at : Seen) (held : ClientState) → client_holds (client.client_rule s at) s ≡ Some held → client.is_urgent s ≡ false → at.first ≡ None
+puts_calm s at held is = put_calm s at (client.client_rule s at) held is (up_calm s at (is_up at.state))
+
 middle_false : (a b c : Bool) → (a || b || c) ≡ false → b ≡ false
 middle_false true b c is = absurd (cc is)
 middle_false false true c is = absurd (cc is)
@@ -85,6 +136,7 @@ owes_nothing s at packet rule =
 -- THE SERVER answers a range whose descriptors are all finished, and serves one that isn't
 pub record ServesFree (s : ServerState) (session : ServerSession) : Type 0 where
   pub free : owes s.link ≡ false
+  pub owed : s.handshake.owed ≡ None
   pub session_is : s.session ≡ Some session
   pub unfinished : (session.finished == session.asked) ≡ false
 
@@ -124,7 +176,7 @@ range_free s session range true free none is ranged test = (
   free,
   inr (record { session = session; range = range; owed = none; session_is = is; range_is = ranged; finished = eqb-true session.finished session.asked test; message_is = refl }),
 )
-range_free s session range false free none is ranged test = serves_free s session s.work (record { free = free; session_is = is; unfinished = test }) refl
+range_free s session range false free none is ranged test = serves_free s session s.work (record { free = free; owed = none; session_is = is; unfinished = test }) refl
 
 same_range : (session other : ServerSession) → Some session ≡ Some other → session.range ≡ None → other.range ≡ None
 same_range session other is none = let same : session ≡ other = cc is in subst (λ (x : ServerSession). x.range ≡ None) same none

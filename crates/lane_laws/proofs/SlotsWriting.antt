@@ -1,5 +1,5 @@
 -- At each step of a lane that is reached the client writes one slot of its ring, or clears it.
-use Rattle.std.proofs.Common.{◌≡◌, ℕ, ◌-◌, ◌%◌, ◌<◌, true, List, refl, sym, ap, ◌∙◌, subst, inr}
+use Rattle.std.proofs.Common.{◌≡◌, ℕ, ◌-◌, ◌%◌, ◌<◌, true, List, length, refl, sym, ap, ◌∙◌, subst, inr}
 use Rattle.std.proofs.lemmas.Nat.{mod_below}
 use Rattle.runs.specs.Run.{Run}
 use Rattle.dring.proofs.Turning.{slot_cleared}
@@ -19,7 +19,9 @@ use Rattle.lane_laws.proofs.RingClient.{frees_slot, publishes_slot}
 use Rattle.lane_laws.proofs.RingWire.{sent_clears}
 use Rattle.lane_laws.proofs.Ruling.{client_may}
 use Rattle.lane_laws.specs.RuleFacts.{ClientMay}
-use Rattle.lane_laws.specs.SlotsWritten.{FreesSlot, PublishesSlot, SlotFreed, SlotPublished, SlotsCleared}
+use Rattle.lane_laws.specs.SlotsWritten.{FreesSlot, PublishesSlot, SlotFreed, SlotPublished, SlotsCleared, buffers}
+use Rattle.lane_laws.specs.MemoryStands.{memory_long}
+use Rattle.lane_laws.proofs.BehindRing.{cleared_behind}
 
 pub publishes : (shape : Shape) (events : List DiskEvent) (s t : LaneState) (id : ℕ) → IsShape shape → Run LaneStep (fresh shape) events s → LaneStep s (Works (Published id)) t → SlotPublished s id t
 publishes shape events s t id sound run step =
@@ -58,11 +60,16 @@ frees shape events s t id operation status bytes sound run step =
     }
 
 pub clears : (shape : Shape) (events : List DiskEvent) (s t : LaneState) (packet : List ℕ) → IsShape shape → Run LaneStep (fresh shape) events s
-    → LaneStep s (OnWire (Sent A packet true)) t → SlotsCleared t
-clears shape events s t packet sound run step = λ slot below.
+    → LaneStep s (OnWire (Sent A packet true)) t → SlotsCleared s t
+clears shape events s t packet sound run step =
+    let all = all_behind shape events s sound run in
     let at = seen A s.shape.entries s.wire.wire in
     let kept = sent_kept s.client at s.memory packet true t.client t.memory step.step in
     let n = t.client.slots in
     let memory : t.memory ≡ put_at 0 (free_slots 128 n) s.memory =
     (sent_clears s packet true t.client t.memory step.step).is ∙ ap (λ (m : ℕ). put_at 0 (free_slots 128 m) s.memory) (sym kept.slots) in
-    ap (slot_bytes 128 slot) memory ∙ slot_cleared 128 n slot s.memory (inr refl) below
+    let long : length s.memory ≡ memory_long n = subst (λ (m : ℕ). length s.memory ≡ memory_long m) (sym kept.slots) all.memory.long in
+    record {
+      each = λ slot below. ap (slot_bytes 128 slot) memory ∙ slot_cleared 128 n slot s.memory (inr refl) below;
+      buffers_stay = ap (buffers n) memory ∙ cleared_behind n s.memory long;
+    }

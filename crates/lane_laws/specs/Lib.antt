@@ -53,3 +53,4 @@ pub mod CountsInTurn
 pub use Rattle.vio_handshake.specs.Rules
 pub mod ChannelEnds
 pub mod SameEnds
+pub mod LossTold

@@ -1,5 +1,5 @@
 -- Where the events of the work may stand, also where somebody forges packets and memory.
-use Rattle.std.specs.Prelude.{◌≡◌, ◌≢◌, ℕ, ◌+◌, ◌-◌, ◌*◌, ◌/◌, ◌%◌, ◌^◌, ◌<◌, ◌≤◌, min, ◌==◌, if◌then◌else◌, Bool, true, false, List, [], ◌∷◌, length, take, Option, Some, None, slice_get, ⊤}
+use Rattle.std.specs.Prelude.{◌≡◌, ◌≢◌, ℕ, ◌+◌, ◌-◌, ◌*◌, ◌/◌, ◌%◌, ◌^◌, ◌<◌, ◌≤◌, min, ◌==◌, if◌then◌else◌, Bool, true, false, List, [], ◌∷◌, length, take, Option, Some, None, slice_get, slice_index, ⊤}
 use Rattle.cookie_copy.specs.declared.fault.Access.{Access}
 use Rattle.cookie_copy.specs.declared.fault.Access.TheVariants.{Read, Write}
 use Rattle.cookie_copy.specs.declared.fault.CopyFault.{CopyFault}
@@ -13,6 +13,7 @@ use Rattle.vdisk_msg.specs.declared.request.Request.{Request}
 use Rattle.vdisk_msg.specs.Descriptor as slot_says
 use Rattle.vdisk_msg.specs.Pieces.{Finishes, Moves, Piece, Stores}
 use Rattle.vdisk_msg.specs.Requested as asks_for
+use Rattle.vio_bytes.specs.Place.{number_at}
 use Rattle.vio_tag.specs.declared.cause.Cause.{Cause}
 use Rattle.vio_tag.specs.declared.cause.Cause.TheVariants as the_cause
 use Rattle.vio_handshake.specs.declared.handshake.Handshake.{Handshake}
@@ -28,10 +29,10 @@ use Rattle.disk_model.specs.LaneState.{pages_of}
 use Rattle.disk_model.specs.Offering.{client_offer, server_offer}
 use Rattle.disk_model.specs.ServerState.{SlotRange}
 use Rattle.channel_model.specs.Ranges.{wrapped}
-use Rattle.dring.specs.Slots.{range_length}
+use Rattle.dring.specs.Slots.{range_length, ready_state}
 use Rattle.lane_laws.specs.BlockLog.{Clear}
 use Rattle.lane_laws.specs.DiskLog.{DiskLog}
-use Rattle.channel_model.specs.Messages.{end_of, range_ended, seq_of, sid_of, start_of}
+use Rattle.channel_model.specs.Messages.{end_of, ended_by, range_ended, seq_of, sid_of, start_of}
 use Rattle.channel_laws.specs.EndFold.{handshake_of}
 use Rattle.lane_laws.specs.EndLog.{ident_of, infos_heard, range_in_work, state_of}
 use Rattle.lane_laws.specs.WorkLog.{ClientCounts, Opened, ServerCounts}
@@ -156,9 +157,10 @@ OfClientRange l range holds = IfRange range (λ (message : List ℕ). InClient l
 abbrev pub OfServerRange : DiskLog → Option (List ℕ) → (ServerCounts → List ℕ → Type 0) → Type 0
 OfServerRange l range holds = IfRange range (λ (message : List ℕ). InServer l.work.server (λ (c : ServerCounts). holds c message))
 
--- an INFO is 1, an ACK 2 and a NACK 4
-abbrev pub HearsNoOther : ℕ → List Turn → List ℕ → Type 0
-HearsNoOther subtype turns packet = (other : ℕ) → other ≢ subtype → range_ended other (half_heard turns) packet ≡ None
+-- an INFO is 1, an ACK 2 and a NACK 4; and no message of groups is heard, which have the envelope 0x0101
+pub record HearsNoOther (subtype : ℕ) (turns : List Turn) (packet : List ℕ) : Type 0 where
+  pub ranges : (other : ℕ) → other ≢ subtype → range_ended other (half_heard turns) packet ≡ None
+  pub groups : (message : List ℕ) → ended_by (half_heard turns) packet ≡ Some message → number_at 2 2 message ≢ 0x0101
 
 abbrev pub RangesAt : DiskLog → DiskEvent → Type 0
 RangesAt l (OnWire (Sent A packet opens)) = OfClientRange l (range_ended 1 (half_said l.transcript.client) packet) (Announces l)
@@ -210,7 +212,9 @@ pub record FinishesPiece (l : DiskLog) (slot status : ℕ) (c : ServerCounts) : 
   pub owed : Owes c.owed (Finishes status)
   pub slot_is : slot ≡ c.finished % l.shape.slots
 
+-- and a descriptor is fetched only where it is READY
 abbrev pub PiecesAt : DiskLog → DiskEvent → Type 0
+PiecesAt l (Works (Desc slot bytes)) = slice_index bytes 0 ≡ ready_state
 PiecesAt l (Works (Moved unit fault)) = InServer l.work.server (MovesPiece l unit fault)
 PiecesAt l (Works (Stored operation block count failed)) = InServer l.work.server (StoresPiece operation block count)
 PiecesAt l (Works (Finished slot status)) = InServer l.work.server (FinishesPiece l slot status)

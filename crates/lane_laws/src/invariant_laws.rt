@@ -41,6 +41,7 @@ ghost use Rattle.lane_laws.specs.SlotsInOrder.{RingInOrder};
 ghost use Rattle.lane_laws.specs.SlotsWritten.{SlotFreed, SlotPublished, SlotsCleared};
 ghost use Rattle.lane_laws.specs.Remaining.{remaining};
 ghost use Rattle.lane_laws.specs.RemainingSteps.{AllDo, TakesNothing};
+ghost use Rattle.lane_laws.specs.LossTold.{TellsLoss};
 ghost use Rattle.lane_laws.specs.OneSession.{AreOneSession};
 ghost use Rattle.lane_laws.specs.TickBegins.{TickBegins};
 ghost use Rattle.lane_laws.specs.Sound.{CountsInOrder};
@@ -58,6 +59,16 @@ pub fn a_lane_is_two_ends_on_a_channel()
         → CoreFits shape.entries (client_offer shape.blocks shape.slots) (server_offer shape.blocks shape.slots) }
     ensures offers { (shape : Shape) → IsShape shape
         → Match (client_offer shape.blocks shape.slots) (server_offer shape.blocks shape.slots) }
+{}
+
+/// Along every run of a lane, forged or not, state and log are lossy exactly where a packet was lost behind the last
+/// event that emptied the queues. Such an event begins an end anew that was up, or stops the server.
+pub fn a_lane_is_lossy_behind_a_loss()
+    ensures state { (shape : Shape) (events : List DiskEvent) (s : LaneState)
+        → IsShape shape → Run LaneStep (fresh shape) events s → TellsLoss shape events s.wire.lossy }
+    ensures log { (shape : Shape) (events : List DiskEvent) (s : LaneState)
+        → IsShape shape → Run LaneStep (fresh shape) events s
+        → TellsLoss shape events (log_of after (nothing_yet shape) events).wire.lossy }
 {}
 
 /// On a lane that nobody forged, what an end that is up has heard is a front of what the other end has said, each since
@@ -168,14 +179,14 @@ pub fn pages_of_a_lane_stay_granted()
         → IsIdentity s.table (pages_of s.shape) }
 {}
 
-/// What a client writes into its ring at a step of a lane, forged or not: as its session opens each slot holds nothing.
-/// A request that is published stands, READY, in the slot of its number. The slot of a request that is done was DONE,
-/// with the status that the completion carries, and is FREE. Its other bytes are as they were. No other slot changes,
-/// though a write's bytes are put into its buffer in the same step.
+/// What a client writes into its memory at a step of a lane, forged or not: as its session opens each slot holds
+/// nothing. A request that is published stands, READY, in the slot of its number, and a write's bytes in the slot's
+/// buffer. The slot of a request that is done was DONE, with the status that the completion carries, and is FREE. Its
+/// other bytes are as they were. No other slot and no other buffer changes.
 pub fn a_client_writes_one_slot()
     ensures opens { (shape : Shape) (events : List DiskEvent) (s t : LaneState) (packet : List ℕ)
         → IsShape shape → Run LaneStep (fresh shape) events s → LaneStep s (OnWire (Sent A packet true)) t
-        → SlotsCleared t }
+        → SlotsCleared s t }
     ensures publishes { (shape : Shape) (events : List DiskEvent) (s t : LaneState) (id : ℕ)
         → IsShape shape → Run LaneStep (fresh shape) events s → LaneStep s (Works (Published id)) t
         → SlotPublished s id t }

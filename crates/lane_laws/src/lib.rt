@@ -15,10 +15,11 @@ pub use contents_laws::{
 };
 pub use invariant_laws::{
     a_client_writes_one_slot, a_completion_carries_the_servers_status,
-    a_lane_is_two_ends_on_a_channel, a_server_fetches_the_next_request, a_tick_begins_a_lane_anew,
-    an_idle_end_has_nothing_to_do, completions_carry_their_blocks, ends_of_a_lane_stand,
-    ends_say_what_their_handshakes_hold, events_stand_by_states_and_queues,
-    heard_is_a_front_of_said_on_a_lane, little_remains_where_nobody_forged, open_sessions_are_one,
+    a_lane_is_lossy_behind_a_loss, a_lane_is_two_ends_on_a_channel,
+    a_server_fetches_the_next_request, a_tick_begins_a_lane_anew, an_idle_end_has_nothing_to_do,
+    completions_carry_their_blocks, ends_of_a_lane_stand, ends_say_what_their_handshakes_hold,
+    events_stand_by_states_and_queues, heard_is_a_front_of_said_on_a_lane,
+    little_remains_where_nobody_forged, open_sessions_are_one,
     open_sessions_rest_on_what_was_heard, pages_of_a_lane_stay_granted,
     requests_complete_once_in_order_on_a_lane, sessions_count_alike, slots_stand_in_order,
     the_ring_is_as_its_log_says, ticks_are_calm_where_all_is_done,

@@ -82,9 +82,12 @@ pub fn work_has_its_numbers()
 
 /// Along every run of a lane, forged or not, an end ends its work before it takes. A client completes what is
 /// acknowledged before it takes, puts or publishes anything, and publishes only where nothing waits for it. A server
-/// answers all that it was asked for before it takes anything. An end is blocked only with a packet to put, of its
-/// link's handshake, of a message that its handshake owes, or of a range. It puts that before it publishes or works,
-/// and a server does so before it takes.
+/// answers all that it was asked for before it takes anything. An end puts a packet, or finds no room for one, only
+/// where it has one to put. That is of its link's handshake, of a message that its handshake owes, or of a range. It
+/// puts what these handshakes owe before it takes, publishes or works, and is idle only where they owe nothing. A client
+/// announces only where nothing waits for it, and once all that was accepted is published. It puts what it was blocked
+/// with before it publishes, and a server before it works or takes. All this holds too of a packet for which an end
+/// resets itself.
 pub fn an_end_ends_its_work_before_it_takes()
     ensures { (shape : Shape) (events : List DiskEvent) (s : LaneState)
         → IsShape shape → Run LaneStep (fresh shape) events s
@@ -110,8 +113,8 @@ pub fn an_idle_end_has_done_all()
         → Lawful IdleAt after (nothing_yet shape) events }
 {}
 
-/// Along every run of a lane, forged or not: what a server does of a descriptor is the next piece that the descriptor
-/// owes. A unit that is copied is refused for the first fault of its own bytes, over the pages that the client grants.
+/// Along every run of a lane, forged or not: a descriptor that a server fetches is READY. What it does of one is the
+/// next piece that the descriptor owes. A unit that is copied is refused for the first fault of its own bytes, over the pages that the client grants.
 /// A unit that is read or written has the descriptor's operation, and its own place and number of blocks. The status is
 /// the one that is owed, and its slot that of the descriptor's number.
 pub fn what_is_done_is_the_next_piece()
@@ -126,7 +129,7 @@ pub fn what_is_done_is_the_next_piece()
 /// accepted is published by then. One that a server hears, and goes on with, has the next number and begins at the slot
 /// after the range before it, which is answered. An acknowledgement that a client hears, and goes on with, begins at
 /// the slot after the one before it and names announced requests alone. Both have no other sid than the handshake of
-/// the end that hears them, and the number of its ring. Neither end hears another range. One that a server says has the
+/// the end that hears them, and the number of its ring. Neither end hears another range, or a message of groups. One that a server says has the
 /// number, the slots and the state of the INFO in work. It begins at the slot after the one before it and names all
 /// descriptors that were asked for since, the last finished. Each that is said has the sid and the ring's number of the
 /// end that says it.

@@ -26,10 +26,12 @@ use Rattle.channel_model.specs.Sayings.{heard, said}
 use Rattle.channel_model.specs.TranscriptLog.{transcript_of}
 use Rattle.channel_model.specs.WireAt.{IsOwnReset, IsUp}
 use Rattle.channel_laws.proofs.ConversingRuns.{heard_messages}
+use Rattle.channel_laws.proofs.LossesTold.{loss_kept, loss_told}
 use Rattle.channel_laws.proofs.OpeningOrder.{opens_hearing, opens_saying}
 use Rattle.channel_laws.proofs.Sessions.{open_sessions_one, open_sessions_up}
 use Rattle.channel_laws.proofs.UnforgedResets.{unforged_reset}
 use Rattle.channel_laws.specs.LaneCore.{CoreFits, OfferFits, end_of, role_of, transcript_behind}
+use Rattle.channel_laws.specs.LossStands.{LossStands}
 use Rattle.channel_laws.specs.OneSession.{AreOneSession}
 use Rattle.channel_laws.specs.Resetting.{LiesInSession}
 use Rattle.port_model.proofs.OwnResets.{net_resets_own}
@@ -166,3 +168,16 @@ resets_unforged shape events s e cause packet lost t is run unforged step =
     (sizes_fit shape is) (offers_match shape is) (fresh_run_core shape events s run) unforged
     (net_resets_own (role_at e) (port_rule (role_at e) (net_end e s) (seen_at e s)) (net_end e s) (memory_of e s) (reach_of e s) cause packet step.step.0)
     (event_core_step s (Steps e (Reset cause packet lost)) t (fits_behind shape events s run) step)
+
+-- A LOSS
+pub net_loss_told : (shape : NetShape) (events : List NetEvent) (s : NetLaneState) → IsNetShape shape → Run NetLaneStep (fresh_net shape) events s
+    → s.wire.lossy ≡ true → LossStands shape.entries (core_events events)
+net_loss_told shape events s is run =
+    loss_told shape.entries (port_offer Initiator shape.address shape.slots) (port_offer Responder shape.address shape.slots) (core_events events) (lane_core s) (sizes_fit shape is)
+    (fresh_run_core shape events s run)
+
+pub net_loss_kept : (shape : NetShape) (events : List NetEvent) (s : NetLaneState) → IsNetShape shape → Run NetLaneStep (fresh_net shape) events s
+    → LossStands shape.entries (core_events events) → s.wire.lossy ≡ true
+net_loss_kept shape events s is run =
+    loss_kept shape.entries (port_offer Initiator shape.address shape.slots) (port_offer Responder shape.address shape.slots) (core_events events) (lane_core s) (sizes_fit shape is)
+    (fresh_run_core shape events s run)

@@ -15,6 +15,7 @@ ghost use Rattle.channel_model.specs.Sayings.{heard, said};
 ghost use Rattle.channel_model.specs.TranscriptLog.{transcript_of};
 ghost use Rattle.channel_model.specs.WireAt.{IsOwnReset, IsUp};
 ghost use Rattle.channel_laws.specs.LaneCore.{end_of, transcript_behind, CoreFits, CoreStep};
+ghost use Rattle.channel_laws.specs.LossStands.{LossStands};
 ghost use Rattle.channel_laws.specs.OneSession.{AreOneSession};
 ghost use Rattle.channel_laws.specs.Resetting.{LiesInSession};
 ghost use Rattle.port_model.specs.NetEndStep.{NetAnswer, NetEndStep, NetLeft, Reset, Sent, Took};
@@ -35,6 +36,15 @@ pub fn a_port_is_two_ends_on_a_channel()
         → CoreFits shape.entries (port_offer Initiator shape.address shape.slots) (port_offer Responder shape.address shape.slots) }
     ensures offers { (shape : NetShape) → IsNetShape shape
         → Match (port_offer Initiator shape.address shape.slots) (port_offer Responder shape.address shape.slots) }
+{}
+
+/// Along every run of a port's lane, forged or not, it is lossy exactly where a packet was lost behind the last event
+/// that emptied the queues: one that began an end anew that was up.
+pub fn a_port_is_lossy_behind_a_loss()
+    ensures lossy { (shape : NetShape) (events : List NetEvent) (s : NetLaneState) → IsNetShape shape
+        → Run NetLaneStep (fresh_net shape) events s → s.wire.lossy ≡ true → LossStands shape.entries (core_events events) }
+    ensures lost { (shape : NetShape) (events : List NetEvent) (s : NetLaneState) → IsNetShape shape
+        → Run NetLaneStep (fresh_net shape) events s → LossStands shape.entries (core_events events) → s.wire.lossy ≡ true }
 {}
 
 /// On a port that nobody forged, whatever was lost and reset, let an end be up. The messages that it has heard are a

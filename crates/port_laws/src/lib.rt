@@ -13,7 +13,8 @@ mod rule_laws;
 mod wire_laws;
 
 pub use core_laws::{
-    a_port_is_two_ends_on_a_channel, a_port_resets_itself_behind_a_loss_or_for_its_session,
+    a_port_is_lossy_behind_a_loss, a_port_is_two_ends_on_a_channel,
+    a_port_resets_itself_behind_a_loss_or_for_its_session,
     an_end_heard_a_front_of_what_the_other_said, an_end_of_a_port_always_has_a_step,
     open_sessions_of_a_port_are_one, sessions_of_a_port_open_in_order,
 };
