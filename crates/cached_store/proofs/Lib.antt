@@ -1,0 +1,4 @@
+pub mod Agreeing
+pub mod Counting
+pub mod Keeping
+pub mod Using
