@@ -101,28 +101,44 @@ waits_hub u packet queued = omega (arith, length-append u.wire.wire.to_b (packet
 waits_guest : (u : NetLaneState) (packet : List ℕ) (queued : ℕ) → remaining_of (with_put A packet u) queued ≡ remaining_of u queued + 1
 waits_guest u packet queued = omega (arith, length-append u.wire.wire.to_a (packet ∷ []))
 
--- AN END JOINS: one that isn't up counts as one that begins
-first_sum : (role : Role) (slots n few many packets : ℕ) (memory : List ℕ) → packets ≡ left_in (first_phase role) (all_of true role) n → few ≤ many
-    → put_weight role * packets + session_left role slots few memory None ≤ first_left role many
-first_sum Initiator slots n few many packets memory is less = omega (arith, is, less)
-first_sum Responder slots n few many packets memory is less = omega (arith, is, less)
+-- AN END JOINS: it counts as one that begins
+first_sum : (role : Role) (slots n held packets : ℕ) (memory : List ℕ) → packets ≡ left_in (first_phase role) (all_of true role) n
+    → put_weight role * packets + session_left role slots held memory None ≡ first_left role held
+first_sum Initiator slots n held packets memory is = omega (arith, is)
+first_sum Responder slots n held packets memory is = omega (arith, is)
 
-pub joined_left : (role : Role) (begun : Bool) (s : NetEndState) (turns : List Turn) (memory : List ℕ) (more : ℕ) → EndStands role (net_core_at role begun s) turns
-    → up_left role more memory (joined_net_end role s) ≤ first_left role (length s.frames + more)
-joined_left role begun s turns memory more stands =
+pub joined_same : (role : Role) (begun : Bool) (s : NetEndState) (turns : List Turn) (memory : List ℕ) (more : ℕ) → EndStands role (net_core_at role begun s) turns
+    → up_left role more memory (joined_net_end role s) ≡ first_left role (length (joined_net_end role s).frames + more)
+joined_same role begun s turns memory more stands =
     let n : ℕ = messages_in (net_core role (joined_net_end role s)) in
     let is : packets_left (net_core role (joined_net_end role s)) ≡ left_in (first_phase role) (all_of true role) n =
     ap (λ (r : Role). left_in (first_phase r) (all_of s.handshake.offer.both_rings s.handshake.role) n) stands.link.role_is
     ∙ ap (λ (o : Offer). left_in (first_phase role) (all_of o.both_rings s.handshake.role) n) stands.handshake.offer_is
     ∙ ap (λ (r : Role). left_in (first_phase role) (all_of true r) n) stands.handshake.role_is in
-    first_sum role s.slots n (length (drop (unseen s.session) s.frames) + more) (length s.frames + more) (packets_left (net_core role (joined_net_end role s))) memory is
-    (omega (arith, length-drop (unseen s.session) s.frames))
+    first_sum role s.slots n (length (drop (unseen s.session) s.frames) + more) (packets_left (net_core role (joined_net_end role s))) memory is
+
+-- it holds no more frames than before
+pub fewer : (n : ℕ) (frames : List (List ℕ)) → length (drop n frames) ≤ length frames
+fewer n frames = omega (arith, length-drop n frames)
+
+first_less : (role : Role) (few many : ℕ) → few ≤ many → first_left role few ≤ first_left role many
+first_less Initiator few many less = omega (arith, less)
+first_less Responder few many less = omega (arith, less)
+
+pub joined_left : (role : Role) (begun : Bool) (s : NetEndState) (turns : List Turn) (memory : List ℕ) (more : ℕ) → EndStands role (net_core_at role begun s) turns
+    → up_left role more memory (joined_net_end role s) ≤ first_left role (length s.frames + more)
+joined_left role begun s turns memory more stands =
+    omega (
+      arith,
+      joined_same role begun s turns memory more stands,
+      first_less role (length (drop (unseen s.session) s.frames) + more) (length s.frames + more) (omega (arith, fewer (unseen s.session) s.frames)),
+    )
 
 pub second_less : (lossy : Bool) (n m : ℕ) → n ≤ m → second_life lossy n ≤ second_life lossy m
 second_less true n m less = omega (arith, less)
 second_less false n m less = omega arith
 
-abbrev joined_a : ChannelState → NetEndState → NetLaneState → NetLaneState
+abbrev pub joined_a : ChannelState → NetEndState → NetLaneState → NetLaneState
 joined_a x g u = record u {
   guest = g;
   wire = record u.wire {
@@ -131,7 +147,7 @@ joined_a x g u = record u {
   };
 }
 
-abbrev joined_b : ChannelState → NetEndState → NetLaneState → NetLaneState
+abbrev pub joined_b : ChannelState → NetEndState → NetLaneState → NetLaneState
 joined_b x h u = record u {
   hub = h;
   wire = record u.wire {
@@ -153,7 +169,7 @@ with_b x u queued =
     + end_left u.wire.wire.end_a Initiator 0 u.guest_memory u.guest + end_left x Responder queued u.hub_memory u.hub
     + second_life u.wire.lossy (length u.guest.frames + length u.hub.frames + queued)
 
-joins_a : (x : ChannelState) (g : NetEndState) (u : NetLaneState) (queued : ℕ) → x ≢ Up → up_left Initiator 0 u.guest_memory g ≤ first_left Initiator (length u.guest.frames + 0)
+pub joins_a : (x : ChannelState) (g : NetEndState) (u : NetLaneState) (queued : ℕ) → x ≢ Up → up_left Initiator 0 u.guest_memory g ≤ first_left Initiator (length u.guest.frames + 0)
     → length g.frames ≤ length u.guest.frames → remaining_of (joined_a x g u) queued + 1 ≤ with_a x u queued
 joins_a Up g u queued away less frames = absurd (away refl)
 joins_a Down g u queued away less frames =
@@ -161,7 +177,7 @@ joins_a Down g u queued away less frames =
 joins_a Resetting g u queued away less frames =
     omega (arith, less, second_less u.wire.lossy (length g.frames + length u.hub.frames + queued) (length u.guest.frames + length u.hub.frames + queued) (omega (arith, frames)))
 
-joins_b : (x : ChannelState) (h : NetEndState) (u : NetLaneState) (queued : ℕ) → x ≢ Up → up_left Responder queued u.hub_memory h ≤ first_left Responder (length u.hub.frames + queued)
+pub joins_b : (x : ChannelState) (h : NetEndState) (u : NetLaneState) (queued : ℕ) → x ≢ Up → up_left Responder queued u.hub_memory h ≤ first_left Responder (length u.hub.frames + queued)
     → length h.frames ≤ length u.hub.frames → remaining_of (joined_b x h u) queued + 1 ≤ with_b x u queued
 joins_b Up h u queued away less frames = absurd (away refl)
 joins_b Down h u queued away less frames =
@@ -179,10 +195,6 @@ not_up : (x : ChannelState) → is_up x ≡ false → x ≢ Up
 not_up Up is = true_false is
 not_up Down is = λ up. false_true (ap is_up up)
 not_up Resetting is = λ up. false_true (ap is_up up)
-
--- it holds no more frames than before
-fewer : (n : ℕ) (frames : List (List ℕ)) → length (drop n frames) ≤ length frames
-fewer n frames = omega (arith, length-drop n frames)
 
 guest_falls : (shape : NetShape) (u : PortState) (l : PortLog) (answer : NetAnswer) (t : NetLaneState) → Ready shape u l → HasRoom shape.slots u.lane → EndSteps A u.lane answer t
     → TakesNothing answer → remaining_of t (length u.queue) + 1 ≤ remaining_of u.lane (length u.queue)

@@ -41,6 +41,7 @@ use Rattle.port_laws.specs.NetCore.{is_begun, lane_core, net_core, net_core_at, 
 use Rattle.port_laws.specs.PortCore.{port_core, port_events}
 use Rattle.port_laws.specs.Remaining.{answers_left, end_left, frames_left, groups_left, put_weight, ready_slots, ready_weight, remaining, remaining_of, session_left, took_some}
 use Rattle.port_laws.proofs.CoreLaws.{offers_match, sizes_fit}
+use Rattle.port_laws.proofs.FlightSums.{first_gone}
 use Rattle.port_laws.proofs.MemoryRoom.{HasRoom, before_room, room_behind}
 use Rattle.port_laws.proofs.MessageDoes.{Acks, Asks, Declines, MessageDoes, Names, TakeDoes, Told, message_does}
 use Rattle.port_laws.proofs.PortCounts.{Ready, guest_acts, hub_acts}
@@ -48,7 +49,7 @@ use Rattle.port_laws.proofs.PortRuns.{before_core, fresh_port_core, port_fits_be
 use Rattle.port_laws.proofs.RemainingEnds.{answers_less, counts_stand, groups_same, own_left}
 use Rattle.port_laws.proofs.RemainingReady.{cleared_none, freed_less}
 use Rattle.port_laws.proofs.RemainingSteps.{ready_here, second_less, steps_before, up_of}
-use Rattle.port_laws.proofs.TookCounts.{risen_up, session_open, session_up}
+use Rattle.port_laws.proofs.TookWhat.{Fails, Opens, Reads, Stays, TookWhat, took_what}
 
 -- WHAT AN END MAY OWE for a packet that it takes: the switch's end an answer to groups
 abbrev slack : Role → ℕ
@@ -152,60 +153,34 @@ take_gains : (role : Role) (more : ℕ) (memory : List ℕ) (s : NetEndState) (p
 take_gains role more memory s p subtype b (GoesOn t opens new) session stands some room does = does_gain role more memory s p subtype b t new session stands some room does.does
 take_gains role more memory s p subtype b (Resets cause) session stands some room does = tt
 
--- WITHOUT A SESSION one may open, whose ring is cleared
-opens_gain : (role : Role) (more : ℕ) (memory : List ℕ) (s : NetEndState) → s.session ≡ None → Gains role more memory s (opens_by_take role s memory)
-opens_gain Initiator more memory s closed = same_gained Initiator more memory s
-opens_gain Responder more memory s closed = (
-  subst (λ (x : Option NetSession). own_left Responder more (cleared_ring s.slots memory) (opened_net_end s) ≤ session_left Responder s.slots (length s.frames + more) memory x + 2) (sym closed)
-      (omega (arith, cleared_none s.slots memory)),
-  omega arith,
-)
-
-handshake_gains : (role : Role) (more : ℕ) (memory : List ℕ) (s : NetEndState) (take : HandshakeTake) → s.session ≡ None → Gains role more memory s (by_handshake role s memory take)
-handshake_gains role more memory s (Goes h) closed = same_gained role more memory s
-handshake_gains role more memory s (GoesOpen h) closed = opens_gain role more memory (record s { handshake = h }) closed
-handshake_gains role more memory s (Faults cause) closed = tt
-
--- THE PACKET
+-- THE PACKET: without a session one may open, whose ring is cleared
 pub took_gains : (role : Role) (more : ℕ) (memory packet : List ℕ) (s t : NetEndState) (turns : List Turn) (opens : Bool) (new : List ℕ) → EndStands role (net_core role s) turns → FramesStand s
     → 1 ≤ s.slots → 64 * s.slots ≤ length memory → NetTakes role s memory packet (GoesOn t opens new) → Gained role more memory s new t
-took_gains role more memory packet s t turns opens new ends stands some room takes = by_link takes.link takes.hears
+took_gains role more memory packet s t turns opens new ends stands some room takes = by_what (GoesOn t opens new) (took_what role s turns memory packet (GoesOn t opens new) ends takes)
   where
-    seen : LinkState → NetEndState
-    seen k = record s { link = cleared k; handshake = risen role s.link k s.handshake }
+    gains_as : (k : LinkState) (h : Handshake) (take : NetTake) → Gains role more memory (record s { link = k; handshake = h }) take → Gains role more memory s take
+    gains_as k h (GoesOn u opened now) gains = gains
+    gains_as k h (Resets cause) gains = tt
 
-    by_session : (k : LinkState) (m : Message) (session : Option NetSession) → s.session ≡ session → Gains role more memory (seen k) (hears_message role (seen k) memory session m)
-    by_session k m None closed = handshake_gains role more memory (seen k) (handshake_take (seen k).handshake m) closed
-    by_session k m (Some p) session =
-        let stays : risen role s.link k s.handshake ≡ s.handshake = risen_up role s.link k s.handshake (session_up role s turns p ends session) in
-        let opened : is_open_in (seen k).handshake.phase ≡ true = ap (λ (h : Handshake). is_open_in h.phase) stays ∙ session_open role s turns p ends session in
+    cleared_gains : (r : Role) → r ≡ Responder → s.session ≡ None → Gained r more memory s (cleared_ring s.slots memory) (opened_net_end s)
+    cleared_gains Initiator role_is closed = absurd (cc role_is)
+    cleared_gains Responder role_is closed = (
+      subst (λ (x : Option NetSession). own_left Responder more (cleared_ring s.slots memory) (opened_net_end s) ≤ session_left Responder s.slots (length s.frames + more) memory x + 2) (sym closed)
+          (omega (arith, cleared_none s.slots memory)),
+      omega arith,
+    )
+
+    by_what : (take : NetTake) → TookWhat role s memory take → Gains role more memory s take
+    by_what take (Stays k h is) = subst (Gains role more memory s) (sym is) (same_gained role more memory s)
+    by_what take (Opens k h role_is closed is) = subst (Gains role more memory s) (sym is) (cleared_gains role role_is closed)
+    by_what take (Fails cause is) = subst (Gains role more memory s) (sym is) tt
+    by_what take (Reads k h p m session does) =
         let counts : CountsStand s p = counts_stand s p stands session in
-        take_gains role more memory (seen k) p m.subtype m.body (hears_message role (seen k) memory (Some p) m) session
+        gains_as k h take (take_gains role more memory (record s { link = k; handshake = h }) p m.subtype m.body take session
         (record { seen = counts.seen; held = counts.held; ids = counts.ids; asked = counts.asked; answered = counts.answered; some = counts.some })
-        some room (message_does role (seen k) p memory m opened)
-
-    by_decoded : (k : LinkState) (d : Result Message TagFault) → Gains role more memory s (reads role (seen k) memory d)
-    by_decoded k (Ok m) = gains_as k (hears_message role (seen k) memory s.session m) (by_session k m s.session refl)
-      where
-        gains_as : (k : LinkState) (take : NetTake) → Gains role more memory (seen k) take → Gains role more memory s take
-        gains_as k (GoesOn u opened now) gains = gains
-        gains_as k (Resets cause) gains = tt
-    by_decoded k (Err fault) = tt
-
-    by_whole : (k : LinkState) (whole : Option (List ℕ)) → HearsWhole role (record s { link = k; handshake = risen role s.link k s.handshake }) memory whole (GoesOn t opens new)
-        → Gained role more memory s new t
-    by_whole k None is = subst (Gains role more memory s) (sym is) (same_gained role more memory s)
-    by_whole k (Some bytes) hears = subst (Gains role more memory s) (sym hears.2) (by_decoded k hears.0)
-
-    by_link : (link : LinkTake) → HearsLink role s memory link (GoesOn t opens new) → Gained role more memory s new t
-    by_link (Heard k) hears = by_whole k k.whole hears
-    by_link (Unheard cause) hears = absurd (cc hears)
+        some room does)
 
 -- THE LANE
-first_gone : (packet : List ℕ) (packets : List (List ℕ)) → slice_get packets 0 ≡ Some packet → length (drop 1 packets) + 1 ≡ length packets
-first_gone packet [] is = absurd (cc is)
-first_gone packet (one ∷ packets) is = omega (arith, length-drop 1 (one ∷ packets))
-
 weighs : (role : Role) (few many left less : ℕ) → few ≤ many → left ≤ less + slack role → put_weight role * few + left ≤ put_weight role * many + less + slack role
 weighs Initiator few many left less packets own = omega (arith, packets, own)
 weighs Responder few many left less packets own = omega (arith, packets, own)

@@ -88,3 +88,7 @@ remaining_of s queued = life s.wire.wire s queued + second_life s.wire.lossy (le
 -- THE NUMBER
 abbrev pub remaining : PortState → ℕ
 remaining s = remaining_of s.lane (length s.queue)
+
+-- THE FRAMES that both ends hold, and those in the out queue
+abbrev pub frames_held : PortState → ℕ
+frames_held s = length s.lane.guest.frames + length s.lane.hub.frames + length s.queue
