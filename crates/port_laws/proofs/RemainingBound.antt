@@ -1,4 +1,4 @@
--- What remains on a port that nobody forged is at most 117, and 8 for each frame; where a packet was lost, at most 189 and 16.
+-- What remains on a port that nobody forged is at most 117, and 8 for each frame; where a packet was lost, at most 189 and 8.
 use Rattle.std.proofs.Common.{◌≡◌, ℕ, ◌+◌, ◌-◌, ◌*◌, ◌≤◌, Bool, true, false, Option, Some, None, List, length, refl, sym, subst, ap, ◌∙◌, arith}
 use Rattle.std.specs.Prelude.{is_some, ⊤}
 use Rattle.ldc_link.specs.declared.phase.Role.{Role}
@@ -95,7 +95,7 @@ life_most shape events s is run clean =
     )
 
 -- WHAT REMAINS
-by_whole : (lossy : Bool) (life held : ℕ) → lossy ≡ false → life + 4 * one_if lossy ≤ 117 + 8 * held → life + second_life lossy held ≤ 117 + 8 * held
+by_whole : (lossy : Bool) (life held : ℕ) → lossy ≡ false → life + 4 * one_if lossy ≤ 117 + 8 * held → life + second_life lossy ≤ 117 + 8 * held
 by_whole true life held whole most = absurd (cc whole)
 by_whole false life held whole most = omega (arith, most)
 
@@ -104,12 +104,12 @@ pub whole_most : (shape : NetShape) (events : List PortEvent) (s : PortState) �
 whole_most shape events s is run clean whole =
     by_whole s.lane.wire.lossy (life s.lane.wire.wire s.lane (length s.queue)) (frames_held s) whole (life_most shape events s is run clean)
 
-by_lossy : (lossy : Bool) (life held : ℕ) → life + 4 * one_if lossy ≤ 117 + 8 * held → life + second_life lossy held ≤ 189 + 16 * held
+by_lossy : (lossy : Bool) (life held : ℕ) → life + 4 * one_if lossy ≤ 117 + 8 * held → life + second_life lossy ≤ 189 + 8 * held
 by_lossy true life held most = omega (arith, most)
 by_lossy false life held most = omega (arith, most)
 
 pub lossy_most : (shape : NetShape) (events : List PortEvent) (s : PortState) → IsNetShape shape → Run PortStep (fresh_port shape) events s → s.lane.wire.forged ≡ false
-    → remaining s ≤ 189 + 16 * frames_held s
+    → remaining s ≤ 189 + 8 * frames_held s
 lossy_most shape events s is run clean = by_lossy s.lane.wire.lossy (life s.lane.wire.wire s.lane (length s.queue)) (frames_held s) (life_most shape events s is run clean)
 
 pub settle_most : (shape : NetShape) (events : List PortEvent) (s : PortState) → IsNetShape shape → Run PortStep (fresh_port shape) events s → s.lane.wire.forged ≡ false

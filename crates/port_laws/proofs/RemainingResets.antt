@@ -1,5 +1,5 @@
 -- What remains on a port behind a reset: as much as on one that begins with all its frames, but that one end is up.
-use Rattle.std.proofs.Common.{◌≡◌, ◌≢◌, ℕ, ◌+◌, ◌*◌, ◌<◌, ◌≤◌, ◌⊎◌, inl, inr, Bool, true, false, Option, List, length, refl, sym, subst, ap, ◌∙◌, arith}
+use Rattle.std.proofs.Common.{◌≡◌, ◌≢◌, ℕ, ◌+◌, ◌-◌, ◌*◌, ◌<◌, ◌≤◌, ◌⊎◌, inl, inr, Bool, true, false, Option, None, Some, List, length, refl, sym, subst, ap, ◌∙◌, arith, length-drop}
 use Rattle.ldc_link.specs.declared.phase.Role.{Role}
 use Rattle.ldc_link.specs.declared.phase.Role.TheVariants.{Initiator, Responder}
 use Rattle.ldc_queue.specs.declared.end.ChannelState.{ChannelState}
@@ -12,29 +12,25 @@ use Rattle.runs.specs.Run.{Run}
 use Rattle.vio_tag.specs.declared.cause.Cause.{Cause}
 use Rattle.channel_model.specs.WireAt.{IsUp}
 use Rattle.channel_model.specs.WireLog.{WireLog}
-use Rattle.port_model.specs.NetEndState.{NetEndState, joined_net_end, unseen}
+use Rattle.port_model.proofs.FramesKept.{held_in}
+use Rattle.port_model.specs.NetEndState.{NetEndState, NetSession, joined_net_end, unseen}
 use Rattle.port_model.specs.NetEndStep.{Blocked, Frame, Idle, Joined, NetAnswer, NetLeft, Published, Reset, Sent, Took}
 use Rattle.port_model.specs.NetEvent.{Asked, NetEvent, Steps, Ticked}
 use Rattle.port_model.specs.NetLaneState.{IsNetShape, NetLaneState, NetShape, with_left}
 use Rattle.port_model.specs.NetLaneStep.{net_wire}
 use Rattle.port_model.specs.PortLog.{PortLog, after, no_events}
 use Rattle.port_model.specs.PortState.{OnLane, PortEvent, PortState, PortStep, before, fresh_port}
-use Rattle.port_laws.specs.NetCore.{is_begun}
-use Rattle.port_laws.specs.Remaining.{absent, end_left, first_left, frames_held, remaining, remaining_of, second_life}
+use Rattle.port_laws.specs.Remaining.{absent, end_left, first_left, frames_kept, kept_in, remaining, remaining_of, second_life, session_left}
 use Rattle.port_laws.specs.RemainingSteps.{IsCalm, IsReset}
 use Rattle.port_laws.proofs.NoRefusal.{step_resets}
 use Rattle.port_laws.proofs.PortCounts.{Ready, before_wire}
 use Rattle.port_laws.proofs.RemainingEnds.{up_left}
 use Rattle.port_laws.proofs.RemainingFrames.{port_frame}
-use Rattle.port_laws.proofs.RemainingSteps.{fewer, joined_a, joined_b, joined_left, joined_same, joins_a, joins_b, port_calm, port_falls, ready_here, steps_before}
+use Rattle.port_laws.proofs.RemainingSteps.{away_falls, begun_left, joined_a, joined_at, joined_b, port_calm, port_falls, ready_here, steps_before}
 use Rattle.port_laws.proofs.RemainingTakes.{port_took}
 use Rattle.port_laws.proofs.TalkRuns.{port_talk}
 
 -- THE LANE behind a reset of an end
-abbrev joined_at : End → NetLaneState → NetLaneState
-joined_at A u = joined_a u.wire.wire.end_a (joined_net_end Initiator u.guest) u
-joined_at B u = joined_b u.wire.wire.end_b (joined_net_end Responder u.hub) u
-
 reset_lane : (e : End) (s : PortState) (event : NetEvent) (t : PortState) → PortStep s (OnLane event) t → IsReset e (OnLane event) → t.lane ≡ joined_at e (before event s).lane
 reset_lane A s (Steps A (Reset cause packet lost)) t step is =
     step.1.is ∙ ap (λ (x : NetLeft). record (with_left A x s.lane) { wire = net_wire (Steps A (Reset cause packet lost)) s.lane }) step.1.step.2
@@ -63,72 +59,81 @@ away Up = refl
 away Down = refl
 away Resetting = refl
 
-away_left : (y : ChannelState) (role : Role) (more : ℕ) (memory : List ℕ) (s : NetEndState) → end_left (upset y) role more memory s ≡ first_left role (length s.frames + more)
+away_left : (y : ChannelState) (role : Role) (more : ℕ) (memory : List ℕ) (s : NetEndState) → end_left (upset y) role more memory s ≡ first_left role (length s.frames + more - unseen s.session)
 away_left Up role more memory s = refl
 away_left Down role more memory s = refl
 away_left Resetting role more memory s = refl
 
-abbrev held_in : NetLaneState → ℕ → ℕ
-held_in s queued = length s.guest.frames + length s.hub.frames + queued
-
-begins_a : (x : ChannelState) (g : NetEndState) (u : NetLaneState) (queued : ℕ) → x ≡ Up → up_left Initiator 0 u.guest_memory g ≡ first_left Initiator (length g.frames + 0)
-    → remaining_of (joined_a x g u) queued ≡ 75 + 8 * held_in (joined_a x g u) queued
+begins_a : (x : ChannelState) (g : NetEndState) (u : NetLaneState) (queued : ℕ) → x ≡ Up → up_left Initiator 0 u.guest_memory g ≡ first_left Initiator (length u.guest.frames + 0 - unseen u.guest.session)
+    → remaining_of (joined_a x g u) queued ≡ 75 + 8 * kept_in u queued
 begins_a Up g u queued up first = omega (arith, first, away u.wire.wire.end_b, away_left u.wire.wire.end_b Responder queued u.hub_memory u.hub)
 begins_a Down g u queued up first = absurd (cc up)
 begins_a Resetting g u queued up first = absurd (cc up)
 
-begins_b : (x : ChannelState) (h : NetEndState) (u : NetLaneState) (queued : ℕ) → x ≡ Up → up_left Responder queued u.hub_memory h ≡ first_left Responder (length h.frames + queued)
-    → remaining_of (joined_b x h u) queued ≡ 75 + 8 * held_in (joined_b x h u) queued
+begins_b : (x : ChannelState) (h : NetEndState) (u : NetLaneState) (queued : ℕ) → x ≡ Up → up_left Responder queued u.hub_memory h ≡ first_left Responder (length u.hub.frames + queued - unseen u.hub.session)
+    → remaining_of (joined_b x h u) queued ≡ 75 + 8 * kept_in u queued
 begins_b Up h u queued up first = omega (arith, first, away u.wire.wire.end_a, away_left u.wire.wire.end_a Initiator 0 u.guest_memory u.guest)
 begins_b Down h u queued up first = absurd (cc up)
 begins_b Resetting h u queued up first = absurd (cc up)
 
-begins_at : (e : End) (shape : NetShape) (u : PortState) (l : PortLog) → Ready shape u l → IsUp e u.lane.wire.wire
-    → remaining_of (joined_at e u.lane) (length u.queue) ≡ 75 + 8 * held_in (joined_at e u.lane) (length u.queue)
-begins_at A shape u l ready up =
-    begins_a u.lane.wire.wire.end_a (joined_net_end Initiator u.lane.guest) u.lane (length u.queue) up
-    (joined_same Initiator (is_begun u.lane.wire.wire.end_a) u.lane.guest l.transcript.client u.lane.guest_memory 0 ready.keeps.a.stands)
-begins_at B shape u l ready up =
-    begins_b u.lane.wire.wire.end_b (joined_net_end Responder u.lane.hub) u.lane (length u.queue) up
-    (joined_same Responder (is_begun u.lane.wire.wire.end_b) u.lane.hub l.transcript.server u.lane.hub_memory (length u.queue) ready.keeps.b.stands)
+begins_at : (e : End) (shape : NetShape) (u : PortState) (l : PortLog) → Ready shape u l → IsUp e u.lane.wire.wire → remaining_of (joined_at e u.lane) (length u.queue) ≡ 75 + 8 * frames_kept u
+begins_at A shape u l ready up = begins_a u.lane.wire.wire.end_a (joined_net_end Initiator u.lane.guest) u.lane (length u.queue) up (begun_left A shape u l ready)
+begins_at B shape u l ready up = begins_b u.lane.wire.wire.end_b (joined_net_end Responder u.lane.hub) u.lane (length u.queue) up (begun_left B shape u l ready)
 
--- it holds no more frames than before
-held_less : (e : End) (u : NetLaneState) (queued : ℕ) → held_in (joined_at e u) queued ≤ held_in u queued
-held_less A u queued = omega (arith, fewer (unseen u.guest.session) u.guest.frames)
-held_less B u queued = omega (arith, fewer (unseen u.hub.session) u.hub.frames)
+-- it keeps the frames that aren't published
+kept_same : (e : End) (shape : NetShape) (u : PortState) (l : PortLog) → Ready shape u l → kept_in (joined_at e u.lane) (length u.queue) ≡ frames_kept u
+kept_same A shape u l ready = omega (arith, length-drop (unseen u.lane.guest.session) u.lane.guest.frames)
+kept_same B shape u l ready =
+    let held = held_in u.lane.hub u.lane.hub.session refl ready.stands.1 in
+    omega (arith, held, length-drop (unseen u.lane.hub.session) u.lane.hub.frames)
 
--- ONE THAT WASN'T joins
-away_falls : (e : End) (shape : NetShape) (u : PortState) (l : PortLog) → Ready shape u l → state_of e u.lane.wire.wire ≢ Up
-    → remaining_of (joined_at e u.lane) (length u.queue) + 1 ≤ remaining_of u.lane (length u.queue)
-away_falls A shape u l ready not_up =
-    joins_a u.lane.wire.wire.end_a (joined_net_end Initiator u.lane.guest) u.lane (length u.queue) not_up
-    (joined_left Initiator (is_begun u.lane.wire.wire.end_a) u.lane.guest l.transcript.client u.lane.guest_memory 0 ready.keeps.a.stands)
-    (fewer (unseen u.lane.guest.session) u.lane.guest.frames)
-away_falls B shape u l ready not_up =
-    joins_b u.lane.wire.wire.end_b (joined_net_end Responder u.lane.hub) u.lane (length u.queue) not_up
-    (joined_left Responder (is_begun u.lane.wire.wire.end_b) u.lane.hub l.transcript.server u.lane.hub_memory (length u.queue) ready.keeps.b.stands)
-    (fewer (unseen u.lane.hub.session) u.lane.hub.frames)
+-- each of them counts eight
+session_least : (role : Role) (slots held : ℕ) (memory : List ℕ) (session : Option NetSession) → 8 * (held - unseen session) ≤ session_left role slots held memory session
+session_least role slots held memory None = omega arith
+session_least role slots held memory (Some p) = omega arith
+
+end_least : (x : ChannelState) (role : Role) (more : ℕ) (memory : List ℕ) (s : NetEndState) → 8 * (length s.frames + more - unseen s.session) ≤ end_left x role more memory s
+end_least Up role more memory s = omega (arith, session_least role s.slots (length s.frames + more) memory s.session)
+end_least Down Initiator more memory s = omega arith
+end_least Down Responder more memory s = omega arith
+end_least Resetting Initiator more memory s = omega arith
+end_least Resetting Responder more memory s = omega arith
+
+second_is : (lossy : Bool) → lossy ≡ true → second_life lossy ≡ 76
+second_is true lossy = refl
+second_is false lossy = absurd (cc lossy)
+
+lossy_least : (u : PortState) → u.lane.wire.lossy ≡ true → 76 + 8 * frames_kept u ≤ remaining u
+lossy_least u lossy =
+    omega (
+      arith,
+      second_is u.lane.wire.lossy lossy,
+      end_least u.lane.wire.wire.end_a Initiator 0 u.lane.guest_memory u.lane.guest,
+      end_least u.lane.wire.wire.end_b Responder (length u.queue) u.lane.hub_memory u.lane.hub,
+    )
 
 -- ALONG EVERY RUN
 left_behind : (t : PortState) (u : NetLaneState) (queue : List (List ℕ)) → t.lane ≡ u → t.queue ≡ queue → remaining t ≡ remaining_of u (length queue)
 left_behind t u queue lane is = ap (λ (x : NetLaneState). remaining_of x (length t.queue)) lane ∙ ap (λ (x : List (List ℕ)). remaining_of u (length x)) is
 
-held_behind : (t : PortState) (u : NetLaneState) (queue : List (List ℕ)) → t.lane ≡ u → t.queue ≡ queue → frames_held t ≡ held_in u (length queue)
-held_behind t u queue lane is = ap (λ (x : NetLaneState). held_in x (length t.queue)) lane ∙ ap (λ (x : List (List ℕ)). held_in u (length x)) is
+kept_behind : (t : PortState) (u : NetLaneState) (queue : List (List ℕ)) → t.lane ≡ u → t.queue ≡ queue → frames_kept t ≡ kept_in u (length queue)
+kept_behind t u queue lane is = ap (λ (x : NetLaneState). kept_in x (length t.queue)) lane ∙ ap (λ (x : List (List ℕ)). kept_in u (length x)) is
 
 up_before : (e : End) (event : NetEvent) (s : PortState) → IsUp e s.lane.wire.wire → IsUp e (before event s).lane.wire.wire
 up_before e event s up = ap (λ (w : WireLog). state_of e w.wire) (before_wire event s) ∙ up
 
 pub port_begins : (shape : NetShape) (events : List PortEvent) (s : PortState) (e : End) (event : PortEvent) (t : PortState) → IsNetShape shape → Run PortStep (fresh_port shape) events s
-    → PortStep s event t → IsReset e event → IsUp e s.lane.wire.wire → remaining t ≡ 75 + 8 * frames_held t
+    → PortStep s event t → IsReset e event → IsUp e s.lane.wire.wire → remaining t ≡ 75 + 8 * frames_kept t
 port_begins shape events s e (OnLane event) t sound run step is up =
     let u : PortState = before event s in
     let lane = reset_lane e s event t step is in
+    let ready = ready_here shape events s event sound run in
     omega (
       arith,
       left_behind t (joined_at e u.lane) u.queue lane step.2,
-      held_behind t (joined_at e u.lane) u.queue lane step.2,
-      begins_at e shape u (log_of after (no_events shape) events) (ready_here shape events s event sound run) (up_before e event s up),
+      kept_behind t (joined_at e u.lane) u.queue lane step.2,
+      kept_same e shape u _ ready,
+      begins_at e shape u _ ready (up_before e event s up),
     )
 port_begins shape events s e _ t sound run step is up = absurd is
 
@@ -136,10 +141,6 @@ up_or_not : (x : ChannelState) → (x ≡ Up) ⊎ (x ≢ Up)
 up_or_not Up = inl refl
 up_or_not Down = inr (λ up. cc up)
 up_or_not Resetting = inr (λ up. cc up)
-
-second_is : (lossy : Bool) (held : ℕ) → lossy ≡ true → second_life lossy held ≡ 76 + 8 * held
-second_is true held lossy = refl
-second_is false held lossy = absurd (cc lossy)
 
 pub port_again : (shape : NetShape) (events : List PortEvent) (s : PortState) (e : End) (event : PortEvent) (t : PortState) → IsNetShape shape → Run PortStep (fresh_port shape) events s
     → PortStep s event t → IsReset e event → (IsUp e s.lane.wire.wire → s.lane.wire.lossy ≡ true) → remaining t < remaining s
@@ -167,8 +168,7 @@ port_again shape events s e (OnLane event) t sound run step is lossy = by_state 
           left,
           was,
           begins_at e shape u _ ready (up_before e event s up),
-          held_less e u.lane (length u.queue),
-          second_is u.lane.wire.lossy (held_in u.lane (length u.queue)) (ap (λ (w : WireLog). w.lossy) (before_wire event s) ∙ lossy up),
+          lossy_least u (ap (λ (w : WireLog). w.lossy) (before_wire event s) ∙ lossy up),
         )
 port_again shape events s e _ t sound run step is lossy = absurd is
 
