@@ -20,6 +20,7 @@ use Rattle.ldc_queue.specs.Transcript.{Turn, numbered_heard, numbered_said}
 use Rattle.vio_handshake.specs.declared.session.Offer.{Offer}
 use Rattle.channel_model.proofs.SameSayings.{heard_is, said_is}
 use Rattle.channel_model.specs.Sayings.{heard, said}
+use Rattle.channel_laws.proofs.Apart.{true_is_false}
 use Rattle.channel_laws.proofs.HandshakePlaces.{deal, place_open}
 use Rattle.channel_laws.proofs.HandshakesPlaced.{Meets}
 use Rattle.channel_laws.proofs.Lifting.{BothStand}
@@ -56,10 +57,10 @@ live_up state packets is = ap (λ (x : ChannelState). live x packets) is
 
 owes_at : (k : LinkState) (ph : LinkPhase) (X : Type 0) → k.phase ≡ ph → is_some (owed_in ph k) ≡ true → owes k ≡ false → X
 owes_at k ph X at owes_it quiet =
-    let never : true ≡ false = sym owes_it ∙ sym (ap (λ (x : LinkPhase). is_some (owed_in x k)) at) ∙ quiet in absurd (cc never)
+    true_is_false (sym owes_it ∙ sym (ap (λ (x : LinkPhase). is_some (owed_in x k)) at) ∙ quiet)
 
 never_waits : (lossy : Bool) (packet : Packet) (waiting : List (List ℕ)) (X : Type 0) → lossy ≡ false → waiting ≡ [] → AtMost lossy packet waiting → X
-never_waits lossy packet waiting X whole none (inl lost) = let never : true ≡ false = sym lost.1 ∙ whole in absurd (cc never)
+never_waits lossy packet waiting X whole none (inl lost) = true_is_false (sym lost.1 ∙ whole)
 never_waits lossy packet waiting X whole none (inr one) =
     let never : canonical packet ∷ [] ≡ [] = sym one ∙ none in absurd (cc never)
 

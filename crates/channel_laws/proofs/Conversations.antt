@@ -55,13 +55,6 @@ swap_converse Responder s c = record {
   to_theirs = c.to_mine;
 }
 
--- the packets without a number that are left for this end, and for the other
-pub left_mine : Role → Sides → ℕ
-left_mine role s = controls role s
-
-pub left_theirs : Role → Sides → ℕ
-left_theirs role s = controls (other role) (swapped s)
-
 -- IT GOES ON beside the wire
 goes_left : (role : Role) (s : Sides) (t : EndCore) → t.link.phase ≡ s.mine.core.link.phase
     → (controls role (goes_on t s) ≡ controls role s) × (controls (other role) (swapped (goes_on t s)) ≡ controls (other role) (swapped s))

@@ -24,6 +24,7 @@ use Rattle.vio_tag.specs.Form.{IsWellFormed}
 use Rattle.vio_tag.specs.Spelling.{SpellsMessage}
 use Rattle.channel_model.specs.EndPuts.{ComesUp, EndsOwn, EndsHandshake, Goes as GoesOn, PutKind, ending, kind_in, put_opens, handshake_behind}
 use Rattle.channel_model.specs.Sayings.{heard}
+use Rattle.channel_laws.proofs.Apart.{true_is_false}
 use Rattle.channel_laws.proofs.HandshakeCases.{HandshakeTook, goes_took, never_opens, opens_took}
 use Rattle.channel_laws.proofs.LinkCases.{ControlGone, ControlHeard, ControlPut, ControlTaken, LinkHeard, LinkPut, ModeAgreed, ModeAnswered, ModeAsked, ModeOffered, PartGone, PartHeard, ReadyGone, ReadyHeard, VersionAgreed, VersionAnswered, VersionAsked, VersionOffered, VersionRefused, behind_part, behind_ready, canonical_is, link_heard, link_put, put_quiet, ready_loud}
 use Rattle.channel_laws.proofs.PutSayings.{control_kind}
@@ -99,12 +100,12 @@ link_hears k m turns bytes none follows takes = by_how (link_heard k m bytes tak
     by_how (ControlHeard next taken is) = record {
       on = on;
       quiet = λ down. ap (λ (x : LinkState). x.whole) is ∙ none;
-      up = λ up. let never : true ≡ false = sym up ∙ (taken_down k.phase bytes next taken).0 in absurd (cc never);
+      up = λ up. true_is_false (sym up ∙ (taken_down k.phase bytes next taken).0);
     }
     by_how (ReadyHeard at packet number is) = record { on = on; quiet = λ down. ap (λ (x : LinkState). x.whole) is ∙ none; up = λ up. ap is_up is }
     by_how (PartHeard at part may number is) = record {
       on = on;
-      quiet = λ down. let never : true ≡ false = sym (ap is_established at) ∙ down in absurd (cc never);
+      quiet = λ down. true_is_false (sym (ap is_established at) ∙ down);
       up = λ up. ap is_up is ∙ up;
     }
 

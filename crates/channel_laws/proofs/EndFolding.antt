@@ -34,6 +34,7 @@ use Rattle.vio_handshake.proofs.PlaceRows.{GoesTo}
 use Rattle.channel_model.specs.Messages.{ended_by}
 use Rattle.channel_model.specs.Sayings.{half_heard, half_said, heard}
 use Rattle.channel_model.specs.TranscriptLog.{is_rdx}
+use Rattle.channel_laws.proofs.Apart.{true_is_false}
 use Rattle.channel_laws.proofs.Conversations.{held_phase}
 use Rattle.channel_laws.proofs.EndCases.{EndTook, NoMessage, PutControl, PutMore, PutOwn, PutReady, PutHandshake, PutWhat, Rises, TookHandshake, TookMessage, TookOwn, TookWhat, end_put, end_took, taken_down}
 use Rattle.channel_laws.proofs.EndResting.{held_handshake}
@@ -98,14 +99,14 @@ heard_phase k m bytes (PartHeard at part may number is) = ap (λ (x : LinkState)
 heard_quiet : (k m : LinkState) (bytes : List ℕ) → LinkHeard k bytes m → is_up m ≡ is_up k → is_rdx bytes ≡ false
 heard_quiet k m bytes (ControlHeard next taken is) same = quiet_rdx bytes (taken_quiet k.phase bytes next taken).0
 heard_quiet k m bytes (ReadyHeard at packet number is) same =
-    let wrong : true ≡ false = sym (ap is_up is) ∙ same ∙ ap is_established at in absurd (cc wrong)
+    true_is_false (sym (ap is_up is) ∙ same ∙ ap is_established at)
 heard_quiet k m bytes (PartHeard at part may number is) same = part_rdx bytes part
 
 heard_rdx : (k m : LinkState) (bytes : List ℕ) → LinkHeard k bytes m → is_up k ≡ false → is_up m ≡ true → is_rdx bytes ≡ true
 heard_rdx k m bytes (ControlHeard next taken is) down up =
-    let wrong : true ≡ false = sym up ∙ ap is_up is ∙ (taken_down k.phase bytes next taken).1 in absurd (cc wrong)
+    true_is_false (sym up ∙ ap is_up is ∙ (taken_down k.phase bytes next taken).1)
 heard_rdx k m bytes (ReadyHeard at packet number is) down up = let loud = ready_loud bytes Info packet in loud_rdx bytes loud.0 loud.1
-heard_rdx k m bytes (PartHeard at part may number is) down up = let wrong : true ≡ false = sym (ap is_established at) ∙ down in absurd (cc wrong)
+heard_rdx k m bytes (PartHeard at part may number is) down up = true_is_false (sym (ap is_established at) ∙ down)
 
 -- WHAT IT PUTS moves it too
 put_phase : (before : LinkPhase) (bytes : List ℕ) (next : LinkPhase) → ControlPut before bytes next → next ≡ phase_behind_put before

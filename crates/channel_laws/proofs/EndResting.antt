@@ -62,10 +62,6 @@ when_have : (b : Bool) (P : Type 0) → P → When b P
 when_have true P holds = holds
 when_have false P holds = tt
 
-when_known : (b : Bool) (P : Type 0) → b ≡ true → When b P → P
-when_known true P is holds = holds
-when_known false P is holds = absurd (cc is)
-
 rests_grow : (role : Role) (h : Handshake) (before now : List (List ℕ)) → Grows before now → RestsOn role h before → RestsOn role h now
 rests_grow role h before now grows rests = record {
   role_is = rests.role_is;

@@ -1,6 +1,6 @@
 -- Each move of an end keeps what always holds of it by itself.
 use Rattle.std.proofs.Common.{◌≡◌, ℕ, ◌≤◌, Bool, true, false, ◌||◌, Some, None, List, [], ◌∷◌, ◌++◌, length, take, drop, refl, sym, ap, ◌∙◌, subst, append_assoc, arith, length-append, length-drop}
-use Rattle.std.specs.Prelude.{◌&&◌, if◌then◌else◌, is_some, nat_eq, nat_lt, not}
+use Rattle.std.specs.Prelude.{◌&&◌, if◌then◌else◌, is_some, nat_eq, nat_le, nat_lt, not}
 use Rattle.std.proofs.lemmas.Bool.{and_parts, leb-false, leb-true, lt-ltb, ltb-true}
 use Rattle.std.proofs.lemmas.List.{drop_all, length-take, take-append-drop}
 use Rattle.ldc_link.proofs.Coming.{clears_follow, offers_follow}
@@ -30,6 +30,7 @@ use Rattle.vio_tag.specs.declared.message.MsgBody.{MsgBody}
 use Rattle.vio_tag.specs.declared.message.MsgBody.TheVariants.{DringUnreg, Plain}
 use Rattle.vio_tag.specs.Spelling.{canonical}
 use Rattle.channel_model.specs.Sayings.{half_said}
+use Rattle.channel_laws.proofs.Apart.{false_is_true, none_is_some, not_open, true_is_false}
 use Rattle.channel_laws.proofs.EndCases.{EndTook, NoMessage, PutControl, PutMore, PutOwn, PutReady, PutHandshake, PutWhat, Rises, TookOwn, TookHandshake, TookWhat, end_put, end_took, put_down}
 use Rattle.channel_laws.proofs.HandshakeCases.{AttributesAgreed, AttributesAsked, AttributesRefused, Declined, OneRingAgreed, Opened, Opens, Owes, OwnReadyFollows, PeerAgreed, ReadyAgreed, ReadyAsked, ReadyFollows, RingAgreed, RingAsked, RingFollows, RingRefused, RowSent, RowTaken, VersionAgreed, VersionAsked, VersionRefused, row_sent}
 use Rattle.channel_laws.proofs.LinkCases.{ControlHeard, ControlPut, ControlTaken, LinkHeard, ModeAnswered, ModeOffered, PartHeard, ReadyHeard, VersionAnswered, VersionOffered, behind_part, behind_ready, link_heard}
@@ -44,12 +45,12 @@ use Rattle.channel_laws.specs.Standing.{EndStands, HandshakeStands, IsBelow, IsP
 
 -- WHAT IT HOLDS
 pub holds_down : (k : LinkState) → is_up k ≡ false → holds k ≡ true → ⊥
-holds_down k down is = let up = (and_parts (is_up k) (not (is_empty k.to_send)) is).0 in let never : true ≡ false = sym up ∙ down in cc never
+holds_down k down is = let up = (and_parts (is_up k) (not (is_empty k.to_send)) is).0 in true_is_false (sym up ∙ down)
 
 pub holds_none : (k : LinkState) → k.to_send ≡ [] → holds k ≡ true → ⊥
 holds_none k none is =
     let some = (and_parts (is_up k) (not (is_empty k.to_send)) is).1 in
-    let never : true ≡ false = sym some ∙ ap (λ (xs : List ℕ). not (is_empty xs)) none in cc never
+    true_is_false (sym some ∙ ap (λ (xs : List ℕ). not (is_empty xs)) none)
 
 pub holds_some : (k : LinkState) → is_up k ≡ true → 1 ≤ length k.to_send → holds k ≡ true
 holds_some k up some = ap (λ (b : Bool). b && not (is_empty k.to_send)) up ∙ by_left k.to_send some
@@ -60,18 +61,18 @@ holds_some k up some = ap (λ (b : Bool). b && not (is_empty k.to_send)) up ∙ 
 
 none_owed : (k : LinkState) (left : List ℕ) → is_some (part_owed k left) ≡ false → left ≡ []
 none_owed k [] is = refl
-none_owed k (byte ∷ left) is = absurd (cc is)
+none_owed k (byte ∷ left) is = true_is_false is
 
 empty_in : (ph : LinkPhase) (k : LinkState) → is_established ph ≡ true → is_some (owed_in ph k) ≡ false → k.to_send ≡ []
 empty_in phase.Established k up quiet = none_owed k k.to_send quiet
-empty_in _ k up quiet = absurd (cc up)
+empty_in _ k up quiet = false_is_true up
 
 pub up_empty : (k : LinkState) → is_up k ≡ true → owes k ≡ false → k.to_send ≡ []
 up_empty k up quiet = empty_in k.phase k up quiet
 
 pub opened_phase : (p : Phase) → is_open_in p ≡ true → p ≡ Open
 opened_phase Open is = refl
-opened_phase _ is = absurd (cc is)
+opened_phase _ is = false_is_true is
 
 -- an end of these parts
 pub stands_as : (role : Role) (c t : EndCore) (k : LinkState) (h : Handshake) (turns : List Turn) → t.link ≡ k → t.handshake ≡ h → t.offer ≡ c.offer → LinkStands role k turns
@@ -142,12 +143,12 @@ up_unless false never = absurd (never refl)
 
 pub owing_up : (role : Role) (c : EndCore) (turns : List Turn) (message : Message) → EndStands role c turns → c.handshake.owed ≡ Some message → is_up c.link ≡ true
 owing_up role c turns message stands owed =
-    up_unless (is_up c.link) (λ down. let never : None ≡ Some message = sym (stands.below down).owed ∙ owed in cc never)
+    up_unless (is_up c.link) (λ down. none_is_some (sym (stands.below down).owed ∙ owed))
 
 pub open_up : (role : Role) (c : EndCore) (turns : List Turn) → EndStands role c turns → c.is_open ≡ true → is_up c.link ≡ true
 open_up role c turns stands opened =
     up_unless (is_up c.link)
-    (λ down. let never : true ≡ false = sym opened ∙ stands.opened ∙ ap is_open_in (stands.below down).down in cc never)
+    (λ down. true_is_false (sym opened ∙ stands.opened ∙ ap is_open_in (stands.below down).down))
 
 offered_link : (role : Role) (k : LinkState) (turns : List Turn) (message : List ℕ) → k.to_send ≡ [] → length message ≤ 256 → LinkStands role k turns → LinkStands role (offered message k) turns
 offered_link role k turns message none long stands =
@@ -167,7 +168,7 @@ offered_stands role c held turns message stands up quiet long link handshake off
     let none = up_empty c.link up quiet in
     let half : half_said turns ≡ [] = stands.link.cuts.free none in
     stands_as role c held (offered (canonical message) c.link) c.handshake turns link handshake offer (offered_link role c.link turns (canonical message) none long stands.link)
-    stands.handshake (is_open ∙ stands.opened) (omega (arith, more, stands.more)) (λ down. let never : true ≡ false = sym up ∙ down in absurd (cc never))
+    stands.handshake (is_open ∙ stands.opened) (omega (arith, more, stands.more)) (λ down. true_is_false (sym up ∙ down))
     (λ is. subst (Carries held.own c.handshake) (ap (λ (xs : List ℕ). xs ++ canonical message) (sym half)) (carries (ap holds link ∙ is)))
 
 pub held_stands : (role : Role) (c held : EndCore) (turns : List Turn) (what : Holding) → EndStands role c turns → Holds c what held → EndStands role held turns
@@ -268,7 +269,7 @@ goes_as role offer h t x opens is role_is offer_is owed not before now stands =
 declined_short : (subtype : Subtype) (body : MsgBody) → ComesShort body → is_declined subtype body ≡ true → IsShort body
 declined_short Info (DringUnreg ident) comes test = tt
 declined_short Info (Plain envelope) comes test = comes
-declined_short subtype body comes test = absurd (cc test)
+declined_short subtype body comes test = false_is_true test
 
 pub few_offered : (role : Role) (offer : Offer) (h : Handshake) → HandshakeStands role offer h → h.offer.count ≤ 14
 few_offered role offer h stands = omega (arith, ap (λ (o : Offer). o.count) stands.offer_is, stands.few)
@@ -335,25 +336,25 @@ up_stands role offer h stands = by_role h.role
 pub open_declines : (h t : Handshake) (message : Message) (opens : Bool) → h.phase ≡ Open → RowTaken h message t opens
     → (t ≡ record h { owed = t.owed }) × (opens ≡ false) × (is_declined message.subtype message.body ≡ true)
 open_declines h t message opens up (Declined test is not) = (is ∙ ap (λ o. record h { owed = o }) (sym (ap (λ (x : Handshake). x.owed) is)), not, test)
-open_declines h t message opens up (VersionAgreed minor class r at m low is not) = absurd (cc (sym up ∙ at))
-open_declines h t message opens up (VersionAsked minor class r at m is not) = absurd (cc (sym up ∙ at))
-open_declines h t message opens up (VersionRefused major minor class other low r at m is not) = absurd (cc (sym up ∙ at))
-open_declines h t message opens up (AttributesAgreed bytes r at m test is not) = absurd (cc (sym up ∙ at))
-open_declines h t message opens up (AttributesAsked bytes r at m test is not) = absurd (cc (sym up ∙ at))
-open_declines h t message opens up (AttributesRefused bytes r at m is not) = absurd (cc (sym up ∙ at))
-open_declines h t message opens up (RingAgreed ident slots slot_size options count cookies r at both m is not) = absurd (cc (sym up ∙ at))
-open_declines h t message opens up (OneRingAgreed ident slots slot_size options count cookies r at one m is not) = absurd (cc (sym up ∙ at))
-open_declines h t message opens up (PeerAgreed ident slots slot_size options count cookies r at m is not) = absurd (cc (sym up ∙ at))
-open_declines h t message opens up (RingAsked ident slots slot_size options count cookies at m test is not) = absurd (cc (sym up ∙ at))
-open_declines h t message opens up (RingRefused ident slots slot_size options count cookies at m is not) = absurd (cc (sym up ∙ at))
-open_declines h t message opens up (ReadyAgreed r at m is not) = absurd (cc (sym up ∙ at))
-open_declines h t message opens up (ReadyAsked at m is not) = absurd (cc (sym up ∙ at))
-open_declines h t message opens up (Opened r at m is now) = absurd (cc (sym up ∙ at))
+open_declines h t message opens up (VersionAgreed minor class r at m low is not) = not_open (sym up ∙ at) refl
+open_declines h t message opens up (VersionAsked minor class r at m is not) = not_open (sym up ∙ at) refl
+open_declines h t message opens up (VersionRefused major minor class other low r at m is not) = not_open (sym up ∙ at) refl
+open_declines h t message opens up (AttributesAgreed bytes r at m test is not) = not_open (sym up ∙ at) refl
+open_declines h t message opens up (AttributesAsked bytes r at m test is not) = not_open (sym up ∙ at) refl
+open_declines h t message opens up (AttributesRefused bytes r at m is not) = not_open (sym up ∙ at) refl
+open_declines h t message opens up (RingAgreed ident slots slot_size options count cookies r at both m is not) = not_open (sym up ∙ at) refl
+open_declines h t message opens up (OneRingAgreed ident slots slot_size options count cookies r at one m is not) = not_open (sym up ∙ at) refl
+open_declines h t message opens up (PeerAgreed ident slots slot_size options count cookies r at m is not) = not_open (sym up ∙ at) refl
+open_declines h t message opens up (RingAsked ident slots slot_size options count cookies at m test is not) = not_open (sym up ∙ at) refl
+open_declines h t message opens up (RingRefused ident slots slot_size options count cookies at m is not) = not_open (sym up ∙ at) refl
+open_declines h t message opens up (ReadyAgreed r at m is not) = not_open (sym up ∙ at) refl
+open_declines h t message opens up (ReadyAsked at m is not) = not_open (sym up ∙ at) refl
+open_declines h t message opens up (Opened r at m is now) = not_open (sym up ∙ at) refl
 
 -- IT HEARS a packet
 -- while the handshake owes nothing the message is one of the session, of the same sid
 keeps_own : (own : Bool) (h g : Handshake) (bytes : List ℕ) → h.owed ≡ None → g.draft ≡ h.draft → g.phase ≡ h.phase → Carries own h bytes → Carries own g bytes
-keeps_own false h g bytes none draft still carries = let never : None ≡ Some carries.message = sym none ∙ carries.owed in absurd (cc never)
+keeps_own false h g bytes none draft still carries = none_is_some (sym none ∙ carries.owed)
 keeps_own true h g bytes none draft still carries = record {
   message = carries.message;
   body = carries.body;
@@ -394,7 +395,7 @@ hears_stands role c t turns packet opens stands hears = by_what took.what
     stands_so h is stands_h opened = stands_as role c t (cleared now) h (Heard_ packet ∷ turns) took.link is hears.offer link stands_h opened hears.most
 
     never_down : is_up now ≡ true → (h : Handshake) → is_up now ≡ false → IsBelow (cleared now) h (Heard_ packet ∷ turns)
-    never_down up h down = let never : true ≡ false = sym up ∙ down in absurd (cc never)
+    never_down up h down = true_is_false (sym up ∙ down)
 
     by_what : TookWhat role c turns packet opens t now → EndStands role t (Heard_ packet ∷ turns)
     by_what (NoMessage up messages handshake not is_open) =
@@ -481,6 +482,9 @@ put_of Responder before next bytes of (ModeOffered at is goes) = absurd (subst (
 put_of Initiator before next bytes of (ModeAnswered at is goes) = absurd (subst (IsPhaseOf Initiator) at of)
 put_of Responder before next bytes of (ModeAnswered at is goes) = subst (IsPhaseOf Responder) (sym goes) tt
 
+some_left : (n : ℕ) → nat_le n 56 ≡ false → 1 ≤ n
+some_left n long = omega (arith, leb-false n 56 long)
+
 says_stands : (role : Role) (c t : EndCore) (turns : List Turn) (packet : List ℕ) (opens : Bool) → EndStands role c turns → EndSays role c packet opens t
     → EndStands role t (Said_ packet ∷ turns)
 says_stands role c t turns packet opens stands says = by_what (end_put role c t turns packet opens says holds_so)
@@ -505,7 +509,7 @@ says_stands role c t turns packet opens stands says = by_what (end_put role c t 
         }) stands_h opened says.most
 
     up_now : (k : LinkState) (h : Handshake) → is_up k ≡ true → is_up k ≡ false → IsBelow k h (Said_ packet ∷ turns)
-    up_now k h up down = let never : true ≡ false = sym up ∙ down in absurd (cc never)
+    up_now k h up down = true_is_false (sym up ∙ down)
 
     part_of : held.link.phase ≡ phase.Established → IsPhaseOf role (behind_part held.link).phase
     part_of at = up_of role (behind_part held.link) at
@@ -539,7 +543,7 @@ says_stands role c t turns packet opens stands says = by_what (end_put role c t 
         more_carries : held.link.phase ≡ phase.Established → t.link ≡ behind_part held.link → SaysMore held.link turns packet
             → HoldsIts t.own (behind_part held.link) held.handshake (Said_ packet ∷ turns)
         more_carries at link more is =
-            let was : holds held.link ≡ true = holds_some held.link (ap is_established at) (omega (arith, leb-false (length held.link.to_send) 56 more.long)) in
+            let was : holds held.link ≡ true = holds_some held.link (ap is_established at) (some_left (length held.link.to_send) more.long) in
             subst (Carries t.own held.handshake) (sym (ap (λ (xs : List ℕ). xs ++ drop 56 held.link.to_send) more.half ∙ joined))
             (subst (λ (b : Bool). Carries b held.handshake (half_said turns ++ held.link.to_send)) (sym (says.own was (ap holds link ∙ is))) (holds_so.carries was))
     by_what (PutOwn own at link last handshake not is_open) =

@@ -22,6 +22,7 @@ use Rattle.vio_tag.specs.declared.message.Message.{Message}
 use Rattle.vio_tag.specs.declared.message.MsgBody.{MsgBody}
 use Rattle.vio_tag.specs.declared.message.MsgBody.TheVariants.{Attr, DringData, DringReg, Mcast, Rdx, Ver}
 use Rattle.channel_model.specs.Sayings.{half_said, said}
+use Rattle.channel_laws.proofs.Apart.{false_is_true, not_taken}
 use Rattle.channel_laws.proofs.EndCases.{EndTook, NoMessage, PutControl, PutMore, PutOwn, PutReady, PutHandshake, PutWhat, Rises, TookOwn, TookHandshake, TookWhat, end_put, end_took}
 use Rattle.channel_laws.proofs.EndResting.{StandsResting, held_handshake, of_sid, resting_step}
 use Rattle.channel_laws.proofs.EndStanding.{fresh_end_stands, held_stands, holds_some}
@@ -113,9 +114,6 @@ same_words role p q h owed at sid minor ident = record {
   ident = λ known. (ident (sym (ap (has_named role) at) ∙ known), refl);
 }
 
-never : {X : Type 0} → false ≡ true → X
-never {X} is = absurd (cc is)
-
 -- one of the roles has the sid of the message that it answers
 sid_said : (role : Role) (h : Handshake) (sid : ℕ) → (role ≡ Initiator → knows_sid h.phase Initiator ≡ true → sid ≡ h.draft.sid) → SaysSid role h.phase h.draft sid
 sid_said Initiator h sid is = by_known (knows_sid h.phase Initiator) refl
@@ -143,7 +141,7 @@ peer_words h t offer minor ident = record { offer = offer; sid = λ is. absurd (
 
 -- in this phase the other end's ring has no number yet
 unnamed : (role : Role) (h : Handshake) (p : Phase) (X : Type 0) → h.phase ≡ p → has_named role p ≡ false → has_named role h.phase ≡ true → X
-unnamed role h p X at not named = let wrong : false ≡ true = sym not ∙ sym (ap (has_named role) at) ∙ named in absurd (cc wrong)
+unnamed role h p X at not named = false_is_true (sym not ∙ sym (ap (has_named role) at) ∙ named)
 
 at_role : (role r : Role) (h t x : Handshake) → h.role ≡ role → h.role ≡ r → t ≡ x → GoesBehind r h x → GoesBehind role h t
 at_role role r h t x role_is is to goes = subst (λ (y : Role). GoesBehind y h t) (sym is ∙ role_is) (subst (GoesBehind r h) (sym to) goes)
@@ -192,40 +190,40 @@ row_words role h t message opens messages role_is own utters (VersionAgreed mino
       keeps = own_words h (owes Attributes (info message.sid (Attr (said_attributes h.offer minor))) (agrees_minor minor h)) refl (ap (λ (p : Phase). knows_sid p Initiator) at) refl
           (unnamed Initiator h Version _ at refl);
       owed = (own (sym role_is ∙ r) (ap (λ (p : Phase). knows_sid p Initiator) at), tt);
-      taken = λ at_ring. absurd (cc at_ring);
+      taken = λ at_ring. not_taken at_ring refl;
     })
 row_words role h t message opens messages role_is own utters (VersionAsked minor class r at m is not) =
     at_role role Responder h t _ role_is r is (record {
       keeps = peer_words h (owes Attributes (ack message.sid (Ver 1 (min minor h.offer.minor) h.offer.class)) (agrees_minor (min minor h.offer.minor) (knows message.sid h))) refl
-          (λ known. never (sym (ap knows_version at) ∙ known)) (unnamed Responder h Version _ at refl);
+          (λ known. false_is_true (sym (ap knows_version at) ∙ known)) (unnamed Responder h Version _ at refl);
       owed = (tt, refl);
-      taken = λ at_ring. absurd (cc at_ring);
+      taken = λ at_ring. not_taken at_ring refl;
     })
 row_words role h t message opens messages role_is own utters (VersionRefused major minor class other low r at m is not) =
     at_role role Responder h t _ role_is r is (record {
-      keeps = peer_words h (refuses_version message.sid other low class (knows message.sid h)) refl (λ known. never (sym (ap knows_version at) ∙ known))
+      keeps = peer_words h (refuses_version message.sid other low class (knows message.sid h)) refl (λ known. false_is_true (sym (ap knows_version at) ∙ known))
           (unnamed Responder h Version _ at refl);
       owed = (tt, tt);
-      taken = λ at_ring. absurd (cc at_ring);
+      taken = λ at_ring. not_taken at_ring refl;
     })
 row_words role h t message opens messages role_is own utters (AttributesAgreed bytes r at m test is not) =
     at_role role Initiator h t _ role_is r is (record {
       keeps = own_words h (owes OwnRing (info message.sid (own_ring h.offer)) h) refl (ap (λ (p : Phase). knows_sid p Initiator) at) refl (unnamed Initiator h Attributes _ at refl);
       owed = (own (sym role_is ∙ r) (ap (λ (p : Phase). knows_sid p Initiator) at), (refl, tt));
-      taken = λ at_ring. absurd (cc at_ring);
+      taken = λ at_ring. not_taken at_ring refl;
     })
 row_words role h t message opens messages role_is own utters (AttributesAsked bytes r at m test is not) =
     at_role role Responder h t _ role_is r is (record {
       keeps = peer_words h (owes PeerRing (ack message.sid (Attr (answered_attributes h.offer h.draft.minor bytes))) h) refl (λ known. (refl, refl))
           (unnamed Responder h Attributes _ at refl);
       owed = (tt, tt);
-      taken = λ at_ring. absurd (cc at_ring);
+      taken = λ at_ring. not_taken at_ring refl;
     })
 row_words role h t message opens messages role_is own utters (AttributesRefused bytes r at m is not) =
     at_role role Responder h t _ role_is r is (record {
       keeps = peer_words h (owes Attributes (nack message.sid (Attr bytes)) h) refl (λ known. (refl, refl)) (unnamed Responder h Attributes _ at refl);
       owed = (tt, tt);
-      taken = λ at_ring. absurd (cc at_ring);
+      taken = λ at_ring. not_taken at_ring refl;
     })
 row_words role h t message opens messages role_is own utters (RingAgreed ident slots slot_size options count cookies r at both m is not) =
     let x : Handshake = record (own_named h ident) { phase = PeerRing } in
@@ -233,13 +231,13 @@ row_words role h t message opens messages role_is own utters (RingAgreed ident s
     at_role role Initiator h t x role_is r is (record {
       keeps = keeps;
       owed = owes_keep Initiator h x h.owed keeps (subst (λ (y : Role). OwesSo y h.phase h.offer h.draft h.owed) (sym role_is ∙ r) utters.owed);
-      taken = λ at_ring. absurd (cc at_ring);
+      taken = λ at_ring. not_taken at_ring refl;
     })
 row_words role h t message opens messages role_is own utters (OneRingAgreed ident slots slot_size options count cookies r at one m is not) =
     at_role role Initiator h t _ role_is r is (record {
       keeps = own_words h (owes OwnReady (info message.sid Rdx) (own_named h ident)) refl (ap (λ (p : Phase). knows_sid p Initiator) at) refl (unnamed Initiator h OwnRing _ at refl);
       owed = (own (sym role_is ∙ r) (ap (λ (p : Phase). knows_sid p Initiator) at), tt);
-      taken = λ at_ring. absurd (cc at_ring);
+      taken = λ at_ring. not_taken at_ring refl;
     })
 row_words role h t message opens messages role_is own utters (PeerAgreed ident slots slot_size options count cookies r at m is not) =
     let x : Handshake = record (own_named h ident) { phase = PeerReady } in
@@ -247,7 +245,7 @@ row_words role h t message opens messages role_is own utters (PeerAgreed ident s
     at_role role Responder h t x role_is r is (record {
       keeps = keeps;
       owed = owes_keep Responder h x h.owed keeps (subst (λ (y : Role). OwesSo y h.phase h.offer h.draft h.owed) (sym role_is ∙ r) utters.owed);
-      taken = λ at_ring. absurd (cc at_ring);
+      taken = λ at_ring. not_taken at_ring refl;
     })
 row_words role h t message opens messages role_is own utters (RingAsked ident slots slot_size options count cookies at m test is not) =
     goes_to role h t _ is (ring_words role h.offer.both_rings h message.sid slots slot_size options count cookies refl at own)
@@ -256,27 +254,27 @@ row_words role h t message opens messages role_is own utters (RingRefused ident 
       keeps = same_words role PeerRing PeerRing h (Some (nack message.sid (DringReg ident slots slot_size options count cookies))) at (λ r now. now) (λ known. known) (λ known. known);
       owed = subst (λ (p : Phase). SaysByPhase role p h.offer h.draft (nack message.sid (DringReg ident slots slot_size options count cookies))) at
           (refusal_says role h message.sid (DringReg ident slots slot_size options count cookies) (sid_said role h message.sid own));
-      taken = λ at_ring. absurd (cc at_ring);
+      taken = λ at_ring. not_taken at_ring refl;
     })
 row_words role h t message opens messages role_is own utters (ReadyAgreed r at m is not) =
     let keeps = same_words Initiator OwnReady PeerReady h h.owed at (λ i now. refl) (λ known. refl) (λ known. refl) in
     at_role role Initiator h t (record h { phase = PeerReady }) role_is r is (record {
       keeps = keeps;
       owed = owes_keep Initiator h (record h { phase = PeerReady }) h.owed keeps (subst (λ (y : Role). OwesSo y h.phase h.offer h.draft h.owed) (sym role_is ∙ r) utters.owed);
-      taken = λ at_ring. absurd (cc at_ring);
+      taken = λ at_ring. not_taken at_ring refl;
     })
 row_words role h t message opens messages role_is own utters (ReadyAsked at m is not) =
     goes_to role h t _ is (record {
       keeps = same_words role PeerReady PeerReadyTaken h (Some (ack message.sid Rdx)) at (λ r now. refl) (λ known. refl) (λ known. refl);
       owed = ready_says role h message.sid at own;
-      taken = λ at_ring. absurd (cc at_ring);
+      taken = λ at_ring. not_taken at_ring refl;
     })
 row_words role h t message opens messages role_is own utters (Opened r at m is now_open) =
     let keeps = same_words Responder OwnReady Open h h.owed at (λ i now. refl) (λ known. refl) (λ known. refl) in
     at_role role Responder h t (record h { phase = Open }) role_is r is (record {
       keeps = keeps;
       owed = owes_keep Responder h (record h { phase = Open }) h.owed keeps (subst (λ (y : Role). OwesSo y h.phase h.offer h.draft h.owed) (sym role_is ∙ r) utters.owed);
-      taken = λ at_ring. absurd (cc at_ring);
+      taken = λ at_ring. not_taken at_ring refl;
     })
 
 -- ONE THAT IS PUT
@@ -285,25 +283,25 @@ sent_words role h t opens messages role_is utters (ReadyFollows r at is not) =
     at_role role Initiator h t _ role_is r is (record {
       keeps = same_words Initiator PeerRingTaken OwnReady h (Some (info h.draft.sid Rdx)) at (λ i now. refl) (λ known. refl) (λ known. refl);
       owed = (refl, tt);
-      taken = λ at_ring. absurd (cc at_ring);
+      taken = λ at_ring. not_taken at_ring refl;
     })
 sent_words role h t opens messages role_is utters (RingFollows r at is not) =
     at_role role Responder h t _ role_is r is (record {
       keeps = same_words Responder PeerRingTaken OwnRing h (Some (info h.draft.sid (own_ring h.offer))) at (λ i now. refl) (λ known. refl) (λ known. refl);
       owed = (tt, (refl, utters.taken at));
-      taken = λ at_ring. absurd (cc at_ring);
+      taken = λ at_ring. not_taken at_ring refl;
     })
 sent_words role h t opens messages role_is utters (OwnReadyFollows r at is not) =
     at_role role Responder h t _ role_is r is (record {
       keeps = same_words Responder PeerReadyTaken OwnReady h (Some (info h.draft.sid Rdx)) at (λ i now. refl) (λ known. refl) (λ known. refl);
       owed = (tt, tt);
-      taken = λ at_ring. absurd (cc at_ring);
+      taken = λ at_ring. not_taken at_ring refl;
     })
 sent_words role h t opens messages role_is utters (Opens r at is now_open) =
     at_role role Initiator h t _ role_is r is (record {
       keeps = same_words Initiator PeerReadyTaken Open h None at (λ i now. refl) (λ known. refl) (λ known. refl);
       owed = tt;
-      taken = λ at_ring. absurd (cc at_ring);
+      taken = λ at_ring. not_taken at_ring refl;
     })
 sent_words role h t opens messages role_is utters (Owes follows is not) =
     goes_to role h t _ is (record {
@@ -314,8 +312,8 @@ sent_words role h t opens messages role_is utters (Owes follows is not) =
 
 -- ITS LINK COMES UP, or it begins
 begun_utters : (role : Role) (h : Handshake) → Utters role (begun role (joined_handshake h)) []
-begun_utters Initiator h = record { said = tt; owed = (refl, refl); small = λ is now. omega arith; taken = λ at_ring. absurd (cc at_ring) }
-begun_utters Responder h = record { said = tt; owed = tt; small = λ is. absurd (cc is); taken = λ at_ring. absurd (cc at_ring) }
+begun_utters Initiator h = record { said = tt; owed = (refl, refl); small = λ is now. omega arith; taken = λ at_ring. not_taken at_ring refl }
+begun_utters Responder h = record { said = tt; owed = tt; small = λ is. absurd (cc is); taken = λ at_ring. not_taken at_ring refl }
 
 up_utters : (role : Role) (h : Handshake) → h.role ≡ role → Utters role (handshake_up h) []
 up_utters role h is = subst (λ (r : Role). Utters role (begun r (joined_handshake h)) []) (sym is) (begun_utters role h)
@@ -324,8 +322,8 @@ down_utters : (role : Role) (h : Handshake) → h.phase ≡ Down → h.owed ≡ 
 down_utters role h down none = record {
   said = tt;
   owed = subst (OwesSo role h.phase h.offer h.draft) (sym none) tt;
-  small = λ is now. never (sym (ap (λ (p : Phase). knows_sid p Initiator) down) ∙ now);
-  taken = λ at_ring. let wrong : Down ≡ PeerRingTaken = sym down ∙ at_ring in absurd (cc wrong);
+  small = λ is now. false_is_true (sym (ap (λ (p : Phase). knows_sid p Initiator) down) ∙ now);
+  taken = λ at_ring. not_taken (sym down ∙ at_ring) refl;
 }
 
 -- WHAT A LINK HOLDS is said as its handshake has it

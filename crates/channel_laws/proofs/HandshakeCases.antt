@@ -19,6 +19,7 @@ use Rattle.vio_handshake.specs.declared.handshake.Phase.{Phase}
 use Rattle.vio_handshake.specs.declared.handshake.Phase.TheVariants.{Attributes, Open, OwnReady, OwnRing, PeerReady, PeerReadyTaken, PeerRing, PeerRingTaken, Version}
 use Rattle.vio_handshake.specs.Messages.{ack, info, nack, own_ring}
 use Rattle.vio_handshake.specs.Rules.{Faults, Goes, GoesOpen, HandshakeTake, agrees_minor, answered, asked, behind_ring, fault_or, is_declined, knows, opens_by_put, own_named, owes, peer_named, put_in, refuses_version, ring_asked, row, handshake_hear, handshake_sent, handshake_take, sid_fault}
+use Rattle.channel_laws.proofs.Apart.{roles_differ, true_is_false}
 use Rattle.channel_laws.specs.EndStep.{IsOfSession}
 
 -- A MESSAGE THAT WAS TAKEN: what the handshake is after it, and whether its session opens by it
@@ -191,23 +192,23 @@ opens_took h t message is =
 -- only a responder's session opens by one: by the agreement to RDX
 pub opens_row : (h t : Handshake) (message : Message) → RowTaken h message t true → (h.role ≡ Responder) × (message ≡ ack message.sid Rdx)
 opens_row h t message (Opened other at is goes opens) = (other, is)
-opens_row h t message (Declined test goes opens) = absurd (cc opens)
-opens_row h t message (VersionAgreed minor class r at is low goes opens) = absurd (cc opens)
-opens_row h t message (VersionAsked minor class r at is goes opens) = absurd (cc opens)
-opens_row h t message (VersionRefused major minor class other low r at is goes opens) = absurd (cc opens)
-opens_row h t message (AttributesAgreed bytes r at is test goes opens) = absurd (cc opens)
-opens_row h t message (AttributesAsked bytes r at is test goes opens) = absurd (cc opens)
-opens_row h t message (AttributesRefused bytes r at is goes opens) = absurd (cc opens)
-opens_row h t message (RingAgreed ident slots slot_size options count cookies r at both is goes opens) = absurd (cc opens)
-opens_row h t message (OneRingAgreed ident slots slot_size options count cookies r at one is goes opens) = absurd (cc opens)
-opens_row h t message (PeerAgreed ident slots slot_size options count cookies r at is goes opens) = absurd (cc opens)
-opens_row h t message (RingAsked ident slots slot_size options count cookies at is test goes opens) = absurd (cc opens)
-opens_row h t message (RingRefused ident slots slot_size options count cookies at is goes opens) = absurd (cc opens)
-opens_row h t message (ReadyAgreed r at is goes opens) = absurd (cc opens)
-opens_row h t message (ReadyAsked at is goes opens) = absurd (cc opens)
+opens_row h t message (Declined test goes opens) = true_is_false opens
+opens_row h t message (VersionAgreed minor class r at is low goes opens) = true_is_false opens
+opens_row h t message (VersionAsked minor class r at is goes opens) = true_is_false opens
+opens_row h t message (VersionRefused major minor class other low r at is goes opens) = true_is_false opens
+opens_row h t message (AttributesAgreed bytes r at is test goes opens) = true_is_false opens
+opens_row h t message (AttributesAsked bytes r at is test goes opens) = true_is_false opens
+opens_row h t message (AttributesRefused bytes r at is goes opens) = true_is_false opens
+opens_row h t message (RingAgreed ident slots slot_size options count cookies r at both is goes opens) = true_is_false opens
+opens_row h t message (OneRingAgreed ident slots slot_size options count cookies r at one is goes opens) = true_is_false opens
+opens_row h t message (PeerAgreed ident slots slot_size options count cookies r at is goes opens) = true_is_false opens
+opens_row h t message (RingAsked ident slots slot_size options count cookies at is test goes opens) = true_is_false opens
+opens_row h t message (RingRefused ident slots slot_size options count cookies at is goes opens) = true_is_false opens
+opens_row h t message (ReadyAgreed r at is goes opens) = true_is_false opens
+opens_row h t message (ReadyAsked at is goes opens) = true_is_false opens
 
 pub never_opens : (h t : Handshake) (message : Message) → h.role ≡ Initiator → HandshakeTook h message t true → ⊥
-never_opens h t message role took = let never : Initiator ≡ Responder = sym role ∙ (opens_row h t message took.row).0 in cc never
+never_opens h t message role took = roles_differ (sym role ∙ (opens_row h t message took.row).0)
 
 -- it takes none of its session's
 declined_apart : (subtype : Subtype) (body : MsgBody) → is_declined subtype body ≡ true → IsOfSession body → ⊥

@@ -15,6 +15,7 @@ use Rattle.vio_handshake.specs.declared.handshake.Phase.TheVariants.{OwnRing}
 use Rattle.vio_handshake.specs.declared.session.Offer.{Offer}
 use Rattle.vio_handshake.specs.Rules.{handshake_sent, opens_by_put}
 use Rattle.vio_handshake.specs.State.{begun, fresh_handshake, handshake_up, joined_handshake}
+use Rattle.channel_laws.proofs.Apart.{true_is_false}
 use Rattle.channel_laws.proofs.EndCases.{EndTook, NoMessage, PutControl, PutHandshake, PutMore, PutOwn, PutReady, PutWhat, Rises, TookHandshake, TookOwn, TookWhat, end_put, end_took}
 use Rattle.channel_laws.proofs.EndResting.{held_handshake}
 use Rattle.channel_laws.proofs.EndStanding.{fresh_end_stands, held_stands, stands_step}
@@ -59,11 +60,11 @@ accepted_slots offer slots slot_size options count cookies is =
 
 -- an initiator registers its ring before it takes one, and takes none where it alone has one
 none_named : (role one : Role) → one ≡ role → one ≡ Initiator → has_named role OwnRing ≡ true → ⊥
-none_named role one same is named = let never : true ≡ false = sym named ∙ ap (λ (r : Role). has_named r OwnRing) (sym same ∙ is) in cc never
+none_named role one same is named = true_is_false (sym named ∙ ap (λ (r : Role). has_named r OwnRing) (sym same ∙ is))
 
 none_taken : (role one : Role) (offer other : Offer) → one ≡ role → one ≡ Initiator → other ≡ offer → other.both_rings ≡ false → takes_ring role offer.both_rings ≡ true → ⊥
 none_taken role one offer other same is offers alone takes =
-    let never : true ≡ false = sym takes ∙ ap (λ (r : Role). takes_ring r offer.both_rings) (sym same ∙ is) ∙ ap (λ (o : Offer). o.both_rings) (sym offers) ∙ alone in cc never
+    true_is_false (sym takes ∙ ap (λ (r : Role). takes_ring r offer.both_rings) (sym same ∙ is) ∙ ap (λ (o : Offer). o.both_rings) (sym offers) ∙ alone)
 
 -- the phase before had agreed to the ring too
 pub row_fits : (role : Role) (offer : Offer) (h t : Handshake) (message : Message) (opens : Bool) → h.owed ≡ None → HandshakeFits role offer h → RowTaken h message t opens

@@ -53,10 +53,6 @@ version_why m h sid major minor sound = handshake_if m (major == 1 && nat_le min
 attributes_why : (m : List ℕ) (h : Handshake) (sid : ℕ) (bytes : List ℕ) → first_fault m ≡ None → HandshakeWhy m (rules.attributes_answered h sid bytes)
 attributes_why m h sid bytes sound = handshake_if m (accepts_answered h.offer h.draft.minor bytes) (Goes _) (Faults the_cause.Refused) tt sound
 
-ready_why : (m : List ℕ) (role : Role) (h : Handshake) → HandshakeWhy m (rules.ready_answered role h)
-ready_why m Initiator h = tt
-ready_why m Responder h = tt
-
 row_why : (m : List ℕ) (role : Role) (p : Phase) (h : Handshake) (s : Subtype) (sid : ℕ) (b : MsgBody) → first_fault m ≡ None → HandshakeWhy m (row role p h s sid b)
 row_why m Initiator state.Version h s sid (Ver major minor class) sound = answered_why m s (rules.version_answered h sid major minor) sound (version_why m h sid major minor sound)
 row_why m Responder state.Version h s sid (Ver major minor class) sound = asked_why m s (Goes (rules.version_asked h sid major minor class)) sound tt

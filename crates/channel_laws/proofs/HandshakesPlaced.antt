@@ -27,6 +27,7 @@ use Rattle.vio_handshake.specs.State.{begun, joined_handshake, next_sid, handsha
 use Rattle.vio_handshake.proofs.Places.{AllSaid, Deal, IsPlace, Place, VersionSaid, last_at, handshake_at}
 use Rattle.channel_model.specs.Sayings.{half_said, heard, said}
 use Rattle.channel_model.specs.TranscriptLog.{nothing_said}
+use Rattle.channel_laws.proofs.Apart.{none_is_some, roles_differ, true_is_false}
 use Rattle.channel_laws.proofs.Conversations.{held_phase}
 use Rattle.channel_laws.proofs.ConversingRuns.{HeardFrom, converse_keeps, first_converse, hears_next}
 use Rattle.channel_laws.proofs.EndCases.{EndTook, NoMessage, PutControl, PutMore, PutOwn, PutReady, PutHandshake, PutWhat, Rises, TookOwn, TookHandshake, TookWhat, end_put, end_took, put_down}
@@ -103,7 +104,7 @@ anew_last role c t begins zero =
     ]
 
 anew_below : (role : Role) (c t : EndCore) (X : Type 0) → EndAnew role c t → is_up t.link ≡ true → X
-anew_below role c t X begins up = let wrong : true ≡ false = sym up ∙ ap is_up begins.link ∙ first_down role in absurd (cc wrong)
+anew_below role c t X begins up = true_is_false (sym up ∙ ap is_up begins.link ∙ first_down role)
 
 peer_up : (x y : ChannelState) → peer_behind x y ≡ Up → y ≡ Up
 peer_up Up Up is = refl
@@ -176,6 +177,9 @@ up_last : (role : Role) (h g : Handshake) → h.role ≡ role → g ≡ handshak
 up_last role h g role_is is last now =
     ap (λ (x : Handshake). x.last_sid) is ∙ ap (λ (r : Role). (begun r (joined_handshake h)).last_sid) (role_is ∙ now) ∙ last now
 
+sid_small : (h : Handshake) → next_sid h < 2 ^ 32
+sid_small h = omega arith
+
 -- IT PUTS a packet
 put_handshakes : (asks answers : Offer) (role : Role) (s : Sides) (t : EndCore) (packet : List ℕ) (opens : Bool) → Matches asks answers → EndStands role s.mine.core s.mine.turns → s.mine.state ≡ Up
     → EndSays role s.mine.core packet opens t → LinksAt role s → HandshakesAt asks answers role s → HandshakesAt asks answers role (put packet t s)
@@ -219,10 +223,10 @@ put_handshakes asks answers role s t packet opens fits stands up says links at =
 
     rises : role ≡ Initiator → held.link.phase ≡ phase.OwesRdx → t.handshake ≡ handshake_up held.handshake → said now ≡ said s.mine.turns → HandshakesAt asks answers role (put packet t s)
     rises is owes handshake quiet =
-        placed asks answers (next_sid held.handshake) role s t now at offer (omega arith) (λ responds. let wrong : Initiator ≡ Responder = sym is ∙ responds in absurd (cc wrong))
+        placed asks answers (next_sid held.handshake) role s t now at offer (sid_small held.handshake) (λ responds. roles_differ (sym is ∙ responds))
         (λ now_up. subst (λ (h : Handshake). AtPlace both (deal asks answers (next_sid held.handshake)) role h now) (sym handshake)
         (begun_at both (deal asks answers (next_sid held.handshake)) role held.handshake now held_stands_so.handshake.role_is own_offer
-        (λ responds. let wrong : Initiator ≡ Responder = sym is ∙ responds in absurd (cc wrong)) (λ i. refl) (version_here both) (quiet ∙ below.said_none) below.heard_none))
+        (λ responds. roles_differ (sym is ∙ responds)) (λ i. refl) (version_here both) (quiet ∙ below.said_none) below.heard_none))
         (λ their_up their_now. absurd (below_there their_up their_now)) s.mine.waiting (s.theirs.waiting ++ packet ∷ [])
       where
         below : IsBelow held.link held.handshake s.mine.turns
@@ -244,7 +248,7 @@ put_handshakes asks answers role s t packet opens fits stands up says links at =
             let there : s.theirs.core.link.phase ≡ phase_at (other role) links.place =
             sym (their_phase s.theirs.state (first_phase (other role)) s.theirs.core.link.phase their_up) ∙ links.theirs in
             let awaits : s.theirs.core.link.phase ≡ phase.AwaitsRdx = there ∙ ap (phase_at (other role)) place.1 ∙ ap (λ (r : Role). phase_at (other r) ModeAgreed) place.0 in
-            let wrong : true ≡ false = sym their_now ∙ ap is_established awaits in cc wrong
+            true_is_false (sym their_now ∙ ap is_established awaits)
 
     whole : SaysLast held.link s.mine.turns packet → held.link.phase ≡ phase.Established → Carries held.own held.handshake (half_said s.mine.turns ++ held.link.to_send)
     whole last_part est = held_stands_so.carries (holds_some held.link (ap is_established est) last_part.some)
@@ -284,7 +288,7 @@ put_handshakes asks answers role s t packet opens fits stands up says links at =
     by_what : PutWhat role held s.mine.turns packet opens t → HandshakesAt asks answers role (put packet t s)
     by_what (PutControl next gone link quiet handshake not is_open) =
         goes (same_last role held.handshake t.handshake handshake last)
-        (λ now_up. let wrong : true ≡ false = sym now_up ∙ ap is_up link ∙ (put_down held.link.phase packet next gone).1 in absurd (cc wrong))
+        (λ now_up. true_is_false (sym now_up ∙ ap is_up link ∙ (put_down held.link.phase packet next gone).1))
     by_what (PutReady role_is owes spelled link quiet handshake not is_open) = rises role_is owes handshake quiet.messages
     by_what (PutMore est link more handshake not is_open) =
         goes (same_last role held.handshake t.handshake handshake last)
@@ -412,7 +416,7 @@ took_handshakes asks answers role s t packet opens fits stands up first hears co
         let below = stands.mine.below down in
         subst (λ (h : Handshake). AtPlace both (deal asks answers at.sid) role h now) (sym handshake)
         (begun_at both (deal asks answers at.sid) role c.handshake now stands.mine.handshake.role_is (stands.mine.handshake.offer_is ∙ at.offer_mine ∙ by_role role) at.last_mine
-        (λ asking. let wrong : Initiator ≡ Responder = sym asking ∙ is in absurd (cc wrong)) (version_here both) below.said_none (quiet ∙ below.heard_none))
+        (λ asking. roles_differ (sym asking ∙ is)) (version_here both) below.said_none (quiet ∙ below.heard_none))
       where
         by_role : (r : Role) → offer_in asks answers r ≡ (handshake_at both (deal asks answers at.sid) r VersionSaid).offer
         by_role Initiator = refl
@@ -454,7 +458,7 @@ took_handshakes asks answers role s t packet opens fits stands up first hears co
         by_turn there =
             elim (who role there.place) [
               | inl own ↦ (
-                  let wrong : None ≡ Some _ = sym hears.may.owed ∙ ap (λ (h : Handshake). h.owed) there.is ∙ owes_at both (deal asks answers at.sid) role there.place own in absurd (cc wrong))
+                  none_is_some (sym hears.may.owed ∙ ap (λ (h : Handshake). h.owed) there.is ∙ owes_at both (deal asks answers at.sid) role there.place own))
               | inr (inl turn) ↦
                   hears_at asks answers at.sid role c.handshake t.handshake s.mine.turns now took_message.bytes message (said s.theirs.turns) fits at.small there turn
                   (peer_said both (deal asks answers at.sid) (other role) s.theirs.core.handshake s.theirs.turns (peer took_message.bytes took_message.messages)) front took_message.messages refl

@@ -1,3 +1,4 @@
+pub mod Apart
 pub mod LinkCases
 pub mod TurnCases
 pub mod HandshakeCases

@@ -16,6 +16,7 @@ use Rattle.vio_tag.specs.declared.cause.Cause.{Cause}
 use Rattle.channel_model.specs.TranscriptLog.{TranscriptLog, nothing_said, transcript_of}
 use Rattle.channel_model.specs.WireEvent.{Blocked, ByRestart, ByScript, ByStep, ByTick, Declines, Giver, Idle, Injected, Joined, Lost, Poked, Reset, Sent, Took, giver}
 use Rattle.channel_model.specs.WireLog.{WireLog, wire_moved}
+use Rattle.channel_laws.proofs.Apart.{true_is_false}
 use Rattle.channel_laws.proofs.EndStanding.{fresh_end_stands, stands_step}
 use Rattle.channel_laws.specs.EndCore.{EndCore, EndMove, Stays, fresh_end}
 use Rattle.channel_laws.specs.EndStep.{EndAnew, EndBegins, EndHears, EndRenews, EndSays, EndStays, EndStep, EndWaits}
@@ -61,10 +62,6 @@ transcript_turns A l (Closes B) = refl
 transcript_turns B l (Closes A) = refl
 transcript_turns B l (Closes B) = refl
 transcript_turns e l Beside = refl
-
-pub end_step : (e : End) (s t : LaneCore) (event : CoreEvent) → CoreStep s event t → EndStep (role_of e) (end_of e s) (move_of e event) (end_of e t)
-end_step A s t event step = step.a
-end_step B s t event step = step.b
 
 -- A LAW OF ONE END, each move keeping it, is one of both ends along every run
 pub record EndsAll (P : Role → EndCore → List Turn → Type 0) (s : LaneCore) (transcript : TranscriptLog) : Type 0 where
@@ -162,7 +159,7 @@ abbrev Behind : (Role → Sides → Type 0) → LaneCore → LaneCore → Transc
 Behind Holds s t transcript event = Holds Initiator (sides_in s.entries (wire_after s.wire event) t.a t.b (transcript_after transcript event))
 
 forged_never : (w : WireLog) (P : Type 0) → w.forged ≡ true → w.forged ≡ false → P
-forged_never w P forged clean = let never : true ≡ false = sym forged ∙ clean in absurd (cc never)
+forged_never w P forged clean = true_is_false (sym forged ∙ clean)
 
 event_behind : (Holds : Role → Sides → Type 0) → ActsKeep Holds → (s t : LaneCore) (transcript : TranscriptLog) (event : CoreEvent) → Kept Holds s.entries s.wire s.a s.b transcript → CoreStep s event t
     → (wire_after s.wire event).forged ≡ false → Behind Holds s t transcript event

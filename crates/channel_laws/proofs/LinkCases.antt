@@ -24,9 +24,10 @@ use Rattle.ldc_link.specs.Calls.{Puts}
 use Rattle.ldc_link.specs.Following.{OffersLittle}
 use Rattle.ldc_link.specs.LinkState.{LinkState, is_established, next_number}
 use Rattle.ldc_link.specs.Putting.{begun_behind_put, control, first_part, has_more, left_behind_put, number_behind_put, owed_in, part_owed, phase_behind_put, with_link}
-use Rattle.ldc_link.specs.Taking.{Heard, TakesBytes, answer_to, count, counted, goes_to, phase_behind_rdx, phase_behind_rtr, phase_behind_rts, phase_behind_vers, takes_body, takes_decoded, with_part}
+use Rattle.ldc_link.specs.Taking.{Heard, TakesBytes, Unheard, answer_to, count, counted, goes_to, phase_behind_rdx, phase_behind_rtr, phase_behind_rts, phase_behind_vers, takes_body, takes_decoded, with_part}
 use Rattle.vio_tag.specs.declared.cause.Cause.{Cause}
 use Rattle.vio_tag.specs.declared.cause.Cause.TheVariants as the_cause
+use Rattle.channel_laws.proofs.Apart.{false_is_true, none_is_some}
 
 -- the bytes spell a packet of this subtype and body
 pub record IsPacket (bytes : List ℕ) (subtype : Subtype) (body : Body) : Type 0 where
@@ -73,6 +74,9 @@ pub data LinkPut (k : LinkState) (bytes : List ℕ) (m : LinkState) : Type 0 whe
 heard_is : (m n : LinkState) → Heard m ≡ Heard n → m ≡ n
 heard_is m n is = cc
 
+not_heard : (m : LinkState) (why : Cause) → Heard m ≡ Unheard why → ⊥
+not_heard m why is = cc is
+
 abbrev IsSpelled : List ℕ → Subtype → ℕ → Body → Type 0
 IsSpelled bytes s n b = HasForm s b × SpellsPacket bytes (control s n b)
 
@@ -87,8 +91,8 @@ version_agreed k m bytes n major minor true true one zero at spelled is =
     (subst (λ (x : ℕ). IsPacket bytes Ack (Vers x 0)) (eqb-true major 1 one)
     (subst (λ (x : ℕ). IsPacket bytes Ack (Vers major x)) (eqb-true minor 0 zero) (packet_of bytes Ack n (Vers major minor) spelled))) refl)
     (heard_is m (record k { phase = phase.OwesRts }) is)
-version_agreed k m bytes n major minor true false one zero at spelled is = absurd (cc is)
-version_agreed k m bytes n major minor false c one zero at spelled is = absurd (cc is)
+version_agreed k m bytes n major minor true false one zero at spelled is = absurd (not_heard m _ is)
+version_agreed k m bytes n major minor false c one zero at spelled is = absurd (not_heard m _ is)
 
 vers_heard : (k m : LinkState) (bytes : List ℕ) (ph : LinkPhase) (s : Subtype) (n major minor : ℕ) → k.phase ≡ ph → IsSpelled bytes s n (Vers major minor)
     → Heard m ≡ goes_to k (phase_behind_vers ph s major minor) → LinkHeard k bytes m
@@ -97,36 +101,36 @@ vers_heard k m bytes phase.AwaitsVersInfo Info n major minor at spelled is =
     (heard_is m (record k { phase = answer_to major }) is)
 vers_heard k m bytes phase.AwaitsVersAck Ack n major minor at spelled is =
     version_agreed k m bytes n major minor (nat_eq major 1) (nat_eq minor 0) refl refl at spelled is
-vers_heard k m bytes ph s n major minor at spelled is = absurd (cc is)
+vers_heard k m bytes ph s n major minor at spelled is = absurd (not_heard m _ is)
 
 -- a mode other than 1 isn't taken
 mode_one : (k m : LinkState) (b : Bool) (r : Result LinkPhase Cause) (why : Cause) → Heard m ≡ goes_to k (if b then r else Err why) → (b ≡ true) × (Heard m ≡ goes_to k r)
 mode_one k m true r why is = (refl, is)
-mode_one k m false r why is = absurd (cc is)
+mode_one k m false r why is = absurd (not_heard m _ is)
 
 rts_heard : (k m : LinkState) (bytes : List ℕ) (ph : LinkPhase) (s : Subtype) (n mode : ℕ) → k.phase ≡ ph → mode ≡ 1 → IsSpelled bytes s n (Rts mode)
     → Heard m ≡ goes_to k (phase_behind_rts ph s) → LinkHeard k bytes m
 rts_heard k m bytes phase.AwaitsRts Info n mode at one spelled is =
     ControlHeard phase.OwesRtr (ModeAsked at (subst (λ (x : ℕ). IsPacket bytes Info (Rts x)) one (packet_of bytes Info n (Rts mode) spelled)) refl)
     (heard_is m (record k { phase = phase.OwesRtr }) is)
-rts_heard k m bytes ph s n mode at one spelled is = absurd (cc is)
+rts_heard k m bytes ph s n mode at one spelled is = absurd (not_heard m _ is)
 
 rtr_heard : (k m : LinkState) (bytes : List ℕ) (ph : LinkPhase) (s : Subtype) (n mode : ℕ) → k.phase ≡ ph → mode ≡ 1 → IsSpelled bytes s n (Rtr mode)
     → Heard m ≡ goes_to k (phase_behind_rtr ph s) → LinkHeard k bytes m
 rtr_heard k m bytes phase.AwaitsRtr Info n mode at one spelled is =
     ControlHeard phase.OwesRdx (ModeAgreed at (subst (λ (x : ℕ). IsPacket bytes Info (Rtr x)) one (packet_of bytes Info n (Rtr mode) spelled)) refl)
     (heard_is m (record k { phase = phase.OwesRdx }) is)
-rtr_heard k m bytes ph s n mode at one spelled is = absurd (cc is)
+rtr_heard k m bytes ph s n mode at one spelled is = absurd (not_heard m _ is)
 
 rdx_heard : (k m : LinkState) (bytes : List ℕ) (ph : LinkPhase) (s : Subtype) (n : ℕ) → k.phase ≡ ph → n ≡ k.take_next → IsSpelled bytes s n Rdx
     → count (goes_to k (phase_behind_rdx ph s)) ≡ Heard m → LinkHeard k bytes m
 rdx_heard k m bytes phase.AwaitsRdx Info n at next spelled is =
     ReadyHeard at (packet_of bytes Info n Rdx spelled) (spelled.1.seqid ∙ next) (heard_is m (counted (record k { phase = phase.Established })) (sym is))
-rdx_heard k m bytes ph s n at next spelled is = absurd (cc is)
+rdx_heard k m bytes ph s n at next spelled is = absurd (not_heard m _ (sym is))
 
 pub established : (ph : LinkPhase) → is_established ph ≡ true → ph ≡ phase.Established
 established phase.Established up = refl
-established _ up = absurd (cc up)
+established _ up = false_is_true up
 
 part_heard : (k m : LinkState) (bytes : List ℕ) (s : Subtype) (n : ℕ) (start stop : Bool) (len : ℕ) (own : List ℕ) → IsSpelled bytes s n (Part start stop len own)
     → takes_body k s n (Part start stop len own) ≡ Heard m → LinkHeard k bytes m
@@ -208,7 +212,7 @@ put_in phase.OwesRdx k m p bytes at is spelled =
     let puts = it_puts (control Info k.put_next Rdx) p (behind_in phase.OwesRdx k) m bytes is spelled in
     ReadyGone at puts.spelled puts.behind
 put_in phase.Established k m p bytes at is spelled = part_gone k.to_send k m p bytes at refl is spelled
-put_in _ k m p bytes at is spelled = absurd (cc is)
+put_in _ k m p bytes at is spelled = none_is_some is
 
 pub link_put : (k m : LinkState) (bytes : List ℕ) → Puts k bytes m → LinkPut k bytes m
 link_put k m bytes puts = put_in k.phase k m puts.packet bytes refl puts.next puts.spelled

@@ -27,6 +27,7 @@ use Rattle.vio_handshake.specs.declared.session.Offer.{Offer}
 use Rattle.channel_model.specs.TranscriptLog.{nothing_said}
 use Rattle.ldc_queue.specs.Wire.{peer_behind, queue_behind, upset}
 use Rattle.channel_model.specs.WireLog.{lossy_behind}
+use Rattle.channel_laws.proofs.Apart.{links_differ, true_is_false}
 use Rattle.channel_laws.proofs.Conversations.{held_phase}
 use Rattle.channel_laws.proofs.EndCases.{end_took}
 use Rattle.channel_laws.proofs.EndStanding.{held_stands}
@@ -250,39 +251,39 @@ one_waits waiting bytes p none is = ap (λ (q : List (List ℕ)). q ++ bytes ∷
 -- the places of a phase in which something is owed
 offers_at : (role : Role) (place : LinkPlace) → phase.OwesVersInfo ≡ phase_at role place → (role ≡ Initiator) × (place ≡ NothingPut)
 offers_at Initiator NothingPut is = (refl, refl)
-offers_at Initiator _ is = absurd (cc is)
-offers_at Responder NothingPut is = absurd (cc is)
-offers_at Responder _ is = absurd (cc is)
+offers_at Initiator _ is = links_differ is refl
+offers_at Responder NothingPut is = links_differ is refl
+offers_at Responder _ is = links_differ is refl
 
 answers_at : (role : Role) (place : LinkPlace) → phase.OwesVersAck ≡ phase_at role place → (role ≡ Responder) × (place ≡ VersionTaken)
 answers_at Responder VersionTaken is = (refl, refl)
-answers_at Responder _ is = absurd (cc is)
-answers_at Initiator NothingPut is = absurd (cc is)
-answers_at Initiator _ is = absurd (cc is)
+answers_at Responder _ is = links_differ is refl
+answers_at Initiator NothingPut is = links_differ is refl
+answers_at Initiator _ is = links_differ is refl
 
 refuses_at : (role : Role) (place : LinkPlace) (major : ℕ) → phase.OwesVersNack major ≡ phase_at role place → ⊥
-refuses_at Initiator NothingPut major is = cc is
-refuses_at Initiator _ major is = cc is
-refuses_at Responder NothingPut major is = cc is
-refuses_at Responder _ major is = cc is
+refuses_at Initiator NothingPut major is = links_differ is refl
+refuses_at Initiator _ major is = links_differ is refl
+refuses_at Responder NothingPut major is = links_differ is refl
+refuses_at Responder _ major is = links_differ is refl
 
 asks_mode_at : (role : Role) (place : LinkPlace) → phase.OwesRts ≡ phase_at role place → (role ≡ Initiator) × (place ≡ AnswerTaken)
 asks_mode_at Initiator AnswerTaken is = (refl, refl)
-asks_mode_at Initiator _ is = absurd (cc is)
-asks_mode_at Responder NothingPut is = absurd (cc is)
-asks_mode_at Responder _ is = absurd (cc is)
+asks_mode_at Initiator _ is = links_differ is refl
+asks_mode_at Responder NothingPut is = links_differ is refl
+asks_mode_at Responder _ is = links_differ is refl
 
 agrees_mode_at : (role : Role) (place : LinkPlace) → phase.OwesRtr ≡ phase_at role place → (role ≡ Responder) × (place ≡ ModeTaken)
 agrees_mode_at Responder ModeTaken is = (refl, refl)
-agrees_mode_at Responder _ is = absurd (cc is)
-agrees_mode_at Initiator NothingPut is = absurd (cc is)
-agrees_mode_at Initiator _ is = absurd (cc is)
+agrees_mode_at Responder _ is = links_differ is refl
+agrees_mode_at Initiator NothingPut is = links_differ is refl
+agrees_mode_at Initiator _ is = links_differ is refl
 
 pub ready_at : (role : Role) (place : LinkPlace) → phase.OwesRdx ≡ phase_at role place → (role ≡ Initiator) × (place ≡ ModeAgreed)
 ready_at Initiator ModeAgreed is = (refl, refl)
-ready_at Initiator _ is = absurd (cc is)
-ready_at Responder NothingPut is = absurd (cc is)
-ready_at Responder _ is = absurd (cc is)
+ready_at Initiator _ is = links_differ is refl
+ready_at Responder NothingPut is = links_differ is refl
+ready_at Responder _ is = links_differ is refl
 
 -- at a role and a place that are known
 put_at : (role r : Role) (place p : LinkPlace) (bytes : List ℕ) (now : LinkPhase) → (role ≡ r) × (place ≡ p) → PutPlace r p bytes now → PutPlace role place bytes now
@@ -392,8 +393,8 @@ part_put Responder BothUp bytes now at part has goes = record {
   heard_mine = λ packets some. some;
   heard_theirs = λ packets any. any;
 }
-part_put Initiator _ bytes now at part has goes = absurd (cc at)
-part_put Responder _ bytes now at part has goes = absurd (cc at)
+part_put Initiator _ bytes now at part has goes = links_differ at refl
+part_put Responder _ bytes now at part has goes = links_differ at refl
 
 -- A PACKET IS PUT
 put_place : (role : Role) (place : LinkPlace) (k m : LinkState) (turns : List Turn) (bytes : List ℕ) → Follows k turns → k.phase ≡ phase_at role place → LinkPut k bytes m
@@ -498,7 +499,7 @@ heard_phase m n is = let same : m ≡ n = cc is in ap (λ (k : LinkState). k.pha
 
 -- one with a number, where the link is up or waits for RDX
 numbered_up : (k m : LinkState) (bytes : List ℕ) → is_numbered bytes ≡ true → LinkHeard k bytes m → m.phase ≡ phase.Established
-numbered_up k m bytes has (ControlHeard next taken is) = let wrong : true ≡ false = sym has ∙ (taken_quiet k.phase bytes next taken).0 in absurd (cc wrong)
+numbered_up k m bytes has (ControlHeard next taken is) = true_is_false (sym has ∙ (taken_quiet k.phase bytes next taken).0)
 numbered_up k m bytes has (ReadyHeard at ready number is) = ap (λ (x : LinkState). x.phase) is
 numbered_up k m bytes has (PartHeard at part may number is) = ap (λ (x : LinkState). x.phase) is ∙ at
 

@@ -24,6 +24,7 @@ use Rattle.ldc_queue.specs.QueueLog.{IsFirst}
 use Rattle.ldc_queue.specs.Transcript.{Turn, numbered_heard}
 use Rattle.vio_tag.specs.declared.cause.Cause.{Cause}
 use Rattle.vio_tag.specs.declared.cause.Cause.TheVariants as the_cause
+use Rattle.channel_laws.proofs.Apart.{true_is_false}
 use Rattle.channel_laws.specs.Resetting.{IsGapBehindLoss}
 use Rattle.channel_laws.specs.LinkPlaces.{IsPartOf, IsReady, ReadyFirst}
 use Rattle.channel_laws.proofs.LinkPlaced.{takes_packet}
@@ -116,7 +117,7 @@ part_turned k turns said packet at follows all part =
 ready_only : (packet : List ℕ) → IsReady packet → IsPartOf packet → ⊥
 unfolding has_part
 ready_only packet ready part =
-    let never : true ≡ false = sym (part_is packet part) ∙ spelled_part packet (control Info ready.number Rdx) (ready_spells packet ready) in cc never
+    true_is_false (sym (part_is packet part) ∙ spelled_part packet (control Info ready.number Rdx) (ready_spells packet ready))
 
 pub part_early : (k : LinkState) (said heard : List (List ℕ)) (packet : List ℕ) → heard ≡ [] → ReadyFirst said → IsPartOf packet → Turned k said heard packet
 part_early k said heard packet none ready part = record {

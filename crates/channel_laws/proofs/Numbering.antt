@@ -40,6 +40,7 @@ use Rattle.channel_model.specs.TranscriptLog.{more_if}
 use Rattle.channel_model.specs.WireAt.{IsHeard, IsHeardPart, IsSaid, IsSaidPart, WireHeardAt, WireSaidAt, counts_next}
 use Rattle.channel_model.specs.WireLog.{WireLog}
 use Rattle.channel_model.specs.WireEvent.{Blocked, Declines, Idle, Injected, Joined, Lost, Poked, Reset, Sent, Took, WireEvent}
+use Rattle.channel_laws.proofs.Apart.{true_is_false}
 use Rattle.channel_laws.proofs.ConversingRuns.{converse_keeps, first_converse}
 use Rattle.channel_laws.proofs.CoreRuns.{Knows, knows_run}
 use Rattle.channel_laws.proofs.EndStanding.{held_stands}
@@ -81,7 +82,7 @@ without_part turns bytes packet form fits is number none = record {
   widths = fits;
   spelled = is;
   number = number;
-  part = λ part. let wrong : true ≡ false = sym part ∙ none in absurd (cc wrong);
+  part = λ part. true_is_false (sym part ∙ none);
 }
 
 twice : (a b : Bool) → a ≡ not b → not a ≡ b

@@ -32,6 +32,7 @@ use Rattle.channel_model.specs.HandshakeOrder.{ComesUpBelow, Control, FollowsRow
 use Rattle.channel_model.specs.Sayings.{half_said}
 use Rattle.channel_model.specs.TranscriptLog.{transcript_of}
 use Rattle.channel_model.specs.WireEvent.{Sent as Sent_, Took as Took_}
+use Rattle.channel_laws.proofs.Apart.{false_is_true, none_is_some}
 use Rattle.channel_laws.proofs.EndCases.{EndTook, NoMessage, PutControl, PutMore, PutOwn, PutReady, PutHandshake, PutWhat, Rises, TookMessage, TookOwn, TookHandshake, TookWhat, end_put, end_took, put_down, taken_down}
 use Rattle.channel_laws.proofs.EndResting.{StandsResting, held_handshake, of_sid, resting_step}
 use Rattle.channel_laws.proofs.EndStanding.{first_down, held_stands, holds_some, open_declines, opened_phase, stands_step}
@@ -198,7 +199,7 @@ record OnIn (role : Role) (opens : Bool) (t : EndCore) (now : List Turn) : Type 
   order : InOrder role opens t now
 
 never_now : {X : Type 0} (b : Bool) → b ≡ false → b ≡ true → X
-never_now {X} b not is = let wrong : false ≡ true = sym not ∙ is in absurd (cc wrong)
+never_now {X} b not is = false_is_true (sym not ∙ is)
 
 -- the link isn't up; it is up with the same handshake; and with another
 stays_down : (role : Role) (t : EndCore) (opens : Bool) (now : List Turn) → is_up t.link ≡ false → opens ≡ false → FollowsRow role 0 (link_met role t.link.phase) now → OnIn role opens t now
@@ -229,7 +230,7 @@ heard_comes role h turns packet none comes = record { coming = comes.coming; sta
   where
     of : Owing h.offer.both_rings role h.phase (sid_of h) h.owed turns ⊎ Waiting h.offer.both_rings role h.phase (sid_of h) h.owed turns
         → Owing h.offer.both_rings role h.phase (sid_of h) h.owed (Heard packet ∷ turns) ⊎ Waiting h.offer.both_rings role h.phase (sid_of h) h.owed (Heard packet ∷ turns)
-    of (inl owing) = let wrong : None ≡ Some owing.message = sym none ∙ owing.owed_is in absurd (cc wrong)
+    of (inl owing) = none_is_some (sym none ∙ owing.owed_is)
     of (inr waiting) = inr (record {
       waits = waiting.waits;
       refusal = waiting.refusal;

@@ -18,6 +18,7 @@ use Rattle.vio_handshake.specs.Messages.{ack, info, nack, own_ring}
 use Rattle.vio_handshake.specs.Rules.{behind_ring, own_named}
 use Rattle.channel_model.specs.HandshakeOrder.{EndsAs, FollowsRow, HandshakeOrder, OpensBy, opening_lines, own_ring_lines, row}
 use Rattle.channel_model.specs.Sayings.{half_heard}
+use Rattle.channel_laws.proofs.Apart.{none_is_some, roles_differ}
 use Rattle.channel_laws.proofs.HandshakeCases.{AttributesAgreed, AttributesAsked, AttributesRefused, Declined, NothingFollows, OneRingAgreed, Opened, Opens, Owes, OwnReadyFollows, PeerAgreed, ReadyAgreed, ReadyAsked, ReadyFollows, RingAgreed, RingAsked, RingFollows, RingRefused, RowSent, RowTaken, VersionAgreed, VersionAsked, VersionRefused}
 use Rattle.channel_laws.proofs.Opening.{Comes, HandshakeComes, IsComing, IsNext, Owing, SaysWhole, Waiting, any_sid, comes_up, heard_line, hears_aside, last_follows, met, said_line, sid_of}
 use Rattle.channel_laws.proofs.TurnCases.{EndsBy}
@@ -37,7 +38,7 @@ waits_so role h turns none comes = of comes.stage
   where
     of : Owing h.offer.both_rings role h.phase (sid_of h) h.owed turns ⊎ Waiting h.offer.both_rings role h.phase (sid_of h) h.owed turns
         → Waiting h.offer.both_rings role h.phase (sid_of h) h.owed turns
-    of (inl owing) = let wrong : None ≡ Some owing.message = sym none ∙ owing.owed_is in absurd (cc wrong)
+    of (inl owing) = none_is_some (sym none ∙ owing.owed_is)
     of (inr waiting) = waiting
 
 -- the facts of a message that it takes
@@ -80,7 +81,7 @@ refuses role h message turns packet p refusal took at is =
     }
 
 other_role : (X : Type 0) (h : Handshake) → h.role ≡ Initiator → h.role ≡ Responder → X
-other_role X h one two = let wrong : Initiator ≡ Responder = sym one ∙ two in absurd (cc wrong)
+other_role X h one two = roles_differ (sym one ∙ two)
 
 -- AN INITIATOR'S ROWS, with its sid
 pub initiator_row : (h t : Handshake) (message : Message) (opens : Bool) (turns : List Turn) (packet : List ℕ) → Took Initiator h message turns packet → message.sid ≡ h.draft.sid

@@ -21,6 +21,7 @@ use Rattle.vio_tag.specs.declared.message.Message.{Message}
 use Rattle.vio_tag.specs.declared.message.MsgBody.TheVariants.{Rdx, Ver}
 use Rattle.vio_tag.specs.Spelling.{canonical}
 use Rattle.channel_model.specs.EndPuts.{ComesUp, EndsHandshake, EndsOwn, Goes, PutKind, put_opens}
+use Rattle.channel_laws.proofs.Apart.{none_is_some, true_is_false}
 use Rattle.channel_laws.proofs.EndCases.{PutControl, PutHandshake, PutMore, PutOwn, PutReady, PutWhat, end_put}
 use Rattle.channel_laws.proofs.EndStanding.{few_offered, held_stands, holds_some, last_none, open_up, owing_up, up_empty}
 use Rattle.channel_laws.proofs.HandshakeCases.{Opens, Owes, OwnReadyFollows, ReadyFollows, RingFollows, RowSent, row_sent}
@@ -170,12 +171,12 @@ own_most (HoldsOwn message) = omega arith
 pub loud_none : (c held : EndCore) (what : Holding) → owes c.link ≡ true → Holds c what held → own_in what ≡ 0
 loud_none c held HoldsOn loud holds = refl
 loud_none c held (HoldsOwed message) loud holds = refl
-loud_none c held (HoldsOwn message) loud holds = let never : true ≡ false = sym loud ∙ holds.quiet in absurd (cc never)
+loud_none c held (HoldsOwn message) loud holds = true_is_false (sym loud ∙ holds.quiet)
 
 pub owing_none : (c held : EndCore) (message : Message) (what : Holding) → c.handshake.owed ≡ Some message → Holds c what held → own_in what ≡ 0
 owing_none c held message HoldsOn owed holds = refl
 owing_none c held message (HoldsOwed other) owed holds = refl
-owing_none c held message (HoldsOwn other) owed holds = let never : None ≡ Some message = sym holds.owed ∙ owed in absurd (cc never)
+owing_none c held message (HoldsOwn other) owed holds = none_is_some (sym holds.owed ∙ owed)
 
 offered_left : (c held : EndCore) (message : Message) (more : ℕ) → c.link.to_send ≡ [] → held.link ≡ offered (canonical message) c.link → held.handshake ≡ c.handshake
     → held_left held.own (canonical message) c.handshake.owed ≤ parts_owed c.handshake.owed + more → packets_left held ≤ packets_left c + more

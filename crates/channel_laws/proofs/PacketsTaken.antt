@@ -37,6 +37,7 @@ use Rattle.vio_tag.specs.Spelling.{canonical}
 use Rattle.channel_model.specs.Sayings.{heard, said}
 use Rattle.channel_model.specs.TranscriptLog.{TranscriptLog}
 use Rattle.channel_model.specs.WireEvent.{Took}
+use Rattle.channel_laws.proofs.Apart.{false_is_true, none_is_some, not_turn, true_is_false}
 use Rattle.channel_laws.proofs.ConversingRuns.{HeardFrom, hears_next}
 use Rattle.channel_laws.proofs.CoreRuns.{Knows}
 use Rattle.channel_laws.proofs.EndCases.{EndTook, NoMessage, Rises, TookHandshake, TookMessage, TookOwn, TookWhat, end_took, taken_down}
@@ -124,7 +125,7 @@ next_fewer true d Responder ReadySaid few here turn = omega (arith, parts_at d R
 next_fewer false d Responder ReadySaid few here turn = omega (arith, parts_at d ReadyAnswered few)
 next_fewer true d Responder PeerReadyAnswered few here turn = omega arith
 next_fewer false d Responder PeerReadyAnswered few here turn = omega arith
-next_fewer both d role n few here turn = absurd (cc turn)
+next_fewer both d role n few here turn = not_turn turn refl
 
 -- with the rings that its own offer says
 place_fewer : (both : Bool) (d : Deal) (role : Role) (n : Place) → FewCookies d → (offer_at d role).both_rings ≡ both → IsPlace both n → owner n ≡ Some (other role)
@@ -140,7 +141,7 @@ place_fewer both d role n few rings here turn =
 -- THE LINK
 up_phase : (p : LinkPhase) → is_established p ≡ true → p ≡ phase.Established
 up_phase phase.Established is = refl
-up_phase _ is = absurd (cc is)
+up_phase _ is = false_is_true is
 
 -- no link refuses a version
 abbrev refuses : LinkPhase → Bool
@@ -219,6 +220,13 @@ same_fewer c t was now left handshake own =
       held_same c.link.to_send t.own c.own c.handshake.owed same,
     ))
 
+-- sums over what is left, of numbers alone
+turn_sums : (now held was held_was next owed parts at : ℕ) → next + owed ≤ at → held ≡ parts → now ≡ next → parts ≡ owed → was ≡ at → now + held ≤ was + held_was
+turn_sums now held was held_was next owed parts at less same goes owes there = omega arith
+
+rising_sums : (now was all later held owed up up_owed : ℕ) → up + up_owed ≤ all → was ≡ all → now ≡ later + held → held ≡ owed → owed ≡ up_owed → later ≡ up → now ≤ was
+rising_sums now was all later held owed up up_owed less at is same owes goes = omega arith
+
 -- AN END THAT TAKES a packet
 pub took_packets : (asks answers : Offer) (role : Role) (s : Sides) (t : EndCore) (packet : List ℕ) (opens : Bool) → Matches asks answers → asks.count ≤ 5 → answers.count ≤ 5
     → BothStand role s → s.mine.state ≡ Up → slice_get s.mine.waiting 0 ≡ Some packet → EndHears role s.mine.core packet opens t → Meets asks answers role s
@@ -265,13 +273,10 @@ took_packets asks answers role s t packet opens fits few_asks few_answers stands
     by_how same handshake (ControlHeard next taken is) =
         let next_is : took_so.now.phase ≡ next = ap (λ (k : LinkState). k.phase) is in
         let less = control_taken c.link.phase next packet (all_in c.handshake) (messages_in t) (messages_in c) taken (sym (ap refuses next_is) ∙ fine) in
-        omega (
-          arith,
-          less,
-          ap (λ (p : LinkPhase). left_in p (all_in t.handshake) (messages_in t)) (now_phase ∙ next_is) ∙ ap (λ (h : Handshake). left_in next (all_in h) (messages_in t)) handshake,
-        )
+        subst (λ (n : ℕ). n ≤ packets_left c)
+        (sym (ap (λ (p : LinkPhase). left_in p (all_in t.handshake) (messages_in t)) (now_phase ∙ next_is) ∙ ap (λ (h : Handshake). left_in next (all_in h) (messages_in t)) handshake)) less
     by_how same handshake (ReadyHeard at ready number is) =
-        let wrong : true ≡ false = sym (ap is_up is) ∙ same ∙ ap is_established at in absurd (cc wrong)
+        true_is_false (sym (ap is_up is) ∙ same ∙ ap is_established at)
     by_how same handshake (PartHeard at part may number is) = up_so (ap is_established at) (same ∙ ap is_established at) handshake
 
     from : HeardFrom s now
@@ -300,14 +305,9 @@ took_packets asks answers role s t packet opens fits few_asks few_answers stands
         (take_at both d role there.place (deal_fits asks answers meets.handshakes.sid fits.matched) there.here is) in
         let empty : c.link.to_send ≡ [] = up_empty c.link took_message.up (hears.may.quiet (shut there is c.is_open refl)) in
         up_fewer c t (up_phase c.link.phase took_message.up) (now_phase ∙ up_phase took_so.now.phase took_message.stays)
-        (omega (
-          arith,
-          place_fewer both d role there.place (record { asks = few_asks; answers = few_answers }) (rings role) there.here is,
-          held_empty t.own t.link.to_send t.handshake.owed (left ∙ empty),
-          ap (λ (h : Handshake). later_in h) goes,
-          ap (λ (h : Handshake). parts_owed h.owed) goes,
-          ap (λ (h : Handshake). later_in h) there.is,
-        ))
+        (turn_sums _ _ _ _ _ _ _ _ (place_fewer both d role there.place (record { asks = few_asks; answers = few_answers }) (rings role) there.here is)
+        (held_empty t.own t.link.to_send t.handshake.owed (left ∙ empty)) (ap (λ (h : Handshake). later_in h) goes) (ap (λ (h : Handshake). parts_owed h.owed) goes)
+        (ap (λ (h : Handshake). later_in h) there.is))
 
     open_there : (r : Role) (n : Place) → n ≡ AllSaid → (handshake_at both d r n).phase ≡ Open
     open_there Initiator n is = ap (λ (m : Place). (handshake_at both d Initiator m).phase) is
@@ -329,26 +329,20 @@ took_packets asks answers role s t packet opens fits few_asks few_answers stands
     by_turn message took_message handshake there =
         elim (who role there.place) [
           | inl own ↦ (
-              let wrong : None ≡ Some (message_at d there.place) = sym hears.may.owed ∙ ap (λ (h : Handshake). h.owed) there.is ∙ owes_at both d role there.place own in absurd (cc wrong))
+              none_is_some (sym hears.may.owed ∙ ap (λ (h : Handshake). h.owed) there.is ∙ owes_at both d role there.place own))
           | inr (inl is) ↦ in_turn message took_message handshake there is
           | inr (inr last) ↦ at_last message took_message handshake there last
         ]
 
     rising : is_up c.link ≡ false → t.handshake ≡ handshake_up c.handshake → is_up took_so.now ≡ true → LinkHeard c.link packet took_so.now → packets_left t ≤ packets_left c
     rising down handshake now_up (ControlHeard next taken is) =
-        let wrong : true ≡ false = sym now_up ∙ ap is_up is ∙ (taken_down c.link.phase packet next taken).1 in absurd (cc wrong)
-    rising down handshake now_up (PartHeard at part may number is) = let wrong : true ≡ false = sym (ap is_established at) ∙ down in absurd (cc wrong)
+        true_is_false (sym now_up ∙ ap is_up is ∙ (taken_down c.link.phase packet next taken).1)
+    rising down handshake now_up (PartHeard at part may number is) = true_is_false (sym (ap is_established at) ∙ down)
     rising down handshake now_up (ReadyHeard at ready number is) =
         let below = stands.mine.below down in
-        omega (
-          arith,
-          up_left c.handshake,
-          ap (λ (p : LinkPhase). left_in p (all_in c.handshake) (messages_in c)) at,
-          ap (λ (p : LinkPhase). left_in p (all_in t.handshake) (messages_in t)) (now_phase ∙ up_phase took_so.now.phase now_up),
-          held_empty t.own t.link.to_send t.handshake.owed (left ∙ below.left),
-          ap (λ (h : Handshake). parts_owed h.owed) handshake,
-          ap later_in handshake,
-        )
+        rising_sums _ _ _ _ _ _ _ _ (up_left c.handshake) (ap (λ (p : LinkPhase). left_in p (all_in c.handshake) (messages_in c)) at)
+        (ap (λ (p : LinkPhase). left_in p (all_in t.handshake) (messages_in t)) (now_phase ∙ up_phase took_so.now.phase now_up))
+        (held_empty t.own t.link.to_send t.handshake.owed (left ∙ below.left)) (ap (λ (h : Handshake). parts_owed h.owed) handshake) (ap later_in handshake)
 
     by_what : TookWhat role c s.mine.turns packet opens t took_so.now → packets_left t ≤ packets_left c
     by_what (NoMessage same quiet handshake not is_open) = by_how same handshake took_so.how

@@ -64,9 +64,6 @@ said_within turns bytes said part =
     (within said.packet.subtype said.packet.body carries said.formed)
 
 -- A PACKET that is said
-part_has_number : (bytes : List ℕ) → is_part bytes ≡ true → is_numbered bytes ≡ true
-part_has_number bytes part = ap (λ (b : Bool). b || (nat_eq (type_at bytes) 1 && nat_eq (ctrl_at bytes) 4)) part
-
 may_part : (turns : List Turn) (bytes : List ℕ) → IsSaid turns bytes → is_part bytes ≡ true → MayCome (half_in [] (fragments_in (numbered_said turns))) (fragment_at bytes)
 may_part turns bytes said part =
     let here : IsSaidPart (half_said turns) (fragment_at bytes) = said.part part in

@@ -22,6 +22,7 @@ use Rattle.vio_tag.specs.declared.message.MsgBody.TheVariants.{Ver}
 use Rattle.channel_model.specs.Sayings.{heard, said}
 use Rattle.channel_model.specs.TranscriptLog.{TranscriptLog, transcript_of}
 use Rattle.channel_model.specs.WireAt.{IsUp}
+use Rattle.channel_laws.proofs.Apart.{true_is_false}
 use Rattle.channel_laws.proofs.ConversingRuns.{converse_keeps, first_converse, heard_messages, unheard}
 use Rattle.channel_laws.proofs.CoreRuns.{Knows, knows_run}
 use Rattle.channel_laws.proofs.EndResting.{StandsResting, open_rests}
@@ -77,8 +78,8 @@ pub both_up : (Holds : Role → Sides → Type 0) (s : LaneCore) (l : CoreLog) �
     → IsUp A s.wire.wire × IsUp B s.wire.wire
 both_up Holds s l knows c opened peer_opened =
     both_in s.wire.wire.end_a s.wire.wire.end_b s refl refl (record {
-      closed_a = λ down. let wrong : true ≡ false = sym opened ∙ knows.up.closed A down in cc wrong;
-      closed_b = λ down. let wrong : true ≡ false = sym peer_opened ∙ knows.up.closed B down in cc wrong;
+      closed_a = λ down. true_is_false (sym opened ∙ knows.up.closed A down);
+      closed_b = λ down. true_is_false (sym peer_opened ∙ knows.up.closed B down);
       one = knows.up.one;
       hears_a = λ up not. open_heard Initiator s.a l.transcript.client knows.speaks.a.knows opened (unheard Initiator (sides_of s l.transcript) c up not);
       hears_b = λ up not.
@@ -87,10 +88,6 @@ both_up Holds s l knows c opened peer_opened =
     })
 
 -- THEY ARE ONE
-record AllDone (both : Bool) (d : Deal) (initiator responder : Handshake) : Type 0 where
-  mine : initiator ≡ handshake_at both d Initiator AllSaid
-  theirs : responder ≡ handshake_at both d Responder AllSaid
-
 one_in : (both : Bool) (d : Deal) → d.asks.both_rings ≡ both → AreOneSession (handshake_at both d Initiator AllSaid) (handshake_at both d Responder AllSaid)
 one_in true d is = record {
   sid = refl;

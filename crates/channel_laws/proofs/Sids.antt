@@ -21,6 +21,7 @@ use Rattle.vio_tag.specs.declared.cause.Cause.{Cause}
 use Rattle.vio_tag.specs.declared.message.Message.{Message}
 use Rattle.channel_model.specs.TranscriptLog.{TranscriptLog, is_rdx, more_if, nothing_said}
 use Rattle.channel_model.specs.WireEvent.{Blocked, ByRestart, ByScript, ByStep, ByTick, Declines, Giver, Idle, Injected, Joined, Lost, Poked, Reset, Sent, Took, giver}
+use Rattle.channel_laws.proofs.Apart.{roles_differ}
 use Rattle.channel_laws.proofs.EndCases.{EndTook, NoMessage, PutControl, PutMore, PutOwn, PutReady, PutHandshake, PutWhat, Rises, TookOwn, TookHandshake, TookWhat, end_put, end_took}
 use Rattle.channel_laws.proofs.EndResting.{held_handshake}
 use Rattle.channel_laws.proofs.EndStanding.{fresh_end_stands, held_stands, stands_step}
@@ -134,7 +135,7 @@ says_last role c t turns packet opens stands says = by_what (end_put role c t tu
         record {
           last = ap (λ (h : Handshake). h.last_sid) handshake ∙ (up_last role says.held.handshake holds.handshake.role_is).1 role_is
               ∙ ap (λ (n : ℕ). (n + 1) % 4294967296) was ∙ ap (λ (b : Bool). next_if b c.handshake.last_sid) (sym (loud_rdx packet loud.0 loud.1));
-          never = λ responds. let wrong : Initiator ≡ Responder = sym role_is ∙ responds in absurd (cc wrong);
+          never = λ responds. roles_differ (sym role_is ∙ responds);
         }
     by_what (PutMore at link more handshake not is_open) = keeps (part_rdx packet more.part.part) (ap (λ (h : Handshake). h.last_sid) handshake)
     by_what (PutOwn own at link last handshake not is_open) = keeps (part_rdx packet last.part.part) (ap (λ (h : Handshake). h.last_sid) handshake)

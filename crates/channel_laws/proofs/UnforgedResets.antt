@@ -27,6 +27,7 @@ use Rattle.channel_model.specs.Sayings.{said}
 use Rattle.channel_model.specs.TranscriptLog.{TranscriptLog, transcript_of}
 use Rattle.channel_model.specs.WireAt.{IsOwnReset, MayReset}
 use Rattle.channel_model.specs.WireEvent.{ByStep, Giver, Reset, giver}
+use Rattle.channel_laws.proofs.Apart.{none_is_some}
 use Rattle.channel_laws.proofs.ConversingRuns.{HeardFrom, hears_next}
 use Rattle.channel_laws.proofs.CoreRuns.{Knows}
 use Rattle.channel_laws.proofs.EndCases.{stays_risen}
@@ -48,8 +49,8 @@ use Rattle.channel_laws.specs.Sides.{Sides, other, sides_of, swapped}
 
 -- A MESSAGE that became whole: the link was up before
 whole_up : (k m : LinkState) (packet bytes : List ℕ) → k.whole ≡ None → m.whole ≡ Some bytes → LinkHeard k packet m → is_up k ≡ true
-whole_up k m packet bytes none whole (ControlHeard next taken is) = let wrong : None ≡ Some bytes = sym none ∙ sym (ap (λ (x : LinkState). x.whole) is) ∙ whole in absurd (cc wrong)
-whole_up k m packet bytes none whole (ReadyHeard at ready number is) = let wrong : None ≡ Some bytes = sym none ∙ sym (ap (λ (x : LinkState). x.whole) is) ∙ whole in absurd (cc wrong)
+whole_up k m packet bytes none whole (ControlHeard next taken is) = none_is_some (sym none ∙ sym (ap (λ (x : LinkState). x.whole) is) ∙ whole)
+whole_up k m packet bytes none whole (ReadyHeard at ready number is) = none_is_some (sym none ∙ sym (ap (λ (x : LinkState). x.whole) is) ∙ whole)
 whole_up k m packet bytes none whole (PartHeard at part may number is) = ap is_established at
 
 never_refused : (take answer : HandshakeTake) (h : Handshake) (cause : Cause) → take ≡ answer → GoesTo answer h → take ≡ Faults cause → ⊥
@@ -110,8 +111,7 @@ side_fails asks answers role s packet cause fits stands meets parts up first fai
         by_turn =
             elim (who role at.place) [
               | inl own ↦ (
-                  let wrong : None ≡ Some (message_at (deal asks answers meets.handshakes.sid) at.place) =
-                  sym fails.may.owed ∙ ap (λ (h : Handshake). h.owed) at.is ∙ owes_at both (deal asks answers meets.handshakes.sid) role at.place own in absurd (cc wrong))
+                  none_is_some (sym fails.may.owed ∙ ap (λ (h : Handshake). h.owed) at.is ∙ owes_at both (deal asks answers meets.handshakes.sid) role at.place own))
               | inr (inl turn_is) ↦ absurd (by_decoded turn_is bad.0 bad.1 bad.2)
               | inr (inr last) ↦ record {
                 opened = place_open both (deal asks answers meets.handshakes.sid) role c s.mine.turns stands.mine at last;

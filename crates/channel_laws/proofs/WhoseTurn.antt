@@ -11,6 +11,7 @@ use Rattle.ldc_queue.specs.Transcript.{Turn}
 use Rattle.vio_handshake.specs.declared.handshake.Handshake.{Handshake}
 use Rattle.vio_handshake.proofs.Places.{AllSaid, Deal, IsPlace, Place, message_at, owner}
 use Rattle.channel_model.specs.Sayings.{heard, said}
+use Rattle.channel_laws.proofs.Apart.{none_is_some, true_is_false}
 use Rattle.channel_laws.proofs.HandshakePlaces.{AtPlace, owes_at, owes_none, owes_not, who}
 use Rattle.channel_laws.proofs.Script.{all_places, before, behind, bytes_at, index, next_at, not_last, one_if, own_role, said_at, said_by, said_by-append, same_next}
 use Rattle.channel_laws.specs.Sides.{other}
@@ -86,15 +87,15 @@ owes_own : (both : Bool) (d : Deal) (r : Role) (h : Handshake) (turns : List Tur
 owes_own both d r h turns at owed =
     elim (who r at.place) [
       | inl own ↦ own
-      | inr (inl turn) ↦ (let wrong : true ≡ false = sym owed ∙ ap (λ (x : Handshake). is_some x.owed) at.is ∙ ap is_some (owes_not both d r at.place turn) in absurd (cc wrong))
-      | inr (inr last) ↦ (let wrong : true ≡ false = sym owed ∙ ap (λ (x : Handshake). is_some x.owed) at.is ∙ ap is_some (owes_none both d r at.place last) in absurd (cc wrong))
+      | inr (inl turn) ↦ (true_is_false (sym owed ∙ ap (λ (x : Handshake). is_some x.owed) at.is ∙ ap is_some (owes_not both d r at.place turn)))
+      | inr (inr last) ↦ (true_is_false (sym owed ∙ ap (λ (x : Handshake). is_some x.owed) at.is ∙ ap is_some (owes_none both d r at.place last)))
     ]
 
 owes_nothing : (both : Bool) (d : Deal) (r : Role) (h : Handshake) (turns : List Turn) → (at : AtPlace both d r h turns) → h.owed ≡ None
     → (owner at.place ≡ Some (other r)) ⊎ (at.place ≡ AllSaid)
 owes_nothing both d r h turns at none =
     elim (who r at.place) [
-      | inl own ↦ (let wrong : None ≡ Some (message_at d at.place) = sym none ∙ ap (λ (x : Handshake). x.owed) at.is ∙ owes_at both d r at.place own in absurd (cc wrong))
+      | inl own ↦ (none_is_some (sym none ∙ ap (λ (x : Handshake). x.owed) at.is ∙ owes_at both d r at.place own))
       | inr rest ↦ rest
     ]
 
