@@ -1,6 +1,6 @@
 // A domain that grants pages of its memory, and the other, which copies by cookies.
 
-ghost use Rattle.std.specs.Prelude.{◌+◌, ◌≤◌, IsTrue, length};
+ghost use Rattle.std.specs.Prelude.{ℕ, ◌+◌, ◌≤◌, IfOk, IsTrue, length};
 ghost use Rattle.cookie_copy.specs.Faults.{PagesWithin};
 
 use crate::texts::{bytes_of, digits, numbers, shown, shown_with};
@@ -23,16 +23,23 @@ pub struct Domain {
 
 impl Domain {
     /// Ends that are down, so many entries with nothing granted, so many pages of zeros, and no cookie.
-    #[tactic(auto, using(cookie_copy::proofs::Granting::within_new))]
     pub fn new(alloc: Global, entries: u32, pages: u32) -> Result<Domain, NoMemory>
         requires some_entries { 1 ≤ entries }
         requires few_entries { entries ≤ 1028 }
         requires some_pages { 1 ≤ pages }
         requires few_pages { pages ≤ 1028 }
     {
-        let channel = Channel::new(alloc, 8)?;
-        let table = MapTable::new(alloc, entries)?;
         let memory = Memory::new(alloc, pages)?;
+        Domain::over(alloc, memory, entries)
+    }
+
+    // Over a memory.
+    fn over(alloc: Global, memory: Memory, entries: u32) -> Result<Domain, NoMemory>
+        requires some_entries { 1 ≤ entries }
+        requires few_entries { entries ≤ 1028 }
+    {
+        let table = new_table(alloc, entries)?;
+        let channel = Channel::new(alloc, 8)?;
         Ok(Domain {
             channel,
             table,
@@ -151,6 +158,16 @@ impl Domain {
             &bytes,
         ))
     }
+}
+
+// A table that grants nothing, so that each page that it grants lies in any memory.
+#[tactic(auto, using(cookie_copy::proofs::Granting::within_new))]
+fn new_table(alloc: Global, entries: u32) -> Result<MapTable, NoMemory>
+    requires some { 1 ≤ entries }
+    requires few { entries ≤ 1028 }
+    ensures { IfOk result (λ table. (size : ℕ) → PagesWithin table size) }
+{
+    MapTable::new(alloc, entries)
 }
 
 fn end_of(word: &str) -> Option<End> {

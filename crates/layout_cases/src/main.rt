@@ -57,15 +57,41 @@ fn run_row(
 ) -> io::Result<u64> {
     let (asked, answer) = row.split_once(" = ").unwrap_or((row, ""));
     let wanted = expanded(rt.alloc(), answer)?;
-    let Some(came) = answer_of(rt.alloc(), domain, asked) else {
-        println!(rt; "{file}: not understood: {row}")?;
-        return Ok(0);
-    };
-    let came = came.as_str().replace(rt.alloc(), ' ', "")?;
-    if came != wanted {
-        println!(rt; "{file}: {asked}\n  wanted {wanted}\n  came   {came}")?;
+    match answer_of(rt.alloc(), domain, asked) {
+        Some(came) => compare(rt, file, asked, wanted.as_str(), came.as_str())?,
+        None => return print_unknown(rt, file, row),
     }
     Ok(u64::from(!wanted.is_empty()))
+}
+
+fn compare(
+    rt: &(impl AllocGlobal + Print),
+    file: &str,
+    asked: &str,
+    wanted: &str,
+    came: &str,
+) -> io::Result<()> {
+    let came = came.replace(rt.alloc(), ' ', "")?;
+    if came.as_str() == wanted {
+        return Ok(());
+    }
+    print_difference(rt, file, asked, wanted, came.as_str())
+}
+
+fn print_difference(
+    rt: &impl Print,
+    file: &str,
+    asked: &str,
+    wanted: &str,
+    came: &str,
+) -> io::Result<()> {
+    println!(rt; "{file}: {asked}\n  wanted {wanted}\n  came   {came}")
+}
+
+// A row that isn't understood is no case.
+fn print_unknown(rt: &impl Print, file: &str, row: &str) -> io::Result<u64> {
+    println!(rt; "{file}: not understood: {row}")?;
+    Ok(0)
 }
 
 // What comes of a command, an empty text for a step, and nothing where it isn't understood.
