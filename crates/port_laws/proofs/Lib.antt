@@ -19,12 +19,15 @@ mod HeardCounts
 mod HeldCounts
 mod PutCounts
 mod TookCounts
+mod TookWhat
 mod StepCounts
 mod RemainingEnds
+mod FlightSums
 mod PortCounts
 pub mod RemainingSteps
 pub mod RemainingTakes
 pub mod RuleFrames
+mod FlightRuns
 pub mod RuleRest
 pub mod RuleIdle
 pub mod RuleTwoIdle
@@ -37,6 +40,7 @@ mod RingFetches
 mod RingSteps
 mod PortTalks
 mod RingEvents
+mod ReadyFrames
 mod LogsStand
 mod RingActs
 pub mod RingRuns
@@ -56,6 +60,8 @@ mod TalkGuest
 mod TalkHub
 mod TalkRuns
 pub mod NoRefusal
+pub mod RemainingResets
+pub mod RemainingBound
 pub mod EveryRun
 pub mod RuleNoneUntold
 mod WayActs

@@ -335,7 +335,7 @@ parts_at shape s l B is counts =
     subst (λ (x : TranscriptLog). PartsSaid x.server) (spoken_behind shape counts.events ∙ sym (ap (λ (x : PortLog). x.transcript) counts.log))
     (parts_run shape.entries (asks_of shape) (answers_of shape) (port_events counts.events) (port_core s) (sizes_fit shape is) (fresh_port_core shape counts.events s counts.run)).b.parts
 
-step_resets : (shape : NetShape) (s t : PortState) (l : PortLog) (e : End) (cause : Cause) (packet : Option (List ℕ)) (lost : ℕ) → IsNetShape shape → KeptTalk shape s l → l.wire.forged ≡ false
+pub step_resets : (shape : NetShape) (s t : PortState) (l : PortLog) (e : End) (cause : Cause) (packet : Option (List ℕ)) (lost : ℕ) → IsNetShape shape → KeptTalk shape s l → l.wire.forged ≡ false
     → NetLaneStep (before (Steps e (Reset cause packet lost)) s).lane (Steps e (Reset cause packet lost)) t.lane → IsOwnReset l.wire cause
 step_resets shape s t l e cause packet lost is had clean step = by_packet packet refl
   where

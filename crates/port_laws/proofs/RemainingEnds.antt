@@ -161,31 +161,24 @@ blocked_left role more memory s at reach held turns ends core same =
     (held_packets role (net_core role s) (net_core role held) turns core.what ends core.holds)
     (own_less role more memory s at reach (port_rule role s at) held core.what refl same core.holds)
 
--- what its link holds changes neither its ring nor its frames
-abbrev pub Plain : NetEndState → NetEndState → Type 0
-Plain s held = (held.slots ≡ s.slots) × (held.frames ≡ s.frames)
+-- what its link holds doesn't change its ring
+slots_some : (s held one : NetEndState) → Some one ≡ Some held → one.slots ≡ s.slots → held.slots ≡ s.slots
+slots_some s held one same is = of_some (λ (x : NetEndState). x.slots ≡ s.slots) one held same is
 
-slot_plain : (s : NetEndState) (p : NetSession) (activity : Activity) (last : Option ℕ) (found : Fetched) (held : NetEndState) → answers s p activity last found ≡ Some held → Plain s held
-slot_plain s p activity (Some last) (NotReady state) held same =
-    of_some (Plain s) (holding_own (answer s activity last) (record p { active = None }) s) held same (refl, refl)
-slot_plain s p activity (Some last) (IsFrame frame new) held same = none_some held same
-slot_plain s p activity (Some last) (Refuses why) held same = none_some held same
-slot_plain s p activity None found held same = none_some held same
-
-pub held_plain : (s : NetEndState) (reach : Reach) (rule : NetRule) (held : NetEndState) → net_holds rule s reach ≡ Some held → Plain s held
-held_plain s reach Puts held same = of_some (Plain s) s held same (refl, refl)
-held_plain s reach (Says message) held same = of_some (Plain s) (holding message s) held same (refl, refl)
-held_plain s reach (Replies p reply) held same =
-    of_some (Plain s) (holding_own (groups_answer s reply) (record p { reply = None }) s) held same (refl, refl)
-held_plain s reach (Fetches p activity) held same = slot_plain s p activity activity.last (fetched s reach p.place) held same
-held_plain s reach (Tells p) held same =
-    of_some (Plain s) (holding_own (membership s.handshake.draft.sid s.groups) (record p { untold = false; telling = true }) s) held same (refl, refl)
-held_plain s reach (Announces p) held same =
-    of_some (Plain s) (holding_own (announcement s p) (record p { infos = p.infos + 1; asking = true }) s) held same (refl, refl)
-held_plain s reach Joins held same = none_some held same
-held_plain s reach (Takes packet) held same = none_some held same
-held_plain s reach (Publishes p frame) held same = none_some held same
-held_plain s reach Idles held same = none_some held same
+pub held_slots : (s : NetEndState) (reach : Reach) (rule : NetRule) (held : NetEndState) → net_holds rule s reach ≡ Some held → held.slots ≡ s.slots
+held_slots s reach (Fetches p activity) held same = slot_slots activity.last (fetched s reach p.place) same
+  where
+    slot_slots : (last : Option ℕ) (found : Fetched) → answers s p activity last found ≡ Some held → held.slots ≡ s.slots
+    slot_slots (Some last) (NotReady state) is = slots_some s held (holding_own (answer s activity last) (record p { active = None }) s) is refl
+    slot_slots (Some last) (IsFrame frame new) is = none_some held is
+    slot_slots (Some last) (Refuses why) is = none_some held is
+    slot_slots None found is = none_some held is
+held_slots s reach Puts held same = slots_some s held s same refl
+held_slots s reach (Says message) held same = slots_some s held (holding message s) same refl
+held_slots s reach (Replies p reply) held same = slots_some s held (holding_own (groups_answer s reply) (record p { reply = None }) s) same refl
+held_slots s reach (Tells p) held same = slots_some s held (holding_own (membership s.handshake.draft.sid s.groups) (record p { untold = false; telling = true }) s) same refl
+held_slots s reach (Announces p) held same = slots_some s held (holding_own (announcement s p) (record p { infos = p.infos + 1; asking = true }) s) same refl
+held_slots s reach _ held same = none_some held same
 
 -- IT PUTS. A guest's session opens by a packet that it puts only where none was open, and clears its ring.
 last_shut : (role : Role) (at : Phase) → opens_by_put role at ≡ true → is_open_in at ≡ false
@@ -225,7 +218,7 @@ put_left role more memory s at reach held packet turns ends core same puts =
     let held_so = held_stands role (net_core role s) (net_core role held) turns core.what ends core.holds in
     let shut : net_opens held ≡ true → held.session ≡ None =
     λ opens. shut_none held.session (held_so.opened ∙ kind_shut (net_kind held) held.handshake opens) in
-    let slots : held.slots ≡ s.slots = (held_plain s reach (port_rule role s at) held same).0 in
+    let slots : held.slots ≡ s.slots = held_slots s reach (port_rule role s at) held same in
     let opened = opened_left role (net_opens held) more memory now shut in
     let cleared : own_left role more (cleared_by_put role (net_opens held) s.slots memory) (net_put role held) ≤ own_left role more memory held =
     subst (λ (n : ℕ). own_left role more (cleared_by_put role (net_opens held) n memory) (net_put role held) ≤ own_left role more memory held) slots opened in
@@ -235,14 +228,8 @@ put_left role more memory s at reach held packet turns ends core same puts =
     (says_packets role (net_core role s) (net_core role (net_put role held)) turns packet (net_opens held) ends says) (omega (arith, cleared, own))
 
 -- WHAT A STEP LEAVES at an end that acts
-pub record Lowers (role : Role) (by : ℕ) (memory : List ℕ) (s : NetEndState) (left : NetLeft) : Type 0 where
-  pub lowers : (more : ℕ) → up_left role more left.own left.end + by ≤ up_left role more memory s
-  pub frames : length left.end.frames ≡ length s.frames
-
-put_frames : (role : Role) (opens : Bool) (s : NetEndState) → (opened_by_put role opens s).frames ≡ s.frames
-put_frames Initiator true s = refl
-put_frames Initiator false s = refl
-put_frames Responder opens s = refl
+abbrev pub Lowers : Role → ℕ → List ℕ → NetEndState → NetLeft → Type 0
+Lowers role by memory s left = (more : ℕ) → up_left role more left.own left.end + by ≤ up_left role more memory s
 
 pub sends_lower : (role : Role) (slots : ℕ) (queue : List (List ℕ)) (s : NetEndState) (l : EndLog) (turns : List Turn) (at : Seen) (memory : List ℕ) (reach : Reach) (packet : List ℕ) (opens : Bool)
     (t : NetLeft) → Acting role slots queue s l turns → NetSends role s at memory reach packet opens t → Lowers role (put_weight role) memory s t
@@ -251,22 +238,13 @@ sends_lower role slots queue s l turns at memory reach packet opens t acting ste
     let core : HeldCore role s held = held_core role s at reach (port_rule role s at) held acting.fits refl step.holds in
     let puts : PutsPacket held.link packet (behind_put held.link) =
     subst (PutsPacket held.link packet) (puts_behind held.link packet t.end.link step.packet) step.packet in
-    let now : NetEndState = record held { link = behind_put held.link; handshake = handshake_behind (net_kind held) held.handshake } in
-    subst (Lowers role (put_weight role) memory s) (sym step.is)
-    (record {
-      lowers = λ more. put_left role more memory s at reach held packet turns acting.ends core step.holds puts;
-      frames = ap length (put_frames role (net_opens held) now ∙ (held_plain s reach (port_rule role s at) held step.holds).1);
-    })
+    subst (Lowers role (put_weight role) memory s) (sym step.is) (λ more. put_left role more memory s at reach held packet turns acting.ends core step.holds puts)
 
 pub blocks_lower : (role : Role) (slots : ℕ) (queue : List (List ℕ)) (s : NetEndState) (l : EndLog) (turns : List Turn) (at : Seen) (memory : List ℕ) (reach : Reach) (t : NetLeft)
     → Acting role slots queue s l turns → net_holds (port_rule role s at) s reach ≡ Some t.end → t ≡ leaves t.end memory reach → Lowers role 0 memory s t
 blocks_lower role slots queue s l turns at memory reach t acting same is =
     let core : HeldCore role s t.end = held_core role s at reach (port_rule role s at) t.end acting.fits refl same in
-    subst (Lowers role 0 memory s) (sym is)
-    (record {
-      lowers = λ more. let less = blocked_left role more memory s at reach t.end turns acting.ends core same in omega (arith, less);
-      frames = ap length (held_plain s reach (port_rule role s at) t.end same).1;
-    })
+    subst (Lowers role 0 memory s) (sym is) (λ more. let less = blocked_left role more memory s at reach t.end turns acting.ends core same in omega (arith, less))
 
 -- IT PUBLISHES a frame
 ready_less : (role : Role) (fresh asks ready few many more rest : ℕ) → fresh ≡ few + 1 → asks ≤ many + 1 → ready ≤ more + 1
@@ -298,12 +276,9 @@ publishes_lower role slots queue s l turns at memory reach id t acting room step
     let some : 1 ≤ s.slots = omega (arith, slots_is, acting.slots_fit.some) in
     let ready = published_more s.slots (p.published % s.slots) step.frame memory (mod_below p.published s.slots some) (omega (arith, slots_is, acting.slots_fit.most)) (omega (arith, slots_is, room)) in
     subst (Lowers role 1 memory s) (sym step.is)
-    (record {
-      lowers = λ more.
-          let less = published_left role more memory new s p (counts_stand s p acting.stands is).seen within ready in
-          let here : session_left role s.slots (length s.frames + more) new (Some (published p)) + 1 ≤ own_left role more memory s =
-          subst (λ (x : Option NetSession). session_left role s.slots (length s.frames + more) new (Some (published p)) + 1 ≤ session_left role s.slots (length s.frames + more) memory x)
-          (sym is) less in
-          omega (arith, here);
-      frames = refl;
-    })
+    (λ more.
+    let less = published_left role more memory new s p (counts_stand s p acting.stands is).seen within ready in
+    let here : session_left role s.slots (length s.frames + more) new (Some (published p)) + 1 ≤ own_left role more memory s =
+    subst (λ (x : Option NetSession). session_left role s.slots (length s.frames + more) new (Some (published p)) + 1 ≤ session_left role s.slots (length s.frames + more) memory x)
+    (sym is) less in
+    omega (arith, here))

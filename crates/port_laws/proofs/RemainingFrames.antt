@@ -11,6 +11,7 @@ use Rattle.ldc_queue.specs.declared.end.ChannelState.{ChannelState}
 use Rattle.ldc_queue.specs.declared.end.ChannelState.TheVariants.{Up}
 use Rattle.ldc_queue.specs.declared.end.End.{End}
 use Rattle.ldc_queue.specs.declared.end.End.TheVariants.{A, B}
+use Rattle.ldc_queue.specs.Wire.{peer_of, state_of}
 use Rattle.runs.specs.Lawful.{log_of}
 use Rattle.runs.specs.Run.{Run}
 use Rattle.vio_bytes.specs.Place.{put_at}
@@ -24,16 +25,18 @@ use Rattle.port_model.specs.NetEndState.{Activity, NetEndState, NetSession}
 use Rattle.port_model.specs.NetEndStep.{Frame, NetLeft, taken}
 use Rattle.port_model.specs.NetEndTaking.{slot_state}
 use Rattle.port_model.specs.NetEvent.{NetEvent, Steps}
-use Rattle.port_model.specs.NetLaneState.{IsNetShape, NetLaneState, NetShape, seen_at}
+use Rattle.port_model.specs.NetLaneState.{IsNetShape, NetLaneState, NetShape, memory_of, net_end, role_at, seen_at, with_left}
 use Rattle.port_model.specs.NetLaneStep.{EndSteps}
 use Rattle.port_model.specs.Offers.{port_offer}
 use Rattle.port_model.specs.PortLog.{PortLog, after, no_events}
 use Rattle.port_model.specs.PortState.{OnLane, PortEvent, PortState, PortStep, before, fresh_port}
 use Rattle.port_laws.specs.NetCore.{more_in, more_of, net_core, one_if}
-use Rattle.port_laws.specs.Remaining.{answers_left, end_left, frames_left, groups_left, put_weight, ready_slots, ready_weight, remaining, remaining_of, second_life, session_left, took_some}
+use Rattle.port_laws.specs.Remaining.{answers_left, end_left, frames_left, groups_left, put_weight, ready_slots, ready_weight, remaining, remaining_of, session_left, took_some}
+use Rattle.port_laws.proofs.MemoryRoom.{HasRoom}
 use Rattle.port_laws.proofs.RemainingEnds.{groups_same}
 use Rattle.port_laws.proofs.RemainingReady.{below_same}
-use Rattle.port_laws.proofs.RemainingSteps.{steps_before}
+use Rattle.port_laws.proofs.RemainingSteps.{left_at, more_at, steps_before}
+use Rattle.port_laws.proofs.RuleFrames.{end_counted}
 use Rattle.port_laws.proofs.RingActs.{Finds}
 use Rattle.port_laws.proofs.RingMoves.{Fits}
 use Rattle.port_laws.proofs.RingRuns.{finds_before, port_kept}
@@ -128,56 +131,35 @@ own_more x role more memory s p activity frame up is active =
     (omega (arith, here, ap (λ (n : ℕ). put_weight role * n) (frame_packets role s p activity frame is active)))
 
 -- A STEP
-guest_frame : (shape : NetShape) (u : PortState) (l : PortLog) (frame : List ℕ) (t : NetLaneState) → Finds shape u l → EndSteps A u.lane (Frame frame) t
-    → remaining_of t (length u.queue) + 1 ≤ remaining_of u.lane (length u.queue)
-guest_frame shape u l frame t finds step =
-    let takes : TakesPublished shape A u l frame step.step.new = takes_published shape A u l frame t finds step in
-    let says = says_of Initiator u.lane.guest (seen_at A u.lane) (Fetches step.step.session step.step.activity) step.step.rule in
-    let slots_is : u.lane.hub.slots ≡ shape.slots = finds.ready.hub.slots_is in
-    let some = finds.ready.sound.some_slots in
-    let ready = ready_falls shape.slots (takes.v.taken % shape.slots) u.lane.hub_memory step.step.new (record { few = finds.ready.sound.most_slots; room = finds.room.hub })
-    (mod_below takes.v.taken shape.slots (omega (arith, some))) takes.found.ready takes.found.new_is in
-    let peer = peer_falls u.lane.wire.wire.end_b Responder (length u.queue) u.lane.hub_memory step.step.new u.lane.hub takes.p takes.peer_up takes.theirs
-    (subst (λ (n : ℕ). ready_slots n step.step.new + 1 ≡ ready_slots n u.lane.hub_memory) (sym slots_is) ready) in
-    let own = own_more u.lane.wire.wire.end_a Initiator 0 u.lane.guest_memory u.lane.guest step.step.session step.step.activity frame takes.up says.0.session says.1 in
-    let left_is = step.step.is in
-    subst (λ (x : NetLaneState). remaining_of x (length u.queue) + 1 ≤ remaining_of u.lane (length u.queue)) (sym step.is)
-    (omega (
-      arith,
-      own,
-      peer,
-      ap (λ (x : NetLeft). end_left u.lane.wire.wire.end_a Initiator 0 x.own x.end) left_is,
-      ap (λ (x : NetLeft). end_left u.lane.wire.wire.end_b Responder (length u.queue) x.peer u.lane.hub) left_is,
-      ap (λ (x : NetLeft). second_life u.lane.wire.lossy (length x.end.frames + length u.lane.hub.frames + length u.queue)) left_is,
-    ))
+peer_room : (e : End) (slots : ℕ) (u : NetLaneState) → HasRoom slots u → 8192 + 2048 * slots ≤ length (memory_of (peer_of e) u)
+peer_room A slots u room = room.hub
+peer_room B slots u room = room.guest
 
-hub_frame : (shape : NetShape) (u : PortState) (l : PortLog) (frame : List ℕ) (t : NetLaneState) → Finds shape u l → EndSteps B u.lane (Frame frame) t
-    → remaining_of t (length u.queue) + 1 ≤ remaining_of u.lane (length u.queue)
-hub_frame shape u l frame t finds step =
-    let takes : TakesPublished shape B u l frame step.step.new = takes_published shape B u l frame t finds step in
-    let says = says_of Responder u.lane.hub (seen_at B u.lane) (Fetches step.step.session step.step.activity) step.step.rule in
-    let slots_is : u.lane.guest.slots ≡ shape.slots = finds.ready.guest.slots_is in
-    let some = finds.ready.sound.some_slots in
-    let ready = ready_falls shape.slots (takes.v.taken % shape.slots) u.lane.guest_memory step.step.new (record { few = finds.ready.sound.most_slots; room = finds.room.guest })
-    (mod_below takes.v.taken shape.slots (omega (arith, some))) takes.found.ready takes.found.new_is in
-    let peer = peer_falls u.lane.wire.wire.end_a Initiator 0 u.lane.guest_memory step.step.new u.lane.guest takes.p takes.peer_up takes.theirs
-    (subst (λ (n : ℕ). ready_slots n step.step.new + 1 ≡ ready_slots n u.lane.guest_memory) (sym slots_is) ready) in
-    let own = own_more u.lane.wire.wire.end_b Responder (length u.queue) u.lane.hub_memory u.lane.hub step.step.session step.step.activity frame takes.up says.0.session says.1 in
-    let left_is = step.step.is in
-    subst (λ (x : NetLaneState). remaining_of x (length u.queue) + 1 ≤ remaining_of u.lane (length u.queue)) (sym step.is)
-    (omega (
-      arith,
-      own,
-      peer,
-      ap (λ (x : NetLeft). end_left u.lane.wire.wire.end_b Responder (length u.queue) x.own x.end) left_is,
-      ap (λ (x : NetLeft). end_left u.lane.wire.wire.end_a Initiator 0 x.peer u.lane.guest) left_is,
-      ap (λ (x : NetLeft). second_life u.lane.wire.lossy (length u.lane.guest.frames + length x.end.frames + length u.queue)) left_is,
-    ))
+-- the peer's ring has one READY slot less, and the end owes an answer more at most
+both_left : (e : End) (u : NetLaneState) (queued : ℕ) (left : NetLeft) → left_at e queued left.own left.end u ≤ left_at e queued (memory_of e u) (net_end e u) u + put_weight (role_at e)
+    → left_at (peer_of e) queued left.peer (net_end (peer_of e) u) u + ready_weight (role_at (peer_of e)) ≡ left_at (peer_of e) queued (memory_of (peer_of e) u) (net_end (peer_of e) u) u
+    → remaining_of (record (with_left e left u) { wire = u.wire }) queued + 1 ≤ remaining_of u queued
+both_left A u queued left own peer = omega (arith, own, peer)
+both_left B u queued left own peer = omega (arith, own, peer)
 
 lane_frame : (shape : NetShape) (u : PortState) (l : PortLog) (e : End) (frame : List ℕ) (t : NetLaneState) → Finds shape u l → EndSteps e u.lane (Frame frame) t
     → remaining_of t (length u.queue) + 1 ≤ remaining_of u.lane (length u.queue)
-lane_frame shape u l A frame t finds step = guest_frame shape u l frame t finds step
-lane_frame shape u l B frame t finds step = hub_frame shape u l frame t finds step
+lane_frame shape u l e frame t finds step =
+    let s : NetEndState = net_end e u.lane in
+    let f : NetEndState = net_end (peer_of e) u.lane in
+    let memory : List ℕ = memory_of (peer_of e) u.lane in
+    let queued : ℕ = length u.queue in
+    let takes : TakesPublished shape e u l frame step.step.new = takes_published shape e u l frame t finds step in
+    let says = says_of (role_at e) s (seen_at e u.lane) (Fetches step.step.session step.step.activity) step.step.rule in
+    let slots_is : f.slots ≡ shape.slots = (end_counted shape (peer_of e) u l finds.ready).slots_is in
+    let some = finds.ready.sound.some_slots in
+    let ready = ready_falls shape.slots (takes.v.taken % shape.slots) memory step.step.new (record { few = finds.ready.sound.most_slots; room = peer_room e shape.slots u.lane finds.room })
+    (mod_below takes.v.taken shape.slots (omega (arith, some))) takes.found.ready takes.found.new_is in
+    let peer = peer_falls (state_of (peer_of e) u.lane.wire.wire) (role_at (peer_of e)) (more_at (peer_of e) queued) memory step.step.new f takes.p takes.peer_up takes.theirs
+    (subst (λ (n : ℕ). ready_slots n step.step.new + 1 ≡ ready_slots n memory) (sym slots_is) ready) in
+    let own = own_more (state_of e u.lane.wire.wire) (role_at e) (more_at e queued) (memory_of e u.lane) s step.step.session step.step.activity frame takes.up says.0.session says.1 in
+    subst (λ (x : NetLaneState). remaining_of x queued + 1 ≤ remaining_of u.lane queued) (sym step.is)
+    (subst (λ (x : NetLeft). remaining_of (record (with_left e x u.lane) { wire = u.lane.wire }) queued + 1 ≤ remaining_of u.lane queued) (sym step.step.is) (both_left e u.lane queued _ own peer))
 
 -- ALONG EVERY RUN
 pub port_frame : (shape : NetShape) (events : List PortEvent) (s : PortState) (e : End) (frame : List ℕ) (t : PortState) → IsNetShape shape → Run PortStep (fresh_port shape) events s

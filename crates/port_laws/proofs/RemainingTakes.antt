@@ -11,6 +11,7 @@ use Rattle.ldc_queue.specs.declared.end.ChannelState.TheVariants.{Up}
 use Rattle.ldc_queue.specs.declared.end.End.{End}
 use Rattle.ldc_queue.specs.declared.end.End.TheVariants.{A, B}
 use Rattle.ldc_queue.specs.Transcript.{Turn}
+use Rattle.ldc_queue.specs.Wire.{peer_of, state_of}
 use Rattle.runs.specs.Lawful.{log_of}
 use Rattle.runs.specs.Run.{Run}
 use Rattle.vio_handshake.specs.declared.handshake.Handshake.{Handshake}
@@ -19,7 +20,8 @@ use Rattle.vio_tag.specs.declared.message.Message.{Message}
 use Rattle.vio_tag.specs.declared.message.MsgBody.{MsgBody}
 use Rattle.vio_tag.specs.declared.message.TagFault.{TagFault}
 use Rattle.dring.specs.Slots.{range_length}
-use Rattle.channel_model.specs.Seeing.{Seen}
+use Rattle.channel_model.specs.TranscriptLog.{transcript_of}
+use Rattle.channel_model.specs.WireAt.{IsFirstOn, IsUp}
 use Rattle.channel_laws.proofs.PacketsTaken.{unforged_took}
 use Rattle.channel_laws.specs.LaneCore.{end_of}
 use Rattle.channel_laws.specs.PacketsLeft.{packets_left}
@@ -29,11 +31,11 @@ use Rattle.port_model.specs.FramesStand.{CountsStand, FramesStand}
 use Rattle.port_model.specs.NetEndPutting.{cleared_ring}
 use Rattle.port_model.specs.NetEndRule.{Takes}
 use Rattle.port_model.specs.NetEndState.{GroupsReply, NetEndState, NetSession, opened_net_end, unseen_in, with_session}
-use Rattle.port_model.specs.NetEndStep.{Took}
+use Rattle.port_model.specs.NetEndStep.{NetLeft, Took}
 use Rattle.port_model.specs.NetEndTaking.{GoesOn, HearsLink, HearsWhole, NetTake, NetTakes, Resets, acknowledged, active, by_handshake, freed, hears_message, opens_by_take, reads, replying, risen}
 use Rattle.port_model.specs.NetEvent.{NetEvent, Steps}
-use Rattle.port_model.specs.NetLaneState.{IsNetShape, NetLaneState, NetShape, seen_at}
-use Rattle.port_model.specs.NetLaneStep.{EndSteps}
+use Rattle.port_model.specs.NetLaneState.{IsNetShape, NetLaneState, NetShape, memory_of, net_end, role_at, seen_at, with_left}
+use Rattle.port_model.specs.NetLaneStep.{EndSteps, net_wire}
 use Rattle.port_model.specs.Offers.{port_offer}
 use Rattle.port_model.specs.PortLog.{PortLog, after, no_events}
 use Rattle.port_model.specs.PortState.{OnLane, PortEvent, PortState, PortStep, before, fresh_port}
@@ -41,14 +43,16 @@ use Rattle.port_laws.specs.NetCore.{is_begun, lane_core, net_core, net_core_at, 
 use Rattle.port_laws.specs.PortCore.{port_core, port_events}
 use Rattle.port_laws.specs.Remaining.{answers_left, end_left, frames_left, groups_left, put_weight, ready_slots, ready_weight, remaining, remaining_of, session_left, took_some}
 use Rattle.port_laws.proofs.CoreLaws.{offers_match, sizes_fit}
+use Rattle.port_laws.proofs.FlightSums.{first_gone}
 use Rattle.port_laws.proofs.MemoryRoom.{HasRoom, before_room, room_behind}
 use Rattle.port_laws.proofs.MessageDoes.{Acks, Asks, Declines, MessageDoes, Names, TakeDoes, Told, message_does}
-use Rattle.port_laws.proofs.PortCounts.{Ready, guest_acts, hub_acts}
+use Rattle.port_laws.proofs.PortCounts.{Ready}
 use Rattle.port_laws.proofs.PortRuns.{before_core, fresh_port_core, port_fits_behind, port_step_core}
 use Rattle.port_laws.proofs.RemainingEnds.{answers_less, counts_stand, groups_same, own_left}
 use Rattle.port_laws.proofs.RemainingReady.{cleared_none, freed_less}
-use Rattle.port_laws.proofs.RemainingSteps.{ready_here, second_less, steps_before, up_of}
-use Rattle.port_laws.proofs.TookCounts.{risen_up, session_open, session_up}
+use Rattle.port_laws.proofs.RemainingSteps.{left_at, more_at, reach_memory, ready_here, room_at, seen_up, steps_before}
+use Rattle.port_laws.proofs.RuleFrames.{end_acts}
+use Rattle.port_laws.proofs.TookWhat.{Fails, Opens, Reads, Stays, TookWhat, took_what}
 
 -- WHAT AN END MAY OWE for a packet that it takes: the switch's end an answer to groups
 abbrev slack : Role → ℕ
@@ -56,26 +60,24 @@ slack Initiator = 0
 slack Responder = 2
 
 abbrev Gained : Role → ℕ → List ℕ → NetEndState → List ℕ → NetEndState → Type 0
-Gained role more memory s new t = (own_left role more new t ≤ own_left role more memory s + slack role) × (length t.frames ≤ length s.frames)
+Gained role more memory s new t = own_left role more new t ≤ own_left role more memory s + slack role
 
 abbrev Gains : Role → ℕ → List ℕ → NetEndState → NetTake → Type 0
 Gains role more memory s (GoesOn t opens new) = Gained role more memory s new t
 Gains role more memory s (Resets cause) = ⊤
 
 same_gained : (role : Role) (more : ℕ) (memory : List ℕ) (s : NetEndState) → Gained role more memory s memory s
-same_gained role more memory s = (omega arith, omega arith)
+same_gained role more memory s = omega arith
 
 -- IN SESSION, by its sums
 abbrev Sum : Role → ℕ → ℕ → List ℕ → NetSession → ℕ
 Sum role slots held memory p = session_left role slots held memory (Some p)
 
-with_gained : (role : Role) (more : ℕ) (memory new : List ℕ) (s t : NetEndState) (p q : NetSession) → s.session ≡ Some p → t.session ≡ Some q → length t.frames ≤ length s.frames
+with_gained : (role : Role) (more : ℕ) (memory new : List ℕ) (s t : NetEndState) (p q : NetSession) → s.session ≡ Some p → t.session ≡ Some q
     → Sum role t.slots (length t.frames + more) new q ≤ Sum role s.slots (length s.frames + more) memory p + slack role → Gained role more memory s new t
-with_gained role more memory new s t p q is after frames less = (
-  subst (λ (x : Option NetSession). session_left role t.slots (length t.frames + more) new x ≤ own_left role more memory s + slack role) (sym after)
-      (subst (λ (x : Option NetSession). Sum role t.slots (length t.frames + more) new q ≤ session_left role s.slots (length s.frames + more) memory x + slack role) (sym is) less),
-  frames,
-)
+with_gained role more memory new s t p q is after less =
+    subst (λ (x : Option NetSession). session_left role t.slots (length t.frames + more) new x ≤ own_left role more memory s + slack role) (sym after)
+    (subst (λ (x : Option NetSession). Sum role t.slots (length t.frames + more) new q ≤ session_left role s.slots (length s.frames + more) memory x + slack role) (sym is) less)
 
 asks_sum : (role : Role) (slots held : ℕ) (memory : List ℕ) (p : NetSession) (seq start : ℕ) → Sum role slots held memory (active p seq start) ≤ Sum role slots held memory p
 asks_sum role slots held memory p seq start =
@@ -120,14 +122,13 @@ does_gain : (role : Role) (more : ℕ) (memory : List ℕ) (s : NetEndState) (p 
 does_gain role more memory s p subtype b t new session stands some room (Asks seq ident start end state kind body place stays is) =
     subst (λ (x : List ℕ). GainedBy role more memory s t x) (sym stays)
     (subst (λ (x : NetEndState). GainedBy role more memory s x memory) (sym is)
-    (with_gained role more memory memory s (with_session (active p seq start) s) p (active p seq start) session refl (omega arith)
+    (with_gained role more memory memory s (with_session (active p seq start) s) p (active p seq start) session refl
     (omega (arith, asks_sum role s.slots (length s.frames + more) memory p seq start))))
 does_gain role more memory s p subtype b t new session stands some room (Acks seq ident start end state kind body begins inside most undone stays is) =
     let count : ℕ = range_length s.slots start end in
     subst (λ (x : List ℕ). GainedBy role more memory s t x) (sym stays)
     (subst (λ (x : NetEndState). GainedBy role more memory s x (freed s.slots p.seen count memory)) (sym is)
     (with_gained role more memory (freed s.slots p.seen count memory) s (acknowledged p count s) p (record p { seen = p.seen + count; asking = false }) session refl
-    (omega (arith, length-drop count s.frames))
     (omega (
       arith,
       acks_sum role s.slots count more memory (freed s.slots p.seen count memory) s.frames p (range_some s.slots start end) most stands.held
@@ -136,12 +137,12 @@ does_gain role more memory s p subtype b t new session stands some room (Acks se
 does_gain role more memory s p subtype b t new session stands some room (Names set count addresses groups reply answer hub kind body stays is) =
     subst (λ (x : List ℕ). GainedBy role more memory s t x) (sym stays)
     (subst (λ (x : NetEndState). GainedBy role more memory s x memory) (sym is)
-    (with_gained role more memory memory s (with_session (replying reply p) (record s { groups = groups })) p (replying reply p) session refl (omega arith)
+    (with_gained role more memory memory s (with_session (replying reply p) (record s { groups = groups })) p (replying reply p) session refl
     (names_sum role s.slots (length s.frames + more) memory p reply hub)))
 does_gain role more memory s p subtype b t new session stands some room (Told set count addresses guest kind body telling stays is) =
     subst (λ (x : List ℕ). GainedBy role more memory s t x) (sym stays)
     (subst (λ (x : NetEndState). GainedBy role more memory s x memory) (sym is)
-    (with_gained role more memory memory s (with_session (record p { telling = false }) s) p (record p { telling = false }) session refl (omega arith)
+    (with_gained role more memory memory s (with_session (record p { telling = false }) s) p (record p { telling = false }) session refl
     (omega (arith, told_sum role s.slots (length s.frames + more) memory p))))
 does_gain role more memory s p subtype b t new session stands some room (Declines h declined stays is) =
     subst (λ (x : List ℕ). GainedBy role more memory s t x) (sym stays)
@@ -152,60 +153,32 @@ take_gains : (role : Role) (more : ℕ) (memory : List ℕ) (s : NetEndState) (p
 take_gains role more memory s p subtype b (GoesOn t opens new) session stands some room does = does_gain role more memory s p subtype b t new session stands some room does.does
 take_gains role more memory s p subtype b (Resets cause) session stands some room does = tt
 
--- WITHOUT A SESSION one may open, whose ring is cleared
-opens_gain : (role : Role) (more : ℕ) (memory : List ℕ) (s : NetEndState) → s.session ≡ None → Gains role more memory s (opens_by_take role s memory)
-opens_gain Initiator more memory s closed = same_gained Initiator more memory s
-opens_gain Responder more memory s closed = (
-  subst (λ (x : Option NetSession). own_left Responder more (cleared_ring s.slots memory) (opened_net_end s) ≤ session_left Responder s.slots (length s.frames + more) memory x + 2) (sym closed)
-      (omega (arith, cleared_none s.slots memory)),
-  omega arith,
-)
-
-handshake_gains : (role : Role) (more : ℕ) (memory : List ℕ) (s : NetEndState) (take : HandshakeTake) → s.session ≡ None → Gains role more memory s (by_handshake role s memory take)
-handshake_gains role more memory s (Goes h) closed = same_gained role more memory s
-handshake_gains role more memory s (GoesOpen h) closed = opens_gain role more memory (record s { handshake = h }) closed
-handshake_gains role more memory s (Faults cause) closed = tt
-
--- THE PACKET
+-- THE PACKET: without a session one may open, whose ring is cleared
 pub took_gains : (role : Role) (more : ℕ) (memory packet : List ℕ) (s t : NetEndState) (turns : List Turn) (opens : Bool) (new : List ℕ) → EndStands role (net_core role s) turns → FramesStand s
     → 1 ≤ s.slots → 64 * s.slots ≤ length memory → NetTakes role s memory packet (GoesOn t opens new) → Gained role more memory s new t
-took_gains role more memory packet s t turns opens new ends stands some room takes = by_link takes.link takes.hears
+took_gains role more memory packet s t turns opens new ends stands some room takes = by_what (GoesOn t opens new) (took_what role s turns memory packet (GoesOn t opens new) ends takes)
   where
-    seen : LinkState → NetEndState
-    seen k = record s { link = cleared k; handshake = risen role s.link k s.handshake }
+    gains_as : (k : LinkState) (h : Handshake) (take : NetTake) → Gains role more memory (record s { link = k; handshake = h }) take → Gains role more memory s take
+    gains_as k h (GoesOn u opened now) gains = gains
+    gains_as k h (Resets cause) gains = tt
 
-    by_session : (k : LinkState) (m : Message) (session : Option NetSession) → s.session ≡ session → Gains role more memory (seen k) (hears_message role (seen k) memory session m)
-    by_session k m None closed = handshake_gains role more memory (seen k) (handshake_take (seen k).handshake m) closed
-    by_session k m (Some p) session =
-        let stays : risen role s.link k s.handshake ≡ s.handshake = risen_up role s.link k s.handshake (session_up role s turns p ends session) in
-        let opened : is_open_in (seen k).handshake.phase ≡ true = ap (λ (h : Handshake). is_open_in h.phase) stays ∙ session_open role s turns p ends session in
+    cleared_gains : (r : Role) → r ≡ Responder → s.session ≡ None → Gained r more memory s (cleared_ring s.slots memory) (opened_net_end s)
+    cleared_gains Initiator role_is closed = absurd (cc role_is)
+    cleared_gains Responder role_is closed =
+        subst (λ (x : Option NetSession). own_left Responder more (cleared_ring s.slots memory) (opened_net_end s) ≤ session_left Responder s.slots (length s.frames + more) memory x + 2) (sym closed)
+        (omega (arith, cleared_none s.slots memory))
+
+    by_what : (take : NetTake) → TookWhat role s memory take → Gains role more memory s take
+    by_what take (Stays k h is) = subst (Gains role more memory s) (sym is) (same_gained role more memory s)
+    by_what take (Opens k h role_is closed is) = subst (Gains role more memory s) (sym is) (cleared_gains role role_is closed)
+    by_what take (Fails cause is) = subst (Gains role more memory s) (sym is) tt
+    by_what take (Reads k h p m session does) =
         let counts : CountsStand s p = counts_stand s p stands session in
-        take_gains role more memory (seen k) p m.subtype m.body (hears_message role (seen k) memory (Some p) m) session
+        gains_as k h take (take_gains role more memory (record s { link = k; handshake = h }) p m.subtype m.body take session
         (record { seen = counts.seen; held = counts.held; ids = counts.ids; asked = counts.asked; answered = counts.answered; some = counts.some })
-        some room (message_does role (seen k) p memory m opened)
-
-    by_decoded : (k : LinkState) (d : Result Message TagFault) → Gains role more memory s (reads role (seen k) memory d)
-    by_decoded k (Ok m) = gains_as k (hears_message role (seen k) memory s.session m) (by_session k m s.session refl)
-      where
-        gains_as : (k : LinkState) (take : NetTake) → Gains role more memory (seen k) take → Gains role more memory s take
-        gains_as k (GoesOn u opened now) gains = gains
-        gains_as k (Resets cause) gains = tt
-    by_decoded k (Err fault) = tt
-
-    by_whole : (k : LinkState) (whole : Option (List ℕ)) → HearsWhole role (record s { link = k; handshake = risen role s.link k s.handshake }) memory whole (GoesOn t opens new)
-        → Gained role more memory s new t
-    by_whole k None is = subst (Gains role more memory s) (sym is) (same_gained role more memory s)
-    by_whole k (Some bytes) hears = subst (Gains role more memory s) (sym hears.2) (by_decoded k hears.0)
-
-    by_link : (link : LinkTake) → HearsLink role s memory link (GoesOn t opens new) → Gained role more memory s new t
-    by_link (Heard k) hears = by_whole k k.whole hears
-    by_link (Unheard cause) hears = absurd (cc hears)
+        some room does)
 
 -- THE LANE
-first_gone : (packet : List ℕ) (packets : List (List ℕ)) → slice_get packets 0 ≡ Some packet → length (drop 1 packets) + 1 ≡ length packets
-first_gone packet [] is = absurd (cc is)
-first_gone packet (one ∷ packets) is = omega (arith, length-drop 1 (one ∷ packets))
-
 weighs : (role : Role) (few many left less : ℕ) → few ≤ many → left ≤ less + slack role → put_weight role * few + left ≤ put_weight role * many + less + slack role
 weighs Initiator few many left less packets own = omega (arith, packets, own)
 weighs Responder few many left less packets own = omega (arith, packets, own)
@@ -214,64 +187,49 @@ end_took : (x : ChannelState) (role : Role) (more : ℕ) (memory new : List ℕ)
     → Gained role more memory s new t → end_left x role more new t ≤ end_left x role more memory s + slack role
 end_took x role more memory new s t up packets gained =
     subst (λ (y : ChannelState). end_left y role more new t ≤ end_left y role more memory s + slack role) (sym up)
-    (weighs role (packets_left (net_core role t)) (packets_left (net_core role s)) (own_left role more new t) (own_left role more memory s) packets gained.0)
+    (weighs role (packets_left (net_core role t)) (packets_left (net_core role s)) (own_left role more new t) (own_left role more memory s) packets gained)
 
 at_up : (x : ChannelState) (role : Role) (s : NetEndState) → x ≡ Up → packets_left (net_core_at role (is_begun x) s) ≡ packets_left (net_core role s)
 at_up x role s up = ap (λ (y : ChannelState). packets_left (net_core_at role (is_begun y) s)) up
 
-guest_took : (shape : NetShape) (u : PortState) (l : PortLog) (packet : List ℕ) (opens : Bool) (t : NetLaneState) → Ready shape u l → HasRoom shape.slots u.lane → EndSteps A u.lane (Took packet opens) t
-    → packets_left (lane_core t).a ≤ packets_left (lane_core u.lane).a → remaining_of t (length u.queue) + 1 ≤ remaining_of u.lane (length u.queue)
-guest_took shape u l packet opens t ready room step packets =
-    let at : Seen = seen_at A u.lane in
-    let says = says_of Initiator u.lane.guest at (Takes packet) step.step.0 in
-    let up : u.lane.wire.wire.end_a ≡ Up = up_of u.lane.wire.wire.end_a says.0.up in
-    let acting = guest_acts shape u l ready says.0.up in
-    let slots_is = acting.counts.slots_is in
-    let gained = took_gains Initiator 0 u.lane.guest_memory packet u.lane.guest step.left.end l.transcript.client opens step.left.own acting.ends acting.stands
-    (omega (arith, slots_is, acting.slots_fit.some)) (omega (arith, slots_is, room.guest)) step.step.1 in
-    let now : packets_left (net_core_at Initiator (is_begun u.lane.wire.wire.end_a) step.left.end) ≤ packets_left (lane_core u.lane).a =
-    subst (λ (x : NetLaneState). packets_left (lane_core x).a ≤ packets_left (lane_core u.lane).a) step.is packets in
-    let fewer : packets_left (net_core Initiator step.left.end) ≤ packets_left (net_core Initiator u.lane.guest) =
-    omega (arith, now, at_up u.lane.wire.wire.end_a Initiator step.left.end up, at_up u.lane.wire.wire.end_a Initiator u.lane.guest up) in
-    subst (λ (x : NetLaneState). remaining_of x (length u.queue) + 1 ≤ remaining_of u.lane (length u.queue)) (sym step.is)
-    (omega (
-      arith,
-      end_took u.lane.wire.wire.end_a Initiator 0 u.lane.guest_memory step.left.own u.lane.guest step.left.end up fewer gained,
-      first_gone packet u.lane.wire.wire.to_a says.1,
-      ap (λ (memory : List ℕ). end_left u.lane.wire.wire.end_b Responder (length u.queue) memory u.lane.hub) step.step.2,
-      second_less u.lane.wire.lossy (length step.left.end.frames + length u.lane.hub.frames + length u.queue) (length u.lane.guest.frames + length u.lane.hub.frames + length u.queue)
-          (omega (arith, gained.1)),
-    ))
+core_packets : (e : End) (u : NetLaneState) → IsUp e u.wire.wire → packets_left (end_of e (lane_core u)) ≡ packets_left (net_core (role_at e) (net_end e u))
+core_packets A u up = at_up u.wire.wire.end_a Initiator u.guest up
+core_packets B u up = at_up u.wire.wire.end_b Responder u.hub up
 
-hub_took : (shape : NetShape) (u : PortState) (l : PortLog) (packet : List ℕ) (opens : Bool) (t : NetLaneState) → Ready shape u l → HasRoom shape.slots u.lane → EndSteps B u.lane (Took packet opens) t
-    → packets_left (lane_core t).b ≤ packets_left (lane_core u.lane).b → remaining_of t (length u.queue) + 1 ≤ remaining_of u.lane (length u.queue)
-hub_took shape u l packet opens t ready room step packets =
-    let at : Seen = seen_at B u.lane in
-    let says = says_of Responder u.lane.hub at (Takes packet) step.step.0 in
-    let up : u.lane.wire.wire.end_b ≡ Up = up_of u.lane.wire.wire.end_b says.0.up in
-    let acting = hub_acts shape u l ready says.0.up in
-    let slots_is = acting.counts.slots_is in
-    let gained = took_gains Responder (length u.queue) u.lane.hub_memory packet u.lane.hub step.left.end l.transcript.server opens step.left.own acting.ends acting.stands
-    (omega (arith, slots_is, acting.slots_fit.some)) (omega (arith, slots_is, room.hub)) step.step.1 in
-    let now : packets_left (net_core_at Responder (is_begun u.lane.wire.wire.end_b) step.left.end) ≤ packets_left (lane_core u.lane).b =
-    subst (λ (x : NetLaneState). packets_left (lane_core x).b ≤ packets_left (lane_core u.lane).b) step.is packets in
-    let fewer : packets_left (net_core Responder step.left.end) ≤ packets_left (net_core Responder u.lane.hub) =
-    omega (arith, now, at_up u.lane.wire.wire.end_b Responder step.left.end up, at_up u.lane.wire.wire.end_b Responder u.lane.hub up) in
-    subst (λ (x : NetLaneState). remaining_of x (length u.queue) + 1 ≤ remaining_of u.lane (length u.queue)) (sym step.is)
-    (omega (
-      arith,
-      end_took u.lane.wire.wire.end_b Responder (length u.queue) u.lane.hub_memory step.left.own u.lane.hub step.left.end up fewer gained,
-      first_gone packet u.lane.wire.wire.to_b says.1,
-      ap (λ (memory : List ℕ). end_left u.lane.wire.wire.end_a Initiator 0 memory u.lane.guest) step.step.2,
-      second_less u.lane.wire.lossy (length u.lane.guest.frames + length step.left.end.frames + length u.queue) (length u.lane.guest.frames + length u.lane.hub.frames + length u.queue)
-          (omega (arith, gained.1)),
-    ))
+-- one packet less waits, which counted more than what it brings
+without_first : (e : End) (u : NetLaneState) (packet : List ℕ) (opens : Bool) (queued : ℕ) (left : NetLeft) → IsFirstOn packet e u.wire.wire → left.peer ≡ memory_of (peer_of e) u
+    → left_at e queued left.own left.end u ≤ left_at e queued (memory_of e u) (net_end e u) u + slack (role_at e)
+    → remaining_of (record (with_left e left u) { wire = net_wire (Steps e (Took packet opens)) u }) queued + 1 ≤ remaining_of u queued
+without_first A u packet opens queued left first peer less =
+    omega (arith, less, first_gone packet u.wire.wire.to_a first, ap (λ (memory : List ℕ). end_left u.wire.wire.end_b Responder queued memory u.hub) peer)
+without_first B u packet opens queued left first peer less =
+    omega (arith, less, first_gone packet u.wire.wire.to_b first, ap (λ (memory : List ℕ). end_left u.wire.wire.end_a Initiator 0 memory u.guest) peer)
+
+first_seen : (e : End) (u : NetLaneState) (packet : List ℕ) → (seen_at e u).first ≡ Some packet → IsFirstOn packet e u.wire.wire
+first_seen A u packet first = first
+first_seen B u packet first = first
+
+state_took : (e : End) (left : NetLeft) (u : NetLaneState) (packet : List ℕ) (opens : Bool) → IsUp e u.wire.wire
+    → packets_left (end_of e (lane_core (record (with_left e left u) { wire = net_wire (Steps e (Took packet opens)) u }))) ≡ packets_left (net_core (role_at e) left.end)
+state_took A left u packet opens up = at_up u.wire.wire.end_a Initiator left.end up
+state_took B left u packet opens up = at_up u.wire.wire.end_b Responder left.end up
 
 lane_took : (shape : NetShape) (u : PortState) (l : PortLog) (e : End) (packet : List ℕ) (opens : Bool) (t : NetLaneState) → Ready shape u l → HasRoom shape.slots u.lane
     → EndSteps e u.lane (Took packet opens) t → packets_left (end_of e (lane_core t)) ≤ packets_left (end_of e (lane_core u.lane))
     → remaining_of t (length u.queue) + 1 ≤ remaining_of u.lane (length u.queue)
-lane_took shape u l A packet opens t ready room step packets = guest_took shape u l packet opens t ready room step packets
-lane_took shape u l B packet opens t ready room step packets = hub_took shape u l packet opens t ready room step packets
+lane_took shape u l e packet opens t ready room step packets =
+    let s : NetEndState = net_end e u.lane in
+    let says = says_of (role_at e) s (seen_at e u.lane) (Takes packet) step.step.0 in
+    let up : IsUp e u.lane.wire.wire = seen_up e u.lane says.0.up in
+    let acting = end_acts shape e u l ready says.0.up in
+    let slots_is = acting.counts.slots_is in
+    let gained = took_gains (role_at e) (more_at e (length u.queue)) (memory_of e u.lane) packet s step.left.end (transcript_of e l.transcript) opens step.left.own acting.ends acting.stands
+    (omega (arith, slots_is, acting.slots_fit.some)) (omega (arith, slots_is, room_at e shape.slots u.lane room)) step.step.1 in
+    let fewer : packets_left (net_core (role_at e) step.left.end) ≤ packets_left (net_core (role_at e) s) =
+    omega (arith, packets, core_packets e u.lane up, state_took e step.left u.lane packet opens up, ap (λ (x : NetLaneState). packets_left (end_of e (lane_core x))) step.is) in
+    let less = end_took (state_of e u.lane.wire.wire) (role_at e) (more_at e (length u.queue)) (memory_of e u.lane) step.left.own s step.left.end up fewer gained in
+    subst (λ (x : NetLaneState). remaining_of x (length u.queue) + 1 ≤ remaining_of u.lane (length u.queue)) (sym step.is)
+    (without_first e u.lane packet opens (length u.queue) step.left (first_seen e u.lane packet says.1) (step.step.2 ∙ reach_memory e u.lane) less)
 
 -- ALONG EVERY RUN
 pub port_took : (shape : NetShape) (events : List PortEvent) (s : PortState) (e : End) (packet : List ℕ) (opens : Bool) (t : PortState) → IsNetShape shape → Run PortStep (fresh_port shape) events s

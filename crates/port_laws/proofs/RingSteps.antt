@@ -34,7 +34,7 @@ use Rattle.port_laws.specs.NetCore.{net_core}
 use Rattle.port_laws.specs.RingHolds.{RingHolds}
 use Rattle.port_laws.specs.RingStands.{RingIn}
 use Rattle.port_laws.proofs.MessageDoes.{Acks, Asks, Declines, MessageDoes, Names, TakeDoes, Told, message_does}
-use Rattle.port_laws.proofs.RemainingEnds.{counts_stand, held_plain}
+use Rattle.port_laws.proofs.RemainingEnds.{counts_stand, held_slots}
 use Rattle.port_laws.proofs.RingFetches.{Reaches, ring_fetched}
 use Rattle.port_laws.proofs.RingMoves.{Fits, ring_acked, ring_cleared, ring_published}
 use Rattle.port_laws.proofs.TookCounts.{risen_up, session_open, session_up}
@@ -183,7 +183,7 @@ sent_ring : (role : Role) (taken : ℕ) (s : NetEndState) (at : Seen) (memory : 
     → NetSends role s at memory reach packet opens left → RingIn s.slots taken s.session s.frames memory → RingIn s.slots taken left.end.session left.end.frames left.own
 sent_ring role taken s at memory reach packet opens left none step ring =
     let held : NetEndState = step.held in
-    let slots : held.slots ≡ s.slots = (held_plain s reach (port_rule role s at) held step.holds).0 in
+    let slots : held.slots ≡ s.slots = held_slots s reach (port_rule role s at) held step.holds in
     let here : RingIn held.slots taken held.session held.frames memory =
     subst (λ (n : ℕ). RingIn n taken held.session held.frames memory) (sym slots) (held_ring role s.slots taken memory s at reach (port_rule role s at) held refl step.holds ring) in
     let there = put_ring role (net_opens held) taken memory (record held { link = behind_put held.link; handshake = handshake_behind (net_kind held) held.handshake })

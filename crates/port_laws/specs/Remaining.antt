@@ -10,7 +10,7 @@ use Rattle.ldc_queue.specs.declared.end.ChannelState.{ChannelState}
 use Rattle.ldc_queue.specs.declared.end.ChannelState.TheVariants.{Down, Resetting, Up}
 use Rattle.ldc_queue.specs.Wire.{Wire}
 use Rattle.channel_laws.specs.PacketsLeft.{packets_left}
-use Rattle.port_model.specs.NetEndState.{Activity, NetEndState, NetSession, unseen_in}
+use Rattle.port_model.specs.NetEndState.{Activity, NetEndState, NetSession, unseen, unseen_in}
 use Rattle.port_model.specs.NetEndTaking.{slot_state}
 use Rattle.port_model.specs.NetLaneState.{NetLaneState}
 use Rattle.port_model.specs.PortState.{PortState}
@@ -56,15 +56,15 @@ abbrev pub session_left : Role → (slots held : ℕ) → (memory : List ℕ) �
 session_left role slots held memory session = frames_left role slots held memory session + answers_left role session + groups_left role session
 
 -- AN END, with so many frames more than it holds itself. One that isn't up counts as one that begins: eleven packets of a guest and its
--- groups, and thirteen packets of the switch's end.
+-- groups, and thirteen packets of the switch's end. Those of its frames that are published don't outlast that.
 abbrev pub first_left : Role → (held : ℕ) → ℕ
 first_left Initiator held = 48 + 8 * held
 first_left Responder held = 26 + 8 * held
 
 abbrev pub end_left : ChannelState → Role → (more : ℕ) → (memory : List ℕ) → NetEndState → ℕ
 end_left Up role more memory s = put_weight role * packets_left (net_core role s) + session_left role s.slots (length s.frames + more) memory s.session
-end_left Down role more memory s = first_left role (length s.frames + more)
-end_left Resetting role more memory s = first_left role (length s.frames + more)
+end_left Down role more memory s = first_left role (length s.frames + more - unseen s.session)
+end_left Resetting role more memory s = first_left role (length s.frames + more - unseen s.session)
 
 abbrev pub absent : ChannelState → ℕ
 absent Up = 0
@@ -77,14 +77,24 @@ life w s queued =
     absent w.end_a + absent w.end_b + length w.to_a + 3 * length w.to_b
     + end_left w.end_a Initiator 0 s.guest_memory s.guest + end_left w.end_b Responder queued s.hub_memory s.hub
 
--- where a packet was lost the ends may have to begin once more, with all frames that are held
-abbrev pub second_life : Bool → (held : ℕ) → ℕ
-second_life true held = 76 + 8 * held
-second_life false held = 0
+-- where a packet was lost the ends may have to begin once more, with the frames that aren't published
+abbrev pub second_life : Bool → ℕ
+second_life true = 76
+second_life false = 0
 
 abbrev pub remaining_of : NetLaneState → (queued : ℕ) → ℕ
-remaining_of s queued = life s.wire.wire s queued + second_life s.wire.lossy (length s.guest.frames + length s.hub.frames + queued)
+remaining_of s queued = life s.wire.wire s queued + second_life s.wire.lossy
 
 -- THE NUMBER
 abbrev pub remaining : PortState → ℕ
 remaining s = remaining_of s.lane (length s.queue)
+
+-- THE FRAMES that both ends hold, and those in the out queue; and those of them that aren't published in an open session
+abbrev pub frames_held : PortState → ℕ
+frames_held s = length s.lane.guest.frames + length s.lane.hub.frames + length s.queue
+
+abbrev pub kept_in : NetLaneState → (queued : ℕ) → ℕ
+kept_in s queued = (length s.guest.frames - unseen s.guest.session) + (length s.hub.frames + queued - unseen s.hub.session)
+
+abbrev pub frames_kept : PortState → ℕ
+frames_kept s = kept_in s.lane (length s.queue)

@@ -1,6 +1,10 @@
--- Which steps of an end lower what remains whatever comes, and which are calm.
-use Rattle.std.specs.Prelude.{⊤}
-use Rattle.port_model.specs.NetEndStep.{Blocked, Idle, Joined, NetAnswer, Published, Sent}
+-- Which steps of an end lower what remains whatever comes, which are calm, and what resets an end.
+use Rattle.std.specs.Prelude.{◌≡◌, ⊤}
+use Rattle.ldc_queue.specs.declared.end.End.{End}
+use Rattle.ldc_queue.specs.declared.end.End.TheVariants.{A}
+use Rattle.port_model.specs.NetEndStep.{Blocked, Idle, Joined, NetAnswer, Published, Reset, Sent}
+use Rattle.port_model.specs.NetEvent.{Asked, Steps, Ticked}
+use Rattle.port_model.specs.PortState.{OnLane, PortEvent}
 
 -- it takes nothing: it joins, puts a packet, or publishes a frame
 abbrev pub TakesNothing : NetAnswer → Type 0
@@ -14,3 +18,10 @@ abbrev pub IsCalm : NetAnswer → Type 0
 IsCalm Blocked = ⊤
 IsCalm Idle = ⊤
 IsCalm _ = ⊥
+
+-- it is reset: by its own step, by the script, or by a tick
+abbrev pub IsReset : End → PortEvent → Type 0
+IsReset e (OnLane (Steps end (Reset cause packet lost))) = end ≡ e
+IsReset e (OnLane (Asked end lost)) = end ≡ e
+IsReset e (OnLane (Ticked queued lost)) = A ≡ e
+IsReset e _ = ⊥

@@ -1,14 +1,16 @@
 // What remains to be done on a port, along every run.
 
-ghost use Rattle.std.specs.Prelude.{◌≡◌, ◌<◌, ◌≤◌, ℕ, Bool, false, List};
+ghost use Rattle.std.specs.Prelude.{◌≡◌, ◌*◌, ◌+◌, ◌<◌, ◌≤◌, ◌⊎◌, ℕ, Bool, false, List, Option, true};
 ghost use Rattle.runs.specs.Run.{Run};
+ghost use Rattle.channel_model.specs.WireAt.{IsUp};
 ghost use Rattle.ldc_queue.specs.declared.end.End.{End};
-ghost use Rattle.port_model.specs.NetEndStep.{Frame, NetAnswer, Took};
+ghost use Rattle.vio_tag.specs.declared.cause.Cause.{Cause};
+ghost use Rattle.port_model.specs.NetEndStep.{Frame, NetAnswer, Reset, Took};
 ghost use Rattle.port_model.specs.NetEvent.{Steps};
 ghost use Rattle.port_model.specs.NetLaneState.{IsNetShape, NetShape};
 ghost use Rattle.port_model.specs.PortState.{fresh_port, OnLane, PortEvent, PortState, PortStep};
-ghost use Rattle.port_laws.specs.Remaining.{remaining};
-ghost use Rattle.port_laws.specs.RemainingSteps.{IsCalm, TakesNothing};
+ghost use Rattle.port_laws.specs.Remaining.{frames_held, frames_kept, remaining};
+ghost use Rattle.port_laws.specs.RemainingSteps.{IsCalm, IsReset, TakesNothing};
 
 /// What remains to be done on a port, along every run, forged or not. A fresh port has 76 before it. Each step of an
 /// end that takes nothing lowers it: that an end joins, puts a packet, or publishes a frame. A step that is idle or has
@@ -27,4 +29,43 @@ pub fn what_remains_on_a_port_falls_by_what_an_end_does()
     ensures frames { (shape : NetShape) (events : List PortEvent) (s : PortState) (e : End) (frame : List ℕ) (t : PortState)
         → IsNetShape shape → Run PortStep (fresh_port shape) events s → s.lane.wire.forged ≡ false
         → PortStep s (OnLane (Steps e (Frame frame))) t → remaining t < remaining s }
+{}
+
+/// What remains on a port behind a reset, along every run, forged or not. An end is reset by a step of its own, by the
+/// script, or by a tick. If it was up exactly 75 remain, and 8 for each frame that isn't published in an open session. If
+/// it wasn't, or a packet was lost before, that is less than remained. Where nobody forged, a reset by a step lowers it.
+pub fn what_remains_on_a_port_falls_by_a_reset_behind_a_loss()
+    ensures resets { (shape : NetShape) (events : List PortEvent) (s : PortState) (e : End) (event : PortEvent) (t : PortState)
+        → IsNetShape shape → Run PortStep (fresh_port shape) events s → PortStep s event t → IsReset e event
+        → IsUp e s.lane.wire.wire → remaining t ≡ 75 + 8 * frames_kept t }
+    ensures again { (shape : NetShape) (events : List PortEvent) (s : PortState) (e : End) (event : PortEvent) (t : PortState)
+        → IsNetShape shape → Run PortStep (fresh_port shape) events s → PortStep s event t → IsReset e event
+        → (IsUp e s.lane.wire.wire → s.lane.wire.lossy ≡ true) → remaining t < remaining s }
+    ensures own { (shape : NetShape) (events : List PortEvent) (s : PortState) (e : End) (cause : Cause) (packet : Option (List ℕ))
+        (lost : ℕ) (t : PortState) → IsNetShape shape → Run PortStep (fresh_port shape) events s → s.lane.wire.forged ≡ false
+        → PortStep s (OnLane (Steps e (Reset cause packet lost))) t → remaining t < remaining s }
+{}
+
+/// On a port that nobody forged each step of an end lowers what remains, but a calm one. That is idle or has no room for
+/// its packet, and doesn't raise it.
+pub fn each_step_of_a_port_but_a_calm_one_lowers_what_remains()
+    ensures { (shape : NetShape) (events : List PortEvent) (s : PortState) (e : End) (answer : NetAnswer) (t : PortState)
+        → IsNetShape shape → Run PortStep (fresh_port shape) events s → s.lane.wire.forged ≡ false
+        → PortStep s (OnLane (Steps e answer)) t → (IsCalm answer × (remaining t ≤ remaining s)) ⊎ (remaining t < remaining s) }
+{}
+
+/// What remains on a port that nobody forged is at most 117, and 8 for each frame that is held or in the out queue.
+/// Where a packet was lost since the queues were last emptied it is at most 189, and no more for each frame: those that
+/// are published don't outlast a reset. So it is whatever was lost and reset on the way there. The count of a settling
+/// allows 192 for a lane, its one tick included, and 64 for each frame.
+pub fn little_remains_on_a_port_that_nobody_forged()
+    ensures whole { (shape : NetShape) (events : List PortEvent) (s : PortState)
+        → IsNetShape shape → Run PortStep (fresh_port shape) events s → s.lane.wire.forged ≡ false → s.lane.wire.lossy ≡ false
+        → remaining s ≤ 117 + 8 * frames_held s }
+    ensures lossy { (shape : NetShape) (events : List PortEvent) (s : PortState)
+        → IsNetShape shape → Run PortStep (fresh_port shape) events s → s.lane.wire.forged ≡ false
+        → remaining s ≤ 189 + 8 * frames_held s }
+    ensures allowed { (shape : NetShape) (events : List PortEvent) (s : PortState)
+        → IsNetShape shape → Run PortStep (fresh_port shape) events s → s.lane.wire.forged ≡ false
+        → remaining s ≤ 192 + 64 * frames_held s }
 {}

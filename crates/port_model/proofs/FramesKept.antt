@@ -34,7 +34,7 @@ of_some : {X : Type 0} (P : X → Type 0) (x y : X) → Some x ≡ Some y → P 
 of_some {X} P x y same holds = let is : x ≡ y = cc in subst P is holds
 
 -- IT BEGINS ANEW
-held_in : (s : NetEndState) (session : Option NetSession) → s.session ≡ session → FramesStand s → unseen session ≤ length s.frames
+pub held_in : (s : NetEndState) (session : Option NetSession) → s.session ≡ session → FramesStand s → unseen session ≤ length s.frames
 held_in s None is stands = omega arith
 held_in s (Some p) is stands = let counts : CountsStand s p = subst (λ (x : Option NetSession). IfOpen x (CountsStand s)) is stands.session in counts.held
 

@@ -1,0 +1,194 @@
+-- What remains on a port behind a reset: as much as on one that begins with all its frames, but that one end is up.
+use Rattle.std.proofs.Common.{◌≡◌, ◌≢◌, ℕ, ◌+◌, ◌-◌, ◌*◌, ◌<◌, ◌≤◌, ◌⊎◌, inl, inr, Bool, true, false, Option, None, Some, List, length, refl, sym, subst, ap, ◌∙◌, arith, length-drop}
+use Rattle.ldc_link.specs.declared.phase.Role.{Role}
+use Rattle.ldc_link.specs.declared.phase.Role.TheVariants.{Initiator, Responder}
+use Rattle.ldc_queue.specs.declared.end.ChannelState.{ChannelState}
+use Rattle.ldc_queue.specs.declared.end.ChannelState.TheVariants.{Down, Resetting, Up}
+use Rattle.ldc_queue.specs.declared.end.End.{End}
+use Rattle.ldc_queue.specs.declared.end.End.TheVariants.{A, B}
+use Rattle.ldc_queue.specs.Wire.{Wire, state_of, upset}
+use Rattle.runs.specs.Lawful.{log_of}
+use Rattle.runs.specs.Run.{Run}
+use Rattle.vio_tag.specs.declared.cause.Cause.{Cause}
+use Rattle.channel_model.specs.WireAt.{IsUp}
+use Rattle.channel_model.specs.WireLog.{WireLog}
+use Rattle.port_model.proofs.FramesKept.{held_in}
+use Rattle.port_model.specs.NetEndState.{NetEndState, NetSession, joined_net_end, unseen}
+use Rattle.port_model.specs.NetEndStep.{Blocked, Frame, Idle, Joined, NetAnswer, NetLeft, Published, Reset, Sent, Took}
+use Rattle.port_model.specs.NetEvent.{Asked, NetEvent, Steps, Ticked}
+use Rattle.port_model.specs.NetLaneState.{IsNetShape, NetLaneState, NetShape, with_left}
+use Rattle.port_model.specs.NetLaneStep.{net_wire}
+use Rattle.port_model.specs.PortLog.{PortLog, after, no_events}
+use Rattle.port_model.specs.PortState.{OnLane, PortEvent, PortState, PortStep, before, fresh_port}
+use Rattle.port_laws.specs.Remaining.{absent, end_left, first_left, frames_kept, kept_in, remaining, remaining_of, second_life, session_left}
+use Rattle.port_laws.specs.RemainingSteps.{IsCalm, IsReset}
+use Rattle.port_laws.proofs.NoRefusal.{step_resets}
+use Rattle.port_laws.proofs.PortCounts.{Ready, before_wire}
+use Rattle.port_laws.proofs.RemainingEnds.{up_left}
+use Rattle.port_laws.proofs.RemainingFrames.{port_frame}
+use Rattle.port_laws.proofs.RemainingSteps.{away_falls, begun_left, joined_a, joined_at, joined_b, port_calm, port_falls, ready_here, steps_before}
+use Rattle.port_laws.proofs.RemainingTakes.{port_took}
+use Rattle.port_laws.proofs.TalkRuns.{port_talk}
+
+-- THE LANE behind a reset of an end
+reset_lane : (e : End) (s : PortState) (event : NetEvent) (t : PortState) → PortStep s (OnLane event) t → IsReset e (OnLane event) → t.lane ≡ joined_at e (before event s).lane
+reset_lane A s (Steps A (Reset cause packet lost)) t step is =
+    step.1.is ∙ ap (λ (x : NetLeft). record (with_left A x s.lane) { wire = net_wire (Steps A (Reset cause packet lost)) s.lane }) step.1.step.2
+reset_lane B s (Steps B (Reset cause packet lost)) t step is =
+    let u : NetLaneState = (before (Steps B (Reset cause packet lost)) s).lane in
+    step.1.is ∙ ap (λ (x : NetLeft). record (with_left B x u) { wire = net_wire (Steps B (Reset cause packet lost)) u }) step.1.step.2
+reset_lane A s (Steps B (Reset cause packet lost)) t step is = absurd (cc is)
+reset_lane B s (Steps A (Reset cause packet lost)) t step is = absurd (cc is)
+reset_lane A s (Asked A lost) t step is = step.1.1
+reset_lane B s (Asked B lost) t step is = step.1.1
+reset_lane A s (Asked B lost) t step is = absurd (cc is)
+reset_lane B s (Asked A lost) t step is = absurd (cc is)
+reset_lane A s (Ticked queued lost) t step is = step.1.1.1
+reset_lane B s (Ticked queued lost) t step is = absurd (cc is)
+reset_lane e s _ t step is = absurd is
+
+reset_before : (e : End) (s : PortState) (event : NetEvent) → IsReset e (OnLane event) → remaining (before event s) ≡ remaining s
+reset_before e s (Steps end (Reset cause packet lost)) is = steps_before end (Reset cause packet lost) s
+reset_before e s (Asked end lost) is = refl
+reset_before e s (Ticked queued lost) is = refl
+reset_before e s _ is = absurd is
+
+-- AN END THAT WAS UP: the queues are empty, and the other end isn't up
+away : (y : ChannelState) → absent (upset y) ≡ 1
+away Up = refl
+away Down = refl
+away Resetting = refl
+
+away_left : (y : ChannelState) (role : Role) (more : ℕ) (memory : List ℕ) (s : NetEndState) → end_left (upset y) role more memory s ≡ first_left role (length s.frames + more - unseen s.session)
+away_left Up role more memory s = refl
+away_left Down role more memory s = refl
+away_left Resetting role more memory s = refl
+
+begins_a : (x : ChannelState) (g : NetEndState) (u : NetLaneState) (queued : ℕ) → x ≡ Up → up_left Initiator 0 u.guest_memory g ≡ first_left Initiator (length u.guest.frames + 0 - unseen u.guest.session)
+    → remaining_of (joined_a x g u) queued ≡ 75 + 8 * kept_in u queued
+begins_a Up g u queued up first = omega (arith, first, away u.wire.wire.end_b, away_left u.wire.wire.end_b Responder queued u.hub_memory u.hub)
+begins_a Down g u queued up first = absurd (cc up)
+begins_a Resetting g u queued up first = absurd (cc up)
+
+begins_b : (x : ChannelState) (h : NetEndState) (u : NetLaneState) (queued : ℕ) → x ≡ Up → up_left Responder queued u.hub_memory h ≡ first_left Responder (length u.hub.frames + queued - unseen u.hub.session)
+    → remaining_of (joined_b x h u) queued ≡ 75 + 8 * kept_in u queued
+begins_b Up h u queued up first = omega (arith, first, away u.wire.wire.end_a, away_left u.wire.wire.end_a Initiator 0 u.guest_memory u.guest)
+begins_b Down h u queued up first = absurd (cc up)
+begins_b Resetting h u queued up first = absurd (cc up)
+
+begins_at : (e : End) (shape : NetShape) (u : PortState) (l : PortLog) → Ready shape u l → IsUp e u.lane.wire.wire → remaining_of (joined_at e u.lane) (length u.queue) ≡ 75 + 8 * frames_kept u
+begins_at A shape u l ready up = begins_a u.lane.wire.wire.end_a (joined_net_end Initiator u.lane.guest) u.lane (length u.queue) up (begun_left A shape u l ready)
+begins_at B shape u l ready up = begins_b u.lane.wire.wire.end_b (joined_net_end Responder u.lane.hub) u.lane (length u.queue) up (begun_left B shape u l ready)
+
+-- it keeps the frames that aren't published
+kept_same : (e : End) (shape : NetShape) (u : PortState) (l : PortLog) → Ready shape u l → kept_in (joined_at e u.lane) (length u.queue) ≡ frames_kept u
+kept_same A shape u l ready = omega (arith, length-drop (unseen u.lane.guest.session) u.lane.guest.frames)
+kept_same B shape u l ready =
+    let held = held_in u.lane.hub u.lane.hub.session refl ready.stands.1 in
+    omega (arith, held, length-drop (unseen u.lane.hub.session) u.lane.hub.frames)
+
+-- each of them counts eight
+session_least : (role : Role) (slots held : ℕ) (memory : List ℕ) (session : Option NetSession) → 8 * (held - unseen session) ≤ session_left role slots held memory session
+session_least role slots held memory None = omega arith
+session_least role slots held memory (Some p) = omega arith
+
+end_least : (x : ChannelState) (role : Role) (more : ℕ) (memory : List ℕ) (s : NetEndState) → 8 * (length s.frames + more - unseen s.session) ≤ end_left x role more memory s
+end_least Up role more memory s = omega (arith, session_least role s.slots (length s.frames + more) memory s.session)
+end_least Down Initiator more memory s = omega arith
+end_least Down Responder more memory s = omega arith
+end_least Resetting Initiator more memory s = omega arith
+end_least Resetting Responder more memory s = omega arith
+
+second_is : (lossy : Bool) → lossy ≡ true → second_life lossy ≡ 76
+second_is true lossy = refl
+second_is false lossy = absurd (cc lossy)
+
+lossy_least : (u : PortState) → u.lane.wire.lossy ≡ true → 76 + 8 * frames_kept u ≤ remaining u
+lossy_least u lossy =
+    omega (
+      arith,
+      second_is u.lane.wire.lossy lossy,
+      end_least u.lane.wire.wire.end_a Initiator 0 u.lane.guest_memory u.lane.guest,
+      end_least u.lane.wire.wire.end_b Responder (length u.queue) u.lane.hub_memory u.lane.hub,
+    )
+
+-- ALONG EVERY RUN
+left_behind : (t : PortState) (u : NetLaneState) (queue : List (List ℕ)) → t.lane ≡ u → t.queue ≡ queue → remaining t ≡ remaining_of u (length queue)
+left_behind t u queue lane is = ap (λ (x : NetLaneState). remaining_of x (length t.queue)) lane ∙ ap (λ (x : List (List ℕ)). remaining_of u (length x)) is
+
+kept_behind : (t : PortState) (u : NetLaneState) (queue : List (List ℕ)) → t.lane ≡ u → t.queue ≡ queue → frames_kept t ≡ kept_in u (length queue)
+kept_behind t u queue lane is = ap (λ (x : NetLaneState). kept_in x (length t.queue)) lane ∙ ap (λ (x : List (List ℕ)). kept_in u (length x)) is
+
+up_before : (e : End) (event : NetEvent) (s : PortState) → IsUp e s.lane.wire.wire → IsUp e (before event s).lane.wire.wire
+up_before e event s up = ap (λ (w : WireLog). state_of e w.wire) (before_wire event s) ∙ up
+
+pub port_begins : (shape : NetShape) (events : List PortEvent) (s : PortState) (e : End) (event : PortEvent) (t : PortState) → IsNetShape shape → Run PortStep (fresh_port shape) events s
+    → PortStep s event t → IsReset e event → IsUp e s.lane.wire.wire → remaining t ≡ 75 + 8 * frames_kept t
+port_begins shape events s e (OnLane event) t sound run step is up =
+    let u : PortState = before event s in
+    let lane = reset_lane e s event t step is in
+    let ready = ready_here shape events s event sound run in
+    omega (
+      arith,
+      left_behind t (joined_at e u.lane) u.queue lane step.2,
+      kept_behind t (joined_at e u.lane) u.queue lane step.2,
+      kept_same e shape u _ ready,
+      begins_at e shape u _ ready (up_before e event s up),
+    )
+port_begins shape events s e _ t sound run step is up = absurd is
+
+up_or_not : (x : ChannelState) → (x ≡ Up) ⊎ (x ≢ Up)
+up_or_not Up = inl refl
+up_or_not Down = inr (λ up. cc up)
+up_or_not Resetting = inr (λ up. cc up)
+
+pub port_again : (shape : NetShape) (events : List PortEvent) (s : PortState) (e : End) (event : PortEvent) (t : PortState) → IsNetShape shape → Run PortStep (fresh_port shape) events s
+    → PortStep s event t → IsReset e event → (IsUp e s.lane.wire.wire → s.lane.wire.lossy ≡ true) → remaining t < remaining s
+port_again shape events s e (OnLane event) t sound run step is lossy = by_state (up_or_not (state_of e s.lane.wire.wire))
+  where
+    u : PortState
+    u = before event s
+
+    ready : Ready shape u (log_of after (no_events shape) events)
+    ready = ready_here shape events s event sound run
+
+    left : remaining t ≡ remaining_of (joined_at e u.lane) (length u.queue)
+    left = left_behind t (joined_at e u.lane) u.queue (reset_lane e s event t step is) step.2
+
+    was : remaining u ≡ remaining s
+    was = reset_before e s event is
+
+    by_state : (state_of e s.lane.wire.wire ≡ Up) ⊎ (state_of e s.lane.wire.wire ≢ Up) → remaining t < remaining s
+    by_state (inr not_up) =
+        let falls = away_falls e shape u _ ready (λ up. not_up (sym (ap (λ (w : WireLog). state_of e w.wire) (before_wire event s)) ∙ up)) in
+        omega (arith, left, was, falls)
+    by_state (inl up) =
+        omega (
+          arith,
+          left,
+          was,
+          begins_at e shape u _ ready (up_before e event s up),
+          lossy_least u (ap (λ (w : WireLog). w.lossy) (before_wire event s) ∙ lossy up),
+        )
+port_again shape events s e _ t sound run step is lossy = absurd is
+
+-- WHERE NOBODY FORGED an end resets itself behind a loss alone
+pub port_own : (shape : NetShape) (events : List PortEvent) (s : PortState) (e : End) (cause : Cause) (packet : Option (List ℕ)) (lost : ℕ) (t : PortState) → IsNetShape shape
+    → Run PortStep (fresh_port shape) events s → s.lane.wire.forged ≡ false → PortStep s (OnLane (Steps e (Reset cause packet lost))) t → remaining t < remaining s
+port_own shape events s e cause packet lost t sound run clean step =
+    let talk = port_talk shape events s sound run in
+    let wire : s.lane.wire ≡ (log_of after (no_events shape) events).wire = talk.ways.kept.counts.wire in
+    let own = step_resets shape s t _ e cause packet lost sound talk (sym (ap (λ (w : WireLog). w.forged) wire) ∙ clean) step.1 in
+    port_again shape events s e (OnLane (Steps e (Reset cause packet lost))) t sound run step refl (λ up. ap (λ (w : WireLog). w.lossy) wire ∙ own.lossy)
+
+-- so each step but a calm one lowers what remains
+pub port_lowers : (shape : NetShape) (events : List PortEvent) (s : PortState) (e : End) (answer : NetAnswer) (t : PortState) → IsNetShape shape → Run PortStep (fresh_port shape) events s
+    → s.lane.wire.forged ≡ false → PortStep s (OnLane (Steps e answer)) t → (IsCalm answer × (remaining t ≤ remaining s)) ⊎ (remaining t < remaining s)
+port_lowers shape events s e (Joined lost) t sound run clean step = inr (port_falls shape events s e (Joined lost) t sound run step tt)
+port_lowers shape events s e (Sent packet opens) t sound run clean step = inr (port_falls shape events s e (Sent packet opens) t sound run step tt)
+port_lowers shape events s e (Published id) t sound run clean step = inr (port_falls shape events s e (Published id) t sound run step tt)
+port_lowers shape events s e (Took packet opens) t sound run clean step = inr (port_took shape events s e packet opens t sound run clean step)
+port_lowers shape events s e (Frame frame) t sound run clean step = inr (port_frame shape events s e frame t sound run clean step)
+port_lowers shape events s e (Reset cause packet lost) t sound run clean step = inr (port_own shape events s e cause packet lost t sound run clean step)
+port_lowers shape events s e Blocked t sound run clean step = inl (tt, port_calm shape events s e Blocked t sound run step tt)
+port_lowers shape events s e Idle t sound run clean step = inl (tt, port_calm shape events s e Idle t sound run step tt)
