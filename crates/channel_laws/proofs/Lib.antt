@@ -26,6 +26,8 @@ pub mod Sessions
 pub mod NextPacket
 pub mod LinkTurns
 pub mod PartsSaid
+pub mod PartsWaiting
+pub mod ManyWait
 pub mod LinkResets
 pub mod HandshakeResets
 pub mod LinkRefuses

@@ -43,7 +43,7 @@ data_part (Rts mode) carries = absurd carries
 data_part (Rtr mode) carries = absurd carries
 data_part Rdx carries = absurd carries
 
-part_is : (packet : List ℕ) (part : IsPartOf packet) → is_part packet ≡ true
+pub part_is : (packet : List ℕ) (part : IsPartOf packet) → is_part packet ≡ true
 part_is packet part = spelled_part packet part.packet (part_spells packet part) ∙ data_part part.packet.body part.carries
 
 next_may : (said heard : List (List ℕ)) (packet : List ℕ) → AllMayCome [] (fragments_in said) → is_part packet ≡ true → IsNext said heard packet

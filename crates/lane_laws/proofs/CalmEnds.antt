@@ -39,7 +39,8 @@ use Rattle.lane_laws.specs.ChannelEnds.{server_core}
 use Rattle.channel_laws.proofs.HandshakePlaces.{deal, open_place}
 use Rattle.channel_laws.proofs.WhoseTurn.{never_both}
 use Rattle.vio_handshake.proofs.Places.{AllSaid}
-use Rattle.lane_laws.proofs.NeverBoth.{client_owes, holds_urgent, many_wait, server_owes}
+use Rattle.channel_laws.proofs.ManyWait.{many_wait}
+use Rattle.lane_laws.proofs.NeverBoth.{client_owes, holds_urgent, server_owes}
 use Rattle.lane_laws.proofs.QuietEnds.{BothRest, Finished, quiet_ends}
 use Rattle.lane_laws.proofs.WorkNumbers.{Grounded, at_client, at_server}
 use Rattle.lane_laws.proofs.WorkRuns.{run_grounded}

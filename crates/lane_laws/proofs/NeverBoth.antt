@@ -20,41 +20,12 @@ use Rattle.channel_model.specs.Seeing.{Seen}
 use Rattle.disk_model.specs.ServerPutting.{server_holds}
 use Rattle.disk_model.specs.ServerRule as server
 use Rattle.disk_model.specs.ServerState.{ServerSession, ServerState, SlotRange, Work}
+use Rattle.channel_laws.proofs.ManyWait.{owes_some}
 use Rattle.lane_laws.proofs.RulesFree.{ServerFree, server_free}
 use Rattle.channel_laws.specs.Standing.{EndStands}
 use Rattle.lane_laws.proofs.Speaking.{holds_owed}
 use Rattle.lane_laws.specs.ChannelEnds.{client_core}
 use Rattle.lane_laws.specs.Counted.{ServerCounted}
-use Rattle.channel_laws.specs.LinkPlaces.{AnswerTaken, AtMost, BothUp, LinkPlace, ModeAgreed, ModeAnswered, ModePut, ModeTaken, NothingPut, ReadyPut, VersionAnswered, VersionPut, VersionTaken, Waits}
-
--- THE LINKS ARE UP where many packets wait for both ends
-few_wait : (lossy : Bool) (p : Packet) (waiting : List (List ℕ)) → AtMost lossy p waiting → 2 ≤ length waiting → ⊥
-few_wait lossy p waiting (inl none) many = omega (arith, many, ap length none.0)
-few_wait lossy p waiting (inr one) many = omega (arith, many, ap length one)
-
-none_wait : (waiting : List (List ℕ)) → waiting ≡ [] → 2 ≤ length waiting → ⊥
-none_wait waiting none many = omega (arith, many, ap length none)
-
-pub many_wait : (place : LinkPlace) (lossy : Bool) (to_a to_b : List (List ℕ)) → Waits Responder lossy place to_b → Waits Initiator lossy place to_a → 2 ≤ length to_a → 2 ≤ length to_b → place ≡ BothUp
-many_wait BothUp lossy to_a to_b to_server to_client many_a many_b = refl
-many_wait VersionAnswered lossy to_a to_b to_server to_client many_a many_b = absurd (few_wait lossy _ to_a to_client many_a)
-many_wait ModeAnswered lossy to_a to_b to_server to_client many_a many_b = absurd (few_wait lossy _ to_a to_client many_a)
-many_wait NothingPut lossy to_a to_b to_server to_client many_a many_b = absurd (none_wait to_a to_client many_a)
-many_wait VersionPut lossy to_a to_b to_server to_client many_a many_b = absurd (none_wait to_a to_client many_a)
-many_wait VersionTaken lossy to_a to_b to_server to_client many_a many_b = absurd (none_wait to_a to_client many_a)
-many_wait AnswerTaken lossy to_a to_b to_server to_client many_a many_b = absurd (none_wait to_a to_client many_a)
-many_wait ModePut lossy to_a to_b to_server to_client many_a many_b = absurd (none_wait to_a to_client many_a)
-many_wait ModeTaken lossy to_a to_b to_server to_client many_a many_b = absurd (none_wait to_a to_client many_a)
-many_wait ModeAgreed lossy to_a to_b to_server to_client many_a many_b = absurd (none_wait to_a to_client many_a)
-many_wait ReadyPut lossy to_a to_b to_server to_client many_a many_b = absurd (none_wait to_a to_client many_a)
-
--- A LINK THAT IS UP and owes a packet holds a message
-some_part : (k : LinkState) (left : List ℕ) → is_some (part_owed k left) ≡ true → 1 ≤ length left
-some_part k [] owed = absurd (cc owed)
-some_part k (byte ∷ bytes) owed = omega arith
-
-pub holds_some : (k : LinkState) → k.phase ≡ phase.Established → owes k ≡ true → 1 ≤ length k.to_send
-holds_some k at owed = some_part k k.to_send (ap (λ (ph : LinkPhase). is_some (owed_in ph k)) (sym at) ∙ owed)
 
 -- A CLIENT for which a packet waits holds a message only where that goes before taking
 abbrev HoldsUrgent : ClientState → client.ClientRule → Type 0
@@ -104,7 +75,7 @@ pub client_owes : (s : ClientState) (turns : List Turn) → EndStands Initiator 
 client_owes s turns stands at urgent =
     elim (by_parts (owes_control s.link) (is_some s.handshake.owed) (is_none s.session) (owes s.link) urgent (no_control s.link at)) [
       | inl owed ↦ owed
-      | inr both ↦ ap is_some (holds_owed Initiator (client_core s) turns stands (not_announcing s.session both.0) (holds_some s.link at both.1)).owed_is
+      | inr both ↦ ap is_some (holds_owed Initiator (client_core s) turns stands (not_announcing s.session both.0) (owes_some s.link at both.1)).owed_is
     ]
 
 -- A SERVER that holds a message owes one of its handshake, or its session is open
@@ -148,7 +119,7 @@ by_rule shape s turns d server.Puts t counted at owed free holds =
   where
     by_owed : (o : Option Message) → s.handshake.owed ≡ o → Owes s.handshake.owed ⊎ (is_some s.session ≡ true)
     by_owed (Some message) is = inl (ap is_some is)
-    by_owed None is = inr (ap is_some (counted.holds is (holds_some s.link at owed)).session_is)
+    by_owed None is = inr (ap is_some (counted.holds is (owes_some s.link at owed)).session_is)
 by_rule shape s turns d (server.Says message) t counted at owed free holds =
     elim free.1 [
       | inl is ↦ inl (ap is_some is)

@@ -71,3 +71,7 @@ mod MemoryLong
 pub mod RuleTable
 mod RingFinds
 pub mod RuleSlots
+mod LastEvent
+mod FewWait
+mod NeverFull
+pub mod CalmTurns

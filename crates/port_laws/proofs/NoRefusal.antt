@@ -327,7 +327,7 @@ takes_it e u cause packet Idles is fails = absurd fails
 own_gap : (w : WireLog) (lossy : Bool) (cause : Cause) → w.lossy ≡ lossy → IsGapBehindLoss lossy cause → IsOwnReset w cause
 own_gap w lossy cause is gap = record { expected = gap.expected; found = gap.found; gap = gap.gap; lossy = is ∙ gap.lossy_is }
 
-parts_at : (shape : NetShape) (s : PortState) (l : PortLog) (e : End) → IsNetShape shape → PortCounts shape s l → PartsSaid (transcript_of e l.transcript)
+pub parts_at : (shape : NetShape) (s : PortState) (l : PortLog) (e : End) → IsNetShape shape → PortCounts shape s l → PartsSaid (transcript_of e l.transcript)
 parts_at shape s l A is counts =
     subst (λ (x : TranscriptLog). PartsSaid x.client) (spoken_behind shape counts.events ∙ sym (ap (λ (x : PortLog). x.transcript) counts.log))
     (parts_run shape.entries (asks_of shape) (answers_of shape) (port_events counts.events) (port_core s) (sizes_fit shape is) (fresh_port_core shape counts.events s counts.run)).a.parts

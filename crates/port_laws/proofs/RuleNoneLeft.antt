@@ -102,13 +102,13 @@ rests_seen slots v w infos acks no_info no_ack answered announced within (Comes 
     let wrong : ack ∷ [] ≡ [] = sym one_ack ∙ no_ack in absurd (cc wrong)
 
 -- AN IDLE END, by its log
-record IdleEnd (e : End) (u : PortState) (l : PortLog) (v : SessionLog) : Type 0 where
+pub record IdleEnd (e : End) (u : PortState) (l : PortLog) (v : SessionLog) : Type 0 where
   answered : v.acks ≡ v.asked
   announced : v.seen < v.published → v.asking ≡ true
-  unseen : v.published - v.seen ≡ length (net_end e u.lane).frames
+  pub unseen : v.published - v.seen ≡ length (net_end e u.lane).frames
   within : v.seen ≤ v.published
 
-idle_end : (shape : NetShape) (e : End) (u : PortState) (l : PortLog) (v : SessionLog) → Finds shape u l → port_rule (role_at e) (net_end e u.lane) (seen_at e u.lane) ≡ Idles → (log_of_end e l).session ≡ Some v
+pub idle_end : (shape : NetShape) (e : End) (u : PortState) (l : PortLog) (v : SessionLog) → Finds shape u l → port_rule (role_at e) (net_end e u.lane) (seen_at e u.lane) ≡ Idles → (log_of_end e l).session ≡ Some v
     → IdleEnd e u l v
 idle_end shape e u l v finds idles log =
     let s : NetEndState = net_end e u.lane in

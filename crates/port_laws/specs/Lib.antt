@@ -12,3 +12,9 @@ pub mod WaysStand
 pub mod NoneLeft
 pub mod NoneUntold
 pub mod NoSlotReset
+pub use Rattle.port_model.specs.NetEndState
+pub use Rattle.port_model.specs.NetEndStep
+pub use Rattle.port_model.specs.NetEvent
+pub use Rattle.port_model.specs.NetLaneState
+pub use Rattle.port_model.specs.NetLaneStep
+pub use Rattle.port_model.specs.PortState

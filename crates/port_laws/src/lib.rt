@@ -28,6 +28,7 @@ pub use reset_laws::{
     a_packet_resets_a_session_of_a_port_for_its_first_cause, resets_of_a_port_say_why,
 };
 pub use rest_laws::{
+    a_calm_turn_finishes_a_port,
     a_tick_is_calm_where_the_port_is_finished, an_end_resets_itself_without_a_packet_for_a_slot,
     an_idle_end_of_a_port_has_nothing_to_do, only_an_end_that_is_up_moves_frames,
     two_idle_ends_of_a_port_are_in_session,

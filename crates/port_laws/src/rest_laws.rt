@@ -1,14 +1,19 @@
 // Why an end of a port resets itself, where a port is finished, and where its ends may be idle, along every run, forged
 // or not.
 
-ghost use Rattle.std.specs.Prelude.{List};
+ghost use Rattle.std.specs.Prelude.{◌≡◌, false, length, List, true};
 ghost use Rattle.runs.specs.Lawful.{Lawful};
 ghost use Rattle.runs.specs.Run.{Run};
+ghost use Rattle.ldc_queue.specs.declared.end.End.TheVariants.{A, B};
 ghost use Rattle.port_model.specs.FrameLaws.{OwnResetAt, TickAt, WorksAt};
+ghost use Rattle.port_model.specs.NetEndStep.{NetAnswer};
+ghost use Rattle.port_model.specs.NetEvent.{Steps};
 ghost use Rattle.port_model.specs.NetLaneState.{IsNetShape, NetShape};
+ghost use Rattle.port_model.specs.NetLaneStep.{is_finished};
 ghost use Rattle.port_model.specs.PortLog.{after, no_events};
-ghost use Rattle.port_model.specs.PortState.{fresh_port, PortEvent, PortState, PortStep};
+ghost use Rattle.port_model.specs.PortState.{fresh_port, OnLane, PortEvent, PortState, PortStep};
 ghost use Rattle.port_model.specs.RestLaws.{IdleAt, TwoIdleAt};
+ghost use Rattle.port_laws.specs.RemainingSteps.{IsCalm};
 
 /// Along every run of a port, forged or not, only an end whose channel end is up publishes a frame or takes one.
 pub fn only_an_end_that_is_up_moves_frames()
@@ -45,4 +50,13 @@ pub fn an_idle_end_of_a_port_has_nothing_to_do()
 pub fn two_idle_ends_of_a_port_are_in_session()
     ensures { (shape : NetShape) (events : List PortEvent) (s : PortState) → IsNetShape shape → Run PortStep (fresh_port shape) events s
         → Lawful TwoIdleAt after (no_events shape) events }
+{}
+
+/// On a port that nobody forged, where no packet was lost since the queues were last emptied, let first the guest's end
+/// and then the switch's be idle or find no room for its packet. Then both were idle, and the port is finished: no frame
+/// is held at either end or in the out queue, and the guest told all its groups.
+pub fn a_calm_turn_finishes_a_port()
+    ensures { (shape : NetShape) (events : List PortEvent) (s m t : PortState) (one two : NetAnswer) → IsNetShape shape
+        → Run PortStep (fresh_port shape) events s → s.lane.wire.forged ≡ false → s.lane.wire.lossy ≡ false → IsCalm one → IsCalm two
+        → PortStep s (OnLane (Steps A one)) m → PortStep m (OnLane (Steps B two)) t → is_finished t.lane (length t.queue) ≡ true }
 {}

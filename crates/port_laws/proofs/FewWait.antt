@@ -1,0 +1,344 @@
+-- While a guest that nobody forged is in session, and nothing was lost, at most five packets of its wait for the switch's end: the end of its
+-- handshake, an INFO, an ACK and its groups, each whole in one packet.
+use Rattle.std.proofs.Common.{◌≡◌, ◌≢◌, ℕ, zero, suc, ◌+◌, ◌*◌, ◌≤◌, ◌⊎◌, inl, inr, Bool, true, false, Option, Some, None, List, [], ◌∷◌, ◌++◌, length, drop, refl, sym, subst, ap, ◌∙◌, arith, length-append}
+use Rattle.std.specs.Prelude.{◌==◌, is_none, is_some}
+use Rattle.std.proofs.lemmas.Bool.{eq-eqb}
+use Rattle.std.proofs.lemmas.List.{append-nil, append_cancel_left}
+use Rattle.ldc_link.specs.declared.phase.LinkPhase.{LinkPhase}
+use Rattle.ldc_link.specs.declared.phase.Role.TheVariants.{Initiator, Responder}
+use Rattle.ldc_link.specs.LinkState.{first_phase, is_established, is_up}
+use Rattle.ldc_queue.specs.declared.end.ChannelState.{ChannelState}
+use Rattle.ldc_queue.specs.declared.end.ChannelState.TheVariants.{Up}
+use Rattle.ldc_queue.specs.declared.end.End.TheVariants.{A, B}
+use Rattle.ldc_queue.specs.OneStream.{IsFront}
+use Rattle.vio_handshake.proofs.Places.{AllSaid, AttributesAnswered, AttributesSaid, Deal, PeerReadyAnswered, PeerReadySaid, PeerRingAnswered, PeerRingSaid, Place, ReadyAnswered, ReadySaid, RingAnswered, RingSaid, VersionAnswered, VersionSaid}
+use Rattle.vio_handshake.specs.Messages.{ack}
+use Rattle.vio_tag.proofs.Canonical.{length_canonical}
+use Rattle.vio_tag.specs.declared.message.MsgBody.TheVariants.{Rdx}
+use Rattle.vio_tag.specs.Spelling.{envelope_at, envelope_code, subtype_at}
+use Rattle.channel_model.specs.Sayings.{half_said, heard, said}
+use Rattle.channel_model.specs.WireAt.{IsUp}
+use Rattle.channel_laws.proofs.EndStanding.{open_up}
+use Rattle.channel_laws.proofs.HandshakePlaces.{AtPlace, EachOwn, IsOwn, deal, open_place}
+use Rattle.channel_laws.proofs.HandshakesPlaced.{envelope_reads, own_code}
+use Rattle.channel_laws.proofs.PartsSaid.{PartsSaid}
+use Rattle.channel_laws.proofs.PartsWaiting.{LongSaid, Unheard, room_of, unheard}
+use Rattle.channel_laws.proofs.Script.{bytes_at, last_or, said_at}
+use Rattle.channel_laws.specs.LinkPlaces.{AnswerTaken, BothUp, LinkPlace, LinksAt, ModeAgreed, ModePut, ModeTaken, NothingPut, ReadyPut, VersionPut, VersionTaken, live_phase}
+use Rattle.channel_laws.specs.LinkPlaces as link
+use Rattle.channel_laws.specs.Sides.{Sides, sides_of}
+use Rattle.port_model.proofs.Refuting.{false_true, none_some, true_false}
+use Rattle.port_model.specs.EndLog.{SessionLog, opened_log}
+use Rattle.port_model.specs.NetEndState.{NetSession}
+use Rattle.port_model.specs.NetLaneState.{NetShape}
+use Rattle.port_model.specs.PortLog.{PortLog}
+use Rattle.port_model.specs.PortState.{PortState}
+use Rattle.port_model.specs.Spoken.{GroupsAck, GroupsInfo, Other, RangeAck, RangeInfo, Spoken, spoken, spoken_by}
+use Rattle.port_laws.specs.Counted.{unsaid}
+use Rattle.port_laws.specs.NetCore.{lane_core, one_if}
+use Rattle.port_laws.specs.WaysStand.{Comes, Goes, Rests, Way, Ways, WaysStand, Works, ack_first, acks_in, info_first, infos_in, or_new}
+use Rattle.port_laws.proofs.Outbox.{EachFits, MessageFits, RangeFits, count-append, count_groups, is_groups, listed, outbox, unheard as undrawn}
+use Rattle.port_laws.proofs.PeerOpens.{Talks, mine_at, theirs_at}
+use Rattle.port_laws.proofs.PortTalks.{answers_of, asks_of, open_turns}
+use Rattle.port_laws.proofs.PutCounts.{own_half, own_left}
+use Rattle.port_laws.proofs.RingActs.{Finds, acting_at, open_both}
+use Rattle.port_laws.proofs.StepCounts.{Acting}
+use Rattle.port_laws.proofs.TalkGuest.{Between, TalkStands, guest_sid}
+
+-- LISTS
+suffix_of : {X : Type 0} (xs five ys rest : List X) → xs ++ ys ≡ five ++ rest → length five ≤ length xs → (x : List X) × (xs ≡ five ++ x) × (rest ≡ x ++ ys)
+suffix_of {X} xs [] ys rest is within = (xs, refl, sym is)
+suffix_of {X} [] (y ∷ five) ys rest is within = absurd (omega (arith, within))
+suffix_of {X} (x ∷ xs) (y ∷ five) ys rest is within =
+    let heads : x ≡ y = cc is in
+    let tails : xs ++ ys ≡ five ++ rest = cc is in
+    let more = suffix_of xs five ys rest tails (omega (arith, within)) in
+    (more.0, ap (λ (z : X). z ∷ xs) heads ∙ ap (λ (zs : List X). y ∷ zs) more.1, more.2)
+
+drop_front : (xs ys : List (List ℕ)) → drop (length xs) (xs ++ ys) ≡ ys
+drop_front [] ys = refl
+drop_front (x ∷ xs) ys = drop_front xs ys
+
+fits_front : (sid : ℕ) (xs ys : List (List ℕ)) → EachFits Initiator sid (xs ++ ys) → EachFits Initiator sid xs
+fits_front sid [] ys fits = tt
+fits_front sid (x ∷ xs) ys fits = (fits.0, fits_front sid xs ys fits.1)
+
+own_behind : (d : Deal) (xs ys : List (List ℕ)) → EachOwn d (xs ++ ys) → EachOwn d ys
+own_behind d [] ys each = each
+own_behind d (x ∷ xs) ys each = own_behind d xs ys each.1
+
+-- HOW MANY MESSAGES of a session: each is an INFO or an ACK of a ring, or of groups, with 56 bytes
+abbrev counted : List (List ℕ) → ℕ
+counted messages = length (infos_in messages) + length (acks_in messages) + count_groups messages
+
+range_kind : (m : List ℕ) → envelope_at m ≡ 0x0042 → (subtype_at m ≡ 1) ⊎ (subtype_at m ≡ 2) → (spoken m ≡ RangeInfo) ⊎ (spoken m ≡ RangeAck)
+range_kind m is (inl one) = inl (ap (λ (n : ℕ). spoken_by n (subtype_at m)) is ∙ ap (λ (n : ℕ). spoken_by 0x0042 n) one)
+range_kind m is (inr two) = inr (ap (λ (n : ℕ). spoken_by n (subtype_at m)) is ∙ ap (λ (n : ℕ). spoken_by 0x0042 n) two)
+
+info_more : (k : Spoken) (m : List ℕ) (xs : List (List ℕ)) → length xs ≤ length (info_first k m xs)
+info_more RangeInfo m xs = omega arith
+info_more RangeAck m xs = omega arith
+info_more GroupsInfo m xs = omega arith
+info_more GroupsAck m xs = omega arith
+info_more Other m xs = omega arith
+
+ack_more : (k : Spoken) (m : List ℕ) (xs : List (List ℕ)) → length xs ≤ length (ack_first k m xs)
+ack_more RangeInfo m xs = omega arith
+ack_more RangeAck m xs = omega arith
+ack_more GroupsInfo m xs = omega arith
+ack_more GroupsAck m xs = omega arith
+ack_more Other m xs = omega arith
+
+tail_counted : (m : List ℕ) (messages : List (List ℕ)) → counted messages ≤ counted (m ∷ messages)
+tail_counted m messages = omega (arith, info_more (spoken m) m (infos_in messages), ack_more (spoken m) m (acks_in messages))
+
+one_counted : (m : List ℕ) (messages : List (List ℕ)) → (spoken m ≡ RangeInfo) ⊎ (spoken m ≡ RangeAck) → counted messages + 1 ≤ counted (m ∷ messages)
+one_counted m messages (inl info) =
+    omega (arith, ap (λ (k : Spoken). length (info_first k m (infos_in messages))) info, ack_more (spoken m) m (acks_in messages))
+one_counted m messages (inr is) =
+    omega (arith, ap (λ (k : Spoken). length (ack_first k m (acks_in messages))) is, info_more (spoken m) m (infos_in messages))
+
+groups_counted : (m : List ℕ) (messages : List (List ℕ)) → envelope_at m ≡ 0x0101 → counted messages + 1 ≤ counted (m ∷ messages)
+groups_counted m messages is =
+    let named : is_groups m ≡ true = ap (λ (n : ℕ). n == 0x0101) is in
+    omega (arith, info_more (spoken m) m (infos_in messages), ack_more (spoken m) m (acks_in messages), ap one_if named)
+
+own_few : (d : Deal) (sid : ℕ) (messages : List (List ℕ)) → EachOwn d messages → EachFits Initiator sid messages → room_of messages ≤ 111 * counted messages
+own_few d sid [] each fits = omega arith
+own_few d sid (m ∷ messages) each fits =
+    let own : IsOwn d m = each.0 in
+    let fit : MessageFits Initiator sid m = fits.0 in
+    let rest = own_few d sid messages each.1 fits.1 in
+    let envelope : envelope_at m ≡ envelope_code own.message.body = ap envelope_at own.is ∙ envelope_reads own.message own.body in
+    elim (own_code own.message.body own.body) [
+      | inl one ↦ (let range : RangeFits sid m = fit.range (envelope ∙ one) in omega (arith, rest, range.long, one_counted m messages (range_kind m (envelope ∙ one) range.subtype)))
+      | inr two ↦ omega (arith, rest, (fit.groups (envelope ∙ two)).long, groups_counted m messages (envelope ∙ two))
+    ]
+
+-- ONE DIRECTION has one INFO, or one ACK
+infos_few : (slots : ℕ) (v w : SessionLog) (infos acks : List (List ℕ)) → Way slots v w infos acks → length infos ≤ 1
+infos_few slots v w infos acks (Rests asking asked acked told taken none no_acks) = omega (arith, ap length none)
+infos_few slots v w infos acks (Goes info asking asked acked told taken some seq start end no_acks) = omega (arith, ap length some)
+infos_few slots v w infos acks (Works asking asked busy told none no_acks) = omega (arith, ap length none)
+infos_few slots v w infos acks (Comes ack_one asking asked acked told some none one_ack start end) = omega (arith, ap length none)
+
+acks_few : (slots : ℕ) (v w : SessionLog) (infos acks : List (List ℕ)) → Way slots v w infos acks → length acks ≤ 1
+acks_few slots v w infos acks (Rests asking asked acked told taken none no_acks) = omega (arith, ap length no_acks)
+acks_few slots v w infos acks (Goes info asking asked acked told taken some seq start end no_acks) = omega (arith, ap length no_acks)
+acks_few slots v w infos acks (Works asking asked busy told none no_acks) = omega (arith, ap length no_acks)
+acks_few slots v w infos acks (Comes ack_one asking asked acked told some none one_ack start end) = omega (arith, ap length one_ack)
+
+acks_none : (slots : ℕ) (v w : SessionLog) (infos acks : List (List ℕ)) → v.asking ≡ false → Way slots v w infos acks → length acks ≤ 0
+acks_none slots v w infos acks shut (Rests asking asked acked told taken none no_acks) = omega (arith, ap length no_acks)
+acks_none slots v w infos acks shut (Goes info asking asked acked told taken some seq start end no_acks) = omega (arith, ap length no_acks)
+acks_none slots v w infos acks shut (Works asking asked busy told none no_acks) = omega (arith, ap length no_acks)
+acks_none slots v w infos acks shut (Comes ack_one asking asked acked told some none one_ack start end) = true_false (sym asking ∙ shut)
+
+-- WHERE THE SWITCH'S END SAID ALL of its handshake it heard five of the guest's six
+five_said : (d : Deal) (n : Place) → n ≢ AllSaid → 6 ≤ length (said_at true d Responder n) → 5 ≤ length (said_at true d Initiator n)
+five_said d VersionSaid far many = absurd (omega (arith, many))
+five_said d VersionAnswered far many = absurd (omega (arith, many))
+five_said d AttributesSaid far many = absurd (omega (arith, many))
+five_said d AttributesAnswered far many = absurd (omega (arith, many))
+five_said d RingSaid far many = absurd (omega (arith, many))
+five_said d RingAnswered far many = absurd (omega (arith, many))
+five_said d PeerRingSaid far many = absurd (omega (arith, many))
+five_said d PeerRingAnswered far many = absurd (omega (arith, many))
+five_said d ReadySaid far many = absurd (omega (arith, many))
+five_said d ReadyAnswered far many = absurd (omega (arith, many))
+five_said d PeerReadySaid far many = absurd (omega (arith, many))
+five_said d PeerReadyAnswered far many = omega arith
+five_said d AllSaid far many = absurd (far refl)
+
+six_front : (d : Deal) → 6 ≤ length (said_at true d Initiator AllSaid)
+six_front d = omega arith
+
+five_heard : (d : Deal) (n : Place) (told more taken others : List (List ℕ)) → told ≡ said_at true d Responder n ++ more → taken ≡ said_at true d Initiator n ++ others
+    → (n ≢ AllSaid → more ≡ []) → 6 ≤ length told → 5 ≤ length taken
+five_heard d n told more taken others told_is taken_is only many =
+    let long = length-append (said_at true d Initiator n) others in
+    elim (last_or n) [
+      | inl last ↦ (
+          let six : 6 ≤ length (said_at true d Initiator n) = subst (λ (p : Place). 6 ≤ length (said_at true d Initiator p)) (sym last) (six_front d) in
+          omega (arith, ap length taken_is, long, six))
+      | inr far ↦ (
+          let least = five_said d n far (omega (arith, many, ap length told_is, length-append (said_at true d Responder n) more, ap length (only far))) in
+          omega (arith, ap length taken_is, long, least))
+    ]
+
+-- THE GUEST'S HANDSHAKE: five messages, and the sixth
+abbrev first_five : Deal → List (List ℕ)
+first_five d = bytes_at d VersionSaid ∷ bytes_at d AttributesSaid ∷ bytes_at d RingSaid ∷ bytes_at d PeerRingAnswered ∷ bytes_at d ReadySaid ∷ []
+
+six_are : (d : Deal) (mine : List (List ℕ)) → said_at true d Initiator AllSaid ++ mine ≡ first_five d ++ bytes_at d PeerReadyAnswered ∷ mine
+six_are d mine = refl
+
+sixth_short : (d : Deal) → length (bytes_at d PeerReadyAnswered) ≤ 56
+sixth_short d = omega (arith, length_canonical (ack d.sid Rdx))
+
+-- BOTH LINKS are up where the responder's is
+both_up : (place : LinkPlace) → is_established (link.phase_at Responder place) ≡ true → place ≡ BothUp
+both_up BothUp is = refl
+both_up NothingPut is = absurd (cc is)
+both_up VersionPut is = absurd (cc is)
+both_up VersionTaken is = absurd (cc is)
+both_up link.VersionAnswered is = absurd (cc is)
+both_up AnswerTaken is = absurd (cc is)
+both_up ModePut is = absurd (cc is)
+both_up ModeTaken is = absurd (cc is)
+both_up link.ModeAnswered is = absurd (cc is)
+both_up ModeAgreed is = absurd (cc is)
+both_up ReadyPut is = absurd (cc is)
+
+longer : (xs ys : List (List ℕ)) → IsFront xs ys → length xs ≤ length ys
+longer xs ys front = omega (arith, ap length front.1, length-append xs front.0)
+
+telling_few : (b : Bool) → one_if b ≤ 1
+telling_few true = omega arith
+telling_few false = omega arith
+
+module _ (shape : NetShape) (u : PortState) (l : PortLog) (p : NetSession) (finds : Finds shape u l) (ways : WaysStand u.lane l) (talk : TalkStands u.lane l) (up : IsUp A u.lane.wire.wire)
+    (other_up : IsUp B u.lane.wire.wire) (session : u.lane.guest.session ≡ Some p) (whole : u.lane.wire.lossy ≡ false) (parts : PartsSaid l.transcript.client) (long : LongSaid l.transcript.client) where
+  abbrev sides : Sides
+  sides = sides_of (lane_core u.lane) l.transcript
+
+  abbrev talks : Talks (asks_of shape) (answers_of shape) Initiator sides
+  talks = finds.talks.talks A
+
+  abbrev d : Deal
+  d = deal (asks_of shape) (answers_of shape) talks.meets.handshakes.sid
+
+  opened : is_some u.lane.guest.session ≡ true
+  opened = ap is_some session
+
+  guest_in : l.guest.session ≢ None
+  guest_in = λ none. true_false (sym opened ∙ (open_both Initiator shape.slots [] u.lane.guest l.guest finds.ready.guest).shut none)
+
+  hub_said : 6 ≤ length (said l.transcript.server)
+  hub_said = omega (arith, (open_turns shape (lane_core u.lane) l A finds.talks up opened).heard_long, longer (heard l.transcript.client) (said l.transcript.server) (finds.talks.front_a up))
+
+  hub_link : is_up u.lane.hub.link ≡ true
+  hub_link = by_link (is_up u.lane.hub.link) refl
+    where
+      by_link : (b : Bool) → is_up u.lane.hub.link ≡ b → is_up u.lane.hub.link ≡ true
+      by_link true is = is
+      by_link false is = absurd (omega (arith, hub_said, ap length (talks.theirs.below is).said_none))
+
+  place : talks.meets.links.place ≡ BothUp
+  place =
+      both_up talks.meets.links.place
+      (sym (ap is_established talks.meets.links.theirs) ∙ ap (λ (x : ChannelState). is_established (live_phase x (first_phase Responder) u.lane.hub.link.phase)) other_up ∙ hub_link)
+
+  left : Unheard sides
+  left = unheard sides talks.meets.converse talks.meets.links place whole up other_up parts long
+
+  at : AtPlace true d Initiator u.lane.guest.handshake l.transcript.client
+  at = mine_at (asks_of shape) (answers_of shape) Initiator sides talks up (open_up Initiator sides.mine.core l.transcript.client talks.mine opened)
+
+  last : at.place ≡ AllSaid
+  last = open_place true d Initiator sides.mine.core l.transcript.client talks.mine at opened
+
+  says : heard l.transcript.server ++ left.messages ≡ first_five d ++ bytes_at d PeerReadyAnswered ∷ at.mine
+  says = sym left.says ∙ at.said_is ∙ ap (λ (n : Place). said_at true d Initiator n ++ at.mine) last ∙ six_are d at.mine
+
+  five : 5 ≤ length (heard l.transcript.server)
+  five =
+      let there = theirs_at (asks_of shape) (answers_of shape) Initiator sides talks other_up hub_link in
+      five_heard d there.place (said l.transcript.server) there.mine (heard l.transcript.server) there.theirs there.said_is there.heard_is (λ far. (there.only far).0) hub_said
+
+  suffix : (x : List (List ℕ)) × (heard l.transcript.server ≡ first_five d ++ x) × (bytes_at d PeerReadyAnswered ∷ at.mine ≡ x ++ left.messages)
+  suffix = suffix_of (heard l.transcript.server) (first_five d) left.messages (bytes_at d PeerReadyAnswered ∷ at.mine) says (omega (arith, five))
+
+  -- what it says fits
+  between : Between u.lane.guest u.lane.hub l.transcript.client l.transcript.server p
+  between = talk p up other_up session
+
+  undrawn_is : undrawn (said l.transcript.client) (heard l.transcript.server) ≡ left.messages
+  undrawn_is = ap (drop (length (heard l.transcript.server))) left.says ∙ drop_front (heard l.transcript.server) left.messages
+
+  asks : outbox u.lane.guest l.transcript.client l.transcript.server ≡ left.messages ++ listed (unsaid u.lane.guest)
+  asks = ap (λ (xs : List (List ℕ)). xs ++ listed (unsaid u.lane.guest)) undrawn_is
+
+  fits : EachFits Initiator u.lane.guest.handshake.draft.sid left.messages
+  fits = fits_front u.lane.guest.handshake.draft.sid left.messages (listed (unsaid u.lane.guest)) (subst (EachFits Initiator u.lane.guest.handshake.draft.sid) asks between.asks_fit)
+
+  groups_few : count_groups left.messages ≤ 1
+  groups_few =
+      let all = between.counted in
+      omega (arith, all, ap count_groups asks, count-append left.messages (listed (unsaid u.lane.guest)), telling_few p.telling)
+
+  way : Ways l.shape.slots (said l.transcript.client) (heard l.transcript.client) (said l.transcript.server) (heard l.transcript.server) (or_new l.guest.session) (or_new l.hub.session)
+  way = ways up other_up guest_in
+
+  going : way.going ≡ left.messages
+  going = append_cancel_left (heard l.transcript.server) way.going left.messages (sym way.goes ∙ left.says)
+
+  info_few : length (infos_in left.messages) ≤ 1
+  info_few = omega (arith, infos_few l.shape.slots (or_new l.guest.session) (or_new l.hub.session) (infos_in way.going) (acks_in way.coming) way.mine, ap (λ (xs : List (List ℕ)). length (infos_in xs)) going)
+
+  ack_few : length (acks_in left.messages) ≤ 1
+  ack_few = omega (arith, acks_few l.shape.slots (or_new l.hub.session) (or_new l.guest.session) (infos_in way.coming) (acks_in way.going) way.theirs, ap (λ (xs : List (List ℕ)). length (acks_in xs)) going)
+
+  -- a switch's end that didn't hear the sixth message isn't in session, and said no INFO
+  ack_none : length (heard l.transcript.server) ≡ 5 → length (acks_in left.messages) ≤ 0
+  ack_none short = by_log l.hub.session refl
+    where
+      by_log : (log : Option SessionLog) → l.hub.session ≡ log → length (acks_in left.messages) ≤ 0
+      by_log None is =
+          let theirs = subst (λ (o : Option SessionLog). Way l.shape.slots (or_new o) (or_new l.guest.session) (infos_in way.coming) (acks_in way.going)) is way.theirs in
+          omega (
+            arith,
+            acks_none l.shape.slots (opened_log 0) (or_new l.guest.session) (infos_in way.coming) (acks_in way.going) refl theirs,
+            ap (λ (xs : List (List ℕ)). length (acks_in xs)) going,
+          )
+      by_log (Some w) is =
+          let hub = open_both Responder shape.slots u.queue u.lane.hub l.hub finds.ready.hub in
+          let there = hub.opened (λ none. none_some w (sym none ∙ is)) in
+          absurd (omega (arith, short, (open_turns shape (lane_core u.lane) l B finds.talks other_up there).heard_long))
+
+  -- no part of a message was said
+  acting : Acting Initiator shape.slots [] u.lane.guest l.guest l.transcript.client
+  acting = acting_at shape A u l finds up
+
+  no_half : half_said l.transcript.client ≡ []
+  no_half = by_left u.lane.guest.link.to_send refl
+    where
+      owed : is_none u.lane.guest.handshake.owed ≡ true
+      owed = ap is_none (guest_sid shape u.lane l finds.talks up opened).agreed.owed
+
+      by_left : (bytes : List ℕ) → u.lane.guest.link.to_send ≡ bytes → half_said l.transcript.client ≡ []
+      by_left [] is = acting.ends.link.cuts.free is
+      by_left (byte ∷ bytes) is =
+          own_half Initiator shape.slots [] u.lane.guest l.guest l.transcript.client p acting.counts acting.ends session
+          (own_left (is_none u.lane.guest.handshake.owed) u.lane.guest.link.to_send owed (omega (arith, ap length is)))
+
+  pub guest_few : length u.lane.wire.wire.to_b ≤ 5
+  guest_few = by_suffix suffix.0 suffix.1 suffix.2
+    where
+      by_suffix : (x : List (List ℕ)) → heard l.transcript.server ≡ first_five d ++ x → bytes_at d PeerReadyAnswered ∷ at.mine ≡ x ++ left.messages → length u.lane.wire.wire.to_b ≤ 5
+      by_suffix [] took rest =
+          let all : EachFits Initiator u.lane.guest.handshake.draft.sid (bytes_at d PeerReadyAnswered ∷ at.mine) = subst (EachFits Initiator u.lane.guest.handshake.draft.sid) (sym rest) fits in
+          omega (
+            arith,
+            left.few,
+            ap length no_half,
+            ap room_of rest,
+            ap counted rest,
+            sixth_short d,
+            own_few d u.lane.guest.handshake.draft.sid at.mine at.mine_are all.1,
+            tail_counted (bytes_at d PeerReadyAnswered) at.mine,
+            info_few,
+            groups_few,
+            ack_none (ap length took),
+          )
+      by_suffix (y ∷ ys) took rest =
+          let tails : at.mine ≡ ys ++ left.messages = cc rest in
+          omega (
+            arith,
+            left.few,
+            ap length no_half,
+            own_few d u.lane.guest.handshake.draft.sid left.messages (own_behind d ys left.messages (subst (EachOwn d) tails at.mine_are)) fits,
+            info_few,
+            ack_few,
+            groups_few,
+          )

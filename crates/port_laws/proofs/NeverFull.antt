@@ -1,0 +1,228 @@
+-- Never do both ends of a port that nobody forged find no room, one directly after the other: in the opening one of them waits for the other,
+-- and a guest in session has few packets on the way.
+use Rattle.std.proofs.Common.{◌≡◌, ℕ, ◌+◌, ◌≤◌, ◌⊎◌, inl, inr, Bool, true, false, Option, Some, None, List, [], ◌∷◌, ◌++◌, length, refl, sym, subst, ap, ◌∙◌, arith}
+use Rattle.std.specs.Prelude.{is_none, is_some}
+use Rattle.ldc_link.specs.declared.phase.LinkPhase.{LinkPhase}
+use Rattle.ldc_link.specs.declared.phase.LinkPhase.TheVariants as phase
+use Rattle.ldc_link.specs.declared.phase.Role.{Role}
+use Rattle.ldc_link.specs.declared.phase.Role.TheVariants.{Initiator, Responder}
+use Rattle.ldc_link.specs.LinkState.{LinkState, first_phase, is_established}
+use Rattle.ldc_queue.specs.declared.end.ChannelState.{ChannelState}
+use Rattle.ldc_queue.specs.declared.end.End.TheVariants.{A, B}
+use Rattle.ldc_queue.specs.Transcript.{Turn}
+use Rattle.runs.specs.Lawful.{log_append, log_of}
+use Rattle.runs.specs.Run.{Run, run_push}
+use Rattle.vio_handshake.proofs.Places.{AllSaid, Deal}
+use Rattle.vio_handshake.specs.declared.handshake.Handshake.{Handshake}
+use Rattle.vio_tag.specs.declared.message.Message.{Message}
+use Rattle.channel_model.specs.Seeing.{Seen}
+use Rattle.channel_model.specs.TranscriptLog.{TranscriptLog}
+use Rattle.channel_model.specs.WireAt.{IsUp}
+use Rattle.channel_model.specs.WireLog.{WireLog}
+use Rattle.channel_laws.proofs.HandshakePlaces.{AtPlace, deal, open_place}
+use Rattle.channel_laws.proofs.ManyWait.{many_wait, owes_some}
+use Rattle.channel_laws.proofs.PartsWaiting.{LongSaid, long_run}
+use Rattle.channel_laws.proofs.WhoseTurn.{never_both}
+use Rattle.channel_laws.specs.EndCore.{EndCore}
+use Rattle.channel_laws.specs.LaneCore.{LaneCore}
+use Rattle.channel_laws.specs.LinkPlaces.{BothUp, LinkPlace, live_phase, phase_at}
+use Rattle.channel_laws.specs.Sides.{Sides, sides_of}
+use Rattle.channel_laws.specs.Standing.{EndStands}
+use Rattle.cookie_copy.specs.Reach.{Reach}
+use Rattle.port_model.proofs.Refuting.{none_some}
+use Rattle.port_model.proofs.Ruling.{says_of}
+use Rattle.port_model.specs.NetEndPutting.{net_holds}
+use Rattle.port_model.specs.NetEndRule.{Announces, Fetches, Idles, Joins, NetRule, Publishes, Puts, Replies, Says, Takes, Tells, port_rule}
+use Rattle.port_model.specs.NetEndState.{NetEndState, NetSession}
+use Rattle.port_model.specs.NetEndStep.{Blocked}
+use Rattle.port_model.specs.NetEvent.{CalmTick, Steps}
+use Rattle.port_model.specs.NetLaneState.{IsNetShape, NetLaneState, NetShape, reach_of, seen_at}
+use Rattle.port_model.specs.PortLog.{PortLog, after, no_events}
+use Rattle.port_model.specs.PortMay.{PortMay}
+use Rattle.port_model.specs.PortState.{OnLane, PortEvent, PortState, PortStep, before, fresh_port}
+use Rattle.port_laws.specs.NetCore.{lane_core, net_core}
+use Rattle.port_laws.specs.PortCore.{port_core, port_events}
+use Rattle.port_laws.proofs.CoreLaws.{sizes_fit}
+use Rattle.port_laws.proofs.EveryRun.{every_run}
+use Rattle.port_laws.proofs.FewWait.{guest_few}
+use Rattle.port_laws.proofs.LastEvent.{last_lawful, many_entries}
+use Rattle.port_laws.proofs.NoRefusal.{parts_at}
+use Rattle.port_laws.proofs.PeerOpens.{Talks, mine_at, theirs_at}
+use Rattle.port_laws.proofs.PortCounts.{PortCounts, before_wire, wire_event}
+use Rattle.port_laws.proofs.PortRuns.{before_core, fresh_port_core, spoken_behind}
+use Rattle.port_laws.proofs.PortTalks.{answers_of, asks_of}
+use Rattle.port_laws.proofs.PutCounts.{own_left}
+use Rattle.port_laws.proofs.RingActs.{Finds, acting_at, step_now}
+use Rattle.port_laws.proofs.RingRuns.{finds_before, port_kept}
+use Rattle.port_laws.proofs.TalkGuest.{shut_unsaid}
+use Rattle.port_laws.proofs.TalkRuns.{KeptTalk, port_talk}
+
+-- AN END WITHOUT A SESSION that has a packet to put owes a message of its handshake
+link_owes : (role : Role) (s : NetEndState) (turns : List Turn) (owed : Option Message) → EndStands role (net_core role s) turns → s.session ≡ None → 1 ≤ length s.link.to_send → s.handshake.owed ≡ owed
+    → is_some s.handshake.owed ≡ true
+link_owes role s turns (Some message) stands none some is = ap is_some is
+link_owes role s turns None stands none some is =
+    none_some s.link.to_send (sym (shut_unsaid role s turns stands none) ∙ own_left (is_none s.handshake.owed) s.link.to_send (ap is_none is) some)
+
+shut_owes : (role : Role) (s : NetEndState) (at : Seen) (reach : Reach) (rule : NetRule) (held : NetEndState) (turns : List Turn) → EndStands role (net_core role s) turns → s.session ≡ None
+    → s.link.phase ≡ phase.Established → port_rule role s at ≡ rule → net_holds rule s reach ≡ Some held → is_some s.handshake.owed ≡ true
+shut_owes role s at reach Puts held turns stands none up is same =
+    link_owes role s turns s.handshake.owed stands none (owes_some s.link up (says_of role s at Puts is).1) refl
+shut_owes role s at reach (Says message) held turns stands none up is same = ap is_some (says_of role s at (Says message) is).2
+shut_owes role s at reach (Replies p reply) held turns stands none up is same = none_some p (sym none ∙ (says_of role s at (Replies p reply) is).0.session)
+shut_owes role s at reach (Fetches p activity) held turns stands none up is same = none_some p (sym none ∙ (says_of role s at (Fetches p activity) is).0.session)
+shut_owes role s at reach (Tells p) held turns stands none up is same = none_some p (sym none ∙ (says_of role s at (Tells p) is).0.in_session.session)
+shut_owes role s at reach (Announces p) held turns stands none up is same = none_some p (sym none ∙ (says_of role s at (Announces p) is).0.in_session.session)
+shut_owes role s at reach Joins held turns stands none up is same = none_some held same
+shut_owes role s at reach (Takes packet) held turns stands none up is same = none_some held same
+shut_owes role s at reach (Publishes p frame) held turns stands none up is same = none_some held same
+shut_owes role s at reach Idles held turns stands none up is same = none_some held same
+
+owes_or_open : (role : Role) (s : NetEndState) (at : Seen) (reach : Reach) (held : NetEndState) (turns : List Turn) (session : Option NetSession) → EndStands role (net_core role s) turns
+    → s.link.phase ≡ phase.Established → net_holds (port_rule role s at) s reach ≡ Some held → s.session ≡ session → (is_some s.handshake.owed ≡ true) ⊎ (is_some s.session ≡ true)
+owes_or_open role s at reach held turns None stands up holds is = inl (shut_owes role s at reach (port_rule role s at) held turns stands is up refl holds)
+owes_or_open role s at reach held turns (Some p) stands up holds is = inr (ap is_some is)
+
+-- WHAT A GUEST SAID is in parts of 56 bytes but the last ones
+guest_long : (shape : NetShape) (s : PortState) (l : PortLog) → IsNetShape shape → PortCounts shape s l → LongSaid l.transcript.client
+guest_long shape s l is counts =
+    subst (λ (x : TranscriptLog). LongSaid x.client) (spoken_behind shape counts.events ∙ sym (ap (λ (x : PortLog). x.transcript) counts.log))
+    (long_run shape.entries (asks_of shape) (answers_of shape) (port_events counts.events) (port_core s) (sizes_fit shape is) (fresh_port_core shape counts.events s counts.run)).a.long
+
+-- NEVER BOTH
+pub never_full : (shape : NetShape) (events : List PortEvent) (s m t : PortState) → IsNetShape shape → Run PortStep (fresh_port shape) events s → s.lane.wire.forged ≡ false → s.lane.wire.lossy ≡ false
+    → PortStep s (OnLane (Steps A Blocked)) m → PortStep m (OnLane (Steps B Blocked)) t → ⊥
+never_full shape events s m t is run clean whole first second = by_session s.lane.guest.session refl
+  where
+    one : PortEvent
+    one = OnLane (Steps A Blocked)
+
+    two : PortEvent
+    two = OnLane (Steps B Blocked)
+
+    so_far : List PortEvent
+    so_far = events ++ one ∷ []
+
+    l : PortLog
+    l = log_of after (no_events shape) events
+
+    now : PortLog
+    now = log_of after (no_events shape) so_far
+
+    run_one : Run PortStep (fresh_port shape) so_far m
+    run_one = run_push PortStep (fresh_port shape) s m events one run first
+
+    had : KeptTalk shape s l
+    had = port_talk shape events s is run
+
+    wire : s.lane.wire ≡ l.wire
+    wire = had.ways.kept.counts.wire
+
+    unforged : l.wire.forged ≡ false
+    unforged = ap (λ (w : WireLog). w.forged) (sym wire) ∙ clean
+
+    finds : Finds shape s l
+    finds = finds_before shape s l (CalmTick 0) is had.ways.kept unforged
+
+    may : PortMay l one
+    may = last_lawful shape PortMay events one (every_run shape so_far m is run_one)
+
+    log : now ≡ after l one
+    log = log_append after (no_events shape) events (one ∷ [])
+
+    then_ : PortMay (after l one) two
+    then_ =
+        subst (λ (x : PortLog). PortMay x two) log
+        (last_lawful shape PortMay so_far two (every_run shape (so_far ++ two ∷ []) t is (run_push PortStep (fresh_port shape) m t so_far two run_one second)))
+
+    many : 8 ≤ l.shape.entries
+    many = many_entries shape events s is run
+
+    up : IsUp A s.lane.wire.wire
+    up = ap (λ (w : WireLog). w.wire.end_a) wire ∙ may.table.0
+
+    other_up : IsUp B s.lane.wire.wire
+    other_up = ap (λ (w : WireLog). w.wire.end_b) wire ∙ then_.table.0
+
+    many_b : 7 ≤ length s.lane.wire.wire.to_b
+    many_b = omega (arith, many, may.table.1, ap (λ (w : WireLog). length w.wire.to_b) wire)
+
+    many_a : 7 ≤ length s.lane.wire.wire.to_a
+    many_a = omega (arith, many, then_.table.1, ap (λ (w : WireLog). length w.wire.to_a) wire)
+
+    in_session : (p : NetSession) → s.lane.guest.session ≡ Some p → ⊥
+    in_session p session =
+        let counts = had.ways.kept.counts in
+        let few = guest_few shape s l p finds (had.ways.ways unforged) (had.talk unforged) up other_up session whole (parts_at shape s l A is counts) (guest_long shape s l is counts) in
+        omega (arith, many_b, few)
+
+    sides : Sides
+    sides = sides_of (lane_core s.lane) l.transcript
+
+    talks : Talks (asks_of shape) (answers_of shape) Initiator sides
+    talks = finds.talks.talks A
+
+    d : Deal
+    d = deal (asks_of shape) (answers_of shape) talks.meets.handshakes.sid
+
+    both : talks.meets.links.place ≡ BothUp
+    both =
+        many_wait talks.meets.links.place s.lane.wire.lossy s.lane.wire.wire.to_a s.lane.wire.wire.to_b talks.meets.links.to_theirs talks.meets.links.to_mine (omega (arith, many_a)) (omega (arith, many_b))
+
+    phase_a : s.lane.guest.link.phase ≡ phase.Established
+    phase_a = sym (ap (λ (x : ChannelState). live_phase x (first_phase Initiator) s.lane.guest.link.phase) up) ∙ talks.meets.links.mine ∙ ap (phase_at Initiator) both
+
+    phase_b : s.lane.hub.link.phase ≡ phase.Established
+    phase_b = sym (ap (λ (x : ChannelState). live_phase x (first_phase Responder) s.lane.hub.link.phase) other_up) ∙ talks.meets.links.theirs ∙ ap (phase_at Responder) both
+
+    -- the switch's end as it makes its step
+    u : PortState
+    u = before (Steps B Blocked) m
+
+    same_core : (lane_core u.lane).b ≡ (lane_core m.lane).b
+    same_core = ap (λ (c : LaneCore). c.b) (before_core (Steps B Blocked) m)
+
+    same_hub : m.lane.hub ≡ s.lane.hub
+    same_hub = (step_now A s.lane m.lane Blocked first.1).peer_end
+
+    same_wire : u.lane.wire ≡ s.lane.wire
+    same_wire = before_wire (Steps B Blocked) m ∙ wire_event s.lane (Steps A Blocked) m.lane first.1
+
+    link_is : u.lane.hub.link ≡ s.lane.hub.link
+    link_is = ap (λ (c : EndCore). c.link) same_core ∙ ap (λ (x : NetEndState). x.link) same_hub
+
+    handshake_is : u.lane.hub.handshake ≡ s.lane.hub.handshake
+    handshake_is = ap (λ (c : EndCore). c.handshake) same_core ∙ ap (λ (x : NetEndState). x.handshake) same_hub
+
+    open_is : is_some u.lane.hub.session ≡ is_some s.lane.hub.session
+    open_is = ap (λ (c : EndCore). c.is_open) same_core ∙ ap (λ (x : NetEndState). is_some x.session) same_hub
+
+    found : Finds shape u now
+    found =
+        finds_before shape m now (Steps B Blocked) is (port_kept shape so_far m is run_one)
+        (ap (λ (x : PortLog). x.wire.forged) log ∙ unforged)
+
+    hub_owes : (is_some s.lane.hub.handshake.owed ≡ true) ⊎ (is_some s.lane.hub.session ≡ true)
+    hub_owes =
+        elim (owes_or_open Responder u.lane.hub (seen_at B u.lane) (reach_of B u.lane) second.1.left.end now.transcript.server u.lane.hub.session
+        (acting_at shape B u now found (ap (λ (w : WireLog). w.wire.end_b) same_wire ∙ other_up)).ends (ap (λ (k : LinkState). k.phase) link_is ∙ phase_b) second.1.step.0 refl) [
+          | inl owes ↦ inl (ap (λ (h : Handshake). is_some h.owed) (sym handshake_is) ∙ owes)
+          | inr opened ↦ inr (sym open_is ∙ opened)
+        ]
+
+    not_in_session : s.lane.guest.session ≡ None → ⊥
+    not_in_session none =
+        let owed = shut_owes Initiator s.lane.guest (seen_at A s.lane) (reach_of A s.lane) (port_rule Initiator s.lane.guest (seen_at A s.lane)) first.1.left.end l.transcript.client
+        (acting_at shape A s l finds up).ends none phase_a refl first.1.step.0 in
+        let at = mine_at (asks_of shape) (answers_of shape) Initiator sides talks up (ap is_established phase_a) in
+        let there = theirs_at (asks_of shape) (answers_of shape) Initiator sides talks other_up (ap is_established phase_b) in
+        let owns : (is_some s.lane.hub.handshake.owed ≡ true) ⊎ (there.place ≡ AllSaid) =
+        elim hub_owes [
+          | inl owes ↦ inl owes
+          | inr opened ↦ inr (open_place true d Responder sides.theirs.core l.transcript.server talks.theirs there opened)
+        ] in
+        never_both true d s.lane.guest.handshake s.lane.hub.handshake l.transcript.client l.transcript.server at there owed owns (finds.talks.front other_up) (finds.talks.front_a up)
+
+    by_session : (session : Option NetSession) → s.lane.guest.session ≡ session → ⊥
+    by_session (Some p) session = in_session p session
+    by_session None none = not_in_session none

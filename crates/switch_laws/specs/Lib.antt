@@ -1,0 +1,4 @@
+pub mod Events
+pub mod Forwards
+pub mod Ports
+pub mod PortCounts
