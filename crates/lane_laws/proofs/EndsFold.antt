@@ -100,7 +100,7 @@ held_session s (server_rules.Takes packet) held is = absurd (cc)
 held_session s server_rules.Idles held is = absurd (cc)
 
 -- THE CLIENT on the wire
-first_false : (a b c : Bool) → (a || b || c) ≡ false → a ≡ false
+pub first_false : (a b c : Bool) → (a || b || c) ≡ false → a ≡ false
 first_false false b c is = refl
 first_false true b c is = absurd (cc)
 

@@ -1,5 +1,5 @@
 -- An end does what its session has to do before it takes a packet, and a client takes before it publishes.
-use Rattle.std.proofs.Common.{◌≡◌, ℕ, ◌+◌, ◌-◌, ◌≤◌, Bool, true, false, Option, Some, None, List, [], refl, sym, ap, ◌∙◌, subst, arith, length, length-drop}
+use Rattle.std.proofs.Common.{◌≡◌, ℕ, ◌+◌, ◌-◌, ◌≤◌, Bool, true, false, Option, Some, None, List, refl, sym, ap, ◌∙◌, subst, arith, length, length-drop}
 use Rattle.std.specs.Prelude.{◌&&◌, ◌||◌, is_none, is_some}
 use Rattle.cookie_copy.specs.Reach.{Reach}
 use Rattle.ldc_link.specs.LinkState.{LinkState}
@@ -34,7 +34,7 @@ use Rattle.lane_laws.specs.WorkLog.{ClientCounts, ServerCounts}
 use Rattle.lane_laws.proofs.BlockedLaw.{Told, client_to_put, server_to_put}
 use Rattle.lane_laws.proofs.ClientFolds.{calm_up, not_stuck, sends_some}
 use Rattle.lane_laws.proofs.Counting.{OfServer, of_client, of_server}
-use Rattle.lane_laws.proofs.EndsFold.{BothAre}
+use Rattle.lane_laws.proofs.EndsFold.{BothAre, first_false}
 use Rattle.channel_laws.proofs.EndsAtRest.{none_waits}
 use Rattle.lane_laws.proofs.IdleLaw.{not_below, past_all, same_waiting, some_client, some_server}
 use Rattle.lane_laws.proofs.IdleRules.{ClientGoes, ClientPublishesAt, CompletedAll, PublishedAll, client_goes, client_idles, control_in, published_all, server_idles}
@@ -99,10 +99,6 @@ publishes_order s l session request told rule =
     )
 
 -- IT TAKES
-first_false : (a b c : Bool) → (a || b || c) ≡ false → a ≡ false
-first_false false b c is = refl
-first_false true b c is = absurd (cc)
-
 client_may_take : (s : LaneState) (l : DiskLog) (packet : List ℕ) → Told s l → client.client_rule s.client (at_client s) ≡ client.Takes packet → TakesAt A l
 client_may_take s l packet told rule = (
   completed_in_log s l told.grounded (subst (ClientGoes s.client (at_client s)) rule (client_goes s.client (at_client s))),

@@ -38,8 +38,8 @@ OwesNothing B l = (owes_in (link_phase Responder l.transcript.server) ≡ false)
 abbrev pub HasPublished : DiskLog → Type 0
 HasPublished l = IfClient l.work.client (λ (c : ClientCounts). l.blocked.client ≡ Clear → c.base + c.published ≡ length l.work.issued)
 
--- A PACKET IS TAKEN, also one for which the end resets itself, only where the end owes nothing: by a client that has completed all, and by
--- a server that has answered all
+-- A PACKET IS TAKEN only where the end owes nothing: by a client that has completed all, and by a server that has answered all. So is one for
+-- which the end resets itself.
 abbrev pub TakesAt : End → DiskLog → Type 0
 TakesAt A l = HasCompleted l × OwesNothing A l
 TakesAt B l = HasAnswered l × OwesNothing B l × (l.blocked.server ≡ Clear)
