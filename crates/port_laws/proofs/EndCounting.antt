@@ -103,18 +103,12 @@ guest_same Initiator p q groups now v w counts same untold telling membership to
 
 -- WHAT IS SAID changes none of these
 pub said_published : (k : Spoken) (message : List ℕ) (v : SessionLog) → (said_kind k message v).published ≡ v.published
-said_published RangeInfo message v = refl
-said_published RangeAck message v = refl
 said_published GroupsInfo message v = refl
-said_published GroupsAck message v = refl
-said_published Other message v = refl
+said_published _ message v = refl
 
 pub said_seen : (k : Spoken) (message : List ℕ) (v : SessionLog) → (said_kind k message v).seen ≡ v.seen
-said_seen RangeInfo message v = refl
-said_seen RangeAck message v = refl
 said_seen GroupsInfo message v = refl
-said_seen GroupsAck message v = refl
-said_seen Other message v = refl
+said_seen _ message v = refl
 
 pub left_published : (left : Option (List ℕ)) (v : SessionLog) → (said_in left v).published ≡ v.published
 left_published None v = refl

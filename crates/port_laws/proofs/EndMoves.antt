@@ -92,9 +92,7 @@ slot_held role s at p activity (Some last) (NotReady state) held free is same =
     let one : one_if (is_some p.active) ≡ 1 = ap (λ (x : Option Activity). one_if (is_some x)) is in
     held_to role s (holding_own (answer s activity last) (record p { active = None }) s) held (HoldsOwn (answer s activity last)) same
     (own_held role s at (answer s activity last) p (record p { active = None }) free tt refl (answer_short s activity last) (omega (arith, one)))
-slot_held role s at p activity (Some last) (IsFrame frame new) held free is same = none_some held same
-slot_held role s at p activity (Some last) (Refuses why) held free is same = none_some held same
-slot_held role s at p activity None found held free is same = none_some held same
+slot_held role s at p activity _ _ held free is same = none_some held same
 
 pub held_core : (role : Role) (s : NetEndState) (at : Seen) (reach : Reach) (rule : NetRule) (held : NetEndState) → NetFits role s → port_rule role s at ≡ rule
     → net_holds rule s reach ≡ Some held → HeldCore role s held
@@ -133,10 +131,7 @@ held_core role s at reach (Announces p) held fits is same =
     let one : one_if (not p.asking) ≡ 1 = ap (λ (b : Bool). one_if (not b)) says.2 in
     held_to role s (holding_own (announcement s p) (record p { infos = p.infos + 1; asking = true }) s) held (HoldsOwn (announcement s p)) same
     (own_held role s at (announcement s p) p (record p { infos = p.infos + 1; asking = true }) says.0.in_session tt refl (announcement_short s p) (omega (arith, one)))
-held_core role s at reach Joins held fits is same = none_some held same
-held_core role s at reach (Takes packet) held fits is same = none_some held same
-held_core role s at reach (Publishes p frame) held fits is same = none_some held same
-held_core role s at reach Idles held fits is same = none_some held same
+held_core role s at reach _ held fits is same = none_some held same
 
 -- IT PUTS. The handshake changes where its message ends, and then the link holds nothing.
 empty_of : (xs : List ℕ) → length xs ≡ 0 → is_empty xs ≡ true
@@ -163,9 +158,8 @@ pub link_keeps : (k : LinkState) (own : Bool) (h : Handshake) → holds k ≡ tr
 link_keeps k own h held left = phase_keeps k.phase k own h refl held left
 
 put_keeps : (role : Role) (opens : Bool) (s : NetEndState) → KeepsOwn (net_core role s) (net_core role (opened_by_put role opens s))
-put_keeps Initiator true s held left = refl
 put_keeps Initiator false s held left = refl
-put_keeps Responder opens s held left = refl
+put_keeps _ _ s held left = refl
 
 pub record PutCore (role : Role) (opens : Bool) (s t : NetEndState) : Type 0 where
   pub link : t.link ≡ s.link
@@ -233,13 +227,7 @@ fits_of : (bytes : List ℕ) (b : MsgBody) → SpellsBody bytes b → BodyFits b
 fits_of bytes (Mcast set count addresses) spells =
     let is : addresses ≡ addresses_at 10 7 bytes = spells.2 in
     (subst (λ (x : List (List ℕ)). length x ≤ 7) (sym is) (omega (arith, read_long 7 10 bytes)), subst AreShort (sym is) (read_short 7 10 bytes))
-fits_of bytes (Ver major minor class) spells = tt
-fits_of bytes (Attr attr) spells = tt
-fits_of bytes (DringReg ident slots slot_size options count cookies) spells = tt
-fits_of bytes (DringUnreg ident) spells = tt
-fits_of bytes Rdx spells = tt
-fits_of bytes (DringData seq ident start end state) spells = tt
-fits_of bytes (Plain envelope) spells = tt
+fits_of bytes _ spells = tt
 
 -- WHAT COMES OF A MESSAGE that became whole, if one did
 pub record GoesWhole (role : Role) (s : NetEndState) (whole : Option (List ℕ)) (t : NetEndState) (opens : Bool) : Type 0 where
@@ -354,14 +342,7 @@ fails_core role s at memory reach (Takes bytes) cause packet fits is fails =
     packet_fails role s at memory bytes packet cause fits (says_of role s at (Takes bytes) is).0 fails.0 fails.1
 fails_core role s at memory reach (Fetches p activity) cause packet fits is fails =
     slot_fails role s p packet cause fails.0 (says_of role s at (Fetches p activity) is).0.session
-fails_core role s at memory reach Joins cause packet fits is fails = absurd fails
-fails_core role s at memory reach Puts cause packet fits is fails = absurd fails
-fails_core role s at memory reach (Says message) cause packet fits is fails = absurd fails
-fails_core role s at memory reach (Replies p reply) cause packet fits is fails = absurd fails
-fails_core role s at memory reach (Tells p) cause packet fits is fails = absurd fails
-fails_core role s at memory reach (Publishes p frame) cause packet fits is fails = absurd fails
-fails_core role s at memory reach (Announces p) cause packet fits is fails = absurd fails
-fails_core role s at memory reach Idles cause packet fits is fails = absurd fails
+fails_core role s at memory reach _ cause packet fits is fails = absurd fails
 
 -- IT STAYS
 pub stays_with : (role : Role) (s t : NetEndState) → t.link ≡ s.link → t.handshake ≡ s.handshake → t.address ≡ s.address → t.slots ≡ s.slots → is_some t.session ≡ is_some s.session

@@ -83,9 +83,7 @@ slot_formed role sid s at p activity (Some last) (NotReady state) held agreed sm
     of_some (Formed role sid s p) (holding_own (answer s activity last) (record p { active = None }) s) held same
     (Ranged (canonical (answer s activity last)) (record p { active = None }) (forms_it s at p (record p { active = None }) (answer s activity last) free empty)
     (says_range role sid Ack s.handshake.draft.sid activity.seq s.handshake.draft.ident_peer activity.start last 2 (inr refl) agreed.peer small) refl refl)
-slot_formed role sid s at p activity (Some last) (IsFrame frame new) held agreed small empty free same = none_some held same
-slot_formed role sid s at p activity (Some last) (Refuses why) held agreed small empty free same = none_some held same
-slot_formed role sid s at p activity None found held agreed small empty free same = none_some held same
+slot_formed role sid s at p activity _ _ held agreed small empty free same = none_some held same
 
 same_session : {X : Type 0} (o : Option X) (p q : X) → o ≡ Some p → o ≡ Some q → q ≡ p
 same_session {X} o p q one two = let both : Some q ≡ Some p = sym two ∙ one in cc both
@@ -116,10 +114,7 @@ formed_by role sid s at reach (Announces q) held p may is same =
     (of_some (Formed role sid s q) (holding_own (announcement s q) (record q { infos = q.infos + 1; asking = true }) s) held same
     (Ranged (canonical (announcement s q)) (record q { infos = q.infos + 1; asking = true }) (forms_it s at q (record q { infos = q.infos + 1; asking = true }) (announcement s q) says.0.in_session may.empty)
     (says_range role sid Info s.handshake.draft.sid (wrapped (q.infos + 1)) s.handshake.draft.ident_own (q.seen % s.slots) 0xffffffff 1 (inl refl) may.agreed.own may.small) refl refl))
-formed_by role sid s at reach Joins held p may is same = none_some held same
-formed_by role sid s at reach (Takes packet) held p may is same = none_some held same
-formed_by role sid s at reach (Publishes q frame) held p may is same = none_some held same
-formed_by role sid s at reach Idles held p may is same = none_some held same
+formed_by role sid s at reach _ held p may is same = none_some held same
 
 -- IT PUTS the message that it holds, whole in one packet
 pub record PutsIt (held t : NetEndState) (turns : List Turn) (packet : List ℕ) : Type 0 where

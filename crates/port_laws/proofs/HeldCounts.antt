@@ -241,9 +241,7 @@ slot_counts role slots queue s l at p activity (Some last) (NotReady state) held
     (formed role slots queue s l p (record p { active = None }) here.of_log (answer s activity last) RangeAck holding.counts here.is
     (answers_forms role slots s p here.of_log l.published l.gone activity last s.link.begun free.free.owed holding.counts.slots_is holding.slots_fit
     (subst (ActiveCounts slots here.of_log) active here.counts.peer.active) is here.counts))
-slot_counts role slots queue s l at p activity (Some last) (IsFrame frame new) held holding free active is same = none_some held same
-slot_counts role slots queue s l at p activity (Some last) (Refuses why) held holding free active is same = none_some held same
-slot_counts role slots queue s l at p activity None found held holding free active is same = none_some held same
+slot_counts role slots queue s l at p activity _ _ held holding free active is same = none_some held same
 
 tells_counts : (role : Role) (slots : ℕ) (queue : List (List ℕ)) (s : NetEndState) (l : EndLog) (at : Seen) (p : NetSession) → Holding role slots queue s l → IsFreeIn s at p → role ≡ Initiator → p.untold ≡ true
     → EndCounts role slots queue (holding_own (membership s.handshake.draft.sid s.groups) (record p { untold = false; telling = true }) s) l
@@ -280,7 +278,4 @@ held_counts role slots queue s l at reach (AnnouncesRule p) held holding is same
     of_some (λ (x : NetEndState). EndCounts role slots queue x l) _ held same
     (formed role slots queue s l p (record p { infos = p.infos + 1; asking = true }) here.of_log (announcement s p) RangeInfo holding.counts here.is
     (announces_forms role slots s p here.of_log l.published l.gone s.link.begun says.0.in_session.free.owed holding.counts.slots_is holding.slots_fit says.1 says.2 here.counts))
-held_counts role slots queue s l at reach Joins held holding is same = none_some held same
-held_counts role slots queue s l at reach (Takes packet) held holding is same = none_some held same
-held_counts role slots queue s l at reach (Publishes p frame) held holding is same = none_some held same
-held_counts role slots queue s l at reach Idles held holding is same = none_some held same
+held_counts role slots queue s l at reach _ held holding is same = none_some held same

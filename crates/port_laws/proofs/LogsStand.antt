@@ -50,22 +50,16 @@ head_change f (Some v) [] published same head = head
 head_change f (Some v) (one ∷ rest) published same head = (head.0 ∙ sym (same.sid v), head.1 ∙ sym (same.published v), head.2)
 
 kind_sid : (k : Spoken) (slots : ℕ) (message : List ℕ) (v : SessionLog) → ((heard_kind slots k message v).sid ≡ v.sid) × ((heard_kind slots k message v).published ≡ v.published)
-kind_sid RangeInfo slots message v = (refl, refl)
-kind_sid RangeAck slots message v = (refl, refl)
 kind_sid GroupsInfo slots message v = (refl, refl)
-kind_sid GroupsAck slots message v = (refl, refl)
-kind_sid Other slots message v = (refl, refl)
+kind_sid _ slots message v = (refl, refl)
 
 heard_same : (slots : ℕ) (ended : Option (List ℕ)) → SameHead (heard_in slots ended)
 heard_same slots None = record { sid = λ v. refl; published = λ v. refl }
 heard_same slots (Some message) = record { sid = λ v. (kind_sid (spoken message) slots message v).0; published = λ v. (kind_sid (spoken message) slots message v).1 }
 
 saying_sid : (k : Spoken) (message : List ℕ) (v : SessionLog) → ((said_kind k message v).sid ≡ v.sid) × ((said_kind k message v).published ≡ v.published)
-saying_sid RangeInfo message v = (refl, refl)
-saying_sid RangeAck message v = (refl, refl)
 saying_sid GroupsInfo message v = (refl, refl)
-saying_sid GroupsAck message v = (refl, refl)
-saying_sid Other message v = (refl, refl)
+saying_sid _ message v = (refl, refl)
 
 said_same : (ended : Option (List ℕ)) → SameHead (said_in ended)
 said_same None = record { sid = λ v. refl; published = λ v. refl }
@@ -132,14 +126,9 @@ logs_event u l (Steps B answer) t step stands = record { guest = stands.guest; h
 logs_event u l (Asked A lost) t step stands = record { guest = ends_stands lost l.guest stands.guest; hub = stands.hub }
 logs_event u l (Asked B lost) t step stands = record { guest = stands.guest; hub = ends_stands lost l.hub stands.hub }
 logs_event u l (Ticked queued lost) t step stands = record { guest = ends_stands lost l.guest stands.guest; hub = stands.hub }
-logs_event u l (CalmTick queued) t step stands = record { guest = stands.guest; hub = stands.hub }
 logs_event u l (Gives A given) t step stands = record { guest = given_log u.guest given t.guest l.guest step.0 stands.guest; hub = stands.hub }
 logs_event u l (Gives B given) t step stands = record { guest = stands.guest; hub = given_log u.hub given t.hub l.hub step.0 stands.hub }
-logs_event u l (Joins joining) t step stands = record { guest = stands.guest; hub = stands.hub }
-logs_event u l (Loses e packet) t step stands = record { guest = stands.guest; hub = stands.hub }
-logs_event u l (Injects e packet) t step stands = record { guest = stands.guest; hub = stands.hub }
-logs_event u l (Pokes e at bytes) t step stands = record { guest = stands.guest; hub = stands.hub }
-logs_event u l (Declines d) t step stands = record { guest = stands.guest; hub = stands.hub }
+logs_event u l _ t step stands = record { guest = stands.guest; hub = stands.hub }
 
 pub logs_received : (l : PortLog) (frame : List ℕ) → IsFrame frame → LogsStand l → LogsStand (after l (Receives frame))
 logs_received l frame is stands = record { guest = stands.guest; hub = gives_stands frame l.hub stands.hub is }
@@ -166,14 +155,8 @@ pub tables_event : (shape : NetShape) (u : NetLaneState) (event : NetEvent) (t :
 tables_event shape u (Steps A answer) t step = tables_as shape u t (ap (λ (x : NetLaneState). x.guest_table) step.is) (ap (λ (x : NetLaneState). x.hub_table) step.is)
 tables_event shape u (Steps B answer) t step = tables_as shape u t (ap (λ (x : NetLaneState). x.guest_table) step.is) (ap (λ (x : NetLaneState). x.hub_table) step.is)
 tables_event shape u (Asked A lost) t step = tables_as shape u t (ap (λ (x : NetLaneState). x.guest_table) step.1) (ap (λ (x : NetLaneState). x.hub_table) step.1)
-tables_event shape u (Asked B lost) t step = tables_as shape u t (ap (λ (x : NetLaneState). x.guest_table) step.1) (ap (λ (x : NetLaneState). x.hub_table) step.1)
 tables_event shape u (Ticked queued lost) t step = tables_as shape u t (ap (λ (x : NetLaneState). x.guest_table) step.1.1) (ap (λ (x : NetLaneState). x.hub_table) step.1.1)
-tables_event shape u (CalmTick queued) t step = tables_as shape u t (ap (λ (x : NetLaneState). x.guest_table) step.1) (ap (λ (x : NetLaneState). x.hub_table) step.1)
 tables_event shape u (Gives A given) t step = tables_as shape u t (ap (λ (x : NetLaneState). x.guest_table) step.1) (ap (λ (x : NetLaneState). x.hub_table) step.1)
-tables_event shape u (Gives B given) t step = tables_as shape u t (ap (λ (x : NetLaneState). x.guest_table) step.1) (ap (λ (x : NetLaneState). x.hub_table) step.1)
-tables_event shape u (Joins joining) t step = tables_as shape u t (ap (λ (x : NetLaneState). x.guest_table) step.1) (ap (λ (x : NetLaneState). x.hub_table) step.1)
-tables_event shape u (Loses e packet) t step = tables_as shape u t (ap (λ (x : NetLaneState). x.guest_table) step.1) (ap (λ (x : NetLaneState). x.hub_table) step.1)
 tables_event shape u (Injects e packet) t step = tables_as shape u t (ap (λ (x : NetLaneState). x.guest_table) step.2) (ap (λ (x : NetLaneState). x.hub_table) step.2)
 tables_event shape u (Pokes A at bytes) t step = tables_as shape u t (ap (λ (x : NetLaneState). x.guest_table) step.1) (ap (λ (x : NetLaneState). x.hub_table) step.1)
-tables_event shape u (Pokes B at bytes) t step = tables_as shape u t (ap (λ (x : NetLaneState). x.guest_table) step.1) (ap (λ (x : NetLaneState). x.hub_table) step.1)
-tables_event shape u (Declines d) t step = tables_as shape u t (ap (λ (x : NetLaneState). x.guest_table) step.1) (ap (λ (x : NetLaneState). x.hub_table) step.1)
+tables_event shape u _ t step = tables_as shape u t (ap (λ (x : NetLaneState). x.guest_table) step.1) (ap (λ (x : NetLaneState). x.hub_table) step.1)

@@ -155,7 +155,6 @@ SameLong own peer left = (length left.own ≡ length own) × (length left.peer �
 
 step_long : (role : Role) (s : NetEndState) (turns : List Turn) (at : Seen) (memory : List ℕ) (reach : Reach) (answer : NetAnswer) (left : NetLeft) → 1 ≤ s.slots → Fits s.slots memory
     → (is_up at.state ≡ true → Owns role s turns memory) → NetEndStep role s at memory reach answer left → SameLong memory reach.memory left
-step_long role s turns at memory reach (Joined lost) left some fits owns step = subst (SameLong memory reach.memory) (sym step.2) (refl, refl)
 step_long role s turns at memory reach (Took packet opens) left some fits owns step =
     let few = fits.few in
     let room = fits.room in
@@ -167,7 +166,6 @@ step_long role s turns at memory reach (Sent packet opens) left some fits owns s
     let few = fits.few in
     let room = fits.room in
     subst (SameLong memory reach.memory) (sym step.is) (put_long role (net_opens step.held) s.slots memory (omega (arith, few, room)), refl)
-step_long role s turns at memory reach Blocked left some fits owns step = subst (SameLong memory reach.memory) (sym step.2) (refl, refl)
 step_long role s turns at memory reach Idle left some fits owns step = subst (SameLong memory reach.memory) (sym step.1) (refl, refl)
 step_long role s turns at memory reach (Published id) left some fits owns step =
     let says = says_of role s at (Publishes step.session step.frame) step.rule in
@@ -181,7 +179,7 @@ step_long role s turns at memory reach (Frame frame) left some fits owns step =
       ap length found.new_is
           ∙ moved_long reach (slots_cookies s) (64 * step.session.place) (header 4 (net_desc_of (moved_in reach.table reach.memory (slots_cookies s) (64 * step.session.place) 64)).ack),
     )
-step_long role s turns at memory reach (Reset cause packet lost) left some fits owns step = subst (SameLong memory reach.memory) (sym step.2) (refl, refl)
+step_long role s turns at memory reach _ left some fits owns step = subst (SameLong memory reach.memory) (sym step.2) (refl, refl)
 
 -- A LANE
 pub record LongMemory (slots : ℕ) (s : NetLaneState) : Type 0 where
@@ -219,19 +217,16 @@ event_long shape u l (Steps B answer) t ready room logs step long_ =
     (owns_of shape B u l ready room logs) step.step in
     subst (LongMemory shape.slots) (sym step.is) (record { guest = same.1 ∙ long_.guest; hub = same.0 ∙ long_.hub })
 event_long shape u l (Asked A lost) t ready room logs step long_ = subst (LongMemory shape.slots) (sym step.1) (record { guest = long_.guest; hub = long_.hub })
-event_long shape u l (Asked B lost) t ready room logs step long_ = subst (LongMemory shape.slots) (sym step.1) (record { guest = long_.guest; hub = long_.hub })
 event_long shape u l (Ticked queued lost) t ready room logs step long_ = subst (LongMemory shape.slots) (sym step.1.1) (record { guest = long_.guest; hub = long_.hub })
 event_long shape u l (CalmTick queued) t ready room logs step long_ = subst (LongMemory shape.slots) (sym step.1) long_
 event_long shape u l (Gives A given) t ready room logs step long_ = subst (LongMemory shape.slots) (sym step.1) (record { guest = long_.guest; hub = long_.hub })
-event_long shape u l (Gives B given) t ready room logs step long_ = subst (LongMemory shape.slots) (sym step.1) (record { guest = long_.guest; hub = long_.hub })
-event_long shape u l (Joins joining) t ready room logs step long_ = subst (LongMemory shape.slots) (sym step.1) (record { guest = long_.guest; hub = long_.hub })
-event_long shape u l (Loses e packet) t ready room logs step long_ = subst (LongMemory shape.slots) (sym step.1) (record { guest = long_.guest; hub = long_.hub })
 event_long shape u l (Injects e packet) t ready room logs step long_ = subst (LongMemory shape.slots) (sym step.2) (record { guest = long_.guest; hub = long_.hub })
 event_long shape u l (Pokes A at bytes) t ready room logs step long_ =
     subst (LongMemory shape.slots) (sym step.1) (record { guest = length-put_at at bytes u.lane.guest_memory step.0 ∙ long_.guest; hub = long_.hub })
 event_long shape u l (Pokes B at bytes) t ready room logs step long_ =
     subst (LongMemory shape.slots) (sym step.1) (record { guest = long_.guest; hub = length-put_at at bytes u.lane.hub_memory step.0 ∙ long_.hub })
 event_long shape u l (Declines d) t ready room logs step long_ = subst (LongMemory shape.slots) (sym step.1) long_
+event_long shape u l _ t ready room logs step long_ = subst (LongMemory shape.slots) (sym step.1) (record { guest = long_.guest; hub = long_.hub })
 
 -- A RUN
 moves_long : (b : Bool) (queue : List (List ℕ)) (slots : ℕ) (s : PortState) → LongMemory slots s.lane → LongMemory slots (moves_first b queue s).lane
@@ -241,16 +236,7 @@ moves_long false queue slots s long_ = long_
 
 before_long : (slots : ℕ) (event : NetEvent) (s : PortState) → LongMemory slots s.lane → LongMemory slots (before event s).lane
 before_long slots (Steps B answer) s long_ = moves_long (takes_more s.lane.hub) s.queue slots s long_
-before_long slots (Steps A answer) s long_ = long_
-before_long slots (Asked e lost) s long_ = long_
-before_long slots (Ticked queued lost) s long_ = long_
-before_long slots (CalmTick queued) s long_ = long_
-before_long slots (Gives e given) s long_ = long_
-before_long slots (Joins joining) s long_ = long_
-before_long slots (Loses e packet) s long_ = long_
-before_long slots (Injects e packet) s long_ = long_
-before_long slots (Pokes e at bytes) s long_ = long_
-before_long slots (Declines d) s long_ = long_
+before_long slots _ s long_ = long_
 
 pub record KeptLong (shape : NetShape) (s : PortState) (l : PortLog) : Type 0 where
   pub kept : Kept shape s l

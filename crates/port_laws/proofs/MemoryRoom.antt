@@ -199,18 +199,16 @@ StepKeeps own peer t = (length own ≤ length t.own) × (length peer ≤ length 
 
 step_keeps : (role : Role) (s : NetEndState) (at : Seen) (memory : List ℕ) (reach : Reach) (answer : NetAnswer) (t : NetLeft) → NetEndStep role s at memory reach answer t
     → StepKeeps memory reach.memory t
-step_keeps role s at memory reach (Joined lost) t step = subst (StepKeeps memory reach.memory) (sym step.2) (same memory, same reach.memory)
 step_keeps role s at memory reach (Took packet opens) t step =
     (link_keeps role s memory step.1.link (GoesOn t.end opens t.own) step.1.hears, subst (λ (x : List ℕ). length reach.memory ≤ length x) (sym step.2) (same reach.memory))
 step_keeps role s at memory reach (Sent packet opens) t step =
     subst (StepKeeps memory reach.memory) (sym step.is) (put_cleared role (net_opens step.held) s.slots memory, same reach.memory)
-step_keeps role s at memory reach Blocked t step = subst (StepKeeps memory reach.memory) (sym step.2) (same memory, same reach.memory)
 step_keeps role s at memory reach Idle t step = subst (StepKeeps memory reach.memory) (sym step.1) (same memory, same reach.memory)
 step_keeps role s at memory reach (Published id) t step =
     subst (StepKeeps memory reach.memory) (sym step.is) (published_longer (step.session.published % s.slots) step.frame memory, same reach.memory)
 step_keeps role s at memory reach (Frame frame) t step =
     subst (StepKeeps memory reach.memory) (sym step.is) (same memory, found_in s reach step.session.place frame step.new step.found)
-step_keeps role s at memory reach (Reset cause packet lost) t step = subst (StepKeeps memory reach.memory) (sym step.2) (same memory, same reach.memory)
+step_keeps role s at memory reach _ t step = subst (StepKeeps memory reach.memory) (sym step.2) (same memory, same reach.memory)
 
 -- AN EVENT
 pub record HasRoom (slots : ℕ) (s : NetLaneState) : Type 0 where
@@ -231,19 +229,16 @@ event_room slots s (Steps B answer) t step room =
     let keeps = step_keeps Responder s.hub _ s.hub_memory _ answer step.left step.step in
     subst (HasRoom slots) (sym step.is) (record { guest = omega (arith, room.guest, keeps.1); hub = omega (arith, room.hub, keeps.0) })
 event_room slots s (Asked A lost) t step room = subst (HasRoom slots) (sym step.1) (record { guest = room.guest; hub = room.hub })
-event_room slots s (Asked B lost) t step room = subst (HasRoom slots) (sym step.1) (record { guest = room.guest; hub = room.hub })
 event_room slots s (Ticked queued lost) t step room = subst (HasRoom slots) (sym step.1.1) (record { guest = room.guest; hub = room.hub })
 event_room slots s (CalmTick queued) t step room = subst (HasRoom slots) (sym step.1) room
 event_room slots s (Gives A given) t step room = subst (HasRoom slots) (sym step.1) (record { guest = room.guest; hub = room.hub })
-event_room slots s (Gives B given) t step room = subst (HasRoom slots) (sym step.1) (record { guest = room.guest; hub = room.hub })
-event_room slots s (Joins joining) t step room = subst (HasRoom slots) (sym step.1) (record { guest = room.guest; hub = room.hub })
-event_room slots s (Loses e packet) t step room = subst (HasRoom slots) (sym step.1) (record { guest = room.guest; hub = room.hub })
 event_room slots s (Injects e packet) t step room = subst (HasRoom slots) (sym step.2) (record { guest = room.guest; hub = room.hub })
 event_room slots s (Pokes A at bytes) t step room =
     subst (HasRoom slots) (sym step.1) (record { guest = omega (arith, room.guest, put_longer at bytes s.guest_memory); hub = room.hub })
 event_room slots s (Pokes B at bytes) t step room =
     subst (HasRoom slots) (sym step.1) (record { guest = room.guest; hub = omega (arith, room.hub, put_longer at bytes s.hub_memory) })
 event_room slots s (Declines d) t step room = subst (HasRoom slots) (sym step.1) room
+event_room slots s _ t step room = subst (HasRoom slots) (sym step.1) (record { guest = room.guest; hub = room.hub })
 
 -- A RUN
 moves_memory : (b : Bool) (queue : List (List ℕ)) (slots : ℕ) (s : PortState) → HasRoom slots s.lane → HasRoom slots (moves_first b queue s).lane
@@ -253,16 +248,7 @@ moves_memory false queue slots s room = room
 
 pub before_room : (slots : ℕ) (event : NetEvent) (s : PortState) → HasRoom slots s.lane → HasRoom slots (before event s).lane
 before_room slots (Steps B answer) s room = moves_memory (takes_more s.lane.hub) s.queue slots s room
-before_room slots (Steps A answer) s room = room
-before_room slots (Asked e lost) s room = room
-before_room slots (Ticked queued lost) s room = room
-before_room slots (CalmTick queued) s room = room
-before_room slots (Gives e given) s room = room
-before_room slots (Joins joining) s room = room
-before_room slots (Loses e packet) s room = room
-before_room slots (Injects e packet) s room = room
-before_room slots (Pokes e at bytes) s room = room
-before_room slots (Declines d) s room = room
+before_room slots _ s room = room
 
 port_room : (slots : ℕ) (s : PortState) (event : PortEvent) (t : PortState) → PortStep s event t → HasRoom slots s.lane → HasRoom slots t.lane
 port_room slots s (OnLane event) t step room = event_room slots (before event s).lane event t.lane step.1 (before_room slots event s room)
@@ -278,13 +264,8 @@ Enough slots = 8192 + 2048 * slots ≤ 8192 * memory_pages slots
 
 pub power_room : (k slots : ℕ) → slots ≡ 2 ^ k → 2 ≤ slots → slots ≤ 64 → Enough slots
 power_room zero slots is some most = absurd (omega (arith, is, some))
-power_room (suc zero) slots is some most = subst Enough (sym is) (omega arith)
-power_room (suc (suc zero)) slots is some most = subst Enough (sym is) (omega arith)
-power_room (suc (suc (suc zero))) slots is some most = subst Enough (sym is) (omega arith)
-power_room (suc (suc (suc (suc zero)))) slots is some most = subst Enough (sym is) (omega arith)
-power_room (suc (suc (suc (suc (suc zero))))) slots is some most = subst Enough (sym is) (omega arith)
-power_room (suc (suc (suc (suc (suc (suc zero)))))) slots is some most = subst Enough (sym is) (omega arith)
 power_room (suc (suc (suc (suc (suc (suc (suc k))))))) slots is some most = absurd (omega (arith, is, most, power_some k))
+power_room _ slots is some most = subst Enough (sym is) (omega arith)
 
 fresh_room : (shape : NetShape) → IsNetShape shape → HasRoom shape.slots (fresh_net shape)
 fresh_room shape is =

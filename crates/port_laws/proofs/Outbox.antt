@@ -148,8 +148,7 @@ range_envelope s n seq ident start end state = refl
 range_subtype : (s : Subtype) (n seq ident start end state : ℕ) → subtype_at (range_bytes s n seq ident start end state) ≡ subtype_code s
 unfolding canonical
 range_subtype Info n seq ident start end state = refl
-range_subtype Ack n seq ident start end state = refl
-range_subtype Nack n seq ident start end state = refl
+range_subtype _ n seq ident start end state = refl
 
 range_long : (s : Subtype) (n seq ident start end state : ℕ) → length (range_bytes s n seq ident start end state) ≡ 56
 unfolding canonical
@@ -189,8 +188,7 @@ groups_envelope s n set count addresses = refl
 groups_subtype : (s : Subtype) (n set count : ℕ) (addresses : List (List ℕ)) → subtype_at (groups_bytes s n set count addresses) ≡ subtype_code s
 unfolding canonical
 groups_subtype Info n set count addresses = refl
-groups_subtype Ack n set count addresses = refl
-groups_subtype Nack n set count addresses = refl
+groups_subtype _ n set count addresses = refl
 
 pub record SaysGroups (role : Role) (sid : ℕ) (m : List ℕ) : Type 0 where
   pub fits : MessageFits role sid m

@@ -20,9 +20,8 @@ use Rattle.port_laws.proofs.LaneMoves.{event_core_step, fresh_fits, still, wire_
 
 -- A FRAME THAT MOVES from the queue to the switch's end is none of the channel's
 moves_core : (b : Bool) (queue : List (List ℕ)) (s : PortState) → lane_core (moves_first b queue s).lane ≡ lane_core s.lane
-moves_core true [] s = refl
 moves_core true (frame ∷ frames) s = refl
-moves_core false queue s = refl
+moves_core _ _ s = refl
 
 moves_fit : (b : Bool) (queue : List (List ℕ)) (s : PortState) → BothFit s.lane → BothFit (moves_first b queue s).lane
 moves_fit true [] s fits = fits
@@ -31,29 +30,11 @@ moves_fit false queue s fits = fits
 
 pub before_core : (event : NetEvent) (s : PortState) → lane_core (before event s).lane ≡ lane_core s.lane
 before_core (Steps B answer) s = moves_core (takes_more s.lane.hub) s.queue s
-before_core (Steps A answer) s = refl
-before_core (Asked e lost) s = refl
-before_core (Ticked queued lost) s = refl
-before_core (CalmTick queued) s = refl
-before_core (Gives e given) s = refl
-before_core (Joins joining) s = refl
-before_core (Loses e packet) s = refl
-before_core (Injects e packet) s = refl
-before_core (Pokes e at bytes) s = refl
-before_core (Declines d) s = refl
+before_core _ s = refl
 
 pub before_fits : (event : NetEvent) (s : PortState) → BothFit s.lane → BothFit (before event s).lane
 before_fits (Steps B answer) s fits = moves_fit (takes_more s.lane.hub) s.queue s fits
-before_fits (Steps A answer) s fits = fits
-before_fits (Asked e lost) s fits = fits
-before_fits (Ticked queued lost) s fits = fits
-before_fits (CalmTick queued) s fits = fits
-before_fits (Gives e given) s fits = fits
-before_fits (Joins joining) s fits = fits
-before_fits (Loses e packet) s fits = fits
-before_fits (Injects e packet) s fits = fits
-before_fits (Pokes e at bytes) s fits = fits
-before_fits (Declines d) s fits = fits
+before_fits _ s fits = fits
 
 abbrev pub PortFits : PortState → Type 0
 PortFits s = BothFit s.lane

@@ -116,9 +116,7 @@ slot_less : (role : Role) (more : ℕ) (memory : List ℕ) (s : NetEndState) (p 
 slot_less role more memory s p activity (Some last) (NotReady state) held what is active some same =
     of_some (OwnLess role more memory s what) (holding_own (answer s activity last) (record p { active = None }) s) held same
     (in_session_less role more memory s (answer s activity last) p (record p { active = None }) what is (answer_less role more memory s p activity last what active some))
-slot_less role more memory s p activity (Some last) (IsFrame frame new) held what is active some same = none_some held same
-slot_less role more memory s p activity (Some last) (Refuses why) held what is active some same = none_some held same
-slot_less role more memory s p activity None found held what is active some same = none_some held same
+slot_less role more memory s p activity _ _ held what is active some same = none_some held same
 
 own_less : (role : Role) (more : ℕ) (memory : List ℕ) (s : NetEndState) (at : Seen) (reach : Reach) (rule : NetRule) (held : NetEndState) (what : Holding)
     → port_rule role s at ≡ rule → net_holds rule s reach ≡ Some held → Holds (net_core role s) what (net_core role held) → OwnLess role more memory s what held
@@ -145,10 +143,7 @@ own_less role more memory s at reach (Announces p) held what is same holds =
     let q : NetSession = record p { infos = p.infos + 1; asking = true } in
     of_some (OwnLess role more memory s what) (holding_own (announcement s p) q s) held same
     (in_session_less role more memory s (announcement s p) p q what says.0.in_session.session (announces_less role more memory s p what says.1 says.2))
-own_less role more memory s at reach Joins held what is same holds = none_some held same
-own_less role more memory s at reach (Takes packet) held what is same holds = none_some held same
-own_less role more memory s at reach (Publishes p frame) held what is same holds = none_some held same
-own_less role more memory s at reach Idles held what is same holds = none_some held same
+own_less role more memory s at reach _ held what is same holds = none_some held same
 
 sum_less : (role : Role) (few many own left less : ℕ) → few ≤ many + own → left + put_weight role * own ≤ less → put_weight role * few + left ≤ put_weight role * many + less
 sum_less Initiator few many own left less packets rest = omega (arith, packets, rest)
@@ -170,9 +165,7 @@ held_slots s reach (Fetches p activity) held same = slot_slots activity.last (fe
   where
     slot_slots : (last : Option ℕ) (found : Fetched) → answers s p activity last found ≡ Some held → held.slots ≡ s.slots
     slot_slots (Some last) (NotReady state) is = slots_some s held (holding_own (answer s activity last) (record p { active = None }) s) is refl
-    slot_slots (Some last) (IsFrame frame new) is = none_some held is
-    slot_slots (Some last) (Refuses why) is = none_some held is
-    slot_slots None found is = none_some held is
+    slot_slots _ _ is = none_some held is
 held_slots s reach Puts held same = slots_some s held s same refl
 held_slots s reach (Says message) held same = slots_some s held (holding message s) same refl
 held_slots s reach (Replies p reply) held same = slots_some s held (holding_own (groups_answer s reply) (record p { reply = None }) s) same refl
@@ -188,9 +181,7 @@ last_shut Responder _ opens = false_true opens
 
 pub kind_shut : (kind : PutKind) (h : Handshake) → put_opens kind h ≡ true → is_open_in h.phase ≡ false
 kind_shut EndsHandshake h opens = last_shut h.role h.phase opens
-kind_shut Goes h opens = false_true opens
-kind_shut ComesUp h opens = false_true opens
-kind_shut EndsOwn h opens = false_true opens
+kind_shut _ h opens = false_true opens
 
 pub shut_none : (session : Option NetSession) → is_some session ≡ false → session ≡ None
 shut_none None is = refl

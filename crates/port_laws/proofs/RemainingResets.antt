@@ -55,14 +55,12 @@ reset_before e s _ is = absurd is
 
 -- AN END THAT WAS UP: the queues are empty, and the other end isn't up
 away : (y : ChannelState) → absent (upset y) ≡ 1
-away Up = refl
-away Down = refl
 away Resetting = refl
+away _ = refl
 
 away_left : (y : ChannelState) (role : Role) (more : ℕ) (memory : List ℕ) (s : NetEndState) → end_left (upset y) role more memory s ≡ first_left role (length s.frames + more - unseen s.session)
-away_left Up role more memory s = refl
-away_left Down role more memory s = refl
 away_left Resetting role more memory s = refl
+away_left _ role more memory s = refl
 
 begins_a : (x : ChannelState) (g : NetEndState) (u : NetLaneState) (queued : ℕ) → x ≡ Up → up_left Initiator 0 u.guest_memory g ≡ first_left Initiator (length u.guest.frames + 0 - unseen u.guest.session)
     → remaining_of (joined_a x g u) queued ≡ 75 + 8 * kept_in u queued

@@ -48,21 +48,9 @@ pub record WireNow (e : End) (u : NetLaneState) (answer : NetAnswer) : Type 0 wh
 
 pub wire_now : (e : End) (u : NetLaneState) (answer : NetAnswer) → WireNow e u answer
 wire_now A u (Joined lost) = record { mine = refl; theirs = refl }
-wire_now A u (Took packet opens) = record { mine = refl; theirs = refl }
-wire_now A u (Sent packet opens) = record { mine = refl; theirs = refl }
-wire_now A u Blocked = record { mine = refl; theirs = refl }
-wire_now A u Idle = record { mine = refl; theirs = refl }
-wire_now A u (Published id) = record { mine = refl; theirs = refl }
-wire_now A u (Frame frame) = record { mine = refl; theirs = refl }
-wire_now A u (Reset cause packet lost) = record { mine = refl; theirs = refl }
 wire_now B u (Joined lost) = record { mine = refl; theirs = refl }
-wire_now B u (Took packet opens) = record { mine = refl; theirs = refl }
-wire_now B u (Sent packet opens) = record { mine = refl; theirs = refl }
-wire_now B u Blocked = record { mine = refl; theirs = refl }
-wire_now B u Idle = record { mine = refl; theirs = refl }
-wire_now B u (Published id) = record { mine = refl; theirs = refl }
-wire_now B u (Frame frame) = record { mine = refl; theirs = refl }
-wire_now B u (Reset cause packet lost) = record { mine = refl; theirs = refl }
+wire_now A u _ = record { mine = refl; theirs = refl }
+wire_now B u _ = record { mine = refl; theirs = refl }
 
 abbrev pub turns_now : NetAnswer → List Turn → List Turn
 turns_now (Joined lost) turns = []
@@ -77,21 +65,9 @@ pub record TurnsNow (e : End) (l : TranscriptLog) (answer : NetAnswer) : Type 0 
 
 pub turns_at : (e : End) (l : TranscriptLog) (answer : NetAnswer) → TurnsNow e l answer
 turns_at A l (Joined lost) = record { mine = refl; theirs = refl }
-turns_at A l (Took packet opens) = record { mine = refl; theirs = refl }
-turns_at A l (Sent packet opens) = record { mine = refl; theirs = refl }
-turns_at A l Blocked = record { mine = refl; theirs = refl }
-turns_at A l Idle = record { mine = refl; theirs = refl }
-turns_at A l (Published id) = record { mine = refl; theirs = refl }
-turns_at A l (Frame frame) = record { mine = refl; theirs = refl }
-turns_at A l (Reset cause packet lost) = record { mine = refl; theirs = refl }
 turns_at B l (Joined lost) = record { mine = refl; theirs = refl }
-turns_at B l (Took packet opens) = record { mine = refl; theirs = refl }
-turns_at B l (Sent packet opens) = record { mine = refl; theirs = refl }
-turns_at B l Blocked = record { mine = refl; theirs = refl }
-turns_at B l Idle = record { mine = refl; theirs = refl }
-turns_at B l (Published id) = record { mine = refl; theirs = refl }
-turns_at B l (Frame frame) = record { mine = refl; theirs = refl }
-turns_at B l (Reset cause packet lost) = record { mine = refl; theirs = refl }
+turns_at A l _ = record { mine = refl; theirs = refl }
+turns_at B l _ = record { mine = refl; theirs = refl }
 
 pub up_is : (x : ChannelState) → is_up x ≡ true → x ≡ Up
 up_is Up is = refl
@@ -120,11 +96,8 @@ Goes _ = ⊤
 
 -- THE FRAMES THAT IT TOOK in its session, after an answer
 kind_taken : (k : Spoken) (slots : ℕ) (message : List ℕ) (v : SessionLog) → (heard_kind slots k message v).taken ≡ v.taken
-kind_taken RangeInfo slots message v = refl
-kind_taken RangeAck slots message v = refl
 kind_taken GroupsInfo slots message v = refl
-kind_taken GroupsAck slots message v = refl
-kind_taken Other slots message v = refl
+kind_taken _ slots message v = refl
 
 heard_taken : (slots : ℕ) (ended : Option (List ℕ)) (log : Option SessionLog) → taken_in (change (heard_in slots ended) log) ≡ taken_in log
 heard_taken slots ended None = refl
@@ -132,11 +105,8 @@ heard_taken slots None (Some v) = refl
 heard_taken slots (Some message) (Some v) = kind_taken (spoken message) slots message v
 
 saying_taken : (k : Spoken) (message : List ℕ) (v : SessionLog) → (said_kind k message v).taken ≡ v.taken
-saying_taken RangeInfo message v = refl
-saying_taken RangeAck message v = refl
 saying_taken GroupsInfo message v = refl
-saying_taken GroupsAck message v = refl
-saying_taken Other message v = refl
+saying_taken _ message v = refl
 
 said_taken : (ended : Option (List ℕ)) (log : Option SessionLog) → taken_in (change (said_in ended) log) ≡ taken_in log
 said_taken ended None = refl
@@ -200,10 +170,9 @@ own_stands role slots x y log s turns at memory reach answer left owns same none
 -- THE RING OF ITS PEER
 pub peer_up : (x y : ChannelState) → peer_behind x y ≡ Up → (x ≢ Up) × (y ≡ Up)
 peer_up Up Up is = absurd (cc is)
-peer_up Up Down is = absurd (cc is)
-peer_up Up Resetting is = absurd (cc is)
 peer_up Down y is = ((λ up. cc up), is)
 peer_up Resetting y is = ((λ up. cc up), is)
+peer_up Up _ is = absurd (cc is)
 
 pub none_down : (x : ChannelState) (log : Option SessionLog) → x ≢ Up → taken_by x log ≡ 0
 none_down Up log not = absurd (not refl)

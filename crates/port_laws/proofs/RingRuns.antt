@@ -49,16 +49,7 @@ moves_rings false queue s l rings = rings
 
 before_rings : (event : NetEvent) (s : PortState) (l : PortLog) → Rings s.lane l → Rings (before event s).lane l
 before_rings (Steps B answer) s l rings = moves_rings (takes_more s.lane.hub) s.queue s l rings
-before_rings (Steps A answer) s l rings = rings
-before_rings (Asked e lost) s l rings = rings
-before_rings (Ticked queued lost) s l rings = rings
-before_rings (CalmTick queued) s l rings = rings
-before_rings (Gives e given) s l rings = rings
-before_rings (Joins joining) s l rings = rings
-before_rings (Loses e packet) s l rings = rings
-before_rings (Injects e packet) s l rings = rings
-before_rings (Pokes e at bytes) s l rings = rings
-before_rings (Declines d) s l rings = rings
+before_rings _ s l rings = rings
 
 moves_tables : (b : Bool) (queue : List (List ℕ)) (shape : NetShape) (s : PortState) → TablesStand shape s.lane → TablesStand shape (moves_first b queue s).lane
 moves_tables true [] shape s tables = tables
@@ -67,16 +58,7 @@ moves_tables false queue shape s tables = tables
 
 before_tables : (event : NetEvent) (shape : NetShape) (s : PortState) → TablesStand shape s.lane → TablesStand shape (before event s).lane
 before_tables (Steps B answer) shape s tables = moves_tables (takes_more s.lane.hub) s.queue shape s tables
-before_tables (Steps A answer) shape s tables = tables
-before_tables (Asked e lost) shape s tables = tables
-before_tables (Ticked queued lost) shape s tables = tables
-before_tables (CalmTick queued) shape s tables = tables
-before_tables (Gives e given) shape s tables = tables
-before_tables (Joins joining) shape s tables = tables
-before_tables (Loses e packet) shape s tables = tables
-before_tables (Injects e packet) shape s tables = tables
-before_tables (Pokes e at bytes) shape s tables = tables
-before_tables (Declines d) shape s tables = tables
+before_tables _ shape s tables = tables
 
 -- WHAT ISN'T A STEP
 begun_ring : (slots : ℕ) (x y : ChannelState) (log : Option SessionLog) (session : Option NetSession) (frames : List (List ℕ)) (memory : List ℕ)
@@ -150,14 +132,12 @@ lane_rings shape u t l (Gives A given) of_queue finds step clean counts talks =
   where
     given_spoke : (given : Given) → SpokeIn Initiator l.transcript.client (after_given given l.guest).session
     given_spoke (Queued id frame) = finds.rings.guest_spoke
-    given_spoke (Full frame) = finds.rings.guest_spoke
-    given_spoke (BadLength frame) = finds.rings.guest_spoke
+    given_spoke _ = finds.rings.guest_spoke
 
     given_other : (given : Given) → u.lane.wire.wire.end_b ≡ Up
         → RingIn l.shape.slots (taken_by u.lane.wire.wire.end_a (after_given given l.guest).session) u.lane.hub.session u.lane.hub.frames u.lane.hub_memory
     given_other (Queued id frame) up = finds.rings.hub_ring up
-    given_other (Full frame) up = finds.rings.hub_ring up
-    given_other (BadLength frame) up = finds.rings.hub_ring up
+    given_other _ up = finds.rings.hub_ring up
 lane_rings shape u t l (Gives B given) of_queue finds step clean counts talks = absurd of_queue
 lane_rings shape u t l (Joins joining) of_queue finds step clean counts talks =
     subst (λ (x : NetLaneState). Rings x (after l (OnLane (Joins joining)))) (sym step.1)
@@ -182,22 +162,9 @@ lane_rings shape u t l (Declines d) of_queue finds step clean counts talks =
 -- nobody had forged before
 pub was_clean : (w : WireLog) (event : NetEvent) → (moved_on w (on_wire event)).forged ≡ false → w.forged ≡ false
 was_clean w (Steps e (Joined lost)) clean = clean
-was_clean w (Steps e (Took packet opens)) clean = clean
-was_clean w (Steps e (Sent packet opens)) clean = clean
-was_clean w (Steps e Blocked) clean = clean
-was_clean w (Steps e Idle) clean = clean
-was_clean w (Steps e (Published id)) clean = clean
-was_clean w (Steps e (Frame frame)) clean = clean
-was_clean w (Steps e (Reset cause packet lost)) clean = clean
-was_clean w (Asked e lost) clean = clean
-was_clean w (Ticked queued lost) clean = clean
-was_clean w (CalmTick queued) clean = clean
-was_clean w (Gives e given) clean = clean
-was_clean w (Joins joining) clean = clean
-was_clean w (Loses e packet) clean = clean
 was_clean w (Injects e packet) clean = true_false clean
 was_clean w (Pokes e at bytes) clean = true_false clean
-was_clean w (Declines d) clean = clean
+was_clean w _ clean = clean
 
 -- ALONG EVERY RUN
 pub record Kept (shape : NetShape) (s : PortState) (l : PortLog) : Type 0 where

@@ -62,9 +62,7 @@ slot_held : (slots taken : ℕ) (memory : List ℕ) (s held : NetEndState) (p : 
     → answers s p activity last found ≡ Some held → Same slots taken memory s held
 slot_held slots taken memory s held p activity (Some last) (NotReady state) is same =
     held_own slots taken memory s held (answer s activity last) p (record p { active = None }) is refl refl same
-slot_held slots taken memory s held p activity (Some last) (IsFetched frame new) is same = none_some held same
-slot_held slots taken memory s held p activity (Some last) (Refuses why) is same = none_some held same
-slot_held slots taken memory s held p activity None found is same = none_some held same
+slot_held slots taken memory s held p activity _ _ is same = none_some held same
 
 pub held_ring : (role : Role) (slots taken : ℕ) (memory : List ℕ) (s : NetEndState) (at : Seen) (reach : Reach) (rule : NetRule) (held : NetEndState) → port_rule role s at ≡ rule
     → net_holds rule s reach ≡ Some held → Same slots taken memory s held
@@ -78,10 +76,7 @@ held_ring role slots taken memory s at reach (Tells p) held is same =
     held_own slots taken memory s held (membership s.handshake.draft.sid s.groups) p (record p { untold = false; telling = true }) (says_of role s at (Tells p) is).0.in_session.session refl refl same
 held_ring role slots taken memory s at reach (Announces p) held is same =
     held_own slots taken memory s held (announcement s p) p (record p { infos = p.infos + 1; asking = true }) (says_of role s at (Announces p) is).0.in_session.session refl refl same
-held_ring role slots taken memory s at reach Joins held is same = none_some held same
-held_ring role slots taken memory s at reach (Takes packet) held is same = none_some held same
-held_ring role slots taken memory s at reach (Publishes p frame) held is same = none_some held same
-held_ring role slots taken memory s at reach Idles held is same = none_some held same
+held_ring role slots taken memory s at reach _ held is same = none_some held same
 
 -- A SESSION OPENS with a ring that is cleared
 opened_ring : (slots taken : ℕ) (frames : List (List ℕ)) (memory : List ℕ) → taken ≡ 0 → RingHolds slots 0 taken 0 frames (cleared_ring slots memory)

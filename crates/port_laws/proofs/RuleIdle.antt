@@ -180,9 +180,8 @@ hub_left false queue s p takes is stands session past same =
     right_false false c one both = false_true one
 
 moves_slots : (b : Bool) (queue : List (List ℕ)) (s : PortState) → (moves_first b queue s).lane.hub.slots ≡ s.lane.hub.slots
-moves_slots true [] s = refl
 moves_slots true (frame ∷ queue) s = refl
-moves_slots false queue s = refl
+moves_slots _ _ s = refl
 
 hub_idle : (shape : NetShape) (s : PortState) (l : PortLog) → PortCounts shape s l → Ready shape (moved s) l → port_rule Responder (moved s).lane.hub (seen_at B (moved s).lane) ≡ Idles
     → IfSession l.hub.session (IsIdle B l)
@@ -216,22 +215,7 @@ idle_event : (shape : NetShape) (s : PortState) (l : PortLog) (event : NetEvent)
     → IdleAt l (OnLane event)
 idle_event shape s l (Steps A Idle) t kept ready step = (idle_waits shape A s l ready step.step.0, guest_idle shape s l ready step.step.0)
 idle_event shape s l (Steps B Idle) t kept ready step = (idle_waits shape B (moved s) l ready step.step.0, hub_idle shape s l kept ready step.step.0)
-idle_event shape s l (Steps e (Published id)) t kept ready step = tt
-idle_event shape s l (Steps e (Frame frame)) t kept ready step = tt
-idle_event shape s l (Steps e (Took packet opens)) t kept ready step = tt
-idle_event shape s l (Steps e (Sent packet opens)) t kept ready step = tt
-idle_event shape s l (Steps e (Joined lost)) t kept ready step = tt
-idle_event shape s l (Steps e Blocked) t kept ready step = tt
-idle_event shape s l (Steps e (Reset cause packet lost)) t kept ready step = tt
-idle_event shape s l (Asked e lost) t kept ready step = tt
-idle_event shape s l (Ticked queued lost) t kept ready step = tt
-idle_event shape s l (CalmTick queued) t kept ready step = tt
-idle_event shape s l (Gives e given) t kept ready step = tt
-idle_event shape s l (Joins joining) t kept ready step = tt
-idle_event shape s l (Loses e packet) t kept ready step = tt
-idle_event shape s l (Injects e packet) t kept ready step = tt
-idle_event shape s l (Pokes e at bytes) t kept ready step = tt
-idle_event shape s l (Declines d) t kept ready step = tt
+idle_event shape s l _ t kept ready step = tt
 
 pub port_idle : (shape : NetShape) (events : List PortEvent) (s : PortState) → IsNetShape shape → Run PortStep (fresh_port shape) events s → Lawful IdleAt after (no_events shape) events
 port_idle shape events s is run = along shape IdleAt is (λ x l event t counts ready step. idle_event shape x l event t counts ready step.1) (λ l frame. tt) events s run

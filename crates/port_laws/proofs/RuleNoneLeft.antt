@@ -181,22 +181,7 @@ idle_stays B u t step =
 last_idles : (u : NetLaneState) (event : NetEvent) (t : NetLaneState) → NetLaneStep u event t → (e : End) → idle_in event ≡ Some e → port_rule (role_at e) (net_end e t) (seen_at e t) ≡ Idles
 last_idles u (Steps end Idle) t step e is =
     let same : end ≡ e = cc in subst (λ (x : End). port_rule (role_at x) (net_end x t) (seen_at x t) ≡ Idles) same (idle_stays end u t step)
-last_idles u (Steps end Blocked) t step e is = none_some e is
-last_idles u (Steps end (Joined lost)) t step e is = none_some e is
-last_idles u (Steps end (Took packet opens)) t step e is = none_some e is
-last_idles u (Steps end (Sent packet opens)) t step e is = none_some e is
-last_idles u (Steps end (Published id)) t step e is = none_some e is
-last_idles u (Steps end (Frame frame)) t step e is = none_some e is
-last_idles u (Steps end (Reset cause packet lost)) t step e is = none_some e is
-last_idles u (Asked end lost) t step e is = none_some e is
-last_idles u (Ticked queued lost) t step e is = none_some e is
-last_idles u (CalmTick queued) t step e is = none_some e is
-last_idles u (Gives end given) t step e is = none_some e is
-last_idles u (Joins joining) t step e is = none_some e is
-last_idles u (Loses end packet) t step e is = none_some e is
-last_idles u (Injects end packet) t step e is = none_some e is
-last_idles u (Pokes end at bytes) t step e is = none_some e is
-last_idles u (Declines d) t step e is = none_some e is
+last_idles u _ t step e is = none_some e is
 
 idles_step : (s : PortState) (l : PortLog) (event : PortEvent) (t : PortState) → IdlesKept s l → PortStep s event t → IdlesKept t (after l event)
 idles_step s l (OnLane event) t kept step = record { idles = λ e is. last_idles (before event s).lane event t.lane step.1 e is }
@@ -210,9 +195,8 @@ idles_kept shape events s run =
 
 -- AN EVENT
 pub moves_entries : (b : Bool) (queue : List (List ℕ)) (s : PortState) → (moves_first b queue s).lane.shape.entries ≡ s.lane.shape.entries
-moves_entries true [] s = refl
 moves_entries true (frame ∷ frames) s = refl
-moves_entries false queue s = refl
+moves_entries _ _ s = refl
 
 pub moved_guest : (s u : PortState) → u.lane.guest ≡ s.lane.guest → u.lane.wire ≡ s.lane.wire → u.lane.shape.entries ≡ s.lane.shape.entries
     → port_rule Initiator s.lane.guest (seen_at A s.lane) ≡ Idles → port_rule Initiator u.lane.guest (seen_at A u.lane) ≡ Idles
@@ -231,22 +215,7 @@ left_event shape s l (Steps B Idle) t is had kept opened step = λ last clean wh
     let guest : port_rule Initiator u.lane.guest (seen_at A u.lane) ≡ Idles =
     moved_guest s u (before_guest (Steps B Idle) s) wire (moves_entries (takes_more s.lane.hub) s.queue s) (kept.idles A last) in
     both_left shape u l (finds_before shape s l (Steps B Idle) is had.kept clean) (ways_before (Steps B Idle) s l (had.ways clean)) guest step.step.0 whole (opened last clean whole)
-left_event shape s l (Steps e (Published id)) t is had kept opened step = tt
-left_event shape s l (Steps e (Frame frame)) t is had kept opened step = tt
-left_event shape s l (Steps e (Took packet opens)) t is had kept opened step = tt
-left_event shape s l (Steps e (Sent packet opens)) t is had kept opened step = tt
-left_event shape s l (Steps e (Joined lost)) t is had kept opened step = tt
-left_event shape s l (Steps e Blocked) t is had kept opened step = tt
-left_event shape s l (Steps e (Reset cause packet lost)) t is had kept opened step = tt
-left_event shape s l (Asked e lost) t is had kept opened step = tt
-left_event shape s l (Ticked queued lost) t is had kept opened step = tt
-left_event shape s l (CalmTick queued) t is had kept opened step = tt
-left_event shape s l (Gives e given) t is had kept opened step = tt
-left_event shape s l (Joins joining) t is had kept opened step = tt
-left_event shape s l (Loses e packet) t is had kept opened step = tt
-left_event shape s l (Injects e packet) t is had kept opened step = tt
-left_event shape s l (Pokes e at bytes) t is had kept opened step = tt
-left_event shape s l (Declines d) t is had kept opened step = tt
+left_event shape s l _ t is had kept opened step = tt
 
 pub port_none_left : (shape : NetShape) (events : List PortEvent) (s : PortState) → IsNetShape shape → Run PortStep (fresh_port shape) events s → Lawful NoneLeftAt after (no_events shape) events
 port_none_left shape events s is run = lawful_along shape NoneLeftAt here events s run

@@ -91,10 +91,7 @@ works_at B u l v w ways up other mine theirs busy =
 -- what an end holds to say leaves an INFO unanswered
 kind_asking : (k : Spoken) (message : List ℕ) (v : SessionLog) → v.asking ≡ true → (said_kind k message v).asking ≡ true
 kind_asking RangeInfo message v is = refl
-kind_asking RangeAck message v is = is
-kind_asking GroupsInfo message v is = is
-kind_asking GroupsAck message v is = is
-kind_asking Other message v is = is
+kind_asking _ message v is = is
 
 left_asking : (left : Option (List ℕ)) (v : SessionLog) → v.asking ≡ true → (said_in left v).asking ≡ true
 left_asking None v is = is
@@ -178,14 +175,7 @@ slot_reset shape e u l cause lost left finds ways step = by_rule (port_rule (rol
     by_rule : (rule : NetRule) → port_rule (role_at e) s (seen_at e u.lane) ≡ rule → NetFails (role_at e) rule s (memory_of e u.lane) (reach_of e u.lane) cause None → ⊥
     by_rule (Fetches p activity) is fails = at_work p activity is fails.1
     by_rule (Takes packet) is fails = none_some packet fails.0
-    by_rule Joins is fails = fails
-    by_rule Puts is fails = fails
-    by_rule (Says message) is fails = fails
-    by_rule (Replies p reply) is fails = fails
-    by_rule (Tells p) is fails = fails
-    by_rule (Publishes p frame) is fails = fails
-    by_rule (Announces p) is fails = fails
-    by_rule Idles is fails = fails
+    by_rule _ is fails = fails
 
 -- ALONG EVERY RUN
 by_forged : (b : Bool) → (b ≡ false → ⊥) → b ≡ true
@@ -198,23 +188,7 @@ slots_event shape s l (Steps e (Reset cause None lost)) t is had step =
     by_forged l.wire.forged (λ clean.
     slot_reset shape e (before (Steps e (Reset cause None lost)) s) l cause lost step.left (finds_before shape s l (Steps e (Reset cause None lost)) is had.kept clean)
     (ways_before (Steps e (Reset cause None lost)) s l (had.ways clean)) step.step)
-slots_event shape s l (Steps e (Reset cause (Some packet) lost)) t is had step = tt
-slots_event shape s l (Steps e Idle) t is had step = tt
-slots_event shape s l (Steps e Blocked) t is had step = tt
-slots_event shape s l (Steps e (Published id)) t is had step = tt
-slots_event shape s l (Steps e (Frame frame)) t is had step = tt
-slots_event shape s l (Steps e (Took packet opens)) t is had step = tt
-slots_event shape s l (Steps e (Sent packet opens)) t is had step = tt
-slots_event shape s l (Steps e (Joined lost)) t is had step = tt
-slots_event shape s l (Asked e lost) t is had step = tt
-slots_event shape s l (Ticked queued lost) t is had step = tt
-slots_event shape s l (CalmTick queued) t is had step = tt
-slots_event shape s l (GivesFrame e given) t is had step = tt
-slots_event shape s l (JoinsGroup joining) t is had step = tt
-slots_event shape s l (Loses e packet) t is had step = tt
-slots_event shape s l (Injects e packet) t is had step = tt
-slots_event shape s l (Pokes e at bytes) t is had step = tt
-slots_event shape s l (Declines d) t is had step = tt
+slots_event shape s l _ t is had step = tt
 
 pub port_slots : (shape : NetShape) (events : List PortEvent) (s : PortState) → IsNetShape shape → Run PortStep (fresh_port shape) events s → Lawful NoSlotResetAt after (no_events shape) events
 port_slots shape events s is run = lawful_along shape NoSlotResetAt here events s run

@@ -76,14 +76,11 @@ seen_up B u = refl
 
 answer_table : (e : End) (answer : NetAnswer) (s : NetLaneState) (l : PortLog) → SameSizes s l → (answer ≡ Idle → IsUp e l.wire.wire) → CoreStands l.shape.entries l.wire (core_event (Steps e answer))
     → OfWire (WireTableAt (sizes_in l) l.wire) (OnLane (Steps e answer))
-answer_table e (Joined lost) s l same idle stands = stands
-answer_table e (Took packet opens) s l same idle stands = stands
-answer_table e (Sent packet opens) s l same idle stands = stands
 answer_table e Blocked s l same idle stands = (stands.0, full_at e l s same stands.1)
 answer_table e Idle s l same idle stands = idle refl
 answer_table e (Published id) s l same idle stands = tt
 answer_table e (Frame frame) s l same idle stands = tt
-answer_table e (Reset cause packet lost) s l same idle stands = stands
+answer_table e _ s l same idle stands = stands
 
 idle_up : (e : End) (u t : NetLaneState) (l : PortLog) (answer : NetAnswer) → u.wire ≡ l.wire → NetLaneStep u (Steps e answer) t → answer ≡ Idle → IsUp e l.wire.wire
 idle_up e u t l answer wire step is =
@@ -102,13 +99,10 @@ table_event s l (Steps e answer) t same stands step =
     answer_table e answer s.lane l same (idle_up e (before (Steps e answer) s).lane t l answer (before_wire (Steps e answer) s ∙ same.wire) step) stands
 table_event s l (Asked e lost) t same stands step = refl
 table_event s l (Ticked queued lost) t same stands step = refl
-table_event s l (CalmTick queued) t same stands step = tt
-table_event s l (Gives e given) t same stands step = tt
-table_event s l (Joins joining) t same stands step = tt
 table_event s l (Loses e packet) t same stands step = stands
 table_event s l (Injects e packet) t same stands step = stands
 table_event s l (Pokes e at bytes) t same stands step = on_log e s.lane l same (λ n w. at + length bytes ≤ n.memory) step.0
-table_event s l (Declines d) t same stands step = tt
+table_event s l _ t same stands step = tt
 
 pub port_table : (shape : NetShape) (events : List PortEvent) (s : PortState) → IsNetShape shape → Run PortStep (fresh_port shape) events s
     → Lawful (λ (l : PortLog) (event : PortEvent). OfWire (WireTableAt (sizes_in l) l.wire) event) after (no_events shape) events
@@ -131,21 +125,7 @@ answers_event : (s : PortState) (l : PortLog) (event : NetEvent) (t : NetLaneSta
 answers_event s l (Declines d) t same step =
     subst (λ (n : Sizes). DeclinesAt n l.wire d) (sizes_are s.lane l same (declined_at d)) (subst (λ (w : WireLog). DeclinesAt (sizes_of (declined_at d) s.lane) w d) same.wire step.0)
 answers_event s l (Steps e (Joined lost)) t same step = tt
-answers_event s l (Steps e (Took packet opens)) t same step = tt
-answers_event s l (Steps e (Sent packet opens)) t same step = tt
-answers_event s l (Steps e Blocked) t same step = tt
-answers_event s l (Steps e Idle) t same step = tt
-answers_event s l (Steps e (Published id)) t same step = tt
-answers_event s l (Steps e (Frame frame)) t same step = tt
-answers_event s l (Steps e (Reset cause packet lost)) t same step = tt
-answers_event s l (Asked e lost) t same step = tt
-answers_event s l (Ticked queued lost) t same step = tt
-answers_event s l (CalmTick queued) t same step = tt
-answers_event s l (Gives e given) t same step = tt
-answers_event s l (Joins joining) t same step = tt
-answers_event s l (Loses e packet) t same step = tt
-answers_event s l (Injects e packet) t same step = tt
-answers_event s l (Pokes e at bytes) t same step = tt
+answers_event s l _ t same step = tt
 
 pub port_answers : (shape : NetShape) (events : List PortEvent) (s : PortState) → IsNetShape shape → Run PortStep (fresh_port shape) events s
     → Lawful (λ (l : PortLog) (event : PortEvent). OfWire (WireAnswersAt (sizes_in l) l.wire) event) after (no_events shape) events

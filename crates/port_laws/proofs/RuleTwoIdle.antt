@@ -70,22 +70,7 @@ record IdleKept (s : PortState) (l : PortLog) : Type 0 where
 last_rests : (u : NetLaneState) (event : NetEvent) (t : NetLaneState) → NetLaneStep u event t → (e : End) → idle_in event ≡ Some e → IsAtRest e (lane_core t)
 last_rests u (Steps end Idle) t step e is =
     let same : end ≡ e = cc in subst (λ (x : End). IsAtRest x (lane_core t)) same (idle_left end u t step)
-last_rests u (Steps end Blocked) t step e is = none_some e is
-last_rests u (Steps end (Joined lost)) t step e is = none_some e is
-last_rests u (Steps end (Took packet opens)) t step e is = none_some e is
-last_rests u (Steps end (Sent packet opens)) t step e is = none_some e is
-last_rests u (Steps end (Published id)) t step e is = none_some e is
-last_rests u (Steps end (Frame frame)) t step e is = none_some e is
-last_rests u (Steps end (Reset cause packet lost)) t step e is = none_some e is
-last_rests u (Asked end lost) t step e is = none_some e is
-last_rests u (Ticked queued lost) t step e is = none_some e is
-last_rests u (CalmTick queued) t step e is = none_some e is
-last_rests u (Gives end given) t step e is = none_some e is
-last_rests u (Joins joining) t step e is = none_some e is
-last_rests u (Loses end packet) t step e is = none_some e is
-last_rests u (Injects end packet) t step e is = none_some e is
-last_rests u (Pokes end at bytes) t step e is = none_some e is
-last_rests u (Declines d) t step e is = none_some e is
+last_rests u _ t step e is = none_some e is
 
 kept_step : (s : PortState) (l : PortLog) (event : PortEvent) (t : PortState) → IdleKept s l → PortStep s event t → IdleKept t (after l event)
 kept_step s l (OnLane event) t kept step = record { rests = λ e is. last_rests (before event s).lane event t.lane step.1 e is }
@@ -123,22 +108,7 @@ two_idle_event shape s l (Steps B Idle) t counts ready step = λ last clean whol
     let kept : IdleKept s l = subst (IdleKept s) (sym counts.log) (idle_kept shape counts.events s counts.run) in
     two_idle shape s l counts ready (kept.rests A last)
     (subst (IsAtRest B) (before_core (Steps B Idle) s) (idle_rests B (before (Steps B Idle) s).lane step.step.0)) clean whole
-two_idle_event shape s l (Steps e (Published id)) t counts ready step = tt
-two_idle_event shape s l (Steps e (Frame frame)) t counts ready step = tt
-two_idle_event shape s l (Steps e (Took packet opens)) t counts ready step = tt
-two_idle_event shape s l (Steps e (Sent packet opens)) t counts ready step = tt
-two_idle_event shape s l (Steps e (Joined lost)) t counts ready step = tt
-two_idle_event shape s l (Steps e Blocked) t counts ready step = tt
-two_idle_event shape s l (Steps e (Reset cause packet lost)) t counts ready step = tt
-two_idle_event shape s l (Asked e lost) t counts ready step = tt
-two_idle_event shape s l (Ticked queued lost) t counts ready step = tt
-two_idle_event shape s l (CalmTick queued) t counts ready step = tt
-two_idle_event shape s l (Gives e given) t counts ready step = tt
-two_idle_event shape s l (Joins joining) t counts ready step = tt
-two_idle_event shape s l (Loses e packet) t counts ready step = tt
-two_idle_event shape s l (Injects e packet) t counts ready step = tt
-two_idle_event shape s l (Pokes e at bytes) t counts ready step = tt
-two_idle_event shape s l (Declines d) t counts ready step = tt
+two_idle_event shape s l _ t counts ready step = tt
 
 pub port_two_idle : (shape : NetShape) (events : List PortEvent) (s : PortState) → IsNetShape shape → Run PortStep (fresh_port shape) events s → Lawful TwoIdleAt after (no_events shape) events
 port_two_idle shape events s is run =

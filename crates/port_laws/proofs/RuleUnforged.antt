@@ -198,22 +198,7 @@ frame_published shape e u l frame t finds step =
 unforged_event : (shape : NetShape) (s : PortState) (l : PortLog) (event : NetEvent) (t : PortState) → IsNetShape shape → Kept shape s l → NetLaneStep (before event s).lane event t.lane
     → UnforgedAt l (OnLane event)
 unforged_event shape s l (Steps e (Frame frame)) t is kept step = λ clean. frame_published shape e (before (Steps e (Frame frame)) s) l frame t.lane (finds_before shape s l (Steps e (Frame frame)) is kept clean) step
-unforged_event shape s l (Steps e (Published id)) t is kept step = tt
-unforged_event shape s l (Steps e (Took packet opens)) t is kept step = tt
-unforged_event shape s l (Steps e (Sent packet opens)) t is kept step = tt
-unforged_event shape s l (Steps e (Joined lost)) t is kept step = tt
-unforged_event shape s l (Steps e (Reset cause packet lost)) t is kept step = tt
-unforged_event shape s l (Steps e Blocked) t is kept step = tt
-unforged_event shape s l (Steps e Idle) t is kept step = tt
-unforged_event shape s l (Asked e lost) t is kept step = tt
-unforged_event shape s l (Ticked queued lost) t is kept step = tt
-unforged_event shape s l (CalmTick queued) t is kept step = tt
-unforged_event shape s l (Gives e given) t is kept step = tt
-unforged_event shape s l (Joins joining) t is kept step = tt
-unforged_event shape s l (Loses e packet) t is kept step = tt
-unforged_event shape s l (Injects e packet) t is kept step = tt
-unforged_event shape s l (Pokes e at bytes) t is kept step = tt
-unforged_event shape s l (Declines d) t is kept step = tt
+unforged_event shape s l _ t is kept step = tt
 
 pub port_unforged : (shape : NetShape) (events : List PortEvent) (s : PortState) → IsNetShape shape → Run PortStep (fresh_port shape) events s → Lawful UnforgedAt after (no_events shape) events
 port_unforged shape events s is run = lawful_along shape UnforgedAt here events s run

@@ -152,11 +152,8 @@ same_spoke role turns now o v w spoke grows more same = record {
 }
 
 said_same : (k : Spoken) (message : List ℕ) (v : SessionLog) → SameTaking v (said_kind k message v)
-said_same RangeInfo message v = record { sid = refl; asked = refl; taken = refl }
-said_same RangeAck message v = record { sid = refl; asked = refl; taken = refl }
 said_same GroupsInfo message v = record { sid = refl; asked = refl; taken = refl }
-said_same GroupsAck message v = record { sid = refl; asked = refl; taken = refl }
-said_same Other message v = record { sid = refl; asked = refl; taken = refl }
+said_same _ message v = record { sid = refl; asked = refl; taken = refl }
 
 said_taking : (ended : Option (List ℕ)) (v : SessionLog) → SameTaking v (said_in ended v)
 said_taking None v = record { sid = refl; asked = refl; taken = refl }

@@ -206,10 +206,7 @@ holds_up role s at reach (Replies p reply) held is same = (says_of role s at (Re
 holds_up role s at reach (Fetches p activity) held is same = (says_of role s at (Fetches p activity) is).0.free.up
 holds_up role s at reach (Tells p) held is same = (says_of role s at (Tells p) is).0.in_session.free.up
 holds_up role s at reach (Announces p) held is same = (says_of role s at (Announces p) is).0.in_session.free.up
-holds_up role s at reach Joins held is same = none_some held same
-holds_up role s at reach (Takes packet) held is same = none_some held same
-holds_up role s at reach (Publishes p frame) held is same = none_some held same
-holds_up role s at reach Idles held is same = none_some held same
+holds_up role s at reach _ held is same = none_some held same
 
 pub took_here : (role : Role) (slots : ℕ) (queue : List (List ℕ)) (s : NetEndState) (l : EndLog) (turns : List Turn) (at : Seen) (memory : List ℕ) (reach : Reach) (packet : List ℕ) (opens : Bool)
     (t : NetLeft) (sid : ℕ) → Acting role slots queue s l turns → NetEndStep role s at memory reach (Took packet opens) t → TookCounts role slots queue s t.end l turns packet opens sid

@@ -18,18 +18,12 @@ use Rattle.port_laws.proofs.SessionsHeard.{Grown}
 
 -- LISTS
 info_more : (k : Spoken) (message : List ℕ) (rest more : List (List ℕ)) → info_first k message (rest ++ more) ≡ info_first k message rest ++ more
-info_more RangeInfo message rest more = refl
-info_more RangeAck message rest more = refl
 info_more GroupsInfo message rest more = refl
-info_more GroupsAck message rest more = refl
-info_more Other message rest more = refl
+info_more _ message rest more = refl
 
 ack_more : (k : Spoken) (message : List ℕ) (rest more : List (List ℕ)) → ack_first k message (rest ++ more) ≡ ack_first k message rest ++ more
-ack_more RangeInfo message rest more = refl
-ack_more RangeAck message rest more = refl
 ack_more GroupsInfo message rest more = refl
-ack_more GroupsAck message rest more = refl
-ack_more Other message rest more = refl
+ack_more _ message rest more = refl
 
 pub infos-append : (xs ys : List (List ℕ)) → infos_in (xs ++ ys) ≡ infos_in xs ++ infos_in ys
 infos-append [] ys = refl

@@ -61,9 +61,7 @@ answers_stands : (s : NetEndState) (p : NetSession) (activity : Activity) (last 
     → answers s p activity last found ≡ Some held → FramesStand held
 answers_stands s p activity (Some last) (NotReady state) held stands is same =
     of_some FramesStand _ held same (own_stands s (answer s activity last) p (record p { active = None }) stands is refl refl refl refl refl)
-answers_stands s p activity (Some last) (IsFrame frame new) held stands is same = none_some held same
-answers_stands s p activity (Some last) (Refuses why) held stands is same = none_some held same
-answers_stands s p activity None found held stands is same = none_some held same
+answers_stands s p activity _ _ held stands is same = none_some held same
 
 announces_stands : (s : NetEndState) (p : NetSession) → FramesStand s → s.session ≡ Some p → p.seen < p.published → p.asking ≡ false
     → FramesStand (holding_own (announcement s p) (record p { infos = p.infos + 1; asking = true }) s)
@@ -94,10 +92,7 @@ holds_stands role s at r (Tells p) held stands is same =
 holds_stands role s at r (Announces p) held stands is same =
     let says = says_of role s at (Announces p) is in
     of_some FramesStand _ held same (announces_stands s p stands says.0.in_session.session says.1 says.2)
-holds_stands role s at r Joins held stands is same = none_some held same
-holds_stands role s at r (Takes packet) held stands is same = none_some held same
-holds_stands role s at r (Publishes p frame) held stands is same = none_some held same
-holds_stands role s at r Idles held stands is same = none_some held same
+holds_stands role s at r _ held stands is same = none_some held same
 
 opened_put_stands : (role : Role) (opens : Bool) (s : NetEndState) → FramesStand s → FramesStand (opened_by_put role opens s)
 opened_put_stands Initiator true s stands = opened_stands s stands
@@ -190,15 +185,12 @@ event_stands s (Steps A answer) t step stands = subst BothStand (sym step.is) (s
 event_stands s (Steps B answer) t step stands = subst BothStand (sym step.is) (stands.0, step_stands Responder s.hub _ s.hub_memory _ answer step.left stands.1 step.step)
 event_stands s (Asked e lost) t step stands = resets_stand e (Asked e lost) s lost t stands step
 event_stands s (Ticked queued lost) t step stands = resets_stand A (Ticked queued lost) s lost t stands step.1
-event_stands s (CalmTick queued) t step stands = subst BothStand (sym step.1) stands
 event_stands s (Gives A given) t step stands = subst BothStand (sym step.1) (gives_stands s.guest given t.guest stands.0 step.0, stands.1)
 event_stands s (Gives B given) t step stands = subst BothStand (sym step.1) (stands.0, gives_stands s.hub given t.hub stands.1 step.0)
 event_stands s (JoinsGroup joining) t step stands = subst BothStand (sym step.1) (joins_stands s.guest joining t.guest stands.0 step.0, stands.1)
-event_stands s (Loses e packet) t step stands = subst BothStand (sym step.1) stands
 event_stands s (Injects e packet) t step stands = subst BothStand (sym step.2) stands
 event_stands s (Pokes A at bytes) t step stands = subst BothStand (sym step.1) stands
-event_stands s (Pokes B at bytes) t step stands = subst BothStand (sym step.1) stands
-event_stands s (Declines d) t step stands = subst BothStand (sym step.1) stands
+event_stands s _ t step stands = subst BothStand (sym step.1) stands
 
 -- EVERY RUN
 pub fresh_stands : (role : Role) (address : List ℕ) (slots : ℕ) → FramesStand (fresh_net_end role address slots)

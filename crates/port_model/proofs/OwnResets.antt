@@ -168,11 +168,4 @@ net_resets_own role (Takes bytes) s memory r cause packet fails = takes_own role
 net_resets_own role (Fetches p activity) s memory r cause packet fails =
     fetch_own (fetched s r p.place) activity p.place cause
     (slot_own s r p.place (first_copy_fault r.both Read r.table (slots_cookies s) (64 * p.place) 64)) fails.1
-net_resets_own role Joins s memory r cause packet fails = absurd fails
-net_resets_own role Puts s memory r cause packet fails = absurd fails
-net_resets_own role (Says message) s memory r cause packet fails = absurd fails
-net_resets_own role (Replies p reply) s memory r cause packet fails = absurd fails
-net_resets_own role (Tells p) s memory r cause packet fails = absurd fails
-net_resets_own role (Publishes p frame) s memory r cause packet fails = absurd fails
-net_resets_own role (Announces p) s memory r cause packet fails = absurd fails
-net_resets_own role Idles s memory r cause packet fails = absurd fails
+net_resets_own role _ s memory r cause packet fails = absurd fails

@@ -78,9 +78,8 @@ puts_step role s at memory reach held holds owing true room =
     })
   where
     opened_link : (role : Role) (opens : Bool) (s : NetEndState) → (opened_by_put role opens s).link ≡ s.link
-    opened_link Initiator true s = refl
     opened_link Initiator false s = refl
-    opened_link Responder opens s = refl
+    opened_link _ _ s = refl
 
     put_link : (role : Role) (held : NetEndState) → behind_put held.link ≡ (net_put role held).link
     put_link role held = sym (opened_link role (net_opens held) _)
