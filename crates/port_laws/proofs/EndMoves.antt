@@ -17,7 +17,7 @@ use Rattle.vio_handshake.specs.declared.handshake.Handshake.{Handshake}
 use Rattle.vio_tag.specs.declared.cause.Cause.{Cause}
 use Rattle.vio_tag.specs.declared.message.Message.{Message}
 use Rattle.vio_tag.specs.declared.message.MsgBody.{MsgBody}
-use Rattle.vio_tag.specs.declared.message.MsgBody.TheVariants.{Attr, DringData, DringReg, DringUnreg, Mcast, Plain, Rdx, Ver}
+use Rattle.vio_tag.specs.declared.message.MsgBody.TheVariants.{Mcast}
 use Rattle.vio_tag.specs.declared.message.TagFault.{TagFault}
 use Rattle.vio_tag.specs.Decoding.{Decodes}
 use Rattle.vio_tag.specs.Spelling.{SpellsBody, addresses_at, canonical}
@@ -25,11 +25,11 @@ use Rattle.channel_model.specs.EndPuts.{ending, handshake_behind, kind_in, put_k
 use Rattle.channel_model.specs.Seeing.{Seen}
 use Rattle.cookie_copy.specs.Reach.{Reach}
 use Rattle.channel_laws.specs.EndCore.{Begins, EndMove, Fails, Hears, Says as SaysPacket, Stays, Waits, holds}
-use Rattle.channel_laws.specs.EndStep.{EndBegins, EndFails, EndHears, EndSays, EndStays, EndStep, EndWaits, HearsWhole, Holding, Holds, HoldsOn, HoldsOwed, HoldsOwn, IsOfSession, KeepsOwn, LinkFails, MayTake, WholeFails, opened_by, risen_at}
-use Rattle.port_model.specs.Fetching.{Fetched, IsFrame, NotReady, Refuses, fetched}
+use Rattle.channel_laws.specs.EndStep.{EndBegins, EndFails, EndHears, EndSays, EndStays, EndStep, EndWaits, HearsWhole, Holding, Holds, HoldsOn, HoldsOwed, HoldsOwn, IsOfSession, LinkFails, MayTake, WholeFails, opened_by, risen_at}
+use Rattle.port_model.specs.Fetching.{Fetched, NotReady, fetched}
 use Rattle.port_model.specs.Groups.{membership}
 use Rattle.port_model.specs.NetEndPutting.{announcement, answer, answers, groups_answer, holding, holding_own, net_holds, net_kind, net_opens, net_put, opened_by_put}
-use Rattle.port_model.specs.NetEndRule.{Announces, Fetches, Idles, Joins, NetRule, Publishes, Puts, Replies, Says, Takes, Tells, port_rule}
+use Rattle.port_model.specs.NetEndRule.{Announces, Fetches, NetRule, Publishes, Puts, Replies, Says, Takes, Tells, port_rule}
 use Rattle.port_model.specs.NetEndState.{Activity, GroupsReply, NetEndState, NetSession, joined_net_end}
 use Rattle.port_model.specs.NetEndStep.{Blocked, Frame, Idle, Joined, NetAnswer, NetEndStep, NetFails, NetLeft, NetSends, Published, Reset, Sent, Took, published, taken}
 use Rattle.port_model.specs.NetEndTaking as take
@@ -156,10 +156,6 @@ phase_keeps _ k own h is held left = refl
 
 pub link_keeps : (k : LinkState) (own : Bool) (h : Handshake) → holds k ≡ true → holds (behind_put k) ≡ true → handshake_behind (put_kind k own) h ≡ h
 link_keeps k own h held left = phase_keeps k.phase k own h refl held left
-
-put_keeps : (role : Role) (opens : Bool) (s : NetEndState) → KeepsOwn (net_core role s) (net_core role (opened_by_put role opens s))
-put_keeps Initiator false s held left = refl
-put_keeps _ _ s held left = refl
 
 pub record PutCore (role : Role) (opens : Bool) (s t : NetEndState) : Type 0 where
   pub link : t.link ≡ s.link

@@ -1,6 +1,6 @@
 -- How many packets wait on a channel that nobody forged, and are still to be put: both ends begin with 24 of their own, and each session with
 -- at most two more, for what it asks. An answer takes the place of the packet that it answers. What happens to the channel keeps it so.
-use Rattle.std.proofs.Common.{◌≡◌, ℕ, ◌+◌, ◌*◌, ◌≤◌, Bool, true, false, List, [], ◌∷◌, ◌++◌, length, drop, refl, sym, subst, ap, ◌∙◌, arith, length-append, length-drop, Option, Some, None}
+use Rattle.std.proofs.Common.{◌≡◌, ℕ, ◌+◌, ◌*◌, ◌≤◌, Bool, true, false, List, [], ◌∷◌, ◌++◌, length, drop, refl, sym, subst, ap, ◌∙◌, arith, length-append, length-drop, Option, Some}
 use Rattle.std.specs.Prelude.{slice_get, ⊤}
 use Rattle.ldc_link.specs.declared.phase.Role.{Role}
 use Rattle.ldc_link.specs.declared.phase.Role.TheVariants.{Initiator, Responder}
@@ -11,16 +11,16 @@ use Rattle.ldc_queue.specs.Transcript.{Turn}
 use Rattle.ldc_queue.specs.Wire.{peer_behind, queue_behind, upset}
 use Rattle.vio_tag.specs.declared.cause.Cause.{Cause}
 use Rattle.channel_model.specs.TranscriptLog.{TranscriptLog}
-use Rattle.channel_model.specs.WireEvent.{Blocked, ByRestart, ByScript, ByStep, ByTick, Declines, Giver, Idle, Injected, Joined, Lost, Poked, Reset, Sent, Took, giver}
+use Rattle.channel_model.specs.WireEvent.{Blocked, ByStep, Giver, Injected, Joined, Lost, Poked, Reset, Sent, Took, giver}
 use Rattle.channel_model.specs.WireLog.{WireLog, lossy_behind, wire_moved}
 use Rattle.channel_laws.proofs.EndStanding.{held_stands}
-use Rattle.channel_laws.proofs.Lifting.{EndsAll, begins_anew, renews_anew, resets_anew}
+use Rattle.channel_laws.proofs.Lifting.{EndsAll, begins_anew, resets_anew}
 use Rattle.channel_laws.proofs.PacketsLeft.{anew_packets, answering_shut, says_left, says_packets, stays_packets, waits_left}
 use Rattle.channel_laws.specs.EndCore.{EndCore}
 use Rattle.channel_laws.specs.EndStep.{EndAnew, EndSays, EndStays, EndStep, EndWaits, Holding, Holds, HoldsOn, HoldsOwed, HoldsOwn}
-use Rattle.channel_laws.specs.LaneCore.{Beside, Closes, CoreEvent, CoreStep, LaneCore, OnChannel, reset_move, wire_after}
+use Rattle.channel_laws.specs.LaneCore.{Closes, CoreEvent, CoreStep, LaneCore, OnChannel, reset_move, wire_after}
 use Rattle.channel_laws.specs.PacketsLeft.{first_packets, own_in, packets_left}
-use Rattle.channel_laws.specs.Standing.{EndStands, HandshakeStands, is_open_in}
+use Rattle.channel_laws.specs.Standing.{EndStands, HandshakeStands}
 use Rattle.port_model.proofs.Refuting.{true_false}
 use Rattle.port_laws.specs.NetCore.{one_if}
 use Rattle.port_laws.proofs.RemainingEnds.{kind_shut}

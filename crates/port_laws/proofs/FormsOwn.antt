@@ -25,10 +25,10 @@ use Rattle.channel_laws.specs.Standing.{EndStands}
 use Rattle.port_model.proofs.Refuting.{none_some, true_false}
 use Rattle.port_model.proofs.Ruling.{says_of}
 use Rattle.port_model.specs.EndLog.{EndLog}
-use Rattle.port_model.specs.Fetching.{Fetched, IsFrame, NotReady, Refuses, fetched}
+use Rattle.port_model.specs.Fetching.{Fetched, NotReady, fetched}
 use Rattle.port_model.specs.Groups.{membership}
 use Rattle.port_model.specs.NetEndPutting.{announcement, answer, answers, groups_answer, holding_own, net_holds, net_opens, net_put}
-use Rattle.port_model.specs.NetEndRule.{Announces, Fetches, Idles, Joins, NetRule, Publishes, Puts, Replies, Says, Takes, Tells, port_rule}
+use Rattle.port_model.specs.NetEndRule.{Announces, Fetches, NetRule, Puts, Replies, Says, Tells, port_rule}
 use Rattle.port_model.specs.NetEndState.{Activity, GroupsReply, NetEndState, NetSession}
 use Rattle.port_model.specs.NetEndStep.{NetLeft, NetSends}
 use Rattle.port_model.specs.RuleFacts.{IsFreeIn}

@@ -1,5 +1,5 @@
 -- The groups of a guest are those that it joined.
-use Rattle.std.proofs.Common.{◌≡◌, ℕ, Bool, true, false, Option, Some, None, List, [], ◌∷◌, ◌++◌, length, refl, subst, ap, ◌∙◌}
+use Rattle.std.proofs.Common.{◌≡◌, ℕ, Bool, true, false, Option, Some, List, [], ◌∷◌, ◌++◌, length, refl, subst, ap, ◌∙◌}
 use Rattle.std.specs.Prelude.{◌<◌}
 use Rattle.ldc_link.specs.declared.phase.Role.TheVariants.{Initiator}
 use Rattle.ldc_queue.specs.declared.end.End.{End}
@@ -8,15 +8,15 @@ use Rattle.runs.specs.Lawful.{Lawful, run_lawful}
 use Rattle.runs.specs.Run.{Run}
 use Rattle.channel_model.specs.Seeing.{Seen}
 use Rattle.cookie_copy.specs.Reach.{Reach}
-use Rattle.port_model.specs.Fetching.{Fetched, IsFrame, NotReady, Refuses, fetched}
+use Rattle.port_model.specs.Fetching.{Fetched, NotReady, fetched}
 use Rattle.port_model.specs.FrameLaws.{JoiningAt, MayJoin}
 use Rattle.port_model.specs.Groups.{is_in}
 use Rattle.port_model.specs.NetEndPutting.{answers, net_holds, net_opens, opened_by_put}
-use Rattle.port_model.specs.NetEndRule.{Announces, Fetches, Idles, Joins as JoinsRule, NetRule, Publishes, Puts, Replies, Says, Takes, Tells, port_rule}
+use Rattle.port_model.specs.NetEndRule.{Fetches, Idles, Joins as JoinsRule, NetRule, Publishes, Puts, Takes, port_rule}
 use Rattle.port_model.specs.NetEndState.{Activity, NetEndState, NetSession}
 use Rattle.port_model.specs.NetEndStep.{Already, BadLength, Blocked, Frame, Full, Given, GroupsFull, Idle, Joined, Joining, Member, NetAnswer, NetEndStep, NetGives, NetJoins, NetLeft, Published, Queued, Reset, Sent, Took}
 use Rattle.port_model.specs.NetEndTaking.{GoesOn}
-use Rattle.port_model.specs.NetEvent.{Asked, CalmTick, Declines, Gives, Injects, Joins, Loses, NetEvent, Pokes, Steps, Ticked}
+use Rattle.port_model.specs.NetEvent.{Asked, Gives, Injects, Joins, NetEvent, Pokes, Steps, Ticked}
 use Rattle.port_model.specs.NetLaneState.{NetLaneState, NetShape}
 use Rattle.port_model.specs.NetLaneStep.{NetLaneStep, Resets}
 use Rattle.port_model.specs.PortLog.{PortLog, after, members_after, no_events}

@@ -6,7 +6,7 @@ use Rattle.ldc_link.specs.declared.phase.Role.TheVariants.{Initiator, Responder}
 use Rattle.ldc_link.specs.LinkState.{LinkState, cleared, is_up}
 use Rattle.ldc_link.specs.Taking.{Heard as HeardBy, LinkTake, TakesBytes, Unheard}
 use Rattle.ldc_packet.specs.declared.packet.Subtype.{Subtype}
-use Rattle.ldc_packet.specs.declared.packet.Subtype.TheVariants.{Ack, Info, Nack}
+use Rattle.ldc_packet.specs.declared.packet.Subtype.TheVariants.{Info}
 use Rattle.ldc_packet.specs.Spelling.{subtype_code}
 use Rattle.ldc_queue.specs.declared.end.ChannelState.TheVariants.{Up}
 use Rattle.ldc_queue.specs.Transcript.{Heard, Turn}

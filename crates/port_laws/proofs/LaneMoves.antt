@@ -15,7 +15,7 @@ use Rattle.vio_tag.specs.declared.cause.Cause.{Cause}
 use Rattle.channel_model.specs.Seeing.{Seen}
 use Rattle.cookie_copy.specs.Reach.{Reach}
 use Rattle.channel_model.specs.WireAt.{DeclinesAt, IsUp, MayCarry, MayReset}
-use Rattle.channel_model.specs.WireEvent.{ByStep, Declined, Giver, InjectedFull, NotInjected, NothingLost, PokeRefused, WireEvent, giver}
+use Rattle.channel_model.specs.WireEvent.{ByStep, Declined, Giver, PokeRefused, WireEvent, giver}
 use Rattle.channel_model.specs.WireLog.{WireLog}
 use Rattle.channel_laws.specs.EndCore.{EndMove, Fails, Stays}
 use Rattle.channel_laws.specs.EndStep.{EndBegins, EndStays, EndStep}

@@ -13,12 +13,12 @@ use Rattle.channel_model.specs.TranscriptLog.{transcript_of}
 use Rattle.port_model.specs.EndLog.{EndLog, OpenedLog, SessionLog, change, ends_log, gives_log, heard_in, heard_kind, more_published, more_taken, opens_log, published_in, said_in, said_kind}
 use Rattle.port_model.specs.NetEndStep.{BadLength, Blocked, Frame, Full, Given, Idle, Joined, NetAnswer, NetGives, Published, Queued, Reset, Sent, Took}
 use Rattle.port_model.specs.NetEndState.{NetEndState}
-use Rattle.port_model.specs.NetEvent.{Asked, CalmTick, Declines, Gives, Injects, Joins, Loses, NetEvent, Pokes, Steps, Ticked}
+use Rattle.port_model.specs.NetEvent.{Asked, Gives, Injects, NetEvent, Pokes, Steps, Ticked}
 use Rattle.port_model.specs.NetLaneState.{NetLaneState, NetShape, fresh_table}
 use Rattle.port_model.specs.NetLaneStep.{NetLaneStep}
-use Rattle.port_model.specs.PortLog.{PortLog, after, after_answer, after_given}
+use Rattle.port_model.specs.PortLog.{PortLog, after, after_answer, after_given, no_events}
 use Rattle.port_model.specs.PortState.{OnLane, Receives}
-use Rattle.port_model.specs.Spoken.{GroupsAck, GroupsInfo, Other, RangeAck, RangeInfo, Spoken, spoken}
+use Rattle.port_model.specs.Spoken.{GroupsInfo, Spoken, spoken}
 use Rattle.port_laws.proofs.RingMoves.{get_front}
 use Rattle.port_laws.proofs.SessionsHeard.{get_last, get_more}
 
@@ -160,3 +160,6 @@ tables_event shape u (Gives A given) t step = tables_as shape u t (ap (λ (x : N
 tables_event shape u (Injects e packet) t step = tables_as shape u t (ap (λ (x : NetLaneState). x.guest_table) step.2) (ap (λ (x : NetLaneState). x.hub_table) step.2)
 tables_event shape u (Pokes A at bytes) t step = tables_as shape u t (ap (λ (x : NetLaneState). x.guest_table) step.1) (ap (λ (x : NetLaneState). x.hub_table) step.1)
 tables_event shape u _ t step = tables_as shape u t (ap (λ (x : NetLaneState). x.guest_table) step.1) (ap (λ (x : NetLaneState). x.hub_table) step.1)
+
+pub fresh_logs : (shape : NetShape) → LogsStand (no_events shape)
+fresh_logs shape = record { guest = record { head = tt; given = λ n frame get. absurd (cc get) }; hub = record { head = tt; given = λ n frame get. absurd (cc get) } }

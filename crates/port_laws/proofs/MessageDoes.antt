@@ -15,7 +15,7 @@ use Rattle.vio_tag.specs.declared.cause.Cause.{Cause}
 use Rattle.vio_tag.specs.declared.cause.Cause.TheVariants as the_cause
 use Rattle.vio_tag.specs.declared.message.Message.{Message}
 use Rattle.vio_tag.specs.declared.message.MsgBody.{MsgBody}
-use Rattle.vio_tag.specs.declared.message.MsgBody.TheVariants.{Attr, DringData, DringReg, DringUnreg, Mcast, Plain, Rdx, Ver}
+use Rattle.vio_tag.specs.declared.message.MsgBody.TheVariants.{DringData, DringReg, Mcast}
 use Rattle.channel_model.specs.Ranges.{is_other}
 use Rattle.dring.specs.Slots.{range_length}
 use Rattle.channel_laws.specs.Standing.{is_open_in}

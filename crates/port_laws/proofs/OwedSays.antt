@@ -1,5 +1,5 @@
 -- What a handshake owes says nothing of a session of a port.
-use Rattle.std.proofs.Common.{◌≡◌, ℕ, Bool, true, false, refl}
+use Rattle.std.proofs.Common.{◌≡◌, ℕ, Bool, false, refl}
 use Rattle.std.specs.Prelude.{◌==◌, if◌then◌else◌}
 use Rattle.ldc_packet.specs.declared.packet.Subtype.{Subtype}
 use Rattle.ldc_packet.specs.declared.packet.Subtype.TheVariants.{Ack, Info, Nack}
@@ -7,7 +7,7 @@ use Rattle.vio_bytes.specs.Place.{number_at}
 use Rattle.vio_handshake.specs.declared.handshake.Phase.{Phase}
 use Rattle.vio_tag.specs.declared.message.Message.{Message}
 use Rattle.vio_tag.specs.declared.message.MsgBody.{MsgBody}
-use Rattle.vio_tag.specs.declared.message.MsgBody.TheVariants.{Attr, DringData, DringReg, DringUnreg, Mcast, Plain, Rdx, Ver}
+use Rattle.vio_tag.specs.declared.message.MsgBody.TheVariants.{DringData, Mcast, Plain}
 use Rattle.vio_tag.specs.Spelling.{canonical}
 use Rattle.channel_laws.specs.HandshakeFits.{MayOwe}
 use Rattle.port_model.specs.Spoken.{Other, spoken, spoken_by}

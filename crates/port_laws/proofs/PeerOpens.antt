@@ -9,7 +9,7 @@ use Rattle.ldc_queue.specs.declared.end.ChannelState.TheVariants.{Down, Resettin
 use Rattle.ldc_queue.specs.Transcript.{Turn}
 use Rattle.vio_handshake.specs.declared.handshake.Handshake.{Handshake}
 use Rattle.vio_handshake.specs.declared.session.Offer.{Offer}
-use Rattle.vio_handshake.proofs.Places.{AllSaid, AttributesAnswered, AttributesSaid, Deal, PeerReadyAnswered, PeerReadySaid, PeerRingAnswered, PeerRingSaid, Place, ReadyAnswered, ReadySaid, RingAnswered, RingSaid, VersionAnswered, VersionSaid}
+use Rattle.vio_handshake.proofs.Places.{AllSaid, Deal, Place, VersionSaid}
 use Rattle.channel_model.specs.Sayings.{heard, said}
 use Rattle.channel_laws.proofs.ConversingRuns.{HeardFrom, hears_now}
 use Rattle.channel_laws.proofs.EndStanding.{open_up}

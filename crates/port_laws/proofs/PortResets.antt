@@ -35,9 +35,9 @@ use Rattle.port_model.specs.FrameLaws.{SlotCause}
 use Rattle.port_model.specs.Fetching.{fetched}
 use Rattle.port_model.specs.NetEndRule.{Fetches, NetRule, Takes, port_rule}
 use Rattle.port_model.specs.NetEndState.{NetEndState, NetSession}
-use Rattle.port_model.specs.NetEndStep.{Blocked, Frame, Idle, Joined, NetFails, Published, Reset, Sent, Took}
+use Rattle.port_model.specs.NetEndStep.{Frame, NetFails, Published, Reset}
 use Rattle.port_model.specs.NetEndTaking.{ends_outside, first_undone, slot_state}
-use Rattle.port_model.specs.NetEvent.{Asked, CalmTick, Declines, Gives, Injects, Joins, Loses, NetEvent, Pokes, Steps, Ticked, on_wire}
+use Rattle.port_model.specs.NetEvent.{CalmTick, Gives, Joins, NetEvent, Steps, on_wire}
 use Rattle.port_model.specs.NetLaneState.{IsNetShape, NetLaneState, NetShape, memory_of, net_end, reach_of, role_at, seen_at}
 use Rattle.port_model.specs.NetLaneStep.{NetLaneStep}
 use Rattle.port_model.specs.Offers.{port_offer}

@@ -1,7 +1,7 @@
 -- Each run of a port with its out queue is one of two ends on a channel, in the same log.
 use Rattle.std.proofs.Common.{◌≡◌, ℕ, Bool, true, false, Option, Some, None, List, [], ◌∷◌, ◌++◌, refl, sym, subst, ap, ◌∙◌}
 use Rattle.ldc_link.specs.declared.phase.Role.TheVariants.{Initiator, Responder}
-use Rattle.ldc_queue.specs.declared.end.End.TheVariants.{A, B}
+use Rattle.ldc_queue.specs.declared.end.End.TheVariants.{B}
 use Rattle.runs.specs.Lawful.{Lawful, log_append, log_of, run_lawful}
 use Rattle.runs.specs.Run.{Run, run_keeps, run_push}
 use Rattle.channel_model.specs.TranscriptLog.{TranscriptLog}
@@ -9,7 +9,7 @@ use Rattle.channel_model.specs.WireEvent.{WireEvent}
 use Rattle.channel_model.specs.WireLog.{WireLog}
 use Rattle.channel_laws.specs.CoreLog as core
 use Rattle.channel_laws.specs.LaneCore.{Beside, CoreEvent, CoreStep, transcript_after, transcript_behind, wire_after}
-use Rattle.port_model.specs.NetEvent.{Asked, CalmTick, Declines, Gives, Injects, Joins, Loses, NetEvent, Pokes, Steps, Ticked, on_wire}
+use Rattle.port_model.specs.NetEvent.{NetEvent, Steps, on_wire}
 use Rattle.port_model.specs.NetLaneState.{NetShape}
 use Rattle.port_model.specs.PortLog.{PortLog, after, no_events, spoken_on}
 use Rattle.port_model.specs.PortState.{OnLane, PortEvent, PortState, PortStep, Receives, before, fresh_port, moves_first, takes_more}

@@ -1,5 +1,5 @@
 -- What remains on a port that nobody forged is at most 117, and 8 for each frame; where a packet was lost, at most 189 and 8.
-use Rattle.std.proofs.Common.{◌≡◌, ℕ, ◌+◌, ◌-◌, ◌*◌, ◌≤◌, Bool, true, false, Option, Some, None, List, length, refl, sym, subst, ap, ◌∙◌, arith}
+use Rattle.std.proofs.Common.{◌≡◌, ℕ, ◌+◌, ◌-◌, ◌*◌, ◌≤◌, Bool, true, false, Option, Some, None, List, length, refl, sym, ap, ◌∙◌, arith}
 use Rattle.std.specs.Prelude.{is_some, ⊤}
 use Rattle.ldc_link.specs.declared.phase.Role.{Role}
 use Rattle.ldc_link.specs.declared.phase.Role.TheVariants.{Initiator, Responder}
@@ -16,7 +16,6 @@ use Rattle.channel_laws.specs.PacketsLeft.{packets_left}
 use Rattle.port_laws.specs.NetCore.{is_begun, more_of, net_core, net_core_at, one_if}
 use Rattle.port_laws.specs.PortCore.{port_core}
 use Rattle.port_laws.specs.Remaining.{absent, end_left, frames_held, life, put_weight, ready_slots, remaining, second_life, session_left, took_some}
-use Rattle.port_laws.specs.RingHolds.{RingHolds}
 use Rattle.port_laws.specs.RingStands.{RingIn, taken_by}
 use Rattle.port_laws.proofs.FlightRuns.{port_few}
 use Rattle.port_laws.proofs.FlightSums.{first_of, live_count, spent}

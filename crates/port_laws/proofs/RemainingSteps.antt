@@ -18,7 +18,7 @@ use Rattle.channel_model.specs.TranscriptLog.{transcript_of}
 use Rattle.channel_model.specs.WireAt.{IsUp}
 use Rattle.channel_model.specs.WireEvent.{WireEvent}
 use Rattle.channel_model.specs.WireEvent as on_channel
-use Rattle.channel_model.specs.WireLog.{WireLog, lossy_behind, wire_moved}
+use Rattle.channel_model.specs.WireLog.{lossy_behind, wire_moved}
 use Rattle.channel_laws.specs.PacketsLeft.{all_of, left_in, messages_in, packets_left}
 use Rattle.channel_laws.specs.Standing.{EndStands}
 use Rattle.port_model.proofs.FramesKept.{held_in}
@@ -36,7 +36,8 @@ use Rattle.port_model.specs.PortState.{OnLane, PortEvent, PortState, PortStep, b
 use Rattle.port_laws.specs.NetCore.{is_begun, net_core, net_core_at}
 use Rattle.port_laws.specs.Remaining.{absent, end_left, first_left, put_weight, remaining, remaining_of, second_life, session_left}
 use Rattle.port_laws.specs.RemainingSteps.{IsCalm, TakesNothing}
-use Rattle.port_laws.proofs.MemoryRoom.{HasRoom, before_room, room_behind}
+use Rattle.port_laws.proofs.MemoryLong.{room_behind}
+use Rattle.port_laws.proofs.MemoryRoom.{HasRoom, before_room}
 use Rattle.port_laws.proofs.PortCounts.{Ready, port_counts, queue_of, ready_before}
 use Rattle.port_laws.proofs.RemainingEnds.{Lowers, blocks_lower, publishes_lower, sends_lower, up_left}
 use Rattle.port_laws.proofs.RuleFrames.{end_acts}

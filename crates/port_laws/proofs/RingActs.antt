@@ -9,7 +9,7 @@ use Rattle.cookie_copy.specs.Reach.{Reach}
 use Rattle.ldc_link.specs.declared.phase.Role.{Role}
 use Rattle.ldc_link.specs.declared.phase.Role.TheVariants.{Initiator, Responder}
 use Rattle.ldc_queue.specs.declared.end.ChannelState.{ChannelState}
-use Rattle.ldc_queue.specs.declared.end.ChannelState.TheVariants.{Down, Resetting, Up}
+use Rattle.ldc_queue.specs.declared.end.ChannelState.TheVariants.{Up}
 use Rattle.ldc_queue.specs.declared.end.End.{End}
 use Rattle.ldc_queue.specs.declared.end.End.TheVariants.{A, B}
 use Rattle.ldc_queue.specs.Transcript.{Turn}
@@ -36,14 +36,14 @@ use Rattle.port_model.specs.FrameLaws.{InSession, IsActive}
 use Rattle.port_model.specs.NetEndPutting.{net_kind}
 use Rattle.port_model.specs.NetEndRule.{Fetches, port_rule}
 use Rattle.port_model.specs.NetEndState.{NetEndState, NetSession}
-use Rattle.port_model.specs.NetEndStep.{Blocked, Frame, Idle, Joined, NetAnswer, NetEndStep, NetLeft, Published, Reset, Sent, Took}
+use Rattle.port_model.specs.NetEndStep.{Frame, Joined, NetAnswer, NetEndStep, NetLeft, Reset, Sent, Took}
 use Rattle.port_model.specs.NetEvent.{Steps}
 use Rattle.port_model.specs.NetLaneState.{NetLaneState, NetShape, memory_of, net_end, reach_of, role_at, seen_at}
 use Rattle.port_model.specs.NetLaneStep.{EndSteps, net_wire}
 use Rattle.port_model.specs.Offers.{port_offer, ring_cookie}
 use Rattle.port_model.specs.PortLog.{PortLog, after, after_answer, log_of_end}
 use Rattle.port_model.specs.PortState.{OnLane, PortState}
-use Rattle.port_model.specs.Spoken.{GroupsAck, GroupsInfo, Other, RangeAck, RangeInfo, Spoken, spoken}
+use Rattle.port_model.specs.Spoken.{GroupsInfo, Spoken, spoken}
 use Rattle.port_laws.specs.Counted.{EndCounts, unsaid}
 use Rattle.port_laws.specs.NetCore.{lane_core, net_core}
 use Rattle.port_laws.specs.RingStands.{RingIn, RingStands, taken_by, taken_in, taken_of}

@@ -24,7 +24,7 @@ use Rattle.port_model.specs.NetEvent.{Steps, on_wire}
 use Rattle.port_model.specs.NetLaneState.{NetLaneState}
 use Rattle.port_model.specs.NetLaneStep.{net_wire}
 use Rattle.port_model.specs.PortLog.{after_answer, spoken_on}
-use Rattle.port_model.specs.Spoken.{GroupsAck, GroupsInfo, Other, RangeAck, RangeInfo, Spoken, spoken}
+use Rattle.port_model.specs.Spoken.{GroupsInfo, Spoken, spoken}
 use Rattle.port_laws.specs.RingStands.{RingIn, taken_by, taken_in}
 use Rattle.port_laws.proofs.PeerOpens.{row}
 use Rattle.port_laws.proofs.RingSteps.{Owns, TakesOf, more_taken, opens_by, own_ring, peer_ring}

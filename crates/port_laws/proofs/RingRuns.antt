@@ -14,7 +14,7 @@ use Rattle.channel_laws.specs.LaneCore.{LaneCore}
 use Rattle.port_model.proofs.Refuting.{true_false}
 use Rattle.port_model.specs.EndLog.{SessionLog}
 use Rattle.port_model.specs.NetEndState.{NetEndState, NetSession}
-use Rattle.port_model.specs.NetEndStep.{Already, BadLength, Blocked, Frame, Full, Given, GroupsFull, Idle, Joined, Joining, Member, NetGives, NetJoins, Published, Queued, Reset, Sent, Took, untold}
+use Rattle.port_model.specs.NetEndStep.{Already, BadLength, Full, Given, GroupsFull, Joined, Joining, Member, NetGives, NetJoins, Queued, untold}
 use Rattle.port_model.specs.NetEvent.{Asked, CalmTick, Declines, Gives, Injects, Joins, Loses, NetEvent, Pokes, Steps, Ticked, on_wire}
 use Rattle.port_model.specs.NetLaneState.{IsNetShape, NetLaneState, NetShape}
 use Rattle.port_model.specs.NetLaneStep.{NetLaneStep, Resets, moved_on}
@@ -22,8 +22,9 @@ use Rattle.port_model.specs.PortLog.{PortLog, after, after_given, no_events}
 use Rattle.port_model.specs.PortState.{OfQueue, OnLane, PortEvent, PortState, PortStep, Receives, before, fresh_port, moves_first, takes_more}
 use Rattle.port_laws.specs.NetCore.{lane_core}
 use Rattle.port_laws.specs.RingStands.{RingIn, RingStands, taken_by}
-use Rattle.port_laws.proofs.LogsStand.{LogsStand, TablesStand, logs_event, logs_received, tables_event}
-use Rattle.port_laws.proofs.MemoryRoom.{before_room, room_behind}
+use Rattle.port_laws.proofs.LogsStand.{LogsStand, TablesStand, fresh_logs, logs_event, logs_received, tables_event}
+use Rattle.port_laws.proofs.MemoryLong.{room_behind}
+use Rattle.port_laws.proofs.MemoryRoom.{before_room}
 use Rattle.port_laws.proofs.PortCounts.{PortCounts, before_queue, counts_step, port_counts, ready_before}
 use Rattle.port_laws.proofs.PortRuns.{before_core}
 use Rattle.port_laws.proofs.PortTalks.{PortTalks, port_talks}
@@ -213,7 +214,7 @@ kept_step shape is s l (Receives frame) t kept step =
 pub fresh_kept : (shape : NetShape) → IsNetShape shape → Kept shape (fresh_port shape) (no_events shape)
 fresh_kept shape is = record {
   counts = port_counts shape [] (fresh_port shape) is refl;
-  logs = record { guest = record { head = tt; given = λ n frame get. absurd (cc get) }; hub = record { head = tt; given = λ n frame get. absurd (cc get) } };
+  logs = fresh_logs shape;
   tables = record { guest = refl; hub = refl };
   rings = λ clean. record { guest_spoke = tt; hub_spoke = tt; guest_ring = λ up. tt; hub_ring = λ up. tt };
 }

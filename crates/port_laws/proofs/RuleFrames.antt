@@ -24,8 +24,8 @@ use Rattle.port_model.specs.FrameLaws.{AcknowledgesAt, Acknowledges, Admits, Adm
 use Rattle.port_model.specs.FramesStand.{CountsStand, FramesStand}
 use Rattle.port_model.specs.NetEndRule.{Fetches, Publishes, Takes, port_rule}
 use Rattle.port_model.specs.NetEndState.{Activity, NetEndState, NetSession, unseen, unseen_in}
-use Rattle.port_model.specs.NetEndStep.{BadLength, Blocked, Frame, Full, Given, Idle, Joined, NetGives, Published, Queued, Reset, Sent, Took}
-use Rattle.port_model.specs.NetEvent.{Asked, CalmTick, Declines, Gives, Injects, Joins, Loses, NetEvent, Pokes, Steps, Ticked}
+use Rattle.port_model.specs.NetEndStep.{BadLength, Frame, Full, Given, Joined, NetGives, Published, Queued, Reset, Sent, Took}
+use Rattle.port_model.specs.NetEvent.{Asked, Gives, NetEvent, Steps, Ticked}
 use Rattle.port_model.specs.NetLaneState.{IsNetShape, NetLaneState, NetShape, memory_of, net_end, reach_of, role_at, seen_at}
 use Rattle.port_model.specs.NetLaneStep.{NetLaneStep}
 use Rattle.port_model.specs.PortLog.{PortLog, after, log_of_end, no_events}

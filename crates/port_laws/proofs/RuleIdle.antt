@@ -20,11 +20,11 @@ use Rattle.port_model.proofs.Ruling.{says_of}
 use Rattle.port_model.specs.EndLog.{EndLog, SessionLog}
 use Rattle.port_model.specs.FrameLaws.{IfSession}
 use Rattle.port_model.specs.FramesStand.{CountsStand, FramesStand}
-use Rattle.port_model.specs.NetEndRule.{Announces, Idles, Joins as JoinsRule, NetRule, Publishes, Puts, Tells, announces, fetches_first, in_session, port_rule, publishes, replies_first, takes_first, tells_first}
+use Rattle.port_model.specs.NetEndRule.{Announces, Idles, Joins as JoinsRule, NetRule, Puts, Tells, fetches_first, in_session, port_rule, publishes, replies_first, takes_first, tells_first}
 use Rattle.port_model.specs.NetEndRule as rule
 use Rattle.port_model.specs.NetEndState.{Activity, GroupsReply, NetEndState, NetSession, unseen_in}
-use Rattle.port_model.specs.NetEndStep.{Blocked, Frame, Idle, Joined, Published, Reset, Sent, Took}
-use Rattle.port_model.specs.NetEvent.{Asked, CalmTick, Declines, Gives, Injects, Joins, Loses, NetEvent, Pokes, Steps, Ticked}
+use Rattle.port_model.specs.NetEndStep.{Idle}
+use Rattle.port_model.specs.NetEvent.{NetEvent, Steps}
 use Rattle.port_model.specs.NetLaneState.{IsNetShape, NetShape, net_end, role_at, seen_at}
 use Rattle.port_model.specs.NetLaneStep.{NetLaneStep}
 use Rattle.port_model.specs.PortLog.{PortLog, after, no_events}

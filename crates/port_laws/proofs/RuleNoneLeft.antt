@@ -28,8 +28,8 @@ use Rattle.port_model.specs.EndLog.{SessionLog}
 use Rattle.port_model.specs.FrameLaws.{InSession}
 use Rattle.port_model.specs.NetEndRule.{Idles, port_rule}
 use Rattle.port_model.specs.NetEndState.{NetEndState, NetSession}
-use Rattle.port_model.specs.NetEndStep.{Blocked, Frame, Idle, Joined, NetLeft, Published, Reset, Sent, Took}
-use Rattle.port_model.specs.NetEvent.{Asked, CalmTick, Declines, Gives, Injects, Joins, Loses, NetEvent, Pokes, Steps, Ticked}
+use Rattle.port_model.specs.NetEndStep.{Idle, NetLeft}
+use Rattle.port_model.specs.NetEvent.{CalmTick, NetEvent, Steps}
 use Rattle.port_model.specs.NetLaneState.{IsNetShape, NetLaneState, NetShape, net_end, role_at, seen_at, with_left}
 use Rattle.port_model.specs.NetLaneStep.{EndSteps, NetLaneStep, net_wire}
 use Rattle.port_model.specs.PortLog.{PortLog, after, idle_in, log_of_end, no_events}

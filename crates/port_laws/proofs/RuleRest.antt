@@ -13,7 +13,6 @@ use Rattle.ldc_link.specs.declared.phase.Role.TheVariants.{Initiator, Responder}
 use Rattle.ldc_queue.specs.declared.end.ChannelState.{ChannelState}
 use Rattle.ldc_queue.specs.declared.end.ChannelState.TheVariants.{Down, Resetting, Up}
 use Rattle.ldc_queue.specs.declared.end.End.{End}
-use Rattle.ldc_queue.specs.declared.end.End.TheVariants.{A, B}
 use Rattle.ldc_queue.specs.Wire.{state_of}
 use Rattle.runs.specs.Lawful.{Lawful}
 use Rattle.runs.specs.Run.{Run}
@@ -30,15 +29,15 @@ use Rattle.port_model.proofs.Ruling.{says_of}
 use Rattle.port_model.specs.EndLog.{EndLog, SessionLog, said_in, said_kind}
 use Rattle.port_model.specs.Fetching.{Fetched, IsFrame, NotReady, Refuses, copied, copy_refused, data_cookies, described, fetched, frame_fault, mark_fault, marked, read, slot_read, slots_cookies}
 use Rattle.port_model.specs.FrameLaws.{InSession, IsFinished, OwnReset, OwnResetAt, SlotCause, TickAt, ToldAll, WorksAt}
-use Rattle.port_model.specs.NetEndRule.{Announces, Fetches, Idles, Joins as JoinsRule, NetRule, Publishes, Puts, Replies, Says, Takes, Tells, port_rule}
+use Rattle.port_model.specs.NetEndRule.{Fetches, NetRule, Publishes, Takes, port_rule}
 use Rattle.port_model.specs.NetEndState.{Activity, NetEndState, NetSession}
-use Rattle.port_model.specs.NetEndStep.{Blocked, FetchFails, Frame, Idle, Joined, NetFails, Published, Reset, Sent, Took}
-use Rattle.port_model.specs.NetEvent.{Asked, CalmTick, Declines, Gives, Injects, Joins, Loses, NetEvent, Pokes, Steps, Ticked}
+use Rattle.port_model.specs.NetEndStep.{FetchFails, Frame, NetFails, Published, Reset}
+use Rattle.port_model.specs.NetEvent.{CalmTick, NetEvent, Steps, Ticked}
 use Rattle.port_model.specs.NetLaneState.{IsNetShape, NetLaneState, NetShape, memory_of, net_end, reach_of, role_at, seen_at}
 use Rattle.port_model.specs.NetLaneStep.{NetLaneStep, is_finished, is_nothing, told_all}
 use Rattle.port_model.specs.PortLog.{PortLog, after, log_of_end, no_events}
 use Rattle.port_model.specs.PortState.{OfQueue, OnLane, PortEvent, PortState, PortStep, before, fresh_port}
-use Rattle.port_model.specs.Spoken.{GroupsAck, GroupsInfo, Other, RangeAck, RangeInfo, Spoken, spoken}
+use Rattle.port_model.specs.Spoken.{GroupsInfo, Spoken, spoken}
 use Rattle.port_laws.specs.Counted.{EndCounts, GroupCounts, IsBehind, SaysRightly, UnsaidRight, unsaid}
 use Rattle.port_laws.proofs.EndCounting.{open_counts}
 use Rattle.port_laws.proofs.PortCounts.{Ready, queue_of}

@@ -17,16 +17,16 @@ use Rattle.port_model.proofs.Ruling.{says_of}
 use Rattle.port_model.specs.EndLog.{SessionLog, said_in, said_kind}
 use Rattle.port_model.specs.Fetching.{fetched}
 use Rattle.port_model.specs.FramesStand.{CountsStand}
-use Rattle.port_model.specs.NetEndRule.{Announces, Fetches, Idles, Joins, NetRule, Publishes, Puts, Replies, Says, Takes, Tells, port_rule}
+use Rattle.port_model.specs.NetEndRule.{Fetches, NetRule, Takes, port_rule}
 use Rattle.port_model.specs.NetEndState.{Activity, NetEndState, NetSession}
-use Rattle.port_model.specs.NetEndStep.{Blocked, FetchFails, Frame, Idle, Joined, NetEndStep, NetFails, NetLeft, Published, Reset, Sent, Took}
-use Rattle.port_model.specs.NetEvent.{Asked, CalmTick, Declines, Gives as GivesFrame, Injects, Joins as JoinsGroup, Loses, NetEvent, Pokes, Steps, Ticked}
+use Rattle.port_model.specs.NetEndStep.{FetchFails, NetEndStep, NetFails, NetLeft, Reset}
+use Rattle.port_model.specs.NetEvent.{NetEvent, Steps}
 use Rattle.port_model.specs.NetLaneState.{IsNetShape, NetLaneState, NetShape, memory_of, net_end, reach_of, role_at, seen_at}
 use Rattle.port_model.specs.NetLaneStep.{NetLaneStep}
 use Rattle.port_model.specs.PortLog.{PortLog, after, log_of_end, no_events}
 use Rattle.port_model.specs.PortState.{OnLane, PortEvent, PortState, PortStep, Receives, before, fresh_port}
 use Rattle.port_model.specs.RuleFacts.{IfOpen}
-use Rattle.port_model.specs.Spoken.{GroupsAck, GroupsInfo, Other, RangeAck, RangeInfo, Spoken, spoken}
+use Rattle.port_model.specs.Spoken.{RangeInfo, Spoken, spoken}
 use Rattle.port_laws.specs.Counted.{ActiveCounts, LastCounts, unsaid}
 use Rattle.port_laws.specs.NetCore.{lane_core}
 use Rattle.port_laws.specs.NoSlotReset.{NoSlotResetAt}
@@ -70,10 +70,6 @@ working slots v w infos acks busy (Rests asking asked acked answered taken none 
 working slots v w infos acks busy (Goes info asking asked acked answered taken some seq start end no_ack) = absurd (omega (arith, busy, acked))
 working slots v w infos acks busy (Works asking asked active answered none no_ack) = record { asking = asking; answered = answered }
 working slots v w infos acks busy (Comes ack asking asked acked answered some none one_ack start end) = absurd (omega (arith, busy, acked))
-
-up_both : (e : End) (u : NetLaneState) → state_of e u.wire.wire ≡ Up → state_of (peer_of e) u.wire.wire ≡ Up → (u.wire.wire.end_a ≡ Up) × (u.wire.wire.end_b ≡ Up)
-up_both A u one two = (one, two)
-up_both B u one two = (two, one)
 
 works_at : (e : End) (u : NetLaneState) (l : PortLog) (v w : SessionLog) → WaysStand u l → state_of e u.wire.wire ≡ Up → state_of (peer_of e) u.wire.wire ≡ Up → (log_of_end e l).session ≡ Some w
     → (log_of_end (peer_of e) l).session ≡ Some v → w.asked ≡ w.acks + 1 → Working v w

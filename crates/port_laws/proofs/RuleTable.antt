@@ -15,8 +15,8 @@ use Rattle.channel_laws.specs.CoreLog.{RoomStands}
 use Rattle.channel_laws.specs.LaneCore.{CoreStands}
 use Rattle.port_model.proofs.Ruling.{says_of}
 use Rattle.port_model.specs.NetEndRule.{Idles}
-use Rattle.port_model.specs.NetEndStep.{Blocked, Frame, Idle, Joined, NetAnswer, Published, Reset, Sent, Took}
-use Rattle.port_model.specs.NetEvent.{Asked, CalmTick, Declines, Gives, Injects, Joins, Loses, NetEvent, Pokes, Steps, Ticked}
+use Rattle.port_model.specs.NetEndStep.{Blocked, Frame, Idle, Joined, NetAnswer, Published}
+use Rattle.port_model.specs.NetEvent.{Asked, Declines, Injects, Loses, NetEvent, Pokes, Steps, Ticked}
 use Rattle.port_model.specs.NetLaneState.{IsNetShape, NetLaneState, NetShape, net_end, role_at, seen_at}
 use Rattle.port_model.specs.NetLaneStep.{NetLaneStep, declined_at, sizes_of}
 use Rattle.port_model.specs.Offers.{port_offer}
@@ -53,11 +53,11 @@ same_sizes shape events s is run =
     let knows = converse_knows shape.entries (port_offer Initiator shape.address shape.slots) (port_offer Responder shape.address shape.slots) (port_events events) (port_core s) (sizes_fit shape is)
     (fresh_port_core shape events s run) in
     let room : RoomStands now = knows.room in
-    let slots : shape.slots ≡ l.shape.slots = sym (ap (λ (z : NetShape). z.slots) had.kept.counts.shape_is) in
+    let slots : shape.slots ≡ l.shape.slots = sym (ap (λ (z : NetShape). z.slots) had.counts.shape_is) in
     let to_a = room.to_a in
     let to_b = room.to_b in
     record {
-      wire = had.kept.counts.wire;
+      wire = had.counts.wire;
       entries = knows.entries ∙ logs.entries;
       guest = had.memory.guest ∙ ap (λ (n : ℕ). 8192 * memory_pages n) slots;
       hub = had.memory.hub ∙ ap (λ (n : ℕ). 8192 * memory_pages n) slots;

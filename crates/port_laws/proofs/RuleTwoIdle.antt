@@ -14,8 +14,8 @@ use Rattle.port_model.proofs.Refuting.{none_some}
 use Rattle.port_model.proofs.Ruling.{says_of}
 use Rattle.port_model.specs.NetEndRule.{Idles, port_rule}
 use Rattle.port_model.specs.NetEndState.{NetEndState, NetSession}
-use Rattle.port_model.specs.NetEndStep.{Blocked, Frame, Idle, Joined, NetLeft, Published, Reset, Sent, Took}
-use Rattle.port_model.specs.NetEvent.{Asked, CalmTick, Declines, Gives, Injects, Joins, Loses, NetEvent, Pokes, Steps, Ticked}
+use Rattle.port_model.specs.NetEndStep.{Idle, NetLeft}
+use Rattle.port_model.specs.NetEvent.{CalmTick, NetEvent, Steps}
 use Rattle.port_model.specs.NetLaneState.{IsNetShape, NetLaneState, NetShape, net_end, role_at, seen_at}
 use Rattle.port_model.specs.NetLaneStep.{NetLaneStep}
 use Rattle.port_model.specs.Offers.{port_offer}

@@ -47,10 +47,6 @@ heard_grown turns packet = grown (is_part packet) (fragment_at packet) (half_hea
 pub said_grown : (turns : List Turn) (packet : List ℕ) → Grown (ended_by (half_said turns) packet) (said turns) (said (Said packet ∷ turns))
 said_grown turns packet = grown (is_part packet) (fragment_at packet) (half_said turns) (said turns)
 
-grown_long : (o : Option (List ℕ)) (before now : List (List ℕ)) → Grown o before now → length before ≤ length now
-grown_long None before now is = omega (arith, ap length is)
-grown_long (Some message) before now is = omega (arith, ap length is, length-append before (message ∷ []))
-
 pub grown_most : (o : Option (List ℕ)) (before now : List (List ℕ)) → Grown o before now → length now ≤ length before + 1
 grown_most None before now is = omega (arith, ap length is)
 grown_most (Some message) before now is = omega (arith, ap length is, length-append before (message ∷ []))

@@ -25,7 +25,7 @@ use Rattle.port_model.proofs.Ruling.{says_of}
 use Rattle.port_model.specs.EndLog.{EndLog, SessionLog, change, ends_log, more_published, more_taken, publishes_log, takes_log}
 use Rattle.port_model.specs.FramesStand.{CountsStand, FramesStand}
 use Rattle.port_model.specs.NetEndPutting.{net_holds, net_opens, net_put}
-use Rattle.port_model.specs.NetEndRule.{Announces, Fetches, Idles, Joins, NetRule, Publishes, Puts, Replies, Says, Takes, Tells, port_rule}
+use Rattle.port_model.specs.NetEndRule.{Announces, Fetches, NetRule, Publishes, Puts, Replies, Says, Takes, Tells, port_rule}
 use Rattle.port_model.specs.NetEndState.{Activity, NetEndState, NetSession, joined_net_end, unseen}
 use Rattle.port_model.specs.NetEndStep.{Blocked, Frame, Idle, Joined, NetAnswer, NetEndStep, NetLeft, NetSends, Published, Reset, Sent, Took, published, taken}
 use Rattle.port_model.specs.PortLog.{after_answer}

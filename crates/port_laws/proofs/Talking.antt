@@ -38,9 +38,6 @@ pub record TalkIn (sid : ℕ) (groups : List (List ℕ)) (p : NetSession) (asks 
   pub reply : RepliesAgree (reply_in session)
   pub quiet : p.reply ≡ None
 
-none_in : (m : List ℕ) → count_groups (m ∷ []) ≡ 0 → one_if (is_groups m) ≡ 0
-none_in m none = omega (arith, none)
-
 known_few : (groups known : List (List ℕ)) → known ≡ take (length known) groups → length known ≤ length groups
 known_few groups known front =
     let long : length known ≡ length (take (length known) groups) = ap length front in omega (arith, long, length-take (length known) groups)

@@ -56,13 +56,6 @@ pub record Plain (messages : List (List ℕ)) : Type 0 where
   pub acks : acks_in messages ≡ []
   pub low : EachLow messages
 
-pub plain_front : (xs ys : List (List ℕ)) → Plain (xs ++ ys) → Plain xs
-plain_front xs ys plain = record {
-  infos = (both_none (infos_in xs) (infos_in ys) (sym (infos-append xs ys) ∙ plain.infos)).0;
-  acks = (both_none (acks_in xs) (acks_in ys) (sym (acks-append xs ys) ∙ plain.acks)).0;
-  low = low_front xs ys plain.low;
-}
-
 pub plain_rest : (xs ys : List (List ℕ)) → Plain (xs ++ ys) → Plain ys
 plain_rest xs ys plain = record {
   infos = (both_none (infos_in xs) (infos_in ys) (sym (infos-append xs ys) ∙ plain.infos)).1;

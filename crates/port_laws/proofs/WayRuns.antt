@@ -20,8 +20,8 @@ use Rattle.channel_laws.specs.Sides.{sides_of, swapped}
 use Rattle.port_model.proofs.Refuting.{none_some, true_false}
 use Rattle.port_model.specs.EndLog.{EndLog, SessionLog, change, opened_log}
 use Rattle.port_model.specs.NetEndState.{NetSession}
-use Rattle.port_model.specs.NetEndStep.{BadLength, Blocked, Frame, Full, Given, Idle, Joined, NetAnswer, NetLeft, Published, Queued, Reset, Sent, Took}
-use Rattle.port_model.specs.NetEvent.{Asked, CalmTick, Declines, Gives, Injects, Joins, Loses, NetEvent, Pokes, Steps, Ticked, on_wire}
+use Rattle.port_model.specs.NetEndStep.{Blocked, Frame, Given, Idle, Joined, NetAnswer, NetLeft, Published, Queued, Reset, Sent, Took}
+use Rattle.port_model.specs.NetEvent.{Asked, Gives, Injects, Loses, NetEvent, Pokes, Steps, Ticked, on_wire}
 use Rattle.port_model.specs.NetLaneState.{IsNetShape, NetLaneState, NetShape, memory_of, net_end, reach_of, role_at, seen_at}
 use Rattle.port_model.specs.NetLaneStep.{EndSteps, NetLaneStep, moved_on}
 use Rattle.port_model.specs.PortLog.{PortLog, after, after_answer, after_given, log_of_end, no_events}

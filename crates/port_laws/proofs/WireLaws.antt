@@ -15,8 +15,8 @@ use Rattle.channel_laws.specs.CoreLog as core
 use Rattle.channel_laws.specs.LaneCore.{end_of, role_of, transcript_behind}
 use Rattle.channel_laws.proofs.OpeningOrder.{opens_hearing, opens_saying}
 use Rattle.port_model.specs.FrameLaws.{OpeningsAt}
-use Rattle.port_model.specs.NetEndStep.{Blocked, Frame, Idle, Joined, Published, Reset, Sent, Took}
-use Rattle.port_model.specs.NetEvent.{Asked, CalmTick, Declines, Gives, Injects, Joins, Loses, Pokes, Steps, Ticked, on_wire}
+use Rattle.port_model.specs.NetEndStep.{Sent, Took}
+use Rattle.port_model.specs.NetEvent.{Steps, on_wire}
 use Rattle.port_model.specs.NetLaneState.{IsNetShape, NetShape, role_at}
 use Rattle.port_model.specs.Offers.{port_offer}
 use Rattle.port_model.specs.PortLog.{PortLog, after, no_events}

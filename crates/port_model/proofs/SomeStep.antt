@@ -4,7 +4,7 @@ use Rattle.std.specs.Prelude.{is_some, ◌+◌, ◌%◌}
 use Rattle.ldc_link.specs.declared.phase.LinkPhase.{LinkPhase}
 use Rattle.ldc_link.specs.declared.phase.LinkPhase.TheVariants as phase
 use Rattle.ldc_link.specs.declared.phase.Role.{Role}
-use Rattle.ldc_link.specs.declared.phase.Role.TheVariants.{Initiator, Responder}
+use Rattle.ldc_link.specs.declared.phase.Role.TheVariants.{Initiator}
 use Rattle.ldc_link.specs.LinkState.{LinkState, cleared, is_established, is_up, offered}
 use Rattle.ldc_link.specs.Putting.{behind_put, link_puts, owed_in, owed_packet, owes, with_link}
 use Rattle.ldc_link.specs.Taking.{Heard, LinkTake, Unheard, takes_decoded}
