@@ -40,13 +40,10 @@ use Rattle.port_laws.specs.NetCore.{more_in, more_of, net_core, one_if}
 use Rattle.port_laws.specs.NetFits.{AreShort, GroupsFit, NetFits, ReplyFits, SessionFits, SomeFits}
 use Rattle.port_laws.proofs.ShortMessages.{announcement_short, answer_short, membership_short, read_long, read_short, reply_short}
 use Rattle.port_laws.proofs.Taking.{BodyFits, TakeGoes, message_goes}
-use Rattle.port_model.proofs.Refuting.{false_true, none_some, true_false}
-
-of_some : {X : Type 0} (P : X → Type 0) (x y : X) → Some x ≡ Some y → P x → P y
-of_some {X} P x y same holds = let is : x ≡ y = cc in subst P is holds
+use Rattle.port_model.proofs.Refuting.{false_true, none_some, of_some, true_false}
 
 -- HOW MANY MORE messages
-one_most : (b : Bool) → one_if b ≤ 1
+pub one_most : (b : Bool) → one_if b ≤ 1
 one_most true = omega arith
 one_most false = omega arith
 
@@ -83,7 +80,7 @@ pub record HeldCore (role : Role) (s held : NetEndState) : Type 0 where
 held_to : (role : Role) (s one held : NetEndState) (what : Holding) → Some one ≡ Some held → Holds (net_core role s) what (net_core role one) → HeldCore role s held
 held_to role s one held what same holds = of_some (HeldCore role s) one held same (record { what = what; holds = holds })
 
-reply_of : (s : NetEndState) (p : NetSession) (reply : GroupsReply) → SessionFits s.session → s.session ≡ Some p → p.reply ≡ Some reply → ReplyFits reply
+pub reply_of : (s : NetEndState) (p : NetSession) (reply : GroupsReply) → SessionFits s.session → s.session ≡ Some p → p.reply ≡ Some reply → ReplyFits reply
 reply_of s p reply fits session is = subst SomeFits is (subst SessionFits session fits)
 
 slot_held : (role : Role) (s : NetEndState) (at : Seen) (p : NetSession) (activity : Activity) (last : Option ℕ) (found : Fetched) (held : NetEndState) → IsFreeIn s at p

@@ -21,10 +21,7 @@ use Rattle.port_model.specs.NetLaneStep.{NetLaneStep, Resets}
 use Rattle.port_model.proofs.Ruling.{says_of}
 use Rattle.port_laws.specs.NetFits.{AreShort, GroupsFit, NetFits, SessionFits, SomeFits}
 use Rattle.port_laws.proofs.EndMoves.{packet_goes}
-use Rattle.port_model.proofs.Refuting.{none_some}
-
-of_some : {X : Type 0} (P : X → Type 0) (x y : X) → Some x ≡ Some y → P x → P y
-of_some {X} P x y same holds = let is : x ≡ y = cc in subst P is holds
+use Rattle.port_model.proofs.Refuting.{none_some, of_some}
 
 -- the end with another session whose answer to groups is the same
 session_fits : (role : Role) (s t : NetEndState) (p q : NetSession) → NetFits role s → s.session ≡ Some p → t.groups ≡ s.groups → t.session ≡ Some q → q.reply ≡ p.reply → NetFits role t

@@ -22,7 +22,7 @@ use Rattle.channel_laws.proofs.EndResting.{held_handshake}
 use Rattle.channel_laws.proofs.EndStanding.{stands_step}
 use Rattle.channel_laws.specs.EndCore.{Waits}
 use Rattle.channel_laws.specs.Standing.{EndStands}
-use Rattle.port_model.proofs.Refuting.{none_some, true_false}
+use Rattle.port_model.proofs.Refuting.{none_some, of_some, true_false}
 use Rattle.port_model.proofs.Ruling.{says_of}
 use Rattle.port_model.specs.EndLog.{EndLog}
 use Rattle.port_model.specs.Fetching.{Fetched, NotReady, fetched}
@@ -57,9 +57,6 @@ pub data Formed (role : Role) (sid : ℕ) (s : NetEndState) (p : NetSession) (he
   Replied : (m : List ℕ) (q : NetSession) (r : GroupsReply) → FormsIt s held m q → p.reply ≡ Some r → m ≡ canonical (groups_answer s r) → q.reply ≡ None → q.telling ≡ p.telling → Formed role sid s p held
   Told : (m : List ℕ) (q : NetSession) → FormsIt s held m q → role ≡ Initiator → m ≡ canonical (membership s.handshake.draft.sid s.groups) → p.telling ≡ false → q.telling ≡ true → q.reply ≡ p.reply
       → Formed role sid s p held
-
-of_some : {X : Type 0} (P : X → Type 0) (x y : X) → Some x ≡ Some y → P x → P y
-of_some {X} P x y same holds = let is : x ≡ y = cc in subst P is holds
 
 -- an end that may form one
 pub record MayForm (role : Role) (sid : ℕ) (s : NetEndState) (p : NetSession) : Type 0 where

@@ -8,6 +8,7 @@ use Rattle.runs.specs.Lawful.{Lawful, run_lawful}
 use Rattle.runs.specs.Run.{Run}
 use Rattle.channel_model.specs.Seeing.{Seen}
 use Rattle.cookie_copy.specs.Reach.{Reach}
+use Rattle.port_model.proofs.Moving.{before_keeps}
 use Rattle.port_model.specs.Fetching.{Fetched, NotReady, fetched}
 use Rattle.port_model.specs.FrameLaws.{JoiningAt, MayJoin}
 use Rattle.port_model.specs.Groups.{is_in}
@@ -20,16 +21,13 @@ use Rattle.port_model.specs.NetEvent.{Asked, Gives, Injects, Joins, NetEvent, Po
 use Rattle.port_model.specs.NetLaneState.{NetLaneState, NetShape}
 use Rattle.port_model.specs.NetLaneStep.{NetLaneStep, Resets}
 use Rattle.port_model.specs.PortLog.{PortLog, after, members_after, no_events}
-use Rattle.port_model.specs.PortState.{OnLane, PortEvent, PortState, PortStep, Receives, before, fresh_port, moves_first, takes_more}
-use Rattle.port_model.proofs.Refuting.{none_some}
+use Rattle.port_model.specs.PortState.{OnLane, PortEvent, PortState, PortStep, Receives, before, fresh_port}
+use Rattle.port_model.proofs.Refuting.{none_some, of_some}
 use Rattle.port_laws.specs.NetFits.{NetFits}
 use Rattle.port_laws.proofs.EndMoves.{packet_goes}
 use Rattle.port_laws.proofs.Fitting.{BothFit}
 use Rattle.port_laws.proofs.LaneMoves.{fresh_fits}
 use Rattle.port_laws.proofs.PortRuns.{PortFits, before_fits, port_fits}
-
-of_some : {X : Type 0} (P : X → Type 0) (x y : X) → Some x ≡ Some y → P x → P y
-of_some {X} P x y same holds = let is : x ≡ y = cc in subst P is holds
 
 -- A STEP of a guest leaves them
 abbrev Same : NetEndState → NetEndState → Type 0
@@ -104,13 +102,8 @@ record Agrees (s : PortState) (l : PortLog) : Type 0 where
   fits : PortFits s
   groups : GroupsAre s.lane l.members
 
-moves_groups : (b : Bool) (queue : List (List ℕ)) (s : PortState) → (moves_first b queue s).lane.guest ≡ s.lane.guest
-moves_groups true (frame ∷ frames) s = refl
-moves_groups _ _ s = refl
-
 before_groups : (event : NetEvent) (s : PortState) → (before event s).lane.guest ≡ s.lane.guest
-before_groups (Steps B answer) s = moves_groups (takes_more s.lane.hub) s.queue s
-before_groups _ s = refl
+before_groups event s = before_keeps (λ (x : PortState). x.lane.guest ≡ s.lane.guest) event s (λ frame frames. refl) refl
 
 joins_at : (s : PortState) (l : PortLog) (event : NetEvent) (t : PortState) → GroupsAre s.lane l.members → NetLaneStep (before event s).lane event t.lane → JoiningAt l (OnLane event)
 joins_at s l (Joins joining) t are step = may_join l.members s.lane.guest t.lane.guest joining are step.0

@@ -52,7 +52,7 @@ not_up Up is = true_false is
 not_up Down is = λ up. false_true (ap is_up up)
 not_up Resetting is = λ up. false_true (ap is_up up)
 
-holds_up : (role : Role) (s : NetEndState) (at : Seen) (reach : Reach) (rule : NetRule) (held : NetEndState) → port_rule role s at ≡ rule → net_holds rule s reach ≡ Some held → is_up at.state ≡ true
+pub holds_up : (role : Role) (s : NetEndState) (at : Seen) (reach : Reach) (rule : NetRule) (held : NetEndState) → port_rule role s at ≡ rule → net_holds rule s reach ≡ Some held → is_up at.state ≡ true
 holds_up role s at reach Puts held is same = (says_of role s at Puts is).0
 holds_up role s at reach (Says message) held is same = (says_of role s at (Says message) is).0
 holds_up role s at reach (Replies p reply) held is same = (says_of role s at (Replies p reply) is).0.free.up

@@ -26,6 +26,7 @@ use Rattle.vnet_msg.specs.Descriptor.{canonical, net_desc_of}
 use Rattle.vnet_msg.specs.Frames.{IsFrame, buffer_place, frame_buffer, frame_desc, header, memory_pages}
 use Rattle.channel_model.specs.Seeing.{Seen}
 use Rattle.channel_model.specs.TranscriptLog.{transcript_of}
+use Rattle.port_model.proofs.Moving.{before_keeps}
 use Rattle.port_model.proofs.Ruling.{says_of}
 use Rattle.port_model.specs.Fetching.{slots_cookies}
 use Rattle.port_model.specs.NetEndPutting.{cleared_by_put, cleared_ring, net_opens}
@@ -37,7 +38,7 @@ use Rattle.port_model.specs.NetEvent.{Asked, CalmTick, Declines, Gives, Injects,
 use Rattle.port_model.specs.NetLaneState.{IsNetShape, NetLaneState, NetShape, memory_of, net_end, reach_of, role_at, seen_at}
 use Rattle.port_model.specs.NetLaneStep.{NetLaneStep}
 use Rattle.port_model.specs.PortLog.{PortLog, after, no_events}
-use Rattle.port_model.specs.PortState.{OnLane, PortEvent, PortState, PortStep, Receives, before, fresh_port, moves_first, takes_more}
+use Rattle.port_model.specs.PortState.{OnLane, PortEvent, PortState, PortStep, Receives, before, fresh_port}
 use Rattle.port_laws.proofs.LogsStand.{LogsStand, fresh_logs, held_given, logs_event, logs_received}
 use Rattle.port_laws.proofs.MemoryRoom.{HasRoom, power_room}
 use Rattle.port_laws.proofs.MessageDoes.{Acks, Asks, Declines as DeclinesMessage, MessageDoes, Names, Told}
@@ -187,14 +188,8 @@ event_long shape u l (Declines d) t ready room logs step long_ = subst (LongMemo
 event_long shape u l _ t ready room logs step long_ = subst (LongMemory shape.slots) (sym step.1) (record { guest = long_.guest; hub = long_.hub })
 
 -- A RUN
-moves_long : (b : Bool) (queue : List (List ℕ)) (slots : ℕ) (s : PortState) → LongMemory slots s.lane → LongMemory slots (moves_first b queue s).lane
-moves_long true [] slots s long_ = long_
-moves_long true (frame ∷ frames) slots s long_ = record { guest = long_.guest; hub = long_.hub }
-moves_long false queue slots s long_ = long_
-
 before_long : (slots : ℕ) (event : NetEvent) (s : PortState) → LongMemory slots s.lane → LongMemory slots (before event s).lane
-before_long slots (Steps B answer) s long_ = moves_long (takes_more s.lane.hub) s.queue slots s long_
-before_long slots _ s long_ = long_
+before_long slots event s long_ = before_keeps (λ (x : PortState). LongMemory slots x.lane) event s (λ frame frames. record { guest = long_.guest; hub = long_.hub }) long_
 
 pub record KeptLong (shape : NetShape) (s : PortState) (l : PortLog) : Type 0 where
   pub counts : PortCounts shape s l

@@ -1,13 +1,13 @@
 -- The room of both memories of a port's lane for their rings.
-use Rattle.std.proofs.Common.{◌≡◌, ℕ, zero, suc, ◌+◌, ◌≤◌, Bool, true, false, List, [], ◌∷◌, ◌++◌, length, drop, sym, subst, arith, length-append, length-drop}
+use Rattle.std.proofs.Common.{◌≡◌, ℕ, zero, suc, ◌+◌, ◌≤◌, List, [], ◌++◌, length, drop, sym, subst, arith, length-append, length-drop}
 use Rattle.std.specs.Prelude.{◌*◌, ◌^◌, take}
 use Rattle.std.proofs.lemmas.List.{length-take}
-use Rattle.ldc_queue.specs.declared.end.End.TheVariants.{B}
 use Rattle.vio_bytes.specs.Place.{put_at}
 use Rattle.vnet_msg.specs.Frames.{memory_pages}
-use Rattle.port_model.specs.NetEvent.{NetEvent, Steps}
+use Rattle.port_model.proofs.Moving.{before_keeps}
+use Rattle.port_model.specs.NetEvent.{NetEvent}
 use Rattle.port_model.specs.NetLaneState.{NetLaneState}
-use Rattle.port_model.specs.PortState.{PortState, before, moves_first, takes_more}
+use Rattle.port_model.specs.PortState.{PortState, before}
 
 -- WRITES
 pub put_longer : (at : ℕ) (piece bytes : List ℕ) → length bytes ≤ length (put_at at piece bytes)
@@ -25,14 +25,8 @@ pub record HasRoom (slots : ℕ) (s : NetLaneState) : Type 0 where
   pub guest : 8192 + 2048 * slots ≤ length s.guest_memory
   pub hub : 8192 + 2048 * slots ≤ length s.hub_memory
 
-moves_memory : (b : Bool) (queue : List (List ℕ)) (slots : ℕ) (s : PortState) → HasRoom slots s.lane → HasRoom slots (moves_first b queue s).lane
-moves_memory true [] slots s room = room
-moves_memory true (frame ∷ frames) slots s room = record { guest = room.guest; hub = room.hub }
-moves_memory false queue slots s room = room
-
 pub before_room : (slots : ℕ) (event : NetEvent) (s : PortState) → HasRoom slots s.lane → HasRoom slots (before event s).lane
-before_room slots (Steps B answer) s room = moves_memory (takes_more s.lane.hub) s.queue slots s room
-before_room slots _ s room = room
+before_room slots event s room = before_keeps (λ (x : PortState). HasRoom slots x.lane) event s (λ frame frames. record { guest = room.guest; hub = room.hub }) room
 
 -- the pages of a ring of 2 to 64 slots
 power_some : (n : ℕ) → 1 ≤ 2 ^ n

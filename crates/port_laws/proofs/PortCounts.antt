@@ -16,6 +16,7 @@ use Rattle.runs.specs.Run.{Run, run_push}
 use Rattle.channel_model.specs.WireLog.{WireLog}
 use Rattle.channel_laws.proofs.Lifting.{EndsAll}
 use Rattle.channel_laws.specs.LaneCore.{LaneCore, transcript_behind}
+use Rattle.port_model.proofs.Moving.{before_keeps}
 use Rattle.port_model.proofs.FramesKept.{BothStand, event_stands, queued_stands}
 use Rattle.port_model.proofs.Refuting.{false_true, true_false}
 use Rattle.port_model.specs.EndLog.{EndLog, SessionLog, gives_log, said_in}
@@ -118,21 +119,11 @@ pub hub_ready : (slots : ℕ) (event : NetEvent) (s : PortState) (l : EndLog) �
 hub_ready slots (Steps B answer) s l counts stands = moves_ready (takes_more s.lane.hub) s.queue slots s l refl refl counts stands
 hub_ready slots _ s l counts stands = record { counts = counts; stands = stands }
 
-moves_guest : (b : Bool) (queue : List (List ℕ)) (s : PortState) → (moves_first b queue s).lane.guest ≡ s.lane.guest
-moves_guest true (frame ∷ frames) s = refl
-moves_guest _ _ s = refl
-
 pub before_guest : (event : NetEvent) (s : PortState) → (before event s).lane.guest ≡ s.lane.guest
-before_guest (Steps B answer) s = moves_guest (takes_more s.lane.hub) s.queue s
-before_guest _ s = refl
-
-moves_wire : (b : Bool) (queue : List (List ℕ)) (s : PortState) → (moves_first b queue s).lane.wire ≡ s.lane.wire
-moves_wire true (frame ∷ frames) s = refl
-moves_wire _ _ s = refl
+before_guest event s = before_keeps (λ (x : PortState). x.lane.guest ≡ s.lane.guest) event s (λ frame frames. refl) refl
 
 pub before_wire : (event : NetEvent) (s : PortState) → (before event s).lane.wire ≡ s.lane.wire
-before_wire (Steps B answer) s = moves_wire (takes_more s.lane.hub) s.queue s
-before_wire _ s = refl
+before_wire event s = before_keeps (λ (x : PortState). x.lane.wire ≡ s.lane.wire) event s (λ frame frames. refl) refl
 
 -- the wire after an event
 pub wire_event : (u : NetLaneState) (event : NetEvent) (t : NetLaneState) → NetLaneStep u event t → t.wire ≡ moved_on u.wire (on_wire event)

@@ -21,12 +21,9 @@ use Rattle.port_laws.proofs.FlightRuns.{port_few}
 use Rattle.port_laws.proofs.FlightSums.{first_of, live_count, spent}
 use Rattle.port_laws.proofs.ReadyFrames.{ready_most}
 use Rattle.port_laws.proofs.RingRuns.{port_kept}
+use Rattle.port_laws.proofs.EndMoves.{one_most}
 
 -- the messages that an end may begin cover the answers that it owes
-one_most : (b : Bool) → one_if b ≤ 1
-one_most true = omega arith
-one_most false = omega arith
-
 took_one : (active : Option Activity) → one_if (took_some active) ≤ one_if (is_some active)
 took_one None = omega arith
 took_one (Some activity) = one_most (is_some activity.last)

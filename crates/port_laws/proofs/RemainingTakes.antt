@@ -1,5 +1,5 @@
 -- What remains on a port that nobody forged falls by each packet that an end takes.
-use Rattle.std.proofs.Common.{◌≡◌, ℕ, ◌+◌, ◌-◌, ◌*◌, ◌<◌, ◌≤◌, Bool, true, false, Option, Some, None, List, [], length, drop, refl, sym, subst, ap, ◌∙◌, arith, length-drop}
+use Rattle.std.proofs.Common.{◌≡◌, ℕ, ◌+◌, ◌-◌, ◌*◌, ◌<◌, ◌≤◌, Bool, false, Option, Some, None, List, [], length, drop, refl, sym, subst, ap, ◌∙◌, arith, length-drop}
 use Rattle.std.specs.Prelude.{is_some, ⊤}
 use Rattle.ldc_link.specs.declared.phase.Role.{Role}
 use Rattle.ldc_link.specs.declared.phase.Role.TheVariants.{Initiator, Responder}
@@ -45,11 +45,14 @@ use Rattle.port_laws.proofs.MemoryRoom.{HasRoom, before_room}
 use Rattle.port_laws.proofs.MessageDoes.{Acks, Asks, Declines, MessageDoes, Names, TakeDoes, Told}
 use Rattle.port_laws.proofs.PortCounts.{Ready}
 use Rattle.port_laws.proofs.PortRuns.{before_core, fresh_port_core, port_fits_behind, port_step_core}
-use Rattle.port_laws.proofs.RemainingEnds.{answers_less, counts_stand, groups_same, own_left}
+use Rattle.port_laws.proofs.RemainingEnds.{answers_less, groups_same, own_left}
 use Rattle.port_laws.proofs.RemainingReady.{cleared_none, freed_less}
-use Rattle.port_laws.proofs.RemainingSteps.{left_at, more_at, reach_memory, ready_here, room_at, seen_up, steps_before}
+use Rattle.port_laws.proofs.RemainingSteps.{left_at, more_at, ready_here, room_at, seen_up, steps_before}
 use Rattle.port_laws.proofs.RuleFrames.{end_acts}
 use Rattle.port_laws.proofs.TookWhat.{Fails, Opens, Reads, Stays, TookWhat, took_what}
+use Rattle.port_laws.proofs.EndMoves.{one_most}
+use Rattle.port_laws.proofs.RuleUnforged.{reach_memory}
+use Rattle.port_laws.proofs.StepCounts.{counts_stand}
 
 -- WHAT AN END MAY OWE for a packet that it takes: the switch's end an answer to groups
 abbrev slack : Role → ℕ
@@ -80,10 +83,6 @@ asks_sum : (role : Role) (slots held : ℕ) (memory : List ℕ) (p : NetSession)
 asks_sum role slots held memory p seq start =
     let less = answers_less role (frames_left role slots held memory (Some p)) (0 + one_if (is_some p.reply)) (one_if (took_some p.active) + one_if (is_some p.reply)) (groups_left role (Some p)) 0 (omega arith) in
     omega (arith, less, groups_same role p (active p seq start) refl)
-
-one_most : (b : Bool) → one_if b ≤ 1
-one_most true = omega arith
-one_most false = omega arith
 
 ack_falls : (role : Role) (fresh few many ready more rest : ℕ) → few ≤ many → ready ≤ more
     → 8 * fresh + put_weight role * few + ready_weight role * ready + rest ≤ 8 * fresh + put_weight role * many + ready_weight role * more + rest

@@ -30,7 +30,7 @@ use Rattle.channel_laws.specs.LaneCore.{end_of}
 use Rattle.channel_laws.specs.Standing.{is_open_in}
 use Rattle.port_model.proofs.Refuting.{false_true, none_some, true_false}
 use Rattle.port_model.proofs.Ruling.{says_of}
-use Rattle.port_model.specs.EndLog.{EndLog, SessionLog, said_in, said_kind}
+use Rattle.port_model.specs.EndLog.{EndLog, SessionLog, said_in}
 use Rattle.port_model.specs.Fetching.{slots_cookies}
 use Rattle.port_model.specs.FrameLaws.{InSession, IsActive}
 use Rattle.port_model.specs.NetEndPutting.{net_kind}
@@ -43,7 +43,7 @@ use Rattle.port_model.specs.NetLaneStep.{EndSteps, net_wire}
 use Rattle.port_model.specs.Offers.{port_offer, ring_cookie}
 use Rattle.port_model.specs.PortLog.{PortLog, after, after_answer, log_of_end}
 use Rattle.port_model.specs.PortState.{OnLane, PortState}
-use Rattle.port_model.specs.Spoken.{GroupsInfo, Spoken, spoken}
+use Rattle.port_model.specs.Spoken.{spoken}
 use Rattle.port_laws.specs.Counted.{EndCounts, unsaid}
 use Rattle.port_laws.specs.NetCore.{lane_core, net_core}
 use Rattle.port_laws.specs.RingStands.{RingIn, RingStands, taken_by, taken_in, taken_of}
@@ -54,8 +54,8 @@ use Rattle.port_laws.proofs.MemoryRoom.{HasRoom}
 use Rattle.port_laws.proofs.PeerOpens.{row}
 use Rattle.port_laws.proofs.PortCounts.{PortCounts, Ready, queue_of}
 use Rattle.port_laws.proofs.PortTalks.{PortTalks, many_open, open_turns, shut_turns}
-use Rattle.port_laws.proofs.RemainingEnds.{kind_shut, shut_none}
-use Rattle.port_laws.proofs.RingEvents.{Active, Frames, Goes, Turned, acts_up, mine_now, own_stands, peer_stands, spoke_after, theirs_now, turns_at, turns_now, wire_now}
+use Rattle.port_laws.proofs.RemainingEnds.{kind_shut}
+use Rattle.port_laws.proofs.RingEvents.{Active, Frames, Goes, Turned, acts_up, mine_now, own_stands, peer_stands, saying_taken, some_not, spoke_after, theirs_now, turns_at, turns_now, wire_now}
 use Rattle.port_laws.proofs.RingFetches.{Reaches}
 use Rattle.port_laws.proofs.RingMoves.{Fits}
 use Rattle.port_laws.proofs.RingSteps.{Owns, TakesOf, opens_by}
@@ -63,6 +63,7 @@ use Rattle.port_laws.proofs.RuleFrames.{active_here, end_acts, end_counted}
 use Rattle.port_laws.proofs.SessionsHeard.{Spoke, SpokeIn, spoke_some}
 use Rattle.port_laws.proofs.StepCounts.{Acting, took_here}
 use Rattle.port_laws.proofs.TookCounts.{free_empty}
+use Rattle.port_laws.proofs.PutCounts.{not_some}
 
 -- THE RINGS, and what the logs say
 pub record Rings (s : NetLaneState) (l : PortLog) : Type 0 where
@@ -135,9 +136,6 @@ pub record OpenBoth (s : NetEndState) (l : EndLog) : Type 0 where
   pub opened : l.session ≢ None → is_some s.session ≡ true
   pub none : s.session ≡ None → l.session ≡ None
 
-some_not : {X : Type 0} (x : X) → Some x ≢ None
-some_not {X} x is = cc is
-
 pub open_both : (role : Role) (slots : ℕ) (queue : List (List ℕ)) (s : NetEndState) (l : EndLog) → EndCounts role slots queue s l → OpenBoth s l
 open_both role slots queue s l counts = by_session s.session refl
   where
@@ -169,7 +167,7 @@ step_shut role slots queue s l turns at memory reach (Sent packet opens) left ac
     let held : NetEndState = step.held in
     let core : HeldCore role s held = held_core role s at reach (port_rule role s at) held acting.fits refl step.holds in
     let shut : is_open_in held.handshake.phase ≡ false = kind_shut (net_kind held) held.handshake (sym step.opens_is ∙ opened) in
-    shut_none s.session
+    not_some s.session
     (acting.ends.opened ∙ sym (ap (λ (h : Handshake). is_open_in h.phase) (held_handshake (net_core role s) (net_core role held) core.what core.holds)) ∙ shut)
 step_shut role slots queue s l turns at memory reach _ left acting step opened = false_true opened
 
@@ -277,13 +275,9 @@ pub record Finds (shape : NetShape) (u : PortState) (l : PortLog) : Type 0 where
   pub talks : PortTalks shape (lane_core u.lane) l
   pub rings : Rings u.lane l
 
-kind_taken : (k : Spoken) (message : List ℕ) (v : SessionLog) → (said_kind k message v).taken ≡ v.taken
-kind_taken GroupsInfo message v = refl
-kind_taken _ message v = refl
-
 left_taken : (left : Option (List ℕ)) (v : SessionLog) → (said_in left v).taken ≡ v.taken
 left_taken None v = refl
-left_taken (Some message) v = kind_taken (spoken message) message v
+left_taken (Some message) v = saying_taken (spoken message) message v
 
 pub place_is : (role : Role) (slots : ℕ) (queue : List (List ℕ)) (s : NetEndState) (l : EndLog) (q : NetSession) → EndCounts role slots queue s l → s.session ≡ Some q
     → q.place ≡ taken_in l.session % slots
@@ -333,7 +327,7 @@ pub core_open : (e : End) (u : NetLaneState) (b : Bool) → is_some (net_end e u
 core_open A u b is = is
 core_open B u b is = is
 
-seen_state : (e : End) (u : NetLaneState) → (seen_at e u).state ≡ state_of e u.wire.wire
+pub seen_state : (e : End) (u : NetLaneState) → (seen_at e u).state ≡ state_of e u.wire.wire
 seen_state A u = refl
 seen_state B u = refl
 

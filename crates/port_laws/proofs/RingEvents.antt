@@ -29,7 +29,7 @@ use Rattle.port_laws.specs.RingStands.{RingIn, taken_by, taken_in}
 use Rattle.port_laws.proofs.PeerOpens.{row}
 use Rattle.port_laws.proofs.RingSteps.{Owns, TakesOf, more_taken, opens_by, own_ring, peer_ring}
 use Rattle.port_laws.proofs.SessionsHeard.{Spoke, SpokeIn, frame_spoke, published_spoke, sent_opens, sent_spoke, took_opens, took_spoke}
-use Rattle.port_laws.proofs.StepCounts.{holds_up}
+use Rattle.port_laws.proofs.LaneMoves.{holds_up}
 
 -- BOTH CHANNEL ENDS and what was said, after an answer
 abbrev pub mine_now : NetAnswer → ChannelState → ChannelState
@@ -104,7 +104,7 @@ heard_taken slots ended None = refl
 heard_taken slots None (Some v) = refl
 heard_taken slots (Some message) (Some v) = kind_taken (spoken message) slots message v
 
-saying_taken : (k : Spoken) (message : List ℕ) (v : SessionLog) → (said_kind k message v).taken ≡ v.taken
+pub saying_taken : (k : Spoken) (message : List ℕ) (v : SessionLog) → (said_kind k message v).taken ≡ v.taken
 saying_taken GroupsInfo message v = refl
 saying_taken _ message v = refl
 
@@ -227,7 +227,7 @@ abbrev pub Active : NetAnswer → Option SessionLog → Type 0
 Active (Frame frame) (Some v) = v.asked ≡ v.acks + 1
 Active _ log = ⊤
 
-some_not : {X : Type 0} (x : X) → Some x ≢ None
+pub some_not : {X : Type 0} (x : X) → Some x ≢ None
 some_not {X} x is = cc is
 
 took_case : (role : Role) (slots : ℕ) (turns : List Turn) (packet : List ℕ) (opens : Bool) (log : Option SessionLog) (l : EndLog) → l.session ≡ log → (opens ≡ true → log ≡ None)

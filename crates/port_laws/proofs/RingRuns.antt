@@ -1,5 +1,5 @@
 -- Along every run of a port that nobody forged the ring of each end holds its frames.
-use Rattle.std.proofs.Common.{◌≡◌, ℕ, Bool, true, false, Option, Some, None, List, [], ◌∷◌, ◌++◌, refl, sym, ap, ◌∙◌, subst}
+use Rattle.std.proofs.Common.{◌≡◌, ℕ, false, Option, Some, None, List, [], ◌∷◌, ◌++◌, refl, sym, ap, ◌∙◌, subst}
 use Rattle.std.specs.Prelude.{⊤}
 use Rattle.ldc_link.specs.declared.phase.Role.TheVariants.{Initiator}
 use Rattle.ldc_queue.specs.declared.end.ChannelState.{ChannelState}
@@ -11,6 +11,7 @@ use Rattle.runs.specs.Lawful.{log_of, run_lawful}
 use Rattle.runs.specs.Run.{Run}
 use Rattle.channel_model.specs.WireLog.{WireLog}
 use Rattle.channel_laws.specs.LaneCore.{LaneCore}
+use Rattle.port_model.proofs.Moving.{before_keeps}
 use Rattle.port_model.proofs.Refuting.{true_false}
 use Rattle.port_model.specs.EndLog.{SessionLog}
 use Rattle.port_model.specs.NetEndState.{NetEndState, NetSession}
@@ -19,7 +20,7 @@ use Rattle.port_model.specs.NetEvent.{Asked, CalmTick, Declines, Gives, Injects,
 use Rattle.port_model.specs.NetLaneState.{IsNetShape, NetLaneState, NetShape}
 use Rattle.port_model.specs.NetLaneStep.{NetLaneStep, Resets, moved_on}
 use Rattle.port_model.specs.PortLog.{PortLog, after, after_given, no_events}
-use Rattle.port_model.specs.PortState.{OfQueue, OnLane, PortEvent, PortState, PortStep, Receives, before, fresh_port, moves_first, takes_more}
+use Rattle.port_model.specs.PortState.{OfQueue, OnLane, PortEvent, PortState, PortStep, Receives, before, fresh_port}
 use Rattle.port_laws.specs.NetCore.{lane_core}
 use Rattle.port_laws.specs.RingStands.{RingIn, RingStands, taken_by}
 use Rattle.port_laws.proofs.LogsStand.{LogsStand, TablesStand, fresh_logs, logs_event, logs_received, tables_event}
@@ -38,28 +39,17 @@ more_frames : (slots taken : ℕ) (session : Option NetSession) (frames more : L
 more_frames slots taken None frames more memory ring = tt
 more_frames slots taken (Some p) frames more memory ring = ring_given slots p.seen taken p.published frames more memory ring
 
-moves_rings : (b : Bool) (queue : List (List ℕ)) (s : PortState) (l : PortLog) → Rings s.lane l → Rings (moves_first b queue s).lane l
-moves_rings true [] s l rings = rings
-moves_rings true (frame ∷ frames) s l rings = record {
-  guest_spoke = rings.guest_spoke;
-  hub_spoke = rings.hub_spoke;
-  guest_ring = rings.guest_ring;
-  hub_ring = λ up. more_frames l.shape.slots (taken_by s.lane.wire.wire.end_a l.guest.session) s.lane.hub.session s.lane.hub.frames (frame ∷ []) s.lane.hub_memory (rings.hub_ring up);
-}
-moves_rings false queue s l rings = rings
-
 before_rings : (event : NetEvent) (s : PortState) (l : PortLog) → Rings s.lane l → Rings (before event s).lane l
-before_rings (Steps B answer) s l rings = moves_rings (takes_more s.lane.hub) s.queue s l rings
-before_rings _ s l rings = rings
-
-moves_tables : (b : Bool) (queue : List (List ℕ)) (shape : NetShape) (s : PortState) → TablesStand shape s.lane → TablesStand shape (moves_first b queue s).lane
-moves_tables true [] shape s tables = tables
-moves_tables true (frame ∷ frames) shape s tables = record { guest = tables.guest; hub = tables.hub }
-moves_tables false queue shape s tables = tables
+before_rings event s l rings =
+    before_keeps (λ (x : PortState). Rings x.lane l) event s (λ frame frames. record {
+      guest_spoke = rings.guest_spoke;
+      hub_spoke = rings.hub_spoke;
+      guest_ring = rings.guest_ring;
+      hub_ring = λ up. more_frames l.shape.slots (taken_by s.lane.wire.wire.end_a l.guest.session) s.lane.hub.session s.lane.hub.frames (frame ∷ []) s.lane.hub_memory (rings.hub_ring up);
+    }) rings
 
 before_tables : (event : NetEvent) (shape : NetShape) (s : PortState) → TablesStand shape s.lane → TablesStand shape (before event s).lane
-before_tables (Steps B answer) shape s tables = moves_tables (takes_more s.lane.hub) s.queue shape s tables
-before_tables _ shape s tables = tables
+before_tables event shape s tables = before_keeps (λ (x : PortState). TablesStand shape x.lane) event s (λ frame frames. record { guest = tables.guest; hub = tables.hub }) tables
 
 -- WHAT ISN'T A STEP
 begun_ring : (slots : ℕ) (x y : ChannelState) (log : Option SessionLog) (session : Option NetSession) (frames : List (List ℕ)) (memory : List ℕ)

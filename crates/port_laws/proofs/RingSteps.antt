@@ -15,7 +15,7 @@ use Rattle.dring.specs.Slots.{range_length}
 use Rattle.channel_model.specs.Seeing.{Seen}
 use Rattle.cookie_copy.specs.Reach.{Reach}
 use Rattle.channel_laws.specs.Standing.{EndStands}
-use Rattle.port_model.proofs.Refuting.{none_some}
+use Rattle.port_model.proofs.Refuting.{none_some, of_some}
 use Rattle.port_model.proofs.Ruling.{says_of}
 use Rattle.port_model.specs.Fetching.{Fetched, IsFrame as IsFetched, NotReady, fetched}
 use Rattle.port_model.specs.FramesStand.{CountsStand, FramesStand}
@@ -29,13 +29,11 @@ use Rattle.port_laws.specs.NetCore.{net_core}
 use Rattle.port_laws.specs.RingHolds.{RingHolds}
 use Rattle.port_laws.specs.RingStands.{RingIn}
 use Rattle.port_laws.proofs.MessageDoes.{Acks, Asks, Declines, MessageDoes, Names, Told}
-use Rattle.port_laws.proofs.RemainingEnds.{counts_stand, held_slots}
+use Rattle.port_laws.proofs.RemainingEnds.{held_slots}
 use Rattle.port_laws.proofs.RingFetches.{Reaches, ring_fetched}
 use Rattle.port_laws.proofs.RingMoves.{Fits, ring_acked, ring_cleared, ring_published}
 use Rattle.port_laws.proofs.TookWhat.{Fails, Opens, Reads, Stays, TookWhat, took_what}
-
-of_some : {X : Type 0} (P : X → Type 0) (x y : X) → Some x ≡ Some y → P x → P y
-of_some {X} P x y same holds = let is : x ≡ y = cc in subst P is holds
+use Rattle.port_laws.proofs.StepCounts.{counts_stand}
 
 -- the ring of an open session
 ring_of : (slots taken : ℕ) (session : Option NetSession) (p : NetSession) (frames : List (List ℕ)) (memory : List ℕ) → session ≡ Some p → RingIn slots taken session frames memory

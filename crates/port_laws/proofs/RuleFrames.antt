@@ -37,8 +37,9 @@ use Rattle.port_laws.proofs.EndCounting.{OpenCounts, empty_unsaid, left_publishe
 use Rattle.port_laws.proofs.PortCounts.{PortCounts, Ready, guest_acts, hub_acts, port_counts, queue_of, ready_before}
 use Rattle.port_laws.proofs.PortRuns.{lawful_along}
 use Rattle.port_laws.proofs.PutCounts.{SaidRight}
-use Rattle.port_laws.proofs.StepCounts.{Acting, holds_up, sent_right, took_here}
+use Rattle.port_laws.proofs.StepCounts.{Acting, sent_right, took_here}
 use Rattle.port_laws.proofs.TookCounts.{TookCounts, free_empty}
+use Rattle.port_laws.proofs.LaneMoves.{holds_up}
 
 -- EITHER END
 pub end_counted : (shape : NetShape) (e : End) (u : PortState) (l : PortLog) → Ready shape u l → EndCounts (role_at e) shape.slots (queue_of e u) (net_end e u.lane) (log_of_end e l)
@@ -219,7 +220,7 @@ held_frames role slots queue s l counts =
     let long : length (s.frames ++ queue) ≡ length (drop l.gone l.given) = ap length counts.frames in
     omega (arith, long, length-append s.frames queue, length-drop l.gone l.given)
 
-none_more : (n : ℕ) → n + 0 ≡ n
+pub none_more : (n : ℕ) → n + 0 ≡ n
 none_more n = omega arith
 
 guest_held : (slots : ℕ) (s : NetEndState) (l : EndLog) → EndCounts Initiator slots [] s l → held l ≡ length s.frames

@@ -15,6 +15,7 @@ use Rattle.runs.specs.Run.{Run}
 use Rattle.vio_tag.specs.declared.message.Message.{Message}
 use Rattle.channel_model.specs.Seeing.{Seen}
 use Rattle.channel_model.specs.WireLog.{WireLog}
+use Rattle.port_model.proofs.Moving.{before_keeps}
 use Rattle.port_model.proofs.Refuting.{false_true, none_some, true_false}
 use Rattle.port_model.proofs.Ruling.{says_of}
 use Rattle.port_model.specs.EndLog.{EndLog, SessionLog}
@@ -179,10 +180,6 @@ hub_left false queue s p takes is stands session past same =
     right_false true c one both = both
     right_false false c one both = false_true one
 
-moves_slots : (b : Bool) (queue : List (List ℕ)) (s : PortState) → (moves_first b queue s).lane.hub.slots ≡ s.lane.hub.slots
-moves_slots true (frame ∷ queue) s = refl
-moves_slots _ _ s = refl
-
 hub_idle : (shape : NetShape) (s : PortState) (l : PortLog) → PortCounts shape s l → Ready shape (moved s) l → port_rule Responder (moved s).lane.hub (seen_at B (moved s).lane) ≡ Idles
     → IfSession l.hub.session (IsIdle B l)
 hub_idle shape s l kept ready idles =
@@ -196,7 +193,7 @@ hub_idle shape s l kept ready idles =
     let left : NothingLeft Responder u.lane.hub both.p = rule_left Responder u.lane.hub (seen_at B u.lane) both.p says.0 says.1 both.is listens idles in
     let counts = idle_counts Responder shape.slots u.queue u.lane.hub l.hub v both.p ready.hub ready.stands.1 both.is log empty listens left in
     let past : length u.lane.hub.frames ≤ unseen_in both.p = past_end u.lane.hub.frames (unseen_in both.p) left.published in
-    let slots_same : u.lane.hub.slots ≡ s.lane.hub.slots = moves_slots (takes_more s.lane.hub) s.queue s in
+    let slots_same : u.lane.hub.slots ≡ s.lane.hub.slots = before_keeps (λ (x : PortState). x.lane.hub.slots ≡ s.lane.hub.slots) (Steps B Idle) s (λ frame frames. refl) refl in
     let shape_slots : l.shape.slots ≡ shape.slots = ap (λ (x : NetShape). x.slots) ready.shape_is in
     let all : AllPublished B l v =
     elim (hub_left (takes_more s.lane.hub) s.queue s both.p refl refl kept.stands.1 both.is past slots_same) [

@@ -1,5 +1,5 @@
 -- Why an end of a port resets itself, where a port is finished, and where its ends may be idle, by the counts of both ends.
-use Rattle.std.proofs.Common.{◌≡◌, ◌≢◌, ℕ, ◌+◌, ◌<◌, Bool, true, false, ◌⊎◌, inl, inr, Option, Some, None, List, [], ◌∷◌, length, refl, sym, subst, ap, ◌∙◌, arith}
+use Rattle.std.proofs.Common.{◌≡◌, ◌≢◌, ℕ, ◌<◌, Bool, true, false, ◌⊎◌, inl, inr, Option, Some, None, List, [], ◌∷◌, length, refl, sym, subst, ap, ◌∙◌, arith}
 use Rattle.std.specs.Prelude.{◌*◌, ◌==◌, ◌&&◌, nat_le, not, slice_index, if◌then◌else◌, ⊤}
 use Rattle.std.proofs.lemmas.Bool.{and_parts, eqb-true, leb-false}
 use Rattle.cookie_copy.specs.declared.fault.CopyFault.{CopyFault}
@@ -41,7 +41,7 @@ use Rattle.port_model.specs.Spoken.{GroupsInfo, Spoken, spoken}
 use Rattle.port_laws.specs.Counted.{EndCounts, GroupCounts, IsBehind, SaysRightly, UnsaidRight, unsaid}
 use Rattle.port_laws.proofs.EndCounting.{open_counts}
 use Rattle.port_laws.proofs.PortCounts.{Ready, queue_of}
-use Rattle.port_laws.proofs.RuleFrames.{active_here, along, both_open, end_acts, held_frames}
+use Rattle.port_laws.proofs.RuleFrames.{active_here, along, both_open, end_acts, held_frames, none_more}
 use Rattle.port_laws.proofs.TookCounts.{free_empty}
 
 -- ONLY AN END THAT IS UP publishes a frame or takes one
@@ -212,9 +212,6 @@ empty_nothing (frame ∷ frames) is = absurd (omega (arith, is))
 in_open : (log : Option SessionLog) (P Q : SessionLog → Type 0) → ((v : SessionLog) → P v → Q v) → InSession log P → InSession log Q
 in_open None P Q means holds = holds
 in_open (Some v) P Q means holds = means v holds
-
-none_more : (n : ℕ) → n + 0 ≡ n
-none_more n = omega arith
 
 calm_finished : (shape : NetShape) (u : PortState) (l : PortLog) (queued : ℕ) → Ready shape u l → queued ≡ length u.queue → is_finished u.lane queued ≡ true → IsFinished l
 calm_finished shape u l queued ready queue is =

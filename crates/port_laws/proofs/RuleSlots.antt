@@ -56,7 +56,7 @@ reach_both : (e : End) (u : NetLaneState) → state_of e u.wire.wire ≡ Up → 
 reach_both A u one two = ap (λ (x : ChannelState). is_up x && is_up u.wire.wire.end_b) one ∙ ap is_up two
 reach_both B u one two = ap (λ (x : ChannelState). is_up x && is_up u.wire.wire.end_b) two ∙ ap is_up one
 
-seen_up : (e : End) (u : NetLaneState) → state_of e u.wire.wire ≡ (seen_at e u).state
+pub seen_up : (e : End) (u : NetLaneState) → state_of e u.wire.wire ≡ (seen_at e u).state
 seen_up A u = refl
 seen_up B u = refl
 

@@ -3,7 +3,7 @@ use Rattle.std.proofs.Common.{◌≡◌, ℕ, ◌+◌, ◌*◌, ◌≤◌, List,
 use Rattle.ldc_link.specs.declared.phase.Role.TheVariants.{Initiator, Responder}
 use Rattle.ldc_queue.specs.declared.end.End.{End}
 use Rattle.ldc_queue.specs.declared.end.End.TheVariants.{A, B}
-use Rattle.ldc_queue.specs.Wire.{Wire, peer_of, state_of, waiting_for}
+use Rattle.ldc_queue.specs.Wire.{Wire, peer_of, waiting_for}
 use Rattle.runs.specs.Lawful.{Lawful, log_of}
 use Rattle.runs.specs.Run.{Run}
 use Rattle.vnet_msg.specs.Frames.{memory_pages}
@@ -30,6 +30,7 @@ use Rattle.port_laws.proofs.MemoryLong.{KeptLong, port_long}
 use Rattle.port_laws.proofs.PortCounts.{before_wire}
 use Rattle.port_laws.proofs.PortRuns.{fresh_port_core, lawful_along, logs_same, port_fits_behind, port_step_core}
 use Rattle.port_laws.proofs.RuleRest.{up_state}
+use Rattle.port_laws.proofs.RuleSlots.{seen_up}
 
 -- THE SIZES of the log are those of the lane
 record SameSizes (s : NetLaneState) (l : PortLog) : Type 0 where
@@ -69,10 +70,6 @@ same_sizes shape events s is run =
 full_at : (e : End) (l : PortLog) (s : NetLaneState) → SameSizes s l → l.shape.entries ≤ length (waiting_for (peer_of e) l.wire.wire) + 1 → length (waiting_for (peer_of e) l.wire.wire) + 1 ≡ l.shape.entries
 full_at A l s same full = let room = same.room_b in omega (arith, room, full)
 full_at B l s same full = let room = same.room_a in omega (arith, room, full)
-
-seen_up : (e : End) (u : NetLaneState) → state_of e u.wire.wire ≡ (seen_at e u).state
-seen_up A u = refl
-seen_up B u = refl
 
 answer_table : (e : End) (answer : NetAnswer) (s : NetLaneState) (l : PortLog) → SameSizes s l → (answer ≡ Idle → IsUp e l.wire.wire) → CoreStands l.shape.entries l.wire (core_event (Steps e answer))
     → OfWire (WireTableAt (sizes_in l) l.wire) (OnLane (Steps e answer))

@@ -1,5 +1,5 @@
 -- Along every run of a port that nobody forged, what is on the way between its ends fits, and no message of a session is refused.
-use Rattle.std.proofs.Common.{◌≡◌, ℕ, Bool, true, false, Option, Some, None, List, [], ◌∷◌, refl, sym, ap, ◌∙◌, subst}
+use Rattle.std.proofs.Common.{◌≡◌, ℕ, true, false, Option, Some, None, List, [], refl, sym, ap, ◌∙◌, subst}
 use Rattle.std.specs.Prelude.{is_some, ⊤}
 use Rattle.ldc_link.specs.declared.phase.Role.TheVariants.{Initiator, Responder}
 use Rattle.ldc_queue.specs.declared.end.End.TheVariants.{A, B}
@@ -7,6 +7,7 @@ use Rattle.ldc_queue.specs.Transcript.{Turn}
 use Rattle.runs.specs.Lawful.{log_of, run_lawful}
 use Rattle.runs.specs.Run.{Run}
 use Rattle.channel_model.specs.WireLog.{WireLog}
+use Rattle.port_model.proofs.Moving.{before_keeps}
 use Rattle.port_model.proofs.Refuting.{none_some, true_false}
 use Rattle.port_model.specs.EndLog.{EndLog, SessionLog, change}
 use Rattle.port_model.specs.Groups.{is_in}
@@ -16,7 +17,7 @@ use Rattle.port_model.specs.NetEvent.{Asked, CalmTick, Declines, Gives, Injects,
 use Rattle.port_model.specs.NetLaneState.{IsNetShape, NetLaneState, NetShape, reach_of, seen_at}
 use Rattle.port_model.specs.NetLaneStep.{EndSteps, NetLaneStep, moved_on}
 use Rattle.port_model.specs.PortLog.{PortLog, after, after_answer, no_events}
-use Rattle.port_model.specs.PortState.{OfQueue, OnLane, PortEvent, PortState, PortStep, Receives, before, fresh_port, moves_first, takes_more}
+use Rattle.port_model.specs.PortState.{OfQueue, OnLane, PortEvent, PortState, PortStep, Receives, before, fresh_port}
 use Rattle.port_laws.specs.NetCore.{lane_core}
 use Rattle.port_laws.proofs.GroupsLearnt.{Fresh, fresh_more}
 use Rattle.port_laws.proofs.PortCounts.{PortCounts, before_guest, before_queue}
@@ -145,22 +146,11 @@ pub record KeptTalk (shape : NetShape) (s : PortState) (l : PortLog) : Type 0 wh
   pub nothing : l.wire.forged ≡ false → KnowsNone s.lane.hub
   pub talk : l.wire.forged ≡ false → TalkStands s.lane l
 
-moves_talk : (b : Bool) (queue : List (List ℕ)) (s : PortState) (l : PortLog) → TalkStands s.lane l → TalkStands (moves_first b queue s).lane l
-moves_talk true [] s l talk = talk
-moves_talk true (frame ∷ frames) s l talk = λ p up other some. talk p up other some
-moves_talk false queue s l talk = talk
-
 pub before_talk : (event : NetEvent) (s : PortState) (l : PortLog) → TalkStands s.lane l → TalkStands (before event s).lane l
-before_talk (Steps B answer) s l talk = moves_talk (takes_more s.lane.hub) s.queue s l talk
-before_talk _ s l talk = talk
-
-moves_none : (b : Bool) (queue : List (List ℕ)) (s : PortState) → KnowsNone s.lane.hub → KnowsNone (moves_first b queue s).lane.hub
-moves_none true (frame ∷ frames) s had = had
-moves_none _ _ s had = had
+before_talk event s l talk = before_keeps (λ (x : PortState). TalkStands x.lane l) event s (λ frame frames p up other some. talk p up other some) talk
 
 before_none : (event : NetEvent) (s : PortState) → KnowsNone s.lane.hub → KnowsNone (before event s).lane.hub
-before_none (Steps B answer) s had = moves_none (takes_more s.lane.hub) s.queue s had
-before_none _ s had = had
+before_none event s had = before_keeps (λ (x : PortState). KnowsNone x.lane.hub) event s (λ frame frames. had) had
 
 talk_step : (shape : NetShape) → IsNetShape shape → (s : PortState) (l : PortLog) (event : PortEvent) (t : PortState) → KeptTalk shape s l → PortStep s event t → KeptTalk shape t (after l event)
 talk_step shape is s l (OnLane event) t had step =

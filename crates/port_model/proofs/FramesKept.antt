@@ -27,12 +27,9 @@ use Rattle.port_model.specs.NetReached.{NetReached}
 use Rattle.port_model.specs.RuleFacts.{IfOpen}
 use Rattle.port_model.proofs.FramesTaken.{opened_stands, stands_with, taken_stands, with_stands}
 use Rattle.port_model.proofs.Ruling.{says_of}
-use Rattle.port_model.proofs.Refuting.{none_some, true_false}
+use Rattle.port_model.proofs.Refuting.{none_some, of_some, true_false}
 
 -- what holds of one value holds of the other that the same `Some` has
-of_some : {X : Type 0} (P : X → Type 0) (x y : X) → Some x ≡ Some y → P x → P y
-of_some {X} P x y same holds = let is : x ≡ y = cc in subst P is holds
-
 -- IT BEGINS ANEW
 pub held_in : (s : NetEndState) (session : Option NetSession) → s.session ≡ session → FramesStand s → unseen session ≤ length s.frames
 held_in s None is stands = omega arith
