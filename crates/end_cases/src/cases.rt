@@ -50,13 +50,21 @@ struct Case<'a, S> {
 pub fn run_file<S: Stage, R: Files + Print + AllocGlobal>(rt: &R, file: &str) -> io::Result<Tally> {
     let path = format!(in rt.alloc(); "{file}.txt")?;
     let text = fs::read_to_string(rt, path.as_str())?;
+    run_cases::<S, R>(rt, file, text.as_str())
+}
+
+fn run_cases<S: Stage, R: Print + AllocGlobal>(
+    rt: &R,
+    file: &str,
+    text: &str,
+) -> io::Result<Tally> {
     let mut tally = Tally { cases: 0, steps: 0 };
-    let mut parts = text.as_str().split("\ncase ");
+    let mut parts = text.split("\ncase ");
     let before = parts.next().unwrap_or("");
     let mut line = lines_of(before);
     for part in parts {
         let (name, own) = part.split_once('\n').unwrap_or((part, ""));
-        let case = Case::<S>::new(file, name);
+        let mut case = Case::<S>::new(file, name);
         tally.add(case.run(rt, before, own, line)?);
         line = line.saturating_add(lines_of(part));
     }
@@ -83,7 +91,7 @@ impl<'a, S: Stage> Case<'a, S> {
     /// Does the lines before the file's cases, and then its own, before which are so many lines and its name. A case
     /// without a step of its own shows nothing.
     fn run<R: Print + AllocGlobal>(
-        mut self,
+        &mut self,
         rt: &R,
         before: &str,
         own: &str,

@@ -58,16 +58,11 @@ impl Stage for Disk {
 
     fn step(&mut self, alloc: Global, words: &[&str], _wanted: &str) -> Option<String> {
         match words {
-            ["client"] => client_text(alloc, &self.step_client()),
-            ["server"] => server_text(alloc, &self.step_server()),
-            ["store"] => runs_of(alloc, self.store.bytes()),
+            [call] => self.alone(alloc, call),
             ["client", call] => self.client_asked(alloc, call),
             [end, "hears", bytes] => self.hears(alloc, end, bytes),
             ["issue", request @ ..] => shown(alloc, &self.issue(&request_of(request)?)?),
-            ["memory", at, count, byte] => {
-                let (at, count) = (at.parse::<u64>().ok()?, count.parse::<usize>().ok()?);
-                shown(alloc, &self.write(at, count, packet(byte)?)?)
-            }
+            ["memory", at, count, byte] => self.put(alloc, at, count, byte),
             _ => None,
         }
     }
@@ -79,16 +74,51 @@ impl Disk {
         if blocks == 0 || blocks > 65536 || slots < 2 || slots > 256 {
             return None;
         }
+        let client = client_of(alloc, blocks, slots)?;
+        let server = server_of(alloc, blocks, slots)?;
+        let store = store_of(alloc, blocks, failing)?;
+        Disk::between(alloc, slots, client, server, store)
+    }
+
+    // With a channel, a memory, and the table that grants it.
+    fn between(
+        alloc: Global,
+        slots: u32,
+        client: Client,
+        server: Server,
+        store: MemStore,
+    ) -> Option<Disk>
+        requires some { 2 ≤ slots }
+        requires most { slots ≤ 256 }
+        requires slots { client.slots ≡ slots }
+        requires ids { client.next_id ≡ 0 }
+        requires region { 512 * (server.first + server.blocks) ≤ length store.bytes }
+    {
         let pages = pages_of(slots);
-        Some(Disk {
-            channel: Channel::new(alloc, 16).ok()?,
-            table: table_of(alloc, pages)?,
-            memory: memory_of(alloc, pages)?,
-            store: store_of(alloc, blocks, failing)?,
-            client: client_of(alloc, blocks, slots)?,
-            server: server_of(alloc, blocks, slots)?,
-            asked: 0,
-        })
+        let memory = memory_of(alloc, pages)?;
+        let table = table_of(alloc, pages)?;
+        match Channel::new(alloc, 16) {
+            Ok(channel) => Some(Disk {
+                channel,
+                table,
+                memory,
+                store,
+                client,
+                server,
+                asked: 0,
+            }),
+            Err(_) => None,
+        }
+    }
+
+    // A step of an end, or what the store holds.
+    fn alone(&mut self, alloc: Global, call: &str) -> Option<String> {
+        match call {
+            "client" => client_text(alloc, &self.step_client()),
+            "server" => server_text(alloc, &self.step_server()),
+            "store" => runs_of(alloc, self.store.bytes()),
+            _ => None,
+        }
     }
 
     fn step_client(&mut self) -> ClientOut {
@@ -171,6 +201,11 @@ impl Disk {
     {
         self.asked = self.asked.checked_add(1)?;
         Some(self.client.issue(request))
+    }
+
+    fn put(&mut self, alloc: Global, at: &str, count: &str, byte: &str) -> Option<String> {
+        let (at, count) = (at.parse::<u64>().ok()?, count.parse::<usize>().ok()?);
+        shown(alloc, &self.write(at, count, packet(byte)?)?)
     }
 
     // Writes so many times a byte into the client's memory, and tells how many.

@@ -57,35 +57,11 @@ impl Stage for Port {
 
     fn step(&mut self, alloc: Global, words: &[&str], _wanted: &str) -> Option<String> {
         match words {
-            ["guest"] => net_text(alloc, &self.step_guest()),
-            ["hub"] => net_text(alloc, &self.step_hub()),
-            ["opens"] => shown(alloc, &self.opens()),
-            [end, "resets"] => shown(alloc, &self.reset_end(at_end(end)?)),
-            ["guest", "joins", address] => shown(alloc, &self.guest.join_group(packet(address)?)),
-            [end, "sends", count, byte] => {
-                let [byte]: [u8; 1] = packet(byte)?;
-                shown(
-                    alloc,
-                    &self.sends(at_end(end)?, count.parse::<usize>().ok()?, byte)?,
-                )
-            }
-            [end, "resets", "within", count] => {
-                shown(
-                    alloc,
-                    &went_on(alloc, at_end(end)?, count.parse::<u32>().ok()?)?,
-                )
-            }
-            ["guest", "memory", at] => bytes_at(alloc, &self.guest_memory, at),
-            ["hub", "memory", at] => bytes_at(alloc, &self.hub_memory, at),
-            ["guest", call] => asked(alloc, &self.guest, call),
-            ["hub", call] => asked(alloc, &self.hub, call),
-            [end, "hears", bytes] => self.hears(alloc, end, bytes),
-            [end, "after", count, "hears", bytes] => {
-                let mut other = Port::new(alloc, SLOTS)?;
-                other.steps(count.parse::<u32>().ok()?);
-                other.hears(alloc, end, bytes)
-            }
-            [end, "finds", at, bytes] => self.finds(alloc, end, at, bytes),
+            [call] => self.alone(alloc, call),
+            [end, call] => self.called(alloc, end, call),
+            [end, call, word] => self.given(alloc, end, call, word),
+            [end, call, word, other] => self.given_two(alloc, end, call, word, other),
+            [end, "after", count, "hears", bytes] => heard_after(alloc, end, count, bytes),
             _ => None,
         }
     }
@@ -97,16 +73,122 @@ impl Port {
         if slots < 2 || slots > 64 {
             return None;
         }
+        let guest = end_of(alloc, Role::Initiator, slots)?;
+        let hub = end_of(alloc, Role::Responder, slots)?;
+        Port::between(alloc, guest, hub)
+    }
+
+    // With a memory for each end.
+    fn between(alloc: Global, guest: NetEnd, hub: NetEnd) -> Option<Port>
+        requires guest_slots { guest.slots ≤ 64 }
+        requires hub_slots { hub.slots ≤ 64 }
+        requires guest_ids { guest.next_id ≡ 0 }
+        requires hub_ids { hub.next_id ≡ 0 }
+    {
+        let guest_memory = memory_of(alloc, PAGES)?;
+        let hub_memory = memory_of(alloc, PAGES)?;
+        Port::over(alloc, guest, hub, guest_memory, hub_memory)
+    }
+
+    // With a channel, and the tables that grant the memories.
+    fn over(
+        alloc: Global,
+        guest: NetEnd,
+        hub: NetEnd,
+        guest_memory: Memory,
+        hub_memory: Memory,
+    ) -> Option<Port>
+        requires guest_ring { 8192 + 2048 * guest.slots ≤ length guest_memory }
+        requires hub_ring { 8192 + 2048 * hub.slots ≤ length hub_memory }
+        requires guest_pages { 139264 ≡ length guest_memory }
+        requires hub_pages { 139264 ≡ length hub_memory }
+        requires guest_ids { guest.next_id ≡ 0 }
+        requires hub_ids { hub.next_id ≡ 0 }
+    {
+        let (channel, guest_table, hub_table) = between_ends(alloc)?;
         Some(Port {
-            channel: Channel::new(alloc, 16).ok()?,
-            guest: end_of(alloc, Role::Initiator, slots)?,
-            hub: end_of(alloc, Role::Responder, slots)?,
-            guest_memory: memory_of(alloc, PAGES)?,
-            hub_memory: memory_of(alloc, PAGES)?,
-            guest_table: table_of(alloc, PAGES)?,
-            hub_table: table_of(alloc, PAGES)?,
+            channel,
+            guest,
+            hub,
+            guest_memory,
+            hub_memory,
+            guest_table,
+            hub_table,
             given: 0,
         })
+    }
+
+    // A step of an end, or rounds of both.
+    fn alone(&mut self, alloc: Global, call: &str) -> Option<String> {
+        match call {
+            "guest" => net_text(alloc, &self.step_guest()),
+            "hub" => net_text(alloc, &self.step_hub()),
+            "opens" => shown(alloc, &self.opens()),
+            _ => None,
+        }
+    }
+
+    // A call of an end without an argument.
+    fn called(&mut self, alloc: Global, end: &str, call: &str) -> Option<String> {
+        let at = at_end(end)?;
+        match call {
+            "resets" => shown(alloc, &self.reset_end(at)),
+            _ => asked(alloc, self.end(at), call),
+        }
+    }
+
+    // A call of an end with a word.
+    fn given(&mut self, alloc: Global, end: &str, call: &str, word: &str) -> Option<String> {
+        match call {
+            "joins" => self.joins(alloc, end, word),
+            "memory" => bytes_at(alloc, self.memory(at_end(end)?), word),
+            "hears" => self.hears(alloc, end, word),
+            _ => None,
+        }
+    }
+
+    // A call of an end with two words.
+    fn given_two(
+        &mut self,
+        alloc: Global,
+        end: &str,
+        call: &str,
+        word: &str,
+        other: &str,
+    ) -> Option<String> {
+        match call {
+            "sends" => self.sent(alloc, end, word, other),
+            "resets" => resets(alloc, end, word, other),
+            "finds" => self.finds(alloc, end, word, other),
+            _ => None,
+        }
+    }
+
+    fn end(&self, end: End) -> &NetEnd {
+        match end {
+            End::A => &self.guest,
+            End::B => &self.hub,
+        }
+    }
+
+    fn memory(&self, end: End) -> &Memory {
+        match end {
+            End::A => &self.guest_memory,
+            End::B => &self.hub_memory,
+        }
+    }
+
+    fn joins(&mut self, alloc: Global, end: &str, address: &str) -> Option<String> {
+        if end != "guest" {
+            return None;
+        }
+        shown(alloc, &self.guest.join_group(packet(address)?))
+    }
+
+    fn sent(&mut self, alloc: Global, end: &str, count: &str, byte: &str) -> Option<String> {
+        let [byte]: [u8; 1] = packet(byte)?;
+        let (at, count) = (at_end(end)?, count.parse::<usize>().ok()?);
+        shown(alloc, &self.sends(at, count, byte)?)
     }
 
     /// One step of an end.
@@ -199,6 +281,25 @@ impl Port {
     }
 }
 
+// What an end of a port of its own hears after so many steps.
+fn heard_after(alloc: Global, end: &str, count: &str, bytes: &str) -> Option<String> {
+    let count = count.parse::<u32>().ok()?;
+    let mut port = Port::new(alloc, SLOTS)?;
+    port.steps(count);
+    port.hears(alloc, end, bytes)
+}
+
+// How many resets a port goes on from: `resets within COUNT`.
+fn resets(alloc: Global, end: &str, within: &str, count: &str) -> Option<String> {
+    if within != "within" {
+        return None;
+    }
+    shown(
+        alloc,
+        &went_on(alloc, at_end(end)?, count.parse::<u32>().ok()?)?,
+    )
+}
+
 /// Whose step is the one of this number: the guest begins.
 pub fn in_turn(number: u32) -> End {
     if number % 2 == 0 { End::A } else { End::B }
@@ -209,6 +310,18 @@ fn at_end(word: &str) -> Option<End> {
         "guest" => Some(End::A),
         "hub" => Some(End::B),
         _ => None,
+    }
+}
+
+// A channel, and a table for each end.
+fn between_ends(alloc: Global) -> Option<(Channel, MapTable, MapTable)>
+    ensures { IfSome result (λ all. PagesWithin all.1 139264 × PagesWithin all.2 139264) }
+{
+    let guest_table = table_of(alloc, PAGES)?;
+    let hub_table = table_of(alloc, PAGES)?;
+    match Channel::new(alloc, 16) {
+        Ok(channel) => Some((channel, guest_table, hub_table)),
+        Err(_) => None,
     }
 }
 

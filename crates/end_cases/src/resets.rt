@@ -70,10 +70,7 @@ struct Watched {
 impl Watched {
     fn new(alloc: Global) -> Option<Watched> {
         let mut port = Port::new(alloc, SLOTS)?;
-        for number in 0..SLOTS {
-            let _at_guest = port.sends(End::A, (LEAST + number) as usize, 0xa0)?;
-            let _at_hub = port.sends(End::B, (LEAST + number) as usize, 0xb0)?;
-        }
+        give(&mut port)?;
         Some(Watched {
             port,
             guest: Course::new(),
@@ -103,6 +100,14 @@ impl Watched {
         }
     }
 
+    // Whether all goes on well where an end is reset after so many steps.
+    fn goes_on(&mut self, end: End, before: u32) -> bool {
+        self.steps(before);
+        self.reset(end);
+        self.steps(ENOUGH);
+        self.is_well()
+    }
+
     // The port rests, and each frame was taken or lost.
     fn is_well(&self) -> bool {
         self.port.rests()
@@ -113,16 +118,23 @@ impl Watched {
     }
 }
 
+// Gives each end its frames.
+fn give(port: &mut Port) -> Option<()> {
+    for number in 0..SLOTS {
+        let count = (LEAST + number) as usize;
+        let _at_guest = port.sends(End::A, count, 0xa0)?;
+        let _at_hub = port.sends(End::B, count, 0xb0)?;
+    }
+    Some(())
+}
+
 /// After how many numbers of steps, from none on and below a count, an end may be reset so that all goes on well behind
 /// it: both sessions open again, and each frame is taken once and in order, or told as lost.
 pub fn went_on(alloc: Global, end: End, count: u32) -> Option<u32> {
     let mut well = 0_u32;
     for before in 0..count {
         let mut watched = Watched::new(alloc)?;
-        watched.steps(before);
-        watched.reset(end);
-        watched.steps(ENOUGH);
-        well = well.saturating_add(u32::from(watched.is_well()));
+        well = well.saturating_add(u32::from(watched.goes_on(end, before)));
     }
     Some(well)
 }

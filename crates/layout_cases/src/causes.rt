@@ -52,20 +52,19 @@ fn with_number(name: &str, found: u32) -> Option<Cause> {
 
 fn with_numbers(name: &str, one: u32, found: u32) -> Option<Cause> {
     let (expected, slot, size, count) = (one, one, one, found);
-    let state = u8::try_from(found).ok();
     match name {
         "Gap" => Some(Cause::Gap { expected, found }),
         "Sid" => Some(Cause::Sid { expected, found }),
         "Slot" => Some(Cause::Slot { expected, found }),
         "Frame" => Some(Cause::Frame { size, count }),
-        "NotReady" => Some(Cause::NotReady {
-            slot,
-            state: state?,
-        }),
-        "NotDone" => Some(Cause::NotDone {
-            slot,
-            state: state?,
-        }),
+        _ => with_state(name, slot, u8::try_from(found).ok()?),
+    }
+}
+
+fn with_state(name: &str, slot: u32, state: u8) -> Option<Cause> {
+    match name {
+        "NotReady" => Some(Cause::NotReady { slot, state }),
+        "NotDone" => Some(Cause::NotDone { slot, state }),
         _ => None,
     }
 }

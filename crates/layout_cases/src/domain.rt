@@ -48,27 +48,40 @@ impl Domain {
         })
     }
 
-    fn begin(&mut self, alloc: Global, [entries, pages]: [u64; 2]) -> Option<()> {
+    fn begin(&mut self, alloc: Global, words: &str) -> Option<String> {
+        let [entries, pages] = numbers::<2>(words)?;
         if entries == 0 || entries > 1028 || pages == 0 || pages > 1028 {
             return None;
         }
-        *self = Domain::new(alloc, entries as u32, pages as u32).ok()?;
-        Some(())
+        match Domain::new(alloc, entries as u32, pages as u32) {
+            Ok(domain) => *self = domain,
+            Err(_) => return None,
+        }
+        Some(String::new(alloc))
     }
 
     /// What comes of a command, an empty text for a step.
     pub fn answer(&mut self, alloc: Global, command: &str, words: &str) -> Option<String> {
         match command {
-            "new" => self.begin(alloc, numbers(words)?)?,
-            "configure" => self.channel.configure(end_of(words)?),
-            "cookies" => self.cookies = cookies_of(alloc, words)?,
-            "write" => self.write(alloc, words)?,
-            "read" => return self.read(alloc, numbers(words)?),
-            "pages" => return shown(alloc, self.memory.pages()),
-            "in" => return self.copied_in(alloc, numbers(words)?),
-            "out" => return shown(alloc, self.copied_out(alloc, words)?),
-            _ => return self.entries_answer(alloc, command, words),
+            "new" => self.begin(alloc, words),
+            "configure" => self.configure(alloc, words),
+            "cookies" => self.take_cookies(alloc, words),
+            "write" => self.write(alloc, words),
+            "read" => self.read(alloc, words),
+            "pages" => shown(alloc, self.memory.pages()),
+            "in" => self.copied_in(alloc, words),
+            "out" => self.copied_out(alloc, words),
+            _ => self.entries_answer(alloc, command, words),
         }
+    }
+
+    fn configure(&mut self, alloc: Global, words: &str) -> Option<String> {
+        self.channel.configure(end_of(words)?);
+        Some(String::new(alloc))
+    }
+
+    fn take_cookies(&mut self, alloc: Global, words: &str) -> Option<String> {
+        self.cookies = cookies_of(alloc, words)?;
         Some(String::new(alloc))
     }
 
@@ -77,11 +90,15 @@ impl Domain {
             "grant" => shown(alloc, self.grant(words)?),
             "look" => shown(alloc, self.table.look(words.parse::<u64>().ok()?)),
             "revoke" => shown(alloc, self.table.revoke(words.parse::<u32>().ok()?)),
-            "entry" => match self.table.entry_bytes(words.parse::<u32>().ok()?) {
-                Some(bytes) => digits(alloc, &bytes),
-                None => shown(alloc, None::<()>),
-            },
+            "entry" => self.entry(alloc, words),
             _ => None,
+        }
+    }
+
+    fn entry(&self, alloc: Global, words: &str) -> Option<String> {
+        match self.table.entry_bytes(words.parse::<u32>().ok()?) {
+            Some(bytes) => digits(alloc, &bytes),
+            None => shown(alloc, None::<()>),
         }
     }
 
@@ -103,7 +120,7 @@ impl Domain {
         count <= size && place <= size - count
     }
 
-    fn write(&mut self, alloc: Global, words: &str) -> Option<()> {
+    fn write(&mut self, alloc: Global, words: &str) -> Option<String> {
         let (place, words) = words.split_once(' ')?;
         let place = place.parse::<u64>().ok()?;
         let bytes = bytes_of(alloc, words)?;
@@ -111,10 +128,11 @@ impl Domain {
             return None;
         }
         self.memory.write(place, &bytes);
-        Some(())
+        Some(String::new(alloc))
     }
 
-    fn read(&self, alloc: Global, [place, count]: [u64; 2]) -> Option<String> {
+    fn read(&self, alloc: Global, words: &str) -> Option<String> {
+        let [place, count] = numbers::<2>(words)?;
         if !self.has(place, count) {
             return None;
         }
@@ -124,7 +142,8 @@ impl Domain {
     }
 
     // The answer of a copy, and the buffer of bytes ee that the bytes were to come to.
-    fn copied_in(&self, alloc: Global, [offset, count]: [u64; 2]) -> Option<String> {
+    fn copied_in(&self, alloc: Global, words: &str) -> Option<String> {
+        let [offset, count] = numbers::<2>(words)?;
         let mut bytes = vec![in alloc; 0xee; u16::try_from(count).ok()? as usize].ok()?;
         let answer = self.copy_into(offset, &mut bytes);
         shown_with(alloc, answer, &bytes)
@@ -143,20 +162,24 @@ impl Domain {
         )
     }
 
-    fn copied_out(&mut self, alloc: Global, words: &str) -> Option<Result<(), CopyFault>> {
+    fn copied_out(&mut self, alloc: Global, words: &str) -> Option<String> {
         let (offset, words) = words.split_once(' ')?;
         let offset = offset.parse::<u64>().ok()?;
         let bytes = bytes_of(alloc, words)?;
+        shown(alloc, self.copy_from(offset, &bytes))
+    }
+
+    fn copy_from(&mut self, offset: u64, bytes: &[u8]) -> Result<(), CopyFault> {
         let (table, memory) = (&self.table, &mut self.memory);
-        Some(copy_out(
+        copy_out(
             &self.channel,
             End::B,
             table,
             memory,
             &self.cookies,
             offset,
-            &bytes,
-        ))
+            bytes,
+        )
     }
 }
 

@@ -36,13 +36,22 @@ fn run_files(rt: &(impl AllocGlobal + Env + Files + Print)) -> io::Result<()> {
 fn run_file(rt: &(impl AllocGlobal + Files + Print), file: &str) -> io::Result<u64> {
     let text = fs::read_to_string(rt, file)?;
     let rows = text.as_str().replace(rt.alloc(), "\n  ", " ")?;
-    let Ok(mut domain) = Domain::new(rt.alloc(), 1, 1) else {
-        return Err(AllocError.into());
-    };
+    match Domain::new(rt.alloc(), 1, 1) {
+        Ok(mut domain) => run_rows(rt, &mut domain, file, rows.as_str()),
+        Err(_) => Err(AllocError.into()),
+    }
+}
+
+fn run_rows(
+    rt: &(impl AllocGlobal + Print),
+    domain: &mut Domain,
+    file: &str,
+    rows: &str,
+) -> io::Result<u64> {
     let mut cases = 0u64;
-    for row in rows.as_str().lines() {
+    for row in rows.lines() {
         if !row.is_empty() && !row.starts_with('#') {
-            cases = cases.saturating_add(run_row(rt, &mut domain, file, row)?);
+            cases = cases.saturating_add(run_row(rt, domain, file, row)?);
         }
     }
     Ok(cases)

@@ -15,10 +15,10 @@ use vio_bytes::{
 pub fn answer(alloc: Global, command: &str, words: &str) -> Option<String> {
     match command {
         "number" => number(alloc, words),
-        "table" => table(alloc, numbers(words)?),
-        "cookie_of" => cookie(alloc, numbers(words)?),
-        "check" => check(alloc, numbers(words)?),
-        "slot_of" => slot_of(alloc, numbers(words)?),
+        "table" => table(alloc, words),
+        "cookie_of" => cookie(alloc, words),
+        "check" => check(alloc, words),
+        "slot_of" => slot_of(alloc, words),
         "cause" => cause(alloc, words),
         _ => None,
     }
@@ -53,7 +53,8 @@ fn put_number(width: u64, place: usize, value: u64, bytes: &mut [u8; 20]) -> Opt
     })
 }
 
-fn table(alloc: Global, [first, width, second, other_width, length]: [u64; 5]) -> Option<String> {
+fn table(alloc: Global, words: &str) -> Option<String> {
+    let [first, width, second, other_width, length] = numbers::<5>(words)?;
     let first = (first as usize, width as usize);
     let second = (second as usize, other_width as usize);
     let table = Table {
@@ -63,7 +64,8 @@ fn table(alloc: Global, [first, width, second, other_width, length]: [u64; 5]) -
     shown(alloc, table_is_sound(&table))
 }
 
-fn cookie(alloc: Global, [index, offset, size]: [u64; 3]) -> Option<String> {
+fn cookie(alloc: Global, words: &str) -> Option<String> {
+    let [index, offset, size] = numbers::<3>(words)?;
     let index = u32::try_from(index).ok()?;
     if offset >= 8192 {
         return None;
@@ -73,10 +75,8 @@ fn cookie(alloc: Global, [index, offset, size]: [u64; 3]) -> Option<String> {
 
 // The first request of a ring of 8 slots, but for its operation, offset, size and count. The server is of a disk of so
 // many blocks, and takes the operations of a mask.
-fn check(
-    alloc: Global,
-    [operation, offset, size, count, blocks, mask]: [u64; 6],
-) -> Option<String> {
+fn check(alloc: Global, words: &str) -> Option<String> {
+    let [operation, offset, size, count, blocks, mask] = numbers::<6>(words)?;
     let mut cookies = [Cookie::NONE; 5];
     cookies[0] = cookie_of(1, 0, 1024);
     let desc = DiskDesc {
@@ -94,7 +94,8 @@ fn check(
     shown(alloc, vdisk_msg::check(&desc, blocks, mask))
 }
 
-fn slot_of(alloc: Global, [id, base, slots]: [u64; 3]) -> Option<String> {
+fn slot_of(alloc: Global, words: &str) -> Option<String> {
+    let [id, base, slots] = numbers::<3>(words)?;
     let slots = u32::try_from(slots).ok()?;
     if id < base || slots == 0 {
         return None;

@@ -47,19 +47,15 @@ fn slot_answer<const SLOT: usize>(
     let (slot, words) = words.split_once(' ').unwrap_or((words, ""));
     let slot = slot.parse::<u8>().ok()?;
     match command {
-        "clear" => clear::<SLOT>(domain, slot)?,
-        "publish" => publish::<SLOT>(domain, slot, &array(alloc, words)?),
-        "free" => free::<SLOT>(domain, slot),
-        "look" => return digits(alloc, &look::<SLOT>(domain, slot)),
-        "fetch" => return fetched::<SLOT>(alloc, domain, end, slot),
-        "mark" => return shown(
-            alloc,
-            marked::<SLOT>(domain, end, slot, array(alloc, words)?),
-        ),
-        "put" => return shown(alloc, put::<SLOT>(alloc, domain, end, slot, words)?),
-        _ => return None,
+        "clear" => clear::<SLOT>(alloc, domain, slot),
+        "publish" => publish::<SLOT>(alloc, domain, slot, words),
+        "free" => free::<SLOT>(alloc, domain, slot),
+        "look" => digits(alloc, &look::<SLOT>(domain, slot)),
+        "fetch" => fetched::<SLOT>(alloc, domain, end, slot),
+        "mark" => marked::<SLOT>(alloc, domain, end, slot, words),
+        "put" => put::<SLOT>(alloc, domain, end, slot, words),
+        _ => None,
     }
-    Some(String::new(alloc))
 }
 
 fn ring<const SLOT: usize>() -> Ring<SLOT>
@@ -69,7 +65,7 @@ fn ring<const SLOT: usize>() -> Ring<SLOT>
 }
 
 // All slots are cleared, as the first of them is named.
-fn clear<const SLOT: usize>(domain: &mut Domain, slot: u8) -> Option<()>
+fn clear<const SLOT: usize>(alloc: Global, domain: &mut Domain, slot: u8) -> Option<String>
     requires size { IsSlotSize SLOT }
     requires room { SLOT * 256 ≤ length domain.old.memory }
 {
@@ -77,21 +73,29 @@ fn clear<const SLOT: usize>(domain: &mut Domain, slot: u8) -> Option<()>
         return None;
     }
     ring::<SLOT>().clear(&mut domain.memory);
-    Some(())
+    Some(String::new(alloc))
 }
 
-fn publish<const SLOT: usize>(domain: &mut Domain, slot: u8, bytes: &[u8; SLOT])
+fn publish<const SLOT: usize>(
+    alloc: Global,
+    domain: &mut Domain,
+    slot: u8,
+    words: &str,
+) -> Option<String>
     requires size { IsSlotSize SLOT }
     requires room { SLOT * 256 ≤ length domain.old.memory }
 {
-    ring::<SLOT>().publish(&mut domain.memory, slot as u32, bytes);
+    let bytes: [u8; SLOT] = array(alloc, words)?;
+    ring::<SLOT>().publish(&mut domain.memory, slot as u32, &bytes);
+    Some(String::new(alloc))
 }
 
-fn free<const SLOT: usize>(domain: &mut Domain, slot: u8)
+fn free<const SLOT: usize>(alloc: Global, domain: &mut Domain, slot: u8) -> Option<String>
     requires size { IsSlotSize SLOT }
     requires room { SLOT * 256 ≤ length domain.old.memory }
 {
     ring::<SLOT>().free(&mut domain.memory, slot as u32);
+    Some(String::new(alloc))
 }
 
 fn look<const SLOT: usize>(domain: &Domain, slot: u8) -> [u8; SLOT]
@@ -111,7 +115,23 @@ fn fetched<const SLOT: usize>(alloc: Global, domain: &Domain, end: End, slot: u8
     }
 }
 
+// The words are the header of the slot.
 fn marked<const SLOT: usize>(
+    alloc: Global,
+    domain: &mut Domain,
+    end: End,
+    slot: u8,
+    words: &str,
+) -> Option<String>
+    requires { IsSlotSize SLOT }
+{
+    shown(
+        alloc,
+        mark_at::<SLOT>(domain, end, slot, array(alloc, words)?),
+    )
+}
+
+fn mark_at<const SLOT: usize>(
     domain: &mut Domain,
     end: End,
     slot: u8,
@@ -138,7 +158,7 @@ fn put<const SLOT: usize>(
     end: End,
     slot: u8,
     words: &str,
-) -> Option<Result<(), CopyFault>>
+) -> Option<String>
     requires { IsSlotSize SLOT }
 {
     let (at, words) = words.split_once(' ')?;
@@ -146,7 +166,10 @@ fn put<const SLOT: usize>(
     if at % 8 != 0 || at as usize + 8 > SLOT {
         return None;
     }
-    Some(put_at::<SLOT>(domain, end, slot, at, array(alloc, words)?))
+    shown(
+        alloc,
+        put_at::<SLOT>(domain, end, slot, at, array(alloc, words)?),
+    )
 }
 
 fn put_at<const SLOT: usize>(
