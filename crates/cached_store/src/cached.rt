@@ -43,12 +43,20 @@ impl<D: Store> Cached<D> {
         ensures given_back { IfErr result (λ e. e.1 ≡ inner) }
     {
         match KeptBlocks::new(alloc, blocks) {
-            Ok(blocks) => Ok(Cached {
-                inner,
-                blocks,
-                spared: 0,
-            }),
+            Ok(blocks) => Ok(Cached::over(blocks, inner)),
             Err(fault) => Err((fault, inner)),
+        }
+    }
+
+    /// A cache before this store that keeps its blocks in this room, where none is kept yet. It takes no memory.
+    pub fn over(blocks: KeptBlocks, inner: D) -> Self
+        requires { blocks.kept ≡ [] }
+        ensures { result ≡ record { inner = inner; kept = []; most = blocks.most; spared = 0 } }
+    {
+        Cached {
+            inner,
+            blocks,
+            spared: 0,
         }
     }
 

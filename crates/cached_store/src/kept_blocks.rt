@@ -15,7 +15,7 @@ pub(crate) const BLOCK: usize = 512;
 /// Blocks by their numbers, the most recently used first: at most so many, of which the last goes where one more is
 /// put.
 #[derive(Drop)]
-pub(crate) struct KeptBlocks {
+pub struct KeptBlocks {
     map: LruCache<u64, [u8; BLOCK]>,
     most: usize,
 }
@@ -32,7 +32,7 @@ impl Model for KeptBlocks {
 }
 
 impl KeptBlocks {
-    /// None is kept yet.
+    /// Room for so many, of which none is kept yet.
     pub fn new(alloc: Global, most: usize) -> Result<Self, NoMemory>
         ensures { IfOk result (λ k. k ≡ record { kept = []; most = most }) }
     {
@@ -47,7 +47,7 @@ impl KeptBlocks {
     }
 
     /// Whether all `count` blocks from `first` on are kept. It moves none in its order.
-    pub fn holds(&self, first: u64, count: usize) -> bool
+    pub(crate) fn holds(&self, first: u64, count: usize) -> bool
         requires { first + count < 2 ^ 64 }
         ensures { result ≡ all_kept first count self.now.kept }
     {
@@ -61,7 +61,7 @@ impl KeptBlocks {
     }
 
     /// Uses the blocks that are to fill `out`, from `first` on, in rising order: gives their bytes.
-    pub fn use_all(&mut self, first: u64, out: &mut [u8])
+    pub(crate) fn use_all(&mut self, first: u64, out: &mut [u8])
         requires numbers { first + length out.old < 2 ^ 64 }
         requires whole { length out.old % 512 ≡ 0 }
         requires kept { all_kept first (length out.old / 512) self.old.kept ≡ true }
@@ -76,7 +76,7 @@ impl KeptBlocks {
     }
 
     /// Puts the blocks of these bytes, from `first` on, in rising order.
-    pub fn put_all(&mut self, first: u64, bytes: &[u8])
+    pub(crate) fn put_all(&mut self, first: u64, bytes: &[u8])
         requires numbers { first + length bytes.now < 2 ^ 64 }
         ensures put { MayPutRange self.old.most first (length bytes.now / 512) bytes.now self.old.kept self.new.kept }
         ensures keeps { KeepsOfRange first (length bytes.now / 512) bytes.now self.old.kept self.new.kept }
@@ -89,7 +89,7 @@ impl KeptBlocks {
     }
 
     /// Takes `count` blocks out, from `first` on.
-    pub fn forget_all(&mut self, first: u64, count: usize)
+    pub(crate) fn forget_all(&mut self, first: u64, count: usize)
         requires numbers { first + count < 2 ^ 64 }
         ensures without { self.new.kept ≡ without_range first count self.old.kept }
         ensures gone { KeepsNoneOfRange first count self.old.kept self.new.kept }

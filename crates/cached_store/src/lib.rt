@@ -6,3 +6,4 @@ mod cached;
 mod kept_blocks;
 
 pub use cached::Cached;
+pub use kept_blocks::KeptBlocks;
