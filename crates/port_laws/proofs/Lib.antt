@@ -77,3 +77,4 @@ mod NeverFull
 pub mod CalmTurns
 pub mod CrossingFrames
 pub mod PortWire
+pub mod IdleSteps
