@@ -54,7 +54,7 @@ module _ {S V E : Type 0} (Step : S → V → S → Type 0) (said : ℕ → E �
 
 module _ {S V E : Type 0} (K : LaneKind S V) (N : Entries V E) (said : ℕ → E → List V) (reads : Reads K N said) (silent : IsSilent K) where
   -- ONE EVENT
-  silent_run : (own : Bool) (j : ℕ) (s : S) (event : V) (t : S) → K.is_silent event ≡ true → Run K.Step s (own_or own event (K.gets j event)) t → s ≡ t
+  pub silent_run : (own : Bool) (j : ℕ) (s : S) (event : V) (t : S) → K.is_silent event ≡ true → Run K.Step s (own_or own event (K.gets j event)) t → s ≡ t
   silent_run true j s event t is run = silent.same s event run.0 run.1 is ∙ run.2
   silent_run false j s event t is run = subst (λ (l : List V). Run K.Step s l t) (silent.gives j event is) run
 
@@ -98,7 +98,7 @@ module _ {S V E : Type 0} (K : LaneKind S V) (N : Entries V E) (said : ℕ → E
   later_stay j k [] event none less = tt
   later_stay j k (s ∷ lanes) event none less = (stays j k s event (none j) (λ same. omega (arith, less, same)), later_stay (j + 1) k lanes event none (omega (arith, less)))
 
-  one_steps : (j k : ℕ) (front : List S) (s : S) (lanes : List S) (event : V) (t : S) → ((i : ℕ) → K.gets i event ≡ []) → k ≡ j + length front → K.Step s event t
+  pub one_steps : (j k : ℕ) (front : List S) (s : S) (lanes : List S) (event : V) (t : S) → ((i : ℕ) → K.gets i event ≡ []) → k ≡ j + length front → K.Step s event t
       → AllStep K j (front ++ s ∷ lanes) k event (front ++ t ∷ lanes)
   one_steps j k [] s lanes event t none place step =
       (own_run j k s event t (omega (arith, place)) step, later_stay (j + 1) k lanes event none (omega (arith, place)))

@@ -75,3 +75,6 @@ mod LastEvent
 mod FewWait
 mod NeverFull
 pub mod CalmTurns
+pub mod CrossingFrames
+pub mod PortWire
+pub mod IdleSteps

@@ -70,7 +70,7 @@ one_taken slots k (suc n) memory new one ready done within below =
 done_byte : (bytes : List ℕ) → slice_index (put_at 0 (header 4 0) bytes) 0 ≡ 4
 done_byte bytes = refl
 
-ready_falls : (slots k : ℕ) (memory new : List ℕ) → Fits slots memory → k < slots → slot_state k memory ≡ 2 → new ≡ put_at (64 * k) (header 4 0) memory
+pub ready_falls : (slots k : ℕ) (memory new : List ℕ) → Fits slots memory → k < slots → slot_state k memory ≡ 2 → new ≡ put_at (64 * k) (header 4 0) memory
     → ready_slots slots new + 1 ≡ ready_slots slots memory
 ready_falls slots k memory new fits below ready is =
     let few = fits.few in
@@ -127,7 +127,7 @@ own_more x role more memory s p activity frame up is active =
     (omega (arith, here, ap (λ (n : ℕ). put_weight role * n) (frame_packets role s p activity frame is active)))
 
 -- A STEP
-peer_room : (e : End) (slots : ℕ) (u : NetLaneState) → HasRoom slots u → 8192 + 2048 * slots ≤ length (memory_of (peer_of e) u)
+pub peer_room : (e : End) (slots : ℕ) (u : NetLaneState) → HasRoom slots u → 8192 + 2048 * slots ≤ length (memory_of (peer_of e) u)
 peer_room A slots u room = room.hub
 peer_room B slots u room = room.guest
 

@@ -83,7 +83,7 @@ rule_left role s at p free first session listens idles =
     time_none role s p (sym here ∙ idles)
 
 -- AN IDLE END in session
-past_end : (frames : List (List ℕ)) (i : ℕ) → slice_get frames i ≡ None → length frames ≤ i
+pub past_end : (frames : List (List ℕ)) (i : ℕ) → slice_get frames i ≡ None → length frames ≤ i
 past_end frames i none =
     elim (slice_get_cases frames i).1 [
       | inl some ↦ none_some some.0 (sym none ∙ some.2)

@@ -5,6 +5,7 @@ pub mod LetsGo
 pub mod Counted
 pub mod Remaining
 pub mod RemainingSteps
+pub mod Crossing
 pub mod PortCauses
 pub mod RingHolds
 pub mod RingStands
@@ -18,3 +19,6 @@ pub use Rattle.port_model.specs.NetEvent
 pub use Rattle.port_model.specs.NetLaneState
 pub use Rattle.port_model.specs.NetLaneStep
 pub use Rattle.port_model.specs.PortState
+pub use Rattle.channel_model.specs.WireLog
+pub use Rattle.port_model.specs.FramesStand
+pub use Rattle.port_model.specs.RuleFacts

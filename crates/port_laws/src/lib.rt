@@ -20,10 +20,12 @@ pub use core_laws::{
 };
 pub use frame_laws::an_ack_alone_lets_frames_go;
 pub use group_laws::a_guest_joins_each_group_once;
-pub use remaining_laws::each_step_of_a_port_but_a_calm_one_lowers_what_remains;
-pub use remaining_laws::little_remains_on_a_port_that_nobody_forged;
-pub use remaining_laws::what_remains_on_a_port_falls_by_a_reset_behind_a_loss;
-pub use remaining_laws::what_remains_on_a_port_falls_by_what_an_end_does;
+pub use remaining_laws::{
+    each_frame_of_a_guest_crosses_once, each_step_of_a_port_but_a_calm_one_lowers_what_remains,
+    little_remains_on_a_port_that_nobody_forged,
+    what_remains_on_a_port_falls_by_a_reset_behind_a_loss,
+    what_remains_on_a_port_falls_by_what_an_end_does,
+};
 pub use reset_laws::{
     a_packet_resets_a_session_of_a_port_for_its_first_cause, resets_of_a_port_say_why,
 };

@@ -1,14 +1,16 @@
 // What remains to be done on a port, along every run.
 
-ghost use Rattle.std.specs.Prelude.{◌≡◌, ◌*◌, ◌+◌, ◌<◌, ◌≤◌, ◌⊎◌, ℕ, Bool, false, List, Option, true};
+ghost use Rattle.std.specs.Prelude.{◌≡◌, ◌*◌, ◌+◌, ◌<◌, ◌≤◌, ◌⊎◌, ℕ, Bool, false, length, List, Option, true};
 ghost use Rattle.runs.specs.Run.{Run};
 ghost use Rattle.channel_model.specs.WireAt.{IsUp};
 ghost use Rattle.ldc_queue.specs.declared.end.End.{End};
+ghost use Rattle.ldc_queue.specs.declared.end.End.TheVariants.{B};
 ghost use Rattle.vio_tag.specs.declared.cause.Cause.{Cause};
 ghost use Rattle.port_model.specs.NetEndStep.{Frame, NetAnswer, Reset, Took};
-ghost use Rattle.port_model.specs.NetEvent.{Steps};
+ghost use Rattle.port_model.specs.NetEvent.{Steps, Ticked};
 ghost use Rattle.port_model.specs.NetLaneState.{IsNetShape, NetShape};
 ghost use Rattle.port_model.specs.PortState.{fresh_port, OnLane, PortEvent, PortState, PortStep};
+ghost use Rattle.port_laws.specs.Crossing.{crossing};
 ghost use Rattle.port_laws.specs.Remaining.{frames_held, frames_kept, remaining};
 ghost use Rattle.port_laws.specs.RemainingSteps.{IsCalm, IsReset, TakesNothing};
 
@@ -68,4 +70,19 @@ pub fn little_remains_on_a_port_that_nobody_forged()
     ensures allowed { (shape : NetShape) (events : List PortEvent) (s : PortState)
         → IsNetShape shape → Run PortStep (fresh_port shape) events s → s.lane.wire.forged ≡ false
         → remaining s ≤ 192 + 64 * frames_held s }
+{}
+
+/// How many frames of a guest may still cross to the switch's end, on a port that nobody forged: those that it didn't
+/// publish, and those that stand READY in its ring while it is up. No step of an end raises that, nor does a tick. Each
+/// frame that the switch's end takes lowers it. It is never more than the guest holds.
+pub fn each_frame_of_a_guest_crosses_once()
+    ensures steps { (shape : NetShape) (events : List PortEvent) (s : PortState) (e : End) (answer : NetAnswer) (t : PortState)
+        → IsNetShape shape → Run PortStep (fresh_port shape) events s → s.lane.wire.forged ≡ false
+        → PortStep s (OnLane (Steps e answer)) t → crossing t ≤ crossing s }
+    ensures tick { (s : PortState) (queued lost : ℕ) (t : PortState) → PortStep s (OnLane (Ticked queued lost)) t → crossing t ≤ crossing s }
+    ensures taken { (shape : NetShape) (events : List PortEvent) (s : PortState) (frame : List ℕ) (t : PortState)
+        → IsNetShape shape → Run PortStep (fresh_port shape) events s → s.lane.wire.forged ≡ false
+        → PortStep s (OnLane (Steps B (Frame frame))) t → crossing t < crossing s }
+    ensures few { (shape : NetShape) (events : List PortEvent) (s : PortState) → IsNetShape shape
+        → Run PortStep (fresh_port shape) events s → s.lane.wire.forged ≡ false → crossing s ≤ length s.lane.guest.frames }
 {}

@@ -1,3 +1,9 @@
 pub mod Turns
 pub mod Counting
 pub mod Moving
+pub mod Steps
+pub mod Resting
+pub mod Falling
+pub mod Settling
+pub mod Forwarding
+pub mod Entries

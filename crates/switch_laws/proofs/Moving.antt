@@ -9,7 +9,7 @@ use Rattle.switch_laws.specs.Events.{SwitchStep}
 use Rattle.switch_laws.specs.Ports.{SwitchEntry, of_ports, ports, said_port, switch}
 use Rattle.switch_laws.proofs.Turns.{silence}
 
-reads : Reads ports of_ports said_port
+pub reads : Reads ports of_ports said_port
 reads = record { of_lane = λ j k event. refl; of_left = λ j k. refl; of_answer = λ j. refl }
 
 pub ports_move : (start : List PortState) (part : List SwitchEntry) (behind : List PortState) → SettlePart switch start part behind

@@ -2,3 +2,6 @@ pub mod Events
 pub mod Forwards
 pub mod Ports
 pub mod PortCounts
+pub mod Reached
+pub mod Remaining
+pub mod Run

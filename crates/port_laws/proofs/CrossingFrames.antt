@@ -1,0 +1,393 @@
+-- No step of an end raises how many frames of a guest may still cross, and a frame that the switch's end takes lowers it.
+use Rattle.std.proofs.Common.{◌≡◌, ℕ, ◌+◌, ◌-◌, ◌*◌, ◌%◌, ◌<◌, ◌≤◌, Bool, true, false, Option, Some, None, List, [], ◌∷◌, length, drop, refl, sym, subst, ap, ◌∙◌, arith, length-drop}
+use Rattle.std.specs.Prelude.{is_some, ⊤}
+use Rattle.std.proofs.lemmas.Nat.{mod_below}
+use Rattle.std.proofs.lemmas.Option.{slice_get_within}
+use Rattle.ldc_link.specs.Calls.{Puts as PutsPacket}
+use Rattle.ldc_link.specs.declared.phase.Role.TheVariants.{Initiator, Responder}
+use Rattle.ldc_link.specs.LinkState.{LinkState}
+use Rattle.ldc_link.specs.Putting.{behind_put}
+use Rattle.ldc_queue.specs.declared.end.ChannelState.{ChannelState}
+use Rattle.ldc_queue.specs.declared.end.ChannelState.TheVariants.{Down, Resetting, Up}
+use Rattle.ldc_queue.specs.declared.end.End.{End}
+use Rattle.ldc_queue.specs.declared.end.End.TheVariants.{A, B}
+use Rattle.ldc_queue.specs.Transcript.{Turn}
+use Rattle.ldc_queue.specs.Wire.{peer_behind, upset}
+use Rattle.dring.specs.Slots.{range_length}
+use Rattle.runs.specs.Lawful.{log_of}
+use Rattle.runs.specs.Run.{Run}
+use Rattle.vio_handshake.specs.declared.handshake.Handshake.{Handshake}
+use Rattle.vio_tag.specs.declared.message.Message.{Message}
+use Rattle.channel_laws.proofs.EndStanding.{held_stands}
+use Rattle.channel_model.specs.EndPuts.{handshake_behind}
+use Rattle.channel_model.specs.Seeing.{Seen}
+use Rattle.channel_model.specs.WireAt.{IsUp}
+use Rattle.channel_model.specs.WireLog.{WireLog}
+use Rattle.channel_laws.specs.Standing.{EndStands}
+use Rattle.cookie_copy.specs.Faults.{is_up}
+use Rattle.cookie_copy.specs.Reach.{Reach}
+use Rattle.port_model.proofs.Refuting.{none_some}
+use Rattle.port_model.proofs.Ruling.{says_of}
+use Rattle.port_model.specs.EndLog.{EndLog}
+use Rattle.port_model.specs.Fetching.{Fetched, IsFrame, NotReady, Refuses, fetched}
+use Rattle.port_model.specs.FramesStand.{CountsStand, FramesStand}
+use Rattle.port_model.specs.NetEndPutting.{announcement, answer, answers, cleared_by_put, groups_answer, holding, holding_own, net_holds, net_kind, net_opens, net_put, opened_by_put}
+use Rattle.port_model.specs.Groups.{membership}
+use Rattle.port_model.specs.NetEndRule.{Announces, Fetches, Idles, Joins, NetRule, Publishes, Puts, Replies, Says, Takes, Tells, port_rule}
+use Rattle.port_model.specs.NetEndState.{Activity, NetEndState, NetSession, joined_net_end, unseen, unseen_in, with_session}
+use Rattle.port_model.specs.NetEndStep.{Blocked, Frame, Idle, Joined, NetAnswer, NetEndStep, NetLeft, NetPublishes, NetSends, Published, Reset, Sent, Took, leaves, published, published_memory, taken}
+use Rattle.port_model.specs.NetEndTaking.{GoesOn, NetTake, NetTakes, Resets, acknowledged, active, freed, replying}
+use Rattle.port_model.specs.NetEvent.{CalmTick, NetEvent, Steps, Ticked}
+use Rattle.port_model.specs.NetLaneState.{IsNetShape, NetLaneState, NetShape, reach_of, seen_at}
+use Rattle.port_model.specs.NetLaneStep.{EndSteps}
+use Rattle.port_model.specs.PortLog.{PortLog, after, no_events}
+use Rattle.port_model.specs.PortState.{OnLane, PortEvent, PortState, PortStep, before, fresh_port, moves_first, takes_more}
+use Rattle.port_laws.specs.Crossing.{crossing, fresh_frames, ready_in, untaken}
+use Rattle.port_laws.specs.NetCore.{net_core}
+use Rattle.port_laws.specs.Remaining.{ready_slots}
+use Rattle.port_laws.specs.RingHolds.{RingHolds}
+use Rattle.port_laws.specs.RingStands.{RingIn, taken_of}
+use Rattle.port_laws.proofs.EndMoves.{HeldCore, held_core, puts_behind}
+use Rattle.port_laws.proofs.MessageDoes.{Acks, Asks, Declines, MessageDoes, Names, TakeDoes, Told}
+use Rattle.port_laws.proofs.PortCounts.{Ready, ready_before}
+use Rattle.port_laws.proofs.MemoryRoom.{HasRoom, before_room, room_behind}
+use Rattle.port_laws.proofs.ReadyFrames.{ready_most}
+use Rattle.port_laws.proofs.RemainingEnds.{counts_stand, held_slots, kind_shut, shut_none}
+use Rattle.port_laws.proofs.RemainingFrames.{ready_falls}
+use Rattle.port_laws.proofs.RemainingReady.{cleared_none, freed_less, published_more}
+use Rattle.port_laws.proofs.RingActs.{Finds, step_now}
+use Rattle.port_laws.proofs.RingEvents.{acts_up, mine_now}
+use Rattle.port_laws.proofs.RingRuns.{finds_before, port_kept}
+use Rattle.port_laws.proofs.RuleFrames.{end_acts}
+use Rattle.port_laws.proofs.RuleUnforged.{TakesPublished, takes_published}
+use Rattle.port_laws.proofs.StepCounts.{Acting}
+use Rattle.port_laws.proofs.TookWhat.{Fails, Opens, Reads, Stays, TookWhat, took_what}
+
+-- A GUEST THAT IS UP
+abbrev own_untaken : List ℕ → NetEndState → ℕ
+own_untaken memory s = fresh_frames s + ready_in s.slots memory s.session
+
+abbrev Kept : List ℕ → NetEndState → List ℕ → NetEndState → Type 0
+Kept memory s new t = own_untaken new t ≤ own_untaken memory s
+
+of_some : {X : Type 0} (P : X → Type 0) (x y : X) → Some x ≡ Some y → P x → P y
+of_some {X} P x y same holds = let is : x ≡ y = cc in subst P is holds
+
+-- in a session of the same counts
+in_session : (memory : List ℕ) (s : NetEndState) (p : NetSession) (n : ℕ) → s.session ≡ Some p → n ≤ (length s.frames - unseen_in p) + ready_slots s.slots memory → n ≤ own_untaken memory s
+in_session memory s p n is less = subst (λ (x : Option NetSession). n ≤ (length s.frames - unseen x) + ready_in s.slots memory x) (sym is) less
+
+-- IT HOLDS a message
+slot_kept : (memory : List ℕ) (s : NetEndState) (p : NetSession) (activity : Activity) (last : Option ℕ) (found : Fetched) (held : NetEndState) → s.session ≡ Some p
+    → answers s p activity last found ≡ Some held → Kept memory s memory held
+slot_kept memory s p activity (Some last) (NotReady state) held is same =
+    of_some (Kept memory s memory) (holding_own (answer s activity last) (record p { active = None }) s) held same (in_session memory s p _ is (omega arith))
+slot_kept memory s p activity (Some last) (IsFrame frame new) held is same = none_some held same
+slot_kept memory s p activity (Some last) (Refuses why) held is same = none_some held same
+slot_kept memory s p activity None found held is same = none_some held same
+
+held_kept : (memory : List ℕ) (s : NetEndState) (at : Seen) (reach : Reach) (rule : NetRule) (held : NetEndState) → port_rule Initiator s at ≡ rule → net_holds rule s reach ≡ Some held
+    → Kept memory s memory held
+held_kept memory s at reach Puts held is same = of_some (Kept memory s memory) s held same (omega arith)
+held_kept memory s at reach (Says message) held is same = of_some (Kept memory s memory) (holding message s) held same (omega arith)
+held_kept memory s at reach (Replies p reply) held is same =
+    of_some (Kept memory s memory) (holding_own (groups_answer s reply) (record p { reply = None }) s) held same
+    (in_session memory s p _ (says_of Initiator s at (Replies p reply) is).0.session (omega arith))
+held_kept memory s at reach (Fetches p activity) held is same =
+    slot_kept memory s p activity activity.last (fetched s reach p.place) held (says_of Initiator s at (Fetches p activity) is).0.session same
+held_kept memory s at reach (Tells p) held is same =
+    of_some (Kept memory s memory) (holding_own (membership s.handshake.draft.sid s.groups) (record p { untold = false; telling = true }) s) held same
+    (in_session memory s p _ (says_of Initiator s at (Tells p) is).0.in_session.session (omega arith))
+held_kept memory s at reach (Announces p) held is same =
+    of_some (Kept memory s memory) (holding_own (announcement s p) (record p { infos = p.infos + 1; asking = true }) s) held same
+    (in_session memory s p _ (says_of Initiator s at (Announces p) is).0.in_session.session (omega arith))
+held_kept memory s at reach Joins held is same = none_some held same
+held_kept memory s at reach (Takes packet) held is same = none_some held same
+held_kept memory s at reach (Publishes p frame) held is same = none_some held same
+held_kept memory s at reach Idles held is same = none_some held same
+
+-- IT PUTS what it holds; a session that opens by that has a cleared ring
+opened_kept : (opens : Bool) (memory : List ℕ) (s : NetEndState) → (opens ≡ true → s.session ≡ None)
+    → own_untaken (cleared_by_put Initiator opens s.slots memory) (opened_by_put Initiator opens s) ≤ own_untaken memory s
+opened_kept false memory s shut = omega arith
+opened_kept true memory s shut =
+    subst (λ (x : Option NetSession). own_untaken (cleared_by_put Initiator true s.slots memory) (opened_by_put Initiator true s) ≤ (length s.frames - unseen x) + ready_in s.slots memory x) (sym (shut refl))
+    (omega (arith, cleared_none s.slots memory))
+
+sends_kept : (slots : ℕ) (queue : List (List ℕ)) (s : NetEndState) (l : EndLog) (turns : List Turn) (at : Seen) (memory : List ℕ) (reach : Reach) (packet : List ℕ) (opens : Bool) (t : NetLeft)
+    → Acting Initiator slots queue s l turns → NetSends Initiator s at memory reach packet opens t → Kept memory s t.own t.end
+sends_kept slots queue s l turns at memory reach packet opens t acting step =
+    let held : NetEndState = step.held in
+    let core : HeldCore Initiator s held = held_core Initiator s at reach (port_rule Initiator s at) held acting.fits refl step.holds in
+    let held_so = held_stands Initiator (net_core Initiator s) (net_core Initiator held) turns core.what acting.ends core.holds in
+    let now : NetEndState = record held { link = behind_put held.link; handshake = handshake_behind (net_kind held) held.handshake } in
+    let shut : net_opens held ≡ true → held.session ≡ None = λ is. shut_none held.session (held_so.opened ∙ kind_shut (net_kind held) held.handshake is) in
+    let slots_is : held.slots ≡ s.slots = held_slots s reach (port_rule Initiator s at) held step.holds in
+    let put : own_untaken (cleared_by_put Initiator (net_opens held) s.slots memory) (net_put Initiator held) ≤ own_untaken memory held =
+    subst (λ (n : ℕ). own_untaken (cleared_by_put Initiator (net_opens held) n memory) (net_put Initiator held) ≤ own_untaken memory held) slots_is (opened_kept (net_opens held) memory now shut) in
+    let kept = held_kept memory s at reach (port_rule Initiator s at) held refl step.holds in
+    subst (λ (x : NetLeft). Kept memory s x.own x.end) (sym step.is) (omega (arith, put, kept))
+
+-- IT PUBLISHES a frame
+publishes_kept : (slots : ℕ) (queue : List (List ℕ)) (s : NetEndState) (l : EndLog) (turns : List Turn) (at : Seen) (memory : List ℕ) (reach : Reach) (id : ℕ) (t : NetLeft)
+    → Acting Initiator slots queue s l turns → 8192 + 2048 * slots ≤ length memory → NetPublishes Initiator s at memory reach id t → Kept memory s t.own t.end
+publishes_kept slots queue s l turns at memory reach id t acting room step =
+    let p : NetSession = step.session in
+    let says = says_of Initiator s at (Publishes p step.frame) step.rule in
+    let is : s.session ≡ Some p = says.0.in_session.session in
+    let within : unseen_in p < length s.frames = slice_get_within s.frames (unseen_in p) step.frame says.1 in
+    let slots_is : s.slots ≡ slots = acting.counts.slots_is in
+    let some : 1 ≤ s.slots = omega (arith, slots_is, acting.slots_fit.some) in
+    let ready = published_more s.slots (p.published % s.slots) step.frame memory (mod_below p.published s.slots some) (omega (arith, slots_is, acting.slots_fit.most)) (omega (arith, slots_is, room)) in
+    let seen = (counts_stand s p acting.stands is).seen in
+    subst (λ (x : NetLeft). Kept memory s x.own x.end) (sym step.is) (in_session memory s p _ is (omega (arith, ready, within, seen)))
+
+-- IT TAKES a packet
+does_kept : (memory new : List ℕ) (s t : NetEndState) (p : NetSession) (m : Message) → s.session ≡ Some p → CountsStand s p → 1 ≤ s.slots → 64 * s.slots ≤ length memory
+    → MessageDoes Initiator s p memory m.subtype m.body t new → Kept memory s new t
+does_kept memory new s t p m session stands some room (Asks seq ident start end state kind body place stays is) =
+    subst (λ (x : List ℕ). Kept memory s x t) (sym stays) (subst (Kept memory s memory) (sym is) (in_session memory s p _ session (omega arith)))
+does_kept memory new s t p m session stands some room (Acks seq ident start end state kind body begins inside most undone stays is) =
+    let count : ℕ = range_length s.slots start end in
+    let held = stands.held in
+    let less = freed_less s.slots p.seen count memory some room in
+    subst (λ (x : List ℕ). Kept memory s x t) (sym stays)
+    (subst (Kept memory s (freed s.slots p.seen count memory)) (sym is) (in_session memory s p _ session (omega (arith, most, held, less, length-drop count s.frames))))
+does_kept memory new s t p m session stands some room (Names set count addresses groups reply answers role kind body stays is) = absurd (cc role)
+does_kept memory new s t p m session stands some room (Told set count addresses role kind body telling stays is) =
+    subst (λ (x : List ℕ). Kept memory s x t) (sym stays) (subst (Kept memory s memory) (sym is) (in_session memory s p _ session (omega arith)))
+does_kept memory new s t p m session stands some room (Declines h declined stays is) =
+    subst (λ (x : List ℕ). Kept memory s x t) (sym stays) (subst (Kept memory s memory) (sym is) (omega arith))
+
+abbrev TakeKept : List ℕ → NetEndState → NetTake → Type 0
+TakeKept memory s (GoesOn t opens new) = Kept memory s new t
+TakeKept memory s (Resets cause) = ⊤
+
+takes_kept : (memory packet : List ℕ) (s : NetEndState) (turns : List Turn) (take : NetTake) → EndStands Initiator (net_core Initiator s) turns → FramesStand s → 1 ≤ s.slots → 64 * s.slots ≤ length memory
+    → NetTakes Initiator s memory packet take → TakeKept memory s take
+takes_kept memory packet s turns take ends stands some room takes = by_what take (took_what Initiator s turns memory packet take ends takes)
+  where
+    by_does : (k : LinkState) (h : Handshake) (p : NetSession) (m : Message) (x : NetTake) → s.session ≡ Some p
+        → TakeDoes Initiator (record s { link = k; handshake = h }) p memory m.subtype m.body x → TakeKept memory s x
+    by_does k h p m (GoesOn t opens new) session does =
+        let counts : CountsStand s p = counts_stand s p stands session in
+        does_kept memory new (record s { link = k; handshake = h }) t p m session
+        (record { seen = counts.seen; held = counts.held; ids = counts.ids; asked = counts.asked; answered = counts.answered; some = counts.some }) some room does.does
+    by_does k h p m (Resets cause) session does = tt
+
+    by_what : (x : NetTake) → TookWhat Initiator s memory x → TakeKept memory s x
+    by_what x (Stays k h is) = subst (TakeKept memory s) (sym is) (omega arith)
+    by_what x (Opens k h role none is) = absurd (cc role)
+    by_what x (Fails cause is) = subst (TakeKept memory s) (sym is) tt
+    by_what x (Reads k h p m session does) = by_does k h p m x session does
+
+-- IT BEGINS ANEW
+joined_kept : (x : ChannelState) (memory new : List ℕ) (s : NetEndState) → own_untaken new (joined_net_end Initiator s) ≤ untaken x memory s
+joined_kept Up memory new s = omega (arith, length-drop (unseen s.session) s.frames)
+joined_kept Down memory new s = omega (arith, length-drop (unseen s.session) s.frames)
+joined_kept Resetting memory new s = omega (arith, length-drop (unseen s.session) s.frames)
+
+-- AT THE LANE
+abbrev lane_crossing : NetLaneState → ℕ
+lane_crossing u = untaken u.wire.wire.end_a u.guest_memory u.guest
+
+goes_kept : (u t : NetLaneState) (new : List ℕ) (g : NetEndState) → u.wire.wire.end_a ≡ Up → t.wire.wire.end_a ≡ u.wire.wire.end_a → t.guest ≡ g → t.guest_memory ≡ new
+    → Kept u.guest_memory u.guest new g → lane_crossing t ≤ lane_crossing u
+goes_kept u t new g up same guest memory kept =
+    subst (λ (x : ChannelState). untaken x t.guest_memory t.guest ≤ lane_crossing u) (sym (same ∙ up))
+    (subst (λ (x : ChannelState). own_untaken t.guest_memory t.guest ≤ untaken x u.guest_memory u.guest) (sym up)
+    (subst (λ (x : NetEndState). own_untaken t.guest_memory x ≤ own_untaken u.guest_memory u.guest) (sym guest)
+    (subst (λ (x : List ℕ). own_untaken x g ≤ own_untaken u.guest_memory u.guest) (sym memory) kept)))
+
+begins_kept : (u t : NetLaneState) (new : List ℕ) → t.wire.wire.end_a ≡ Up → t.guest ≡ joined_net_end Initiator u.guest → t.guest_memory ≡ new → lane_crossing t ≤ lane_crossing u
+begins_kept u t new up guest memory =
+    subst (λ (x : ChannelState). untaken x t.guest_memory t.guest ≤ lane_crossing u) (sym up)
+    (subst (λ (x : NetEndState). own_untaken t.guest_memory x ≤ lane_crossing u) (sym guest) (joined_kept u.wire.wire.end_a u.guest_memory t.guest_memory u.guest))
+
+guest_crossing : (shape : NetShape) (u : PortState) (l : PortLog) (answer : NetAnswer) (t : NetLaneState) → Ready shape u l → HasRoom shape.slots u.lane → EndSteps A u.lane answer t
+    → lane_crossing t ≤ lane_crossing u.lane
+guest_crossing shape u l answer t ready room step = by_answer answer step
+  where
+    g : NetEndState
+    g = u.lane.guest
+
+    up_at : (given : NetAnswer) (left : NetLeft) → NetEndStep Initiator g (seen_at A u.lane) u.lane.guest_memory (reach_of A u.lane) given left → mine_now given u.lane.wire.wire.end_a ≡ u.lane.wire.wire.end_a
+        → IsUp A u.lane.wire.wire
+    up_at given left made stays = acts_up Initiator g (seen_at A u.lane) u.lane.guest_memory (reach_of A u.lane) given left made u.lane.wire.wire.end_a refl stays
+
+    acting : IsUp A u.lane.wire.wire → Acting Initiator shape.slots [] g l.guest l.transcript.client
+    acting up = end_acts shape A u l ready (ap is_up up)
+
+    by_answer : (given : NetAnswer) → EndSteps A u.lane given t → lane_crossing t ≤ lane_crossing u.lane
+    by_answer (Joined lost) made =
+        let now = step_now A u.lane t (Joined lost) made in
+        begins_kept u.lane t made.left.own (ap (λ (w : WireLog). w.wire.end_a) now.wire) (now.end ∙ ap (λ (x : NetLeft). x.end) made.step.2) now.own
+    by_answer (Reset cause packet lost) made =
+        let now = step_now A u.lane t (Reset cause packet lost) made in
+        begins_kept u.lane t made.left.own (ap (λ (w : WireLog). w.wire.end_a) now.wire) (now.end ∙ ap (λ (x : NetLeft). x.end) made.step.2) now.own
+    by_answer (Took packet opens) made =
+        let now = step_now A u.lane t (Took packet opens) made in
+        let up = up_at (Took packet opens) made.left made.step refl in
+        let acts = acting up in
+        let slots_is = acts.counts.slots_is in
+        let some = acts.slots_fit.some in
+        let most = acts.slots_fit.most in
+        let place = room.guest in
+        goes_kept u.lane t made.left.own made.left.end up (ap (λ (w : WireLog). w.wire.end_a) now.wire) now.end now.own
+        (takes_kept u.lane.guest_memory packet g l.transcript.client (GoesOn made.left.end opens made.left.own) acts.ends acts.stands (omega (arith, slots_is, some)) (omega (arith, slots_is, most, place)) made.step.1)
+    by_answer (Sent packet opens) made =
+        let now = step_now A u.lane t (Sent packet opens) made in
+        let up = up_at (Sent packet opens) made.left made.step refl in
+        goes_kept u.lane t made.left.own made.left.end up (ap (λ (w : WireLog). w.wire.end_a) now.wire) now.end now.own
+        (sends_kept shape.slots [] g l.guest l.transcript.client (seen_at A u.lane) u.lane.guest_memory (reach_of A u.lane) packet opens made.left (acting up) made.step)
+    by_answer Blocked made =
+        let now = step_now A u.lane t Blocked made in
+        let up = up_at Blocked made.left made.step refl in
+        goes_kept u.lane t u.lane.guest_memory made.left.end up (ap (λ (w : WireLog). w.wire.end_a) now.wire) now.end (now.own ∙ ap (λ (x : NetLeft). x.own) made.step.2)
+        (held_kept u.lane.guest_memory g (seen_at A u.lane) (reach_of A u.lane) (port_rule Initiator g (seen_at A u.lane)) made.left.end refl made.step.0)
+    by_answer Idle made =
+        let now = step_now A u.lane t Idle made in
+        goes_kept u.lane t u.lane.guest_memory g (up_at Idle made.left made.step refl) (ap (λ (w : WireLog). w.wire.end_a) now.wire) (now.end ∙ ap (λ (x : NetLeft). x.end) made.step.1)
+        (now.own ∙ ap (λ (x : NetLeft). x.own) made.step.1) (omega arith)
+    by_answer (Published id) made =
+        let now = step_now A u.lane t (Published id) made in
+        let up = up_at (Published id) made.left made.step refl in
+        goes_kept u.lane t made.left.own made.left.end up (ap (λ (w : WireLog). w.wire.end_a) now.wire) now.end now.own
+        (publishes_kept shape.slots [] g l.guest l.transcript.client (seen_at A u.lane) u.lane.guest_memory (reach_of A u.lane) id made.left (acting up) room.guest made.step)
+    by_answer (Frame frame) made =
+        let now = step_now A u.lane t (Frame frame) made in
+        let up = up_at (Frame frame) made.left made.step refl in
+        let p : NetSession = made.step.session in
+        let says = says_of Initiator g (seen_at A u.lane) (Fetches p made.step.activity) made.step.rule in
+        goes_kept u.lane t u.lane.guest_memory (record g { session = Some (taken g p made.step.activity); last = frame }) up (ap (λ (w : WireLog). w.wire.end_a) now.wire)
+        (now.end ∙ ap (λ (x : NetLeft). x.end) made.step.is) (now.own ∙ ap (λ (x : NetLeft). x.own) made.step.is) (in_session u.lane.guest_memory g p _ says.0.session (omega arith))
+
+-- A STEP OF THE SWITCH'S END leaves the guest, whose end may have to begin anew
+upset_less : (x : ChannelState) (memory : List ℕ) (s : NetEndState) → untaken (upset x) memory s ≤ untaken x memory s
+upset_less Up memory s = omega arith
+upset_less Down memory s = omega arith
+upset_less Resetting memory s = omega arith
+
+behind_less : (x y : ChannelState) (memory : List ℕ) (s : NetEndState) → untaken (peer_behind x y) memory s ≤ untaken y memory s
+behind_less Up y memory s = upset_less y memory s
+behind_less Down y memory s = omega arith
+behind_less Resetting y memory s = omega arith
+
+same_kept : (u t : NetLaneState) (y : ChannelState) → t.wire.wire.end_a ≡ y → t.guest ≡ u.guest → t.guest_memory ≡ u.guest_memory → untaken y u.guest_memory u.guest ≤ lane_crossing u
+    → lane_crossing t ≤ lane_crossing u
+same_kept u t y state guest memory less =
+    subst (λ (x : ChannelState). untaken x t.guest_memory t.guest ≤ lane_crossing u) (sym state)
+    (subst (λ (x : NetEndState). untaken y t.guest_memory x ≤ lane_crossing u) (sym guest)
+    (subst (λ (x : List ℕ). untaken y x u.guest ≤ lane_crossing u) (sym memory) less))
+
+pub hub_crossed : (shape : NetShape) (u : PortState) (l : PortLog) (frame : List ℕ) (t : NetLaneState) → Finds shape u l → EndSteps B u.lane (Frame frame) t → lane_crossing t + 1 ≤ lane_crossing u.lane
+hub_crossed shape u l frame t finds step =
+    let takes : TakesPublished shape B u l frame step.step.new = takes_published shape B u l frame t finds step in
+    let now = step_now B u.lane t (Frame frame) step in
+    let slots_is : u.lane.guest.slots ≡ shape.slots = finds.ready.guest.slots_is in
+    let some = finds.ready.sound.some_slots in
+    let ready = ready_falls shape.slots (takes.v.taken % shape.slots) u.lane.guest_memory step.step.new (record { few = finds.ready.sound.most_slots; room = finds.room.guest })
+    (mod_below takes.v.taken shape.slots (omega (arith, some))) takes.found.ready takes.found.new_is in
+    let here : ready_slots u.lane.guest.slots step.step.new + 1 ≡ ready_slots u.lane.guest.slots u.lane.guest_memory =
+    subst (λ (n : ℕ). ready_slots n step.step.new + 1 ≡ ready_slots n u.lane.guest_memory) (sym slots_is) ready in
+    let less : own_untaken step.step.new u.lane.guest + 1 ≤ own_untaken u.lane.guest_memory u.lane.guest =
+    subst (λ (x : Option NetSession). (length u.lane.guest.frames - unseen x) + ready_in u.lane.guest.slots step.step.new x + 1
+    ≤ (length u.lane.guest.frames - unseen x) + ready_in u.lane.guest.slots u.lane.guest_memory x) (sym takes.theirs) (omega (arith, here)) in
+    subst (λ (x : ChannelState). untaken x t.guest_memory t.guest + 1 ≤ lane_crossing u.lane) (sym (ap (λ (w : WireLog). w.wire.end_a) now.wire ∙ takes.peer_up))
+    (subst (λ (x : ChannelState). own_untaken t.guest_memory t.guest + 1 ≤ untaken x u.lane.guest_memory u.lane.guest) (sym takes.peer_up)
+    (subst (λ (x : NetEndState). own_untaken t.guest_memory x + 1 ≤ own_untaken u.lane.guest_memory u.lane.guest) (sym now.peer_end)
+    (subst (λ (x : List ℕ). own_untaken x u.lane.guest + 1 ≤ own_untaken u.lane.guest_memory u.lane.guest) (sym (now.peer_memory ∙ ap (λ (x : NetLeft). x.peer) step.step.is)) less)))
+
+hub_crossing : (shape : NetShape) (u : PortState) (l : PortLog) (answer : NetAnswer) (t : NetLaneState) → Finds shape u l → EndSteps B u.lane answer t → lane_crossing t ≤ lane_crossing u.lane
+hub_crossing shape u l (Frame frame) t finds step = let less = hub_crossed shape u l frame t finds step in omega (arith, less)
+hub_crossing shape u l (Joined lost) t finds step =
+    let now = step_now B u.lane t (Joined lost) step in
+    same_kept u.lane t (peer_behind u.lane.wire.wire.end_b u.lane.wire.wire.end_a) (ap (λ (w : WireLog). w.wire.end_a) now.wire) now.peer_end (now.peer_memory ∙ ap (λ (x : NetLeft). x.peer) step.step.2)
+    (behind_less u.lane.wire.wire.end_b u.lane.wire.wire.end_a u.lane.guest_memory u.lane.guest)
+hub_crossing shape u l (Reset cause packet lost) t finds step =
+    let now = step_now B u.lane t (Reset cause packet lost) step in
+    same_kept u.lane t (peer_behind u.lane.wire.wire.end_b u.lane.wire.wire.end_a) (ap (λ (w : WireLog). w.wire.end_a) now.wire) now.peer_end (now.peer_memory ∙ ap (λ (x : NetLeft). x.peer) step.step.2)
+    (behind_less u.lane.wire.wire.end_b u.lane.wire.wire.end_a u.lane.guest_memory u.lane.guest)
+hub_crossing shape u l (Took packet opens) t finds step =
+    let now = step_now B u.lane t (Took packet opens) step in
+    same_kept u.lane t u.lane.wire.wire.end_a (ap (λ (w : WireLog). w.wire.end_a) now.wire) now.peer_end (now.peer_memory ∙ step.step.2) (omega arith)
+hub_crossing shape u l (Sent packet opens) t finds step =
+    let now = step_now B u.lane t (Sent packet opens) step in
+    same_kept u.lane t u.lane.wire.wire.end_a (ap (λ (w : WireLog). w.wire.end_a) now.wire) now.peer_end (now.peer_memory ∙ ap (λ (x : NetLeft). x.peer) step.step.is) (omega arith)
+hub_crossing shape u l Blocked t finds step =
+    let now = step_now B u.lane t Blocked step in
+    same_kept u.lane t u.lane.wire.wire.end_a (ap (λ (w : WireLog). w.wire.end_a) now.wire) now.peer_end (now.peer_memory ∙ ap (λ (x : NetLeft). x.peer) step.step.2) (omega arith)
+hub_crossing shape u l Idle t finds step =
+    let now = step_now B u.lane t Idle step in
+    same_kept u.lane t u.lane.wire.wire.end_a (ap (λ (w : WireLog). w.wire.end_a) now.wire) now.peer_end (now.peer_memory ∙ ap (λ (x : NetLeft). x.peer) step.step.1) (omega arith)
+hub_crossing shape u l (Published id) t finds step =
+    let now = step_now B u.lane t (Published id) step in
+    same_kept u.lane t u.lane.wire.wire.end_a (ap (λ (w : WireLog). w.wire.end_a) now.wire) now.peer_end (now.peer_memory ∙ ap (λ (x : NetLeft). x.peer) step.step.is) (omega arith)
+
+-- THE FRAME THAT MOVES from the out queue is none of the guest's
+moves_same : (b : Bool) (queue : List (List ℕ)) (s : PortState) → crossing (moves_first b queue s) ≡ crossing s
+moves_same true [] s = refl
+moves_same true (frame ∷ frames) s = refl
+moves_same false queue s = refl
+
+before_same : (e : End) (answer : NetAnswer) (s : PortState) → crossing (before (Steps e answer) s) ≡ crossing s
+before_same A answer s = refl
+before_same B answer s = moves_same (takes_more s.lane.hub) s.queue s
+
+-- ALONG EVERY RUN
+unforged_log : (shape : NetShape) (events : List PortEvent) (s : PortState) → IsNetShape shape → Run PortStep (fresh_port shape) events s → s.lane.wire.forged ≡ false
+    → (log_of after (no_events shape) events).wire.forged ≡ false
+unforged_log shape events s is run clean = sym (ap (λ (w : WireLog). w.forged) (port_kept shape events s is run).counts.wire) ∙ clean
+
+pub port_crossing : (shape : NetShape) (events : List PortEvent) (s : PortState) (e : End) (answer : NetAnswer) (t : PortState) → IsNetShape shape → Run PortStep (fresh_port shape) events s
+    → s.lane.wire.forged ≡ false → PortStep s (OnLane (Steps e answer)) t → crossing t ≤ crossing s
+port_crossing shape events s A answer t is run clean step =
+    let finds = finds_before shape s (log_of after (no_events shape) events) (Steps A answer) is (port_kept shape events s is run) (unforged_log shape events s is run clean) in
+    guest_crossing shape s (log_of after (no_events shape) events) answer t.lane finds.ready finds.room step.1
+port_crossing shape events s B answer t is run clean step =
+    let finds = finds_before shape s (log_of after (no_events shape) events) (Steps B answer) is (port_kept shape events s is run) (unforged_log shape events s is run clean) in
+    let less = hub_crossing shape (before (Steps B answer) s) (log_of after (no_events shape) events) answer t.lane finds step.1 in
+    omega (arith, less, before_same B answer s)
+
+pub port_crossed : (shape : NetShape) (events : List PortEvent) (s : PortState) (frame : List ℕ) (t : PortState) → IsNetShape shape → Run PortStep (fresh_port shape) events s
+    → s.lane.wire.forged ≡ false → PortStep s (OnLane (Steps B (Frame frame))) t → crossing t < crossing s
+port_crossed shape events s frame t is run clean step =
+    let finds = finds_before shape s (log_of after (no_events shape) events) (Steps B (Frame frame)) is (port_kept shape events s is run) (unforged_log shape events s is run clean) in
+    let less = hub_crossed shape (before (Steps B (Frame frame)) s) (log_of after (no_events shape) events) frame t.lane finds step.1 in
+    omega (arith, less, before_same B (Frame frame) s)
+
+pub port_tick_crossing : (s : PortState) (queued lost : ℕ) (t : PortState) → PortStep s (OnLane (Ticked queued lost)) t → crossing t ≤ crossing s
+port_tick_crossing s queued lost t step =
+    let is = step.1.1.1 in
+    begins_kept s.lane t.lane s.lane.guest_memory (ap (λ (x : NetLaneState). x.wire.wire.end_a) is) (ap (λ (x : NetLaneState). x.guest) is) (ap (λ (x : NetLaneState). x.guest_memory) is)
+
+-- no more than the guest holds
+few_up : (shape : NetShape) (s : PortState) (l : PortLog) (session : Option NetSession) → Finds shape s l → IsUp A s.lane.wire.wire → s.lane.guest.session ≡ session
+    → own_untaken s.lane.guest_memory s.lane.guest ≤ length s.lane.guest.frames
+few_up shape s l None finds up is =
+    subst (λ (x : Option NetSession). (length s.lane.guest.frames - unseen x) + ready_in s.lane.guest.slots s.lane.guest_memory x ≤ length s.lane.guest.frames) (sym is) (omega arith)
+few_up shape s l (Some p) finds up is =
+    let ring : RingHolds l.shape.slots p.seen (taken_of B s.lane l) p.published s.lane.guest.frames s.lane.guest_memory =
+    subst (λ (x : Option NetSession). RingIn l.shape.slots (taken_of B s.lane l) x s.lane.guest.frames s.lane.guest_memory) is (finds.rings.guest_ring up) in
+    let slots_is : l.shape.slots ≡ s.lane.guest.slots = ap (λ (x : NetShape). x.slots) finds.ready.shape_is ∙ sym finds.ready.guest.slots_is in
+    let most : ready_slots s.lane.guest.slots s.lane.guest_memory ≤ p.published - taken_of B s.lane l =
+    subst (λ (n : ℕ). ready_slots n s.lane.guest_memory ≤ p.published - taken_of B s.lane l) slots_is
+    (ready_most l.shape.slots p.seen (taken_of B s.lane l) p.published s.lane.guest.frames s.lane.guest_memory ring) in
+    let first = ring.seen_first in
+    let held = ring.held in
+    subst (λ (x : Option NetSession). (length s.lane.guest.frames - unseen x) + ready_in s.lane.guest.slots s.lane.guest_memory x ≤ length s.lane.guest.frames) (sym is)
+    (omega (arith, most, first, held))
+
+pub port_few_cross : (shape : NetShape) (events : List PortEvent) (s : PortState) → IsNetShape shape → Run PortStep (fresh_port shape) events s → s.lane.wire.forged ≡ false
+    → crossing s ≤ length s.lane.guest.frames
+port_few_cross shape events s is run clean = by_state s.lane.wire.wire.end_a refl
+  where
+    finds : Finds shape s (log_of after (no_events shape) events)
+    finds = finds_before shape s (log_of after (no_events shape) events) (CalmTick 0) is (port_kept shape events s is run) (unforged_log shape events s is run clean)
+
+    by_state : (x : ChannelState) → s.lane.wire.wire.end_a ≡ x → crossing s ≤ length s.lane.guest.frames
+    by_state Up up =
+        subst (λ (x : ChannelState). untaken x s.lane.guest_memory s.lane.guest ≤ length s.lane.guest.frames) (sym up)
+        (few_up shape s (log_of after (no_events shape) events) s.lane.guest.session finds up refl)
+    by_state Down is = subst (λ (x : ChannelState). untaken x s.lane.guest_memory s.lane.guest ≤ length s.lane.guest.frames) (sym is) (omega arith)
+    by_state Resetting is = subst (λ (x : ChannelState). untaken x s.lane.guest_memory s.lane.guest ≤ length s.lane.guest.frames) (sym is) (omega arith)
