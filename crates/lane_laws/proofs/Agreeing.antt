@@ -12,6 +12,7 @@ use Rattle.channel_model.specs.Sayings.{heard, said}
 use Rattle.channel_model.specs.TranscriptLog.{TranscriptLog}
 use Rattle.channel_model.specs.WireAt.{IsUp}
 use Rattle.channel_model.specs.WireLog.{WireLog}
+use Rattle.channel_laws.proofs.Apart.{some_same}
 use Rattle.lane_laws.specs.Agreement.{ClientAgrees, ClientCountsAgree, ServerAgrees}
 use Rattle.lane_laws.specs.DiskLog.{DiskLog, after, nothing_yet}
 use Rattle.lane_laws.specs.WorkLaws.{IfServer}
@@ -62,7 +63,7 @@ order_of : (slots : ℕ) (o : Option ServerSession) (q : Option ServerCounts) (d
     → (session : ServerSession) × InServerOrder slots session d transcript.server
 order_of slots None q d transcript is now order = absurd (cc)
 order_of slots (Some s) None d transcript is now order = absurd order
-order_of slots (Some s) (Some c) d transcript is now order = let same : c ≡ d = cc is in (s, subst (λ (x : ServerCounts). InServerOrder slots s x transcript.server) same order)
+order_of slots (Some s) (Some c) d transcript is now order = let same : c ≡ d = some_same is in (s, subst (λ (x : ServerCounts). InServerOrder slots s x transcript.server) same order)
 
 client_open : (o : Option ClientSession) (count : ℕ) → (o ≡ None → count ≡ 0) → 1 ≤ count → is_some o ≡ true
 client_open None count none some = absurd (omega (arith, none refl, some))
@@ -195,15 +196,6 @@ pub range_answered : (slots : ℕ) (range : Option SlotRange) (d : ServerCounts)
 range_answered slots None d stands = omega (arith, stands)
 range_answered slots (Some range) d stands = omega (arith, stands.0)
 
-pub answered_small : (shape : Shape) (events : List DiskEvent) (s : LaneState) → IsShape shape → Run LaneStep (fresh shape) events s → s.wire.forged ≡ false → IsUp B s.wire.wire
-    → (d : ServerCounts) → (log_of after (nothing_yet shape) events).work.server ≡ Some d → d.answered < 2 ^ 64
-answered_small shape events s sound run clean up d is =
-    let l = log_of after (nothing_yet shape) events in
-    let server = (run_knows shape events s sound run).counted.server in
-    let v_open : is_some s.server.session ≡ true = server_open s.server.session s.server.work l.work.server d is server.agrees in
-    let one = order_of l.shape.slots s.server.session l.work.server d l.transcript is v_open server.order in
-    omega (arith, (one_ring shape events s sound run clean up d is).small, range_answered l.shape.slots one.0.range d one.1.range)
-
 -- WHAT A SERVER WAS ASKED FOR, where its end is up
 pub record AskedWithin (s : LaneState) (l : DiskLog) (session : ServerSession) : Type 0 where
   pub asked : session.asked ≡ range_sum l.shape.slots 1 (heard l.transcript.server)
@@ -216,7 +208,7 @@ server_counts_of : (o : Option ServerSession) (w : Option Work) (q : Option Serv
     → (d : ServerCounts) × (q ≡ Some d) × (session.asked ≡ wrapped d.asked)
 server_counts_of None w q session is agrees = absurd (cc is)
 server_counts_of (Some s) w None session is agrees = absurd agrees
-server_counts_of (Some s) w (Some c) session is agrees = let same : session ≡ s = cc is in (c, refl, ap (λ (x : ServerSession). x.asked) same ∙ agrees.0.asked)
+server_counts_of (Some s) w (Some c) session is agrees = let same : session ≡ s = sym (some_same is) in (c, refl, ap (λ (x : ServerSession). x.asked) same ∙ agrees.0.asked)
 
 pub client_some : (o : Option ClientSession) (done : ℕ) (q : Option ClientCounts) (k : ClientCounts) → q ≡ Some k → ClientAgrees o done q → is_some o ≡ true
 client_some None done None k is agrees = absurd (cc is)
@@ -236,7 +228,7 @@ asked_within shape events s session sound run clean up is =
     let order = (order_of l.shape.slots s.server.session l.work.server d l.transcript counts.1 (ap is_some is) server.order).1 in
     let k = counts_of s.client.session l.work.done l.work.client (client_some s.client.session l.work.done l.work.client ring.client ring.open_is client.agrees) client.agrees in
     let same : Some k.counts ≡ Some ring.client = sym k.counts_are ∙ ring.open_is in
-    let pair : k.counts ≡ ring.client = cc same in
+    let pair : k.counts ≡ ring.client = some_same same in
     let one : k.counts.published ≡ ring.client.published = ap (λ (c : ClientCounts). c.published) pair in
     let in_turn = in_order (length s.client.pending) s.client.session k.session k.session_is knows.all.sound.counts in
     let whole : session.asked ≡ d.asked = omega (arith, counts.2, ring.small) in

@@ -29,6 +29,7 @@ use Rattle.lane_laws.specs.Counted.{InServerOrder, NothingAsked, RangeStands, Se
 use Rattle.lane_laws.specs.LaneTranscripts.{transcript_behind}
 use Rattle.lane_laws.specs.Remaining.{asked_in, requests_left, serving_left, total, unfinished, work_left}
 use Rattle.lane_laws.specs.Sound.{InOrder}
+use Rattle.channel_laws.proofs.Apart.{true_is_false}
 
 -- THE REQUESTS of two ends that are up: what remains of them, and two packets for each INFO that isn't answered, are at most 16 for each
 -- that is pending
@@ -168,4 +169,4 @@ by_sessions None (Some v) shape events s sound run clean up_a up_b is_c is_v pie
     let serves : Serving s l v = serving_of s l v knows is_v in
     let ring = one_ring shape events s sound run clean up_b serves.counts serves.is in
     let now : is_some s.client.session ≡ true = client_some s.client.session l.work.done l.work.client ring.client ring.open_is knows.counted.client.agrees in
-    let never : true ≡ false = sym now ∙ ap is_some is_c in absurd (cc never)
+    true_is_false (sym now ∙ ap is_some is_c)

@@ -10,6 +10,7 @@ use Rattle.ldc_queue.specs.Wire.{peer_behind}
 use Rattle.vio_tag.specs.declared.cause.Cause.{Cause}
 use Rattle.channel_model.specs.WireEvent.{Blocked, Declines, Idle, Injected, Joined, Lost, Poked, Reset, Sent, Took, WireEvent}
 use Rattle.channel_model.specs.WireLog.{WireLog, wire_moved}
+use Rattle.channel_laws.proofs.Apart.{ends_differ}
 use Rattle.lane_laws.specs.Agreement.{NearAgrees}
 use Rattle.lane_laws.specs.DiskLog.{DiskLog, after, nothing_yet}
 use Rattle.lane_laws.specs.NearLog.{NearLog, stored_more}
@@ -110,8 +111,8 @@ wire_same_near s l (Took A packet opens) t before facts step same = wire_stays s
 wire_same_near s l (Took B packet opens) t before facts step same = wire_stays s l (Took B packet opens) t before facts tt tt refl refl step same
 wire_same_near s l (Joined A lost) t before facts step same = wire_stays s l (Joined A lost) t before facts tt tt refl refl step same
 wire_same_near s l (Joined B lost) t before facts step same = wire_stays s l (Joined B lost) t before facts tt tt refl refl step same
-wire_same_near s l (Reset A cause packet lost) t before facts step same = wire_disturbs A s l cause packet lost t before (λ is. absurd (cc is)) (λ is. refl) (λ is. refl) refl step same
-wire_same_near s l (Reset B cause packet lost) t before facts step same = wire_disturbs B s l cause packet lost t before (λ is. refl) (λ is. absurd (cc is)) (λ is. absurd (cc is)) refl step same
+wire_same_near s l (Reset A cause packet lost) t before facts step same = wire_disturbs A s l cause packet lost t before (λ is. ends_differ is) (λ is. refl) (λ is. refl) refl step same
+wire_same_near s l (Reset B cause packet lost) t before facts step same = wire_disturbs B s l cause packet lost t before (λ is. refl) (λ is. ends_differ (sym is)) (λ is. ends_differ (sym is)) refl step same
 wire_same_near s l (Lost e packet) t before facts step same = wire_stays s l (Lost e packet) t before facts tt tt refl refl step same
 wire_same_near s l (Injected e packet) t before facts step same = wire_stays s l (Injected e packet) t before facts tt tt refl refl step same
 wire_same_near s l (Poked e at bytes) t before facts step same = wire_stays s l (Poked e at bytes) t before facts tt tt refl refl step same

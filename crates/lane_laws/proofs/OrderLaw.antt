@@ -24,6 +24,7 @@ use Rattle.lane_laws.proofs.BlockedLaw.{Told, client_to_put, server_to_put}
 use Rattle.lane_laws.proofs.ClientFolds.{not_stuck}
 use Rattle.lane_laws.proofs.Counting.{OfServer, of_client, of_server}
 use Rattle.lane_laws.proofs.EndsFold.{BothAre}
+use Rattle.channel_laws.proofs.Apart.{none_is_some, some_same}
 use Rattle.channel_laws.proofs.EndsAtRest.{none_waits}
 use Rattle.lane_laws.proofs.IdleLaw.{not_below, same_waiting, some_client, some_server}
 use Rattle.lane_laws.proofs.IdleRules.{CompletedAll, ClientGoes, client_goes}
@@ -37,7 +38,7 @@ completed_in_log s l grounded all =
     some_client s.client.session l.work.done l.work.client (λ (c : ClientCounts). l.work.done ≡ c.base + c.acked) grounded.knows.counted.client.agrees (λ session c is has.
     let of = of_client s.client.session session l.work.done l.work.client is grounded.knows.counted.client.agrees in
     let both : Some of.counts ≡ Some c = sym of.is ∙ has in
-    let same : of.counts ≡ c = cc in
+    let same : of.counts ≡ c = some_same both in
     let order : InOrder (length s.client.pending) session =
     in_order (length s.client.pending) s.client.session session is grounded.knows.all.sound.counts in
     let acked = not_below session.completed session.acked (all session is) in
@@ -47,11 +48,7 @@ holds_completed : (s : ClientState) (at : Seen) (rule : client.ClientRule) (held
 holds_completed s at client.Puts held is goes = goes
 holds_completed s at (client.Says message) held is goes = goes
 holds_completed s at (client.Announces session) held is goes = goes.0
-holds_completed s at client.Joins held is goes = absurd (cc)
-holds_completed s at (client.Completes session) held is goes = absurd (cc)
-holds_completed s at (client.Takes packet) held is goes = absurd (cc)
-holds_completed s at (client.Publishes session request) held is goes = absurd (cc)
-holds_completed s at client.Idles held is goes = absurd (cc)
+holds_completed s at _ held is goes = none_is_some is
 
 putting_completed : (s : LaneState) (l : DiskLog) (held : ClientState) → Grounded s l → client_holds (client.client_rule s.client (at_client s)) s.client ≡ Some held → HasCompleted l
 putting_completed s l held grounded is =
@@ -74,7 +71,7 @@ answered_in_log s l grounded free =
     let of : OfServer session s.server.work l.work.server =
     of_server s.server.session session s.server.work l.work.server is grounded.knows.counted.server.agrees in
     let both : Some of.counts ≡ Some c = sym of.is ∙ has in
-    let same : of.counts ≡ c = cc in
+    let same : of.counts ≡ c = some_same both in
     let order : InServerOrder l.shape.slots session of.counts l.transcript.server =
     order_of l.shape.slots s.server.session session l.work.server of.counts l.transcript.server is of.is grounded.knows.counted.server.order in
     subst (λ (k : ServerCounts). k.answered ≡ k.asked) same
