@@ -107,6 +107,27 @@ server_alive shape events s sound run clean up d is =
     heard_up s.wire.wire.end_a s (heard l.transcript.server) refl (λ not. ap (λ (t : TranscriptLog). heard t.server) transcript ∙ unheard_server shape events s sound run clean up not)
     (server.ready (server_open s.server.session s.server.work l.work.server d is server.agrees))
 
+-- sums over the counts of both sessions, of numbers alone
+at_least : (a b c : ℕ) → a ≤ b → b ≤ c → a ≤ c
+at_least a b c one two = omega arith
+
+named_most : (asked heard said own log : ℕ) → asked ≡ heard → heard ≤ said → own ≡ said → own ≡ log → asked ≤ log
+named_most asked heard said own log is front was agrees = omega arith
+
+published_most : (asked announced log_announced published log_published : ℕ) → asked ≤ log_announced → announced ≤ published → announced ≡ log_announced → published ≡ log_published → asked ≤ log_published
+published_most asked announced log_announced published log_published named more one two = omega arith
+
+done_most : (done base completed acked heard answered said finished : ℕ) → done ≡ base + completed → completed ≤ acked → acked ≡ heard → heard ≤ said → answered ≡ said → answered ≤ finished
+    → done ≤ base + finished
+done_most done base completed acked heard answered said finished is few was front says first = omega arith
+
+acked_most : (log own heard said answered : ℕ) → own ≡ log → own ≡ heard → heard ≤ said → answered ≡ said → log ≤ answered
+acked_most log own heard said answered agrees was front says = omega arith
+
+asked_small : (asked log published completed pending done base issued : ℕ) → asked ≤ log → published ≡ log → published ≤ completed + pending → done ≡ base + completed → pending + done ≡ issued
+    → issued < 2 ^ 64 → asked < 2 ^ 64
+asked_small asked log published completed pending done base issued named agrees few is all small = omega arith
+
 pub one_ring : (shape : Shape) (events : List DiskEvent) (s : LaneState) → IsShape shape → Run LaneStep (fresh shape) events s → s.wire.forged ≡ false → IsUp B s.wire.wire
     → (d : ServerCounts) → (log_of after (nothing_yet shape) events).work.server ≡ Some d → OneRing s (log_of after (nothing_yet shape) events).work d
 one_ring shape events s sound run clean up d is =
@@ -125,7 +146,7 @@ one_ring shape events s sound run clean up d is =
     let front_b : IsFront heard_v said_c = subst (λ (t : TranscriptLog). IsFront (heard t.server) (said t.client)) (sym transcript) (heard_messages shape events s B sound run clean up) in
     let front_a : IsFront heard_c said_v = subst (λ (t : TranscriptLog). IsFront (heard t.client) (said t.server)) (sym transcript) (heard_messages shape events s A sound run clean up_a) in
     let c_open : is_some s.client.session ≡ true =
-    client_open s.client.session (ready_count said_c) client.ready (omega (arith, ready, front_ready heard_v said_c front_b)) in
+    client_open s.client.session (ready_count said_c) client.ready (at_least 1 (ready_count heard_v) (ready_count said_c) ready (front_ready heard_v said_c front_b)) in
     let k = counts_of s.client.session l.work.done l.work.client c_open client.agrees in
     let order = in_order (length s.client.pending) s.client.session k.session k.session_is knows.all.sound.counts in
     let v_order = (order_of l.shape.slots s.server.session l.work.server d l.transcript is v_open server.order).1 in
@@ -133,11 +154,13 @@ one_ring shape events s sound run clean up d is =
     let acked : k.session.acked ≡ range_sum l.shape.slots 2 heard_c = ap acked_of (sym k.session_is) ∙ client.acked in
     let asked_said = front_sum l.shape.slots 1 heard_v said_c front_b in
     let acked_said = front_sum l.shape.slots 2 heard_c said_v front_a in
-    let named : d.asked ≤ k.counts.announced = omega (arith, v_order.asked, asked_said, announced, k.agree.announced) in
-    let asked : d.asked ≤ k.counts.published = omega (arith, named, order.announced, k.agree.announced, k.agree.published) in
+    let named : d.asked ≤ k.counts.announced =
+    named_most d.asked (range_sum l.shape.slots 1 heard_v) (range_sum l.shape.slots 1 said_c) k.session.announced k.counts.announced v_order.asked asked_said announced k.agree.announced in
+    let asked : d.asked ≤ k.counts.published =
+    published_most d.asked k.session.announced k.counts.announced k.session.published k.counts.published named order.announced k.agree.announced k.agree.published in
     let one : AreOneSession s.client.handshake s.server.handshake = one_session shape events s sound run clean c_open v_open in
     let offer = client.handshake.offer_is in
-    let few : l.shape.slots ≤ 256 = omega (arith, client.slots, knows.all.sound.slots) in
+    let few : l.shape.slots ≤ 256 = subst (λ (n : ℕ). n ≤ 256) client.slots knows.all.sound.slots in
     let all : length s.client.pending + l.work.done ≡ length l.work.issued =
     omega (arith, ap length knows.all.stands.requests.pending, length-drop l.work.done l.work.issued, knows.all.stands.requests.done) in
     record {
@@ -147,13 +170,17 @@ one_ring shape events s sound run clean up d is =
       cookies = ap (λ (n : ℕ). take n s.server.handshake.draft.peer_cookies) (one.count ∙ ap (λ (o : Offer). o.count) offer)
           ∙ ap (take (length (own_cookies l.shape.slots))) (one.cookies ∙ ap (λ (o : Offer). o.cookies) offer)
           ∙ filled_front 14 (own_cookies l.shape.slots) (few_cookies l.shape.slots few) ∙ ap own_cookies (sym client.slots);
-      done = omega (arith, k.agree.completed, order.completed, acked, acked_said, v_order.answered, v_order.finished);
-      acked = omega (arith, k.agree.acked, acked, acked_said, v_order.answered);
+      done =
+          done_most l.work.done k.counts.base k.session.completed k.session.acked (range_sum l.shape.slots 2 heard_c) d.answered (range_sum l.shape.slots 2 said_v) d.finished k.agree.completed order.completed
+          acked acked_said v_order.answered v_order.finished;
+      acked = acked_most k.counts.acked k.session.acked (range_sum l.shape.slots 2 heard_c) (range_sum l.shape.slots 2 said_v) d.answered k.agree.acked acked acked_said v_order.answered;
       answered = v_order.finished;
       descs = v_order.descs;
       announced = named;
       asked = asked;
-      small = omega (arith, asked, k.agree.published, order.published, k.agree.completed, all, issued_few shape events s sound run);
+      small =
+          asked_small d.asked k.counts.published k.session.published k.session.completed (length s.client.pending) l.work.done k.counts.base (length l.work.issued) asked k.agree.published order.published
+          k.agree.completed all (issued_few shape events s sound run);
     }
 
 ring_if : (q : Option ServerCounts) (s : LaneState) (l : DiskLog) → ((d : ServerCounts) → q ≡ Some d → OneRing s l.work d) → IfServer q (OneRing s l.work)
@@ -234,8 +261,8 @@ asked_within shape events s session sound run clean up is =
     let whole : session.asked ≡ d.asked = omega (arith, counts.2, ring.small) in
     record {
       asked = whole ∙ order.asked;
-      small = omega (arith, whole, ring.small);
+      small = subst (λ (n : ℕ). n < 2 ^ 64) (sym whole) ring.small;
       within = subst (λ (o : Option ClientSession). session.asked ≤ total (length s.client.pending) o) (sym k.session_is) (omega (arith, whole, ring.asked, one, k.agree.published, in_turn.published));
       up = server_alive shape events s sound run clean up d counts.1;
-      slots = omega (arith, ring.slots, knows.all.sound.slots);
+      slots = subst (λ (n : ℕ). n ≤ 256) (sym ring.slots) knows.all.sound.slots;
     }

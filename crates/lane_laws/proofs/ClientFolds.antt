@@ -17,7 +17,7 @@ use Rattle.vio_handshake.specs.State.{handshake_up}
 use Rattle.lane_laws.proofs.Speaking.{holds_owed}
 use Rattle.lane_laws.specs.BlockLog.{Blockage, Clear, Stuck, StuckBefore, hearing, is_stuck, stuck}
 use Rattle.disk_model.specs.ClientPutting.{announcement, announced, announcing, client_holds, client_kind, holding, is_announcing, opened_if, session_behind}
-use Rattle.disk_model.specs.ClientRule.{Announces, ClientRule, Completes, Idles, Joins, Publishes, Puts, Says, Takes, client_rule}
+use Rattle.disk_model.specs.ClientRule.{Announces, ClientRule, Completes, Publishes, Puts, Says, client_rule}
 use Rattle.disk_model.specs.ClientState.{ClientSession, ClientState, joined_client, slot_in}
 use Rattle.disk_model.specs.ClientStep.{ClientAdmits, ClientCompletes, ClientPublishes}
 use Rattle.disk_model.specs.DiskEvent.{Accepted, Admitted, Full, Refused}

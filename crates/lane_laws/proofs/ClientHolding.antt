@@ -7,7 +7,7 @@ use Rattle.vio_tag.specs.declared.message.MsgBody.TheVariants.{DringData}
 use Rattle.vio_tag.specs.Spelling.{canonical}
 use Rattle.vio_handshake.specs.Messages.{info}
 use Rattle.disk_model.specs.ClientPutting.{announcement, announcing, client_holds, holding}
-use Rattle.disk_model.specs.ClientRule.{Announces, ClientRule, Completes, Joins, Publishes, Puts, Idles, Says, Takes}
+use Rattle.disk_model.specs.ClientRule.{Announces, ClientRule, Puts, Says}
 use Rattle.disk_model.specs.ClientState.{ClientSession, ClientState}
 use Rattle.channel_model.specs.Seeing.{Seen}
 use Rattle.channel_laws.proofs.Apart.{none_is_some, some_same}

@@ -1,5 +1,5 @@
 -- A range or the answer to one, heard: its bytes decode to it, whatever the fields are that nobody compares.
-use Rattle.std.proofs.Common.{◌≡◌, ℕ, ◌^◌, ◌<◌, Some, None, List, length, refl, sym, ap, ◌∙◌, subst, arith}
+use Rattle.std.proofs.Common.{◌≡◌, ℕ, ◌^◌, ◌<◌, List, length, refl, sym, ap, ◌∙◌, subst, arith}
 use Rattle.std.specs.Prelude.{Result, Ok, Err}
 use Rattle.ldc_packet.specs.declared.packet.Subtype.{Subtype}
 use Rattle.vio_bytes.specs.Place.{number_at}

@@ -1,5 +1,5 @@
 -- An end does what its session has to do before it takes a packet, and a client takes before it publishes.
-use Rattle.std.proofs.Common.{◌≡◌, ◌+◌, false, Option, Some, None, List, [], sym, ap, ◌∙◌, subst, arith, length}
+use Rattle.std.proofs.Common.{◌≡◌, ◌+◌, false, Option, Some, [], sym, ◌∙◌, subst, arith, length}
 use Rattle.ldc_link.specs.Putting.{owes}
 use Rattle.ldc_queue.specs.declared.end.End.TheVariants.{A, B}
 use Rattle.ldc_queue.specs.Wire.{waiting_for}

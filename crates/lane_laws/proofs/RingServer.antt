@@ -1,6 +1,6 @@
 -- What a server's writes through the cookies of the client's ring do to its slots: a word of one slot, and the two words that end a
 -- descriptor.
-use Rattle.std.proofs.Common.{◌≡◌, ℕ, ◌+◌, ◌*◌, ◌<◌, ◌≤◌, true, List, length, Some, None, inl, inr, refl, sym, ap, ◌∙◌, subst, arith}
+use Rattle.std.proofs.Common.{◌≡◌, ℕ, ◌+◌, ◌*◌, ◌<◌, ◌≤◌, true, List, length, None, inl, inr, refl, sym, ap, ◌∙◌, subst, arith}
 use Rattle.cookie_copy.specs.Identity.{IsIdentity}
 use Rattle.cookie_copy.specs.declared.fault.Access.TheVariants as access
 use Rattle.dring.proofs.Turning.{one_slot_put, slot_put}

@@ -20,7 +20,7 @@ use Rattle.channel_model.specs.Messages.{ended_by, is_range, range_if, range_in}
 use Rattle.channel_model.specs.Sayings.{half_heard, half_said}
 use Rattle.channel_model.specs.Seeing.{Seen}
 use Rattle.disk_model.specs.ServerPutting.{answered, server_holds}
-use Rattle.disk_model.specs.ServerRule.{Fetches, Idles, Joins, Puts, Says, ServerRule, Serves, Takes}
+use Rattle.disk_model.specs.ServerRule.{Fetches, Puts, Says, ServerRule, Serves}
 use Rattle.disk_model.specs.ServerState.{ServerSession, ServerState, SlotRange, joined_server, restarted_server}
 use Rattle.disk_model.specs.ServerStep.{ServerFetches, ServerFinishes, ServerMoves, ServerStores}
 use Rattle.cookie_copy.specs.Reach.{Reach}

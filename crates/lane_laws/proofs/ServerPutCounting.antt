@@ -20,7 +20,7 @@ use Rattle.disk_model.specs.Offering.{server_offer}
 use Rattle.channel_model.specs.Ranges.{wrapped}
 use Rattle.dring.specs.Slots.{range_length}
 use Rattle.disk_model.specs.ServerPutting.{answered, server_holds, session_behind}
-use Rattle.disk_model.specs.ServerRule.{Fetches, Joins, Puts, Idles, Says, ServerRule, Serves, Takes}
+use Rattle.disk_model.specs.ServerRule.{Puts, Says, ServerRule}
 use Rattle.disk_model.specs.ServerState.{ServerSession, ServerState, SlotRange, Work}
 use Rattle.channel_laws.proofs.Apart.{none_is_some, some_same}
 use Rattle.channel_laws.proofs.PutSayings.{SaysWhole, SaysOn}

@@ -1,5 +1,5 @@
 -- What the proofs of both ends share.
-use Rattle.std.proofs.Common.{◌≡◌, ℕ, ◌≤◌, Option, Some, List, [], ◌∷◌, length, refl, subst, arith, None}
+use Rattle.std.proofs.Common.{◌≡◌, ℕ, ◌≤◌, Option, Some, List, [], ◌∷◌, length, subst, arith, None}
 use Rattle.ldc_link.specs.LinkState.{LinkState}
 use Rattle.ldc_link.specs.Putting.{part_owed, with_link}
 use Rattle.ldc_packet.specs.declared.packet.Packet.{Packet}
