@@ -34,7 +34,7 @@ use Rattle.vio_handshake.proofs.PlaceRows.{GoesTo}
 use Rattle.channel_model.specs.Messages.{ended_by}
 use Rattle.channel_model.specs.Sayings.{half_heard, half_said, heard}
 use Rattle.channel_model.specs.TranscriptLog.{is_rdx}
-use Rattle.channel_laws.proofs.Apart.{true_is_false}
+use Rattle.channel_laws.proofs.Apart.{false_is_true, true_is_false}
 use Rattle.channel_laws.proofs.Conversations.{held_phase}
 use Rattle.channel_laws.proofs.EndCases.{EndTook, NoMessage, PutControl, PutMore, PutOwn, PutReady, PutHandshake, PutWhat, Rises, TookHandshake, TookMessage, TookOwn, TookWhat, end_put, end_took, taken_down}
 use Rattle.channel_laws.proofs.EndResting.{held_handshake}
@@ -303,11 +303,11 @@ says_folds role c t turns packet opens stands folds says = record {
 
     own_is : (b : Bool) (bytes : List ℕ) → b ≡ true → Carries b held.handshake bytes → is_of_session bytes ≡ true
     own_is true bytes is carries = ap is_of_session carries.is ∙ own_session carries.message carries.body
-    own_is false bytes is carries = absurd (cc is)
+    own_is false bytes is carries = false_is_true is
 
     owed_is : (b : Bool) (bytes : List ℕ) → b ≡ false → Carries b held.handshake bytes → is_of_session bytes ≡ false
     owed_is false bytes is carries = ap is_of_session carries.is ∙ owed_session carries.message (subst OwedIsShort carries.owed holds_so.handshake.owed)
-    owed_is true bytes is carries = absurd (cc is)
+    owed_is true bytes is carries = true_is_false is
 
     by_what : PutWhat role held turns packet opens t → t.handshake ≡ handshake_of role t.offer t.handshake.last_sid (Said_ packet ∷ turns)
     by_what (PutControl next gone link quiet handshake not is_open) =

@@ -15,7 +15,7 @@ use Rattle.vio_handshake.specs.declared.handshake.Phase.TheVariants.{OwnRing}
 use Rattle.vio_handshake.specs.declared.session.Offer.{Offer}
 use Rattle.vio_handshake.specs.Rules.{handshake_sent, opens_by_put}
 use Rattle.vio_handshake.specs.State.{begun, fresh_handshake, handshake_up, joined_handshake}
-use Rattle.channel_laws.proofs.Apart.{true_is_false}
+use Rattle.channel_laws.proofs.Apart.{false_is_true, true_is_false}
 use Rattle.channel_laws.proofs.EndCases.{EndTook, NoMessage, PutControl, PutHandshake, PutMore, PutOwn, PutReady, PutWhat, Rises, TookHandshake, TookOwn, TookWhat, end_put, end_took}
 use Rattle.channel_laws.proofs.EndResting.{held_handshake}
 use Rattle.channel_laws.proofs.EndStanding.{fresh_end_stands, held_stands, stands_step}
@@ -35,14 +35,14 @@ none_fits phase (Some message) is = absurd (cc is)
 
 -- IT BEGINS: no ring is agreed on
 pub joined_fits : (role : Role) (offer : Offer) (h : Handshake) → HandshakeFits role offer h → HandshakeFits role offer (joined_handshake h)
-joined_fits role offer h fits = record { role_is = fits.role_is; offer_is = fits.offer_is; owed = tt; ring = λ takes named. absurd (cc named) }
+joined_fits role offer h fits = record { role_is = fits.role_is; offer_is = fits.offer_is; owed = tt; ring = λ takes named. false_is_true named }
 
 pub fresh_fits : (role : Role) (offer : Offer) → HandshakeFits role offer (fresh_handshake role offer)
-fresh_fits role offer = record { role_is = refl; offer_is = refl; owed = tt; ring = λ takes named. absurd (cc named) }
+fresh_fits role offer = record { role_is = refl; offer_is = refl; owed = tt; ring = λ takes named. false_is_true named }
 
 begun_fits : (r role : Role) (offer : Offer) (h : Handshake) → h.role ≡ role → h.offer ≡ offer → HandshakeFits role offer (begun r (joined_handshake h))
-begun_fits Initiator role offer h role_is offer_is = record { role_is = role_is; offer_is = offer_is; owed = tt; ring = λ takes named. absurd (cc named) }
-begun_fits Responder role offer h role_is offer_is = record { role_is = role_is; offer_is = offer_is; owed = tt; ring = λ takes named. absurd (cc named) }
+begun_fits Initiator role offer h role_is offer_is = record { role_is = role_is; offer_is = offer_is; owed = tt; ring = λ takes named. false_is_true named }
+begun_fits Responder role offer h role_is offer_is = record { role_is = role_is; offer_is = offer_is; owed = tt; ring = λ takes named. false_is_true named }
 
 pub up_fits : (role : Role) (offer : Offer) (h : Handshake) → HandshakeFits role offer h → HandshakeFits role offer (handshake_up h)
 up_fits role offer h fits = begun_fits h.role role offer h fits.role_is fits.offer_is
@@ -72,21 +72,21 @@ pub row_fits : (role : Role) (offer : Offer) (h t : Handshake) (message : Messag
 row_fits role offer h t message opens none fits (Declined test goes shut) =
     subst (HandshakeFits role offer) (sym goes) (record { role_is = fits.role_is; offer_is = fits.offer_is; owed = tt; ring = fits.ring })
 row_fits role offer h t message opens none fits (VersionAgreed minor class r at is low goes shut) =
-    subst (HandshakeFits role offer) (sym goes) (record { role_is = fits.role_is; offer_is = fits.offer_is; owed = tt; ring = λ takes named. absurd (cc named) })
+    subst (HandshakeFits role offer) (sym goes) (record { role_is = fits.role_is; offer_is = fits.offer_is; owed = tt; ring = λ takes named. false_is_true named })
 row_fits role offer h t message opens none fits (VersionAsked minor class r at is goes shut) =
-    subst (HandshakeFits role offer) (sym goes) (record { role_is = fits.role_is; offer_is = fits.offer_is; owed = tt; ring = λ takes named. absurd (cc named) })
+    subst (HandshakeFits role offer) (sym goes) (record { role_is = fits.role_is; offer_is = fits.offer_is; owed = tt; ring = λ takes named. false_is_true named })
 row_fits role offer h t message opens none fits (VersionRefused major minor class other low r at is goes shut) =
-    subst (HandshakeFits role offer) (sym goes) (record { role_is = fits.role_is; offer_is = fits.offer_is; owed = tt; ring = λ takes named. absurd (cc named) })
+    subst (HandshakeFits role offer) (sym goes) (record { role_is = fits.role_is; offer_is = fits.offer_is; owed = tt; ring = λ takes named. false_is_true named })
 row_fits role offer h t message opens none fits (AttributesAgreed bytes r at is test goes shut) =
     subst (HandshakeFits role offer) (sym goes)
     (record { role_is = fits.role_is; offer_is = fits.offer_is; owed = tt; ring = λ takes named. absurd (none_named role h.role fits.role_is r named) })
 row_fits role offer h t message opens none fits (AttributesAsked bytes r at is test goes shut) =
-    subst (HandshakeFits role offer) (sym goes) (record { role_is = fits.role_is; offer_is = fits.offer_is; owed = tt; ring = λ takes named. absurd (cc named) })
+    subst (HandshakeFits role offer) (sym goes) (record { role_is = fits.role_is; offer_is = fits.offer_is; owed = tt; ring = λ takes named. false_is_true named })
 row_fits role offer h t message opens none fits (AttributesRefused bytes r at is goes shut) =
-    subst (HandshakeFits role offer) (sym goes) (record { role_is = fits.role_is; offer_is = fits.offer_is; owed = tt; ring = λ takes named. absurd (cc named) })
+    subst (HandshakeFits role offer) (sym goes) (record { role_is = fits.role_is; offer_is = fits.offer_is; owed = tt; ring = λ takes named. false_is_true named })
 row_fits role offer h t message opens none fits (RingAgreed ident slots slot_size options count cookies r at both is goes shut) =
     subst (HandshakeFits role offer) (sym goes)
-    (record { role_is = fits.role_is; offer_is = fits.offer_is; owed = none_fits _ h.owed none; ring = λ takes named. absurd (cc named) })
+    (record { role_is = fits.role_is; offer_is = fits.offer_is; owed = none_fits _ h.owed none; ring = λ takes named. false_is_true named })
 row_fits role offer h t message opens none fits (OneRingAgreed ident slots slot_size options count cookies r at one is goes shut) =
     subst (HandshakeFits role offer) (sym goes)
     (record { role_is = fits.role_is; offer_is = fits.offer_is; owed = tt; ring = λ takes named. absurd (none_taken role h.role offer h.offer fits.role_is r fits.offer_is one takes) })
@@ -107,7 +107,7 @@ row_fits role offer h t message opens none fits (RingAsked ident slots slot_size
       ring = λ takes named. accepted_slots h.offer slots slot_size options count cookies test ∙ ap (λ (o : Offer). o.peer_slots) fits.offer_is;
     })
 row_fits role offer h t message opens none fits (RingRefused ident slots slot_size options count cookies at is goes shut) =
-    subst (HandshakeFits role offer) (sym goes) (record { role_is = fits.role_is; offer_is = fits.offer_is; owed = tt; ring = λ takes named. absurd (cc named) })
+    subst (HandshakeFits role offer) (sym goes) (record { role_is = fits.role_is; offer_is = fits.offer_is; owed = tt; ring = λ takes named. false_is_true named })
 row_fits role offer h t message opens none fits (ReadyAgreed r at is goes shut) =
     subst (HandshakeFits role offer) (sym goes)
     (record { role_is = fits.role_is; offer_is = fits.offer_is; owed = none_fits _ h.owed none; ring = λ takes named. fits.ring takes (ap (has_named role) at) })

@@ -24,6 +24,7 @@ use Rattle.vio_handshake.proofs.MessageWidths.{OfferHasWidths, message_has_width
 use Rattle.vio_handshake.proofs.PlaceRows.{Fits, GoesTo, put_at, take_at}
 use Rattle.vio_handshake.proofs.Places.{AllSaid, AttributesAnswered, AttributesSaid, Deal, IsPlace, PeerReadyAnswered, PeerReadySaid, PeerRingAnswered, PeerRingSaid, Place, ReadyAnswered, ReadySaid, RingAnswered, RingSaid, VersionAnswered, VersionSaid, message_at, next, owed_by, owner, phase_at, handshake_at}
 use Rattle.channel_model.specs.Sayings.{heard, said}
+use Rattle.channel_laws.proofs.Apart.{not_open, some_is_none, some_same}
 use Rattle.channel_laws.proofs.EndStanding.{opened_phase}
 use Rattle.channel_laws.proofs.Script.{PeerSaid, all_before, bytes_at, hears_beyond, hears_next, not_last, other_next, said_at, said_by, says_next, script}
 use Rattle.channel_laws.specs.EndCore.{EndCore}
@@ -186,10 +187,10 @@ owes_not both d Responder n turn = ap (λ (w : Option Role). owed_by Responder w
 pub open_at : (both : Bool) (r : Role) (n : Place) → phase_at both r n ≡ Open → n ≡ AllSaid
 open_at both Initiator AllSaid is = refl
 open_at both Responder AllSaid is = refl
-open_at true Responder RingAnswered is = absurd (cc is)
-open_at false Responder RingAnswered is = absurd (cc is)
-open_at both Initiator _ is = absurd (cc is)
-open_at both Responder _ is = absurd (cc is)
+open_at true Responder RingAnswered is = not_open (sym is) refl
+open_at false Responder RingAnswered is = not_open (sym is) refl
+open_at both Initiator _ is = not_open (sym is) refl
+open_at both Responder _ is = not_open (sym is) refl
 
 pub open_place : (both : Bool) (d : Deal) (r : Role) (c : EndCore) (turns : List Turn) → EndStands r c turns → (at : AtPlace both d r c.handshake turns) → c.is_open ≡ true
     → at.place ≡ AllSaid
@@ -235,7 +236,7 @@ says_at both d r h turns now bytes message at owed is said_now heard_now =
           let not = not_last r at.place own in
           let none = at.only not in
           let same : message ≡ message_at d at.place =
-          (let both_owed : Some message ≡ Some (message_at d at.place) = sym owed ∙ ap (λ (x : Handshake). x.owed) at.is ∙ owes_at both d r at.place own in cc both_owed) in
+          (let both_owed : Some message ≡ Some (message_at d at.place) = sym owed ∙ ap (λ (x : Handshake). x.owed) at.is ∙ owes_at both d r at.place own in some_same both_owed) in
           record {
             place = next both at.place;
             here = next_place both at.place at.here;
@@ -252,8 +253,8 @@ says_at both d r h turns now bytes message at owed is said_now heard_now =
             mine_are = tt;
             theirs_are = tt;
           }
-      | inr (inl turn) ↦ (let wrong : Some message ≡ None = sym owed ∙ ap (λ (x : Handshake). x.owed) at.is ∙ owes_not both d r at.place turn in absurd (cc wrong))
-      | inr (inr last) ↦ (let wrong : Some message ≡ None = sym owed ∙ ap (λ (x : Handshake). x.owed) at.is ∙ owes_none both d r at.place last in absurd (cc wrong))
+      | inr (inl turn) ↦ (some_is_none (sym owed ∙ ap (λ (x : Handshake). x.owed) at.is ∙ owes_not both d r at.place turn))
+      | inr (inr last) ↦ (some_is_none (sym owed ∙ ap (λ (x : Handshake). x.owed) at.is ∙ owes_none both d r at.place last))
     ]
 
 -- IT SAYS a message of its session

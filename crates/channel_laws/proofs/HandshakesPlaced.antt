@@ -1,5 +1,5 @@
 -- Each act of an end keeps both handshakes at places of one deal, where nobody forged and the offers match.
-use Rattle.std.proofs.Common.{◌≡◌, ℕ, ◌^◌, ◌<◌, ◌≤◌, Bool, true, false, Some, None, List, [], ◌∷◌, ◌++◌, refl, sym, ap, ◌∙◌, subst, arith, ◌⊎◌, inl, inr}
+use Rattle.std.proofs.Common.{◌≡◌, ℕ, ◌^◌, ◌<◌, ◌≤◌, Bool, true, false, Some, List, [], ◌∷◌, ◌++◌, refl, sym, ap, ◌∙◌, subst, arith, ◌⊎◌, inl, inr}
 use Rattle.std.specs.Prelude.{slice_get}
 use Rattle.std.proofs.lemmas.List.{append-nil}
 use Rattle.ldc_link.specs.declared.phase.LinkPhase.{LinkPhase}
@@ -27,7 +27,7 @@ use Rattle.vio_handshake.specs.State.{begun, joined_handshake, next_sid, handsha
 use Rattle.vio_handshake.proofs.Places.{AllSaid, Deal, IsPlace, Place, VersionSaid, last_at, handshake_at}
 use Rattle.channel_model.specs.Sayings.{half_said, heard, said}
 use Rattle.channel_model.specs.TranscriptLog.{nothing_said}
-use Rattle.channel_laws.proofs.Apart.{none_is_some, roles_differ, true_is_false}
+use Rattle.channel_laws.proofs.Apart.{false_is_true, none_is_some, roles_differ, true_is_false}
 use Rattle.channel_laws.proofs.Conversations.{held_phase}
 use Rattle.channel_laws.proofs.ConversingRuns.{HeardFrom, converse_keeps, first_converse, hears_next}
 use Rattle.channel_laws.proofs.EndCases.{EndTook, NoMessage, PutControl, PutMore, PutOwn, PutReady, PutHandshake, PutWhat, Rises, TookOwn, TookHandshake, TookWhat, end_put, end_took, put_down}
@@ -255,11 +255,11 @@ put_handshakes asks answers role s t packet opens fits stands up says links at =
 
     carried_owed : (b : Bool) (bytes : List ℕ) → b ≡ false → Carries b held.handshake bytes → CarriesOwed held.handshake bytes
     carried_owed false bytes is carries = carries
-    carried_owed true bytes is carries = absurd (cc is)
+    carried_owed true bytes is carries = true_is_false is
 
     carried_own : (b : Bool) (bytes : List ℕ) → b ≡ true → Carries b held.handshake bytes → CarriesOwn held.handshake bytes
     carried_own true bytes is carries = carries
-    carried_own false bytes is carries = absurd (cc is)
+    carried_own false bytes is carries = false_is_true is
 
     handshakes : held.own ≡ false → (est : held.link.phase ≡ phase.Established) → (last_part : SaysLast held.link s.mine.turns packet) → AtPlace both (deal asks answers at.sid) role (handshake_sent held.handshake) now
     handshakes not est last_part =
@@ -326,7 +326,7 @@ declined_code : (s : Subtype) (b : MsgBody) → HasForm b → is_declined s b �
 declined_code Info (DringUnreg ident) form is = omega arith
 declined_code Info (Plain envelope) (inl form) is = omega (arith, form)
 declined_code Info (Plain envelope) (inr form) is = omega (arith, form)
-declined_code s b form is = absurd (cc is)
+declined_code s b form is = false_is_true is
 
 pub never_declined : (m d : Message) (bytes : List ℕ) → IsOfSession m.body → bytes ≡ canonical m → HasForm d.body → SpellsMessage bytes d → is_declined d.subtype d.body ≡ true → ⊥
 never_declined m d bytes of is form spells declined =

@@ -20,7 +20,7 @@ use Rattle.channel_laws.proofs.Apart.{true_is_false}
 use Rattle.channel_laws.proofs.EndStanding.{fresh_end_stands, stands_step}
 use Rattle.channel_laws.specs.EndCore.{EndCore, EndMove, Stays, fresh_end}
 use Rattle.channel_laws.specs.EndStep.{EndAnew, EndBegins, EndHears, EndRenews, EndSays, EndStays, EndStep, EndWaits}
-use Rattle.channel_laws.specs.LaneCore.{Beside, Closes, CoreEvent, CoreFits, CoreStep, LaneCore, OnChannel, end_of, fresh_core, move_of, reset_move, role_of, transcript_after, transcript_behind, turns_after, wire_after}
+use Rattle.channel_laws.specs.LaneCore.{Beside, Closes, CoreEvent, CoreFits, CoreStep, LaneCore, OnChannel, fresh_core, move_of, reset_move, transcript_after, transcript_behind, turns_after, wire_after}
 use Rattle.channel_laws.specs.Sides.{Sides, anew, goes_on, missed, other, put, shut, sides_in, sides_of, swapped, took}
 use Rattle.channel_laws.specs.Standing.{EndStands}
 

@@ -1,6 +1,6 @@
 -- Along every run the parts of messages that an end said since it last began are those that may come, one after the other.
-use Rattle.std.proofs.Common.{◌≡◌, ℕ, ◌≤◌, Bool, true, false, List, [], ◌∷◌, ◌++◌, length, take, refl, sym, ap, ◌∙◌, subst, arith}
-use Rattle.std.specs.Prelude.{◌||◌, nat_eq, ◌&&◌}
+use Rattle.std.proofs.Common.{◌≡◌, ℕ, ◌≤◌, Bool, true, false, List, [], ◌∷◌, ◌++◌, length, take, refl, sym, ◌∙◌, subst, arith}
+use Rattle.std.specs.Prelude.{◌||◌, ◌&&◌}
 use Rattle.std.proofs.lemmas.List.{append-nil, length-take-le}
 use Rattle.runs.specs.Run.{Run}
 use Rattle.ldc_packet.proofs.Canonical.{canonical_spells}
@@ -8,7 +8,7 @@ use Rattle.ldc_packet.specs.declared.packet.Body.{Body}
 use Rattle.ldc_packet.specs.declared.packet.Body.TheVariants.{Part, Rdx, Rtr, Rts, Vers}
 use Rattle.ldc_packet.specs.declared.packet.Subtype.{Subtype}
 use Rattle.ldc_packet.specs.Form.{HasForm}
-use Rattle.ldc_packet.specs.Spelling.{SpellsPacket, ctrl_at, type_at}
+use Rattle.ldc_packet.specs.Spelling.{SpellsPacket}
 use Rattle.ldc_link.proofs.Following.{parts_more, quiet}
 use Rattle.ldc_link.proofs.Spelled.{has_part, spelled_fragment, spelled_part}
 use Rattle.ldc_link.specs.Conversing.{IsData, fragment_of}

@@ -1,12 +1,13 @@
 -- What each end says in the handshake of a session, message by message, where its offer and the other's match; and that what it hears next is the
 -- next that the other says.
-use Rattle.std.proofs.Common.{◌≡◌, ◌≢◌, ℕ, ◌+◌, Bool, true, false, Option, Some, None, List, [], ◌∷◌, ◌++◌, take, drop, length, refl, sym, ap, ◌∙◌, arith, length-append, append_assoc, ◌⊎◌, inl, inr}
+use Rattle.std.proofs.Common.{◌≡◌, ◌≢◌, ℕ, ◌+◌, Bool, true, false, Option, Some, List, [], ◌∷◌, ◌++◌, take, drop, length, refl, sym, ap, ◌∙◌, arith, length-append, append_assoc, ◌⊎◌, inl, inr}
 use Rattle.std.proofs.lemmas.List.{append-nil, take-append-drop}
 use Rattle.ldc_link.specs.declared.phase.Role.{Role}
 use Rattle.ldc_link.specs.declared.phase.Role.TheVariants.{Initiator, Responder}
 use Rattle.ldc_queue.specs.OneStream.{IsFront}
 use Rattle.vio_tag.specs.Spelling.{canonical}
 use Rattle.vio_handshake.proofs.Places.{AllSaid, AttributesAnswered, AttributesSaid, Deal, IsPlace, PeerReadyAnswered, PeerReadySaid, PeerRingAnswered, PeerRingSaid, Place, ReadyAnswered, ReadySaid, RingAnswered, RingSaid, VersionAnswered, VersionSaid, message_at, next, owner}
+use Rattle.channel_laws.proofs.Apart.{some_is_none}
 use Rattle.channel_laws.specs.Sides.{other}
 
 -- THE PLACES in their order, and how many go before one
@@ -121,7 +122,7 @@ not_role Initiator who is = ap (is_role Initiator) is
 not_role Responder who is = ap (is_role Responder) is
 
 pub not_last : (r : Role) (n : Place) → owner n ≡ Some r → n ≢ AllSaid
-not_last r n own is = let wrong : Some r ≡ None = sym own ∙ ap owner is in absurd (cc wrong)
+not_last r n own is = some_is_none (sym own ∙ ap owner is)
 
 -- who says a place's message says one more by it, and the other as much as before
 pub says_next : (both : Bool) (d : Deal) (r : Role) (n : Place) → IsPlace both n → owner n ≡ Some r → said_at both d r (next both n) ≡ said_at both d r n ++ bytes_at d n ∷ []

@@ -27,7 +27,7 @@ use Rattle.channel_model.specs.Sayings.{said}
 use Rattle.channel_model.specs.TranscriptLog.{TranscriptLog, transcript_of}
 use Rattle.channel_model.specs.WireAt.{IsOwnReset, MayReset}
 use Rattle.channel_model.specs.WireEvent.{ByStep, Giver, Reset, giver}
-use Rattle.channel_laws.proofs.Apart.{none_is_some}
+use Rattle.channel_laws.proofs.Apart.{none_is_some, some_is_none}
 use Rattle.channel_laws.proofs.ConversingRuns.{HeardFrom, hears_next}
 use Rattle.channel_laws.proofs.CoreRuns.{Knows}
 use Rattle.channel_laws.proofs.EndCases.{stays_risen}
@@ -105,7 +105,7 @@ side_fails asks answers role s packet cause fits stands meets parts up first fai
             by_result (Ok one) reads (inr own) = not_last (other role) at.place turn_is (open_place both (deal asks answers meets.handshakes.sid) role c s.mine.turns stands.mine at own.opened)
             by_result (Err fault) reads is_fault =
                 let spells = message_at_spelled asks answers meets.handshakes.sid at.place bytes fits meets.handshakes.small is in
-                let wrong : Some fault ≡ None = sym reads.fault ∙ spelled_no_fault bytes (message_at (deal asks answers meets.handshakes.sid) at.place) spells.0 spells.1 in cc wrong
+                some_is_none (sym reads.fault ∙ spelled_no_fault bytes (message_at (deal asks answers meets.handshakes.sid) at.place) spells.0 spells.1)
 
         by_turn : LiesInMessage c packet
         by_turn =

@@ -21,6 +21,7 @@ use Rattle.lane_laws.proofs.Agreeing.{front_sum}
 use Rattle.lane_laws.proofs.LaneCores.{transcript_is}
 use Rattle.lane_laws.proofs.HeardFront.{heard_messages, unheard_client}
 use Rattle.lane_laws.proofs.LaneCounting.{Knows, run_knows}
+use Rattle.channel_laws.proofs.Apart.{some_same}
 use Rattle.channel_laws.proofs.HandshakesPlaced.{up_or}
 use Rattle.lane_laws.specs.Counted.{ServerOrder, acked_of, announced_of, range_sum}
 use Rattle.lane_laws.specs.LaneTranscripts.{transcript_behind}
@@ -36,7 +37,7 @@ same_ranges None done None k is agrees = absurd (cc is)
 same_ranges None done (Some c) k is agrees = absurd agrees
 same_ranges (Some x) done None k is agrees = absurd agrees
 same_ranges (Some x) done (Some c) k is agrees =
-    let same : c ≡ k = cc is in
+    let same : c ≡ k = some_same is in
     record {
       announced = ap (λ (y : ClientCounts). y.announced) (sym same) ∙ sym agrees.announced;
       acked = ap (λ (y : ClientCounts). y.acked) (sym same) ∙ sym agrees.acked;

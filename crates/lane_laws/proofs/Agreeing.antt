@@ -12,6 +12,7 @@ use Rattle.channel_model.specs.Sayings.{heard, said}
 use Rattle.channel_model.specs.TranscriptLog.{TranscriptLog}
 use Rattle.channel_model.specs.WireAt.{IsUp}
 use Rattle.channel_model.specs.WireLog.{WireLog}
+use Rattle.channel_laws.proofs.Apart.{some_same}
 use Rattle.lane_laws.specs.Agreement.{ClientAgrees, ClientCountsAgree, ServerAgrees}
 use Rattle.lane_laws.specs.DiskLog.{DiskLog, after, nothing_yet}
 use Rattle.lane_laws.specs.WorkLaws.{IfServer}
@@ -62,7 +63,7 @@ order_of : (slots : ℕ) (o : Option ServerSession) (q : Option ServerCounts) (d
     → (session : ServerSession) × InServerOrder slots session d transcript.server
 order_of slots None q d transcript is now order = absurd (cc)
 order_of slots (Some s) None d transcript is now order = absurd order
-order_of slots (Some s) (Some c) d transcript is now order = let same : c ≡ d = cc is in (s, subst (λ (x : ServerCounts). InServerOrder slots s x transcript.server) same order)
+order_of slots (Some s) (Some c) d transcript is now order = let same : c ≡ d = some_same is in (s, subst (λ (x : ServerCounts). InServerOrder slots s x transcript.server) same order)
 
 client_open : (o : Option ClientSession) (count : ℕ) → (o ≡ None → count ≡ 0) → 1 ≤ count → is_some o ≡ true
 client_open None count none some = absurd (omega (arith, none refl, some))
@@ -106,6 +107,27 @@ server_alive shape events s sound run clean up d is =
     heard_up s.wire.wire.end_a s (heard l.transcript.server) refl (λ not. ap (λ (t : TranscriptLog). heard t.server) transcript ∙ unheard_server shape events s sound run clean up not)
     (server.ready (server_open s.server.session s.server.work l.work.server d is server.agrees))
 
+-- sums over the counts of both sessions, of numbers alone
+at_least : (a b c : ℕ) → a ≤ b → b ≤ c → a ≤ c
+at_least a b c one two = omega arith
+
+named_most : (asked heard said own log : ℕ) → asked ≡ heard → heard ≤ said → own ≡ said → own ≡ log → asked ≤ log
+named_most asked heard said own log is front was agrees = omega arith
+
+published_most : (asked announced log_announced published log_published : ℕ) → asked ≤ log_announced → announced ≤ published → announced ≡ log_announced → published ≡ log_published → asked ≤ log_published
+published_most asked announced log_announced published log_published named more one two = omega arith
+
+done_most : (done base completed acked heard answered said finished : ℕ) → done ≡ base + completed → completed ≤ acked → acked ≡ heard → heard ≤ said → answered ≡ said → answered ≤ finished
+    → done ≤ base + finished
+done_most done base completed acked heard answered said finished is few was front says first = omega arith
+
+acked_most : (log own heard said answered : ℕ) → own ≡ log → own ≡ heard → heard ≤ said → answered ≡ said → log ≤ answered
+acked_most log own heard said answered agrees was front says = omega arith
+
+asked_small : (asked log published completed pending done base issued : ℕ) → asked ≤ log → published ≡ log → published ≤ completed + pending → done ≡ base + completed → pending + done ≡ issued
+    → issued < 2 ^ 64 → asked < 2 ^ 64
+asked_small asked log published completed pending done base issued named agrees few is all small = omega arith
+
 pub one_ring : (shape : Shape) (events : List DiskEvent) (s : LaneState) → IsShape shape → Run LaneStep (fresh shape) events s → s.wire.forged ≡ false → IsUp B s.wire.wire
     → (d : ServerCounts) → (log_of after (nothing_yet shape) events).work.server ≡ Some d → OneRing s (log_of after (nothing_yet shape) events).work d
 one_ring shape events s sound run clean up d is =
@@ -124,7 +146,7 @@ one_ring shape events s sound run clean up d is =
     let front_b : IsFront heard_v said_c = subst (λ (t : TranscriptLog). IsFront (heard t.server) (said t.client)) (sym transcript) (heard_messages shape events s B sound run clean up) in
     let front_a : IsFront heard_c said_v = subst (λ (t : TranscriptLog). IsFront (heard t.client) (said t.server)) (sym transcript) (heard_messages shape events s A sound run clean up_a) in
     let c_open : is_some s.client.session ≡ true =
-    client_open s.client.session (ready_count said_c) client.ready (omega (arith, ready, front_ready heard_v said_c front_b)) in
+    client_open s.client.session (ready_count said_c) client.ready (at_least 1 (ready_count heard_v) (ready_count said_c) ready (front_ready heard_v said_c front_b)) in
     let k = counts_of s.client.session l.work.done l.work.client c_open client.agrees in
     let order = in_order (length s.client.pending) s.client.session k.session k.session_is knows.all.sound.counts in
     let v_order = (order_of l.shape.slots s.server.session l.work.server d l.transcript is v_open server.order).1 in
@@ -132,11 +154,13 @@ one_ring shape events s sound run clean up d is =
     let acked : k.session.acked ≡ range_sum l.shape.slots 2 heard_c = ap acked_of (sym k.session_is) ∙ client.acked in
     let asked_said = front_sum l.shape.slots 1 heard_v said_c front_b in
     let acked_said = front_sum l.shape.slots 2 heard_c said_v front_a in
-    let named : d.asked ≤ k.counts.announced = omega (arith, v_order.asked, asked_said, announced, k.agree.announced) in
-    let asked : d.asked ≤ k.counts.published = omega (arith, named, order.announced, k.agree.announced, k.agree.published) in
+    let named : d.asked ≤ k.counts.announced =
+    named_most d.asked (range_sum l.shape.slots 1 heard_v) (range_sum l.shape.slots 1 said_c) k.session.announced k.counts.announced v_order.asked asked_said announced k.agree.announced in
+    let asked : d.asked ≤ k.counts.published =
+    published_most d.asked k.session.announced k.counts.announced k.session.published k.counts.published named order.announced k.agree.announced k.agree.published in
     let one : AreOneSession s.client.handshake s.server.handshake = one_session shape events s sound run clean c_open v_open in
     let offer = client.handshake.offer_is in
-    let few : l.shape.slots ≤ 256 = omega (arith, client.slots, knows.all.sound.slots) in
+    let few : l.shape.slots ≤ 256 = subst (λ (n : ℕ). n ≤ 256) client.slots knows.all.sound.slots in
     let all : length s.client.pending + l.work.done ≡ length l.work.issued =
     omega (arith, ap length knows.all.stands.requests.pending, length-drop l.work.done l.work.issued, knows.all.stands.requests.done) in
     record {
@@ -146,13 +170,17 @@ one_ring shape events s sound run clean up d is =
       cookies = ap (λ (n : ℕ). take n s.server.handshake.draft.peer_cookies) (one.count ∙ ap (λ (o : Offer). o.count) offer)
           ∙ ap (take (length (own_cookies l.shape.slots))) (one.cookies ∙ ap (λ (o : Offer). o.cookies) offer)
           ∙ filled_front 14 (own_cookies l.shape.slots) (few_cookies l.shape.slots few) ∙ ap own_cookies (sym client.slots);
-      done = omega (arith, k.agree.completed, order.completed, acked, acked_said, v_order.answered, v_order.finished);
-      acked = omega (arith, k.agree.acked, acked, acked_said, v_order.answered);
+      done =
+          done_most l.work.done k.counts.base k.session.completed k.session.acked (range_sum l.shape.slots 2 heard_c) d.answered (range_sum l.shape.slots 2 said_v) d.finished k.agree.completed order.completed
+          acked acked_said v_order.answered v_order.finished;
+      acked = acked_most k.counts.acked k.session.acked (range_sum l.shape.slots 2 heard_c) (range_sum l.shape.slots 2 said_v) d.answered k.agree.acked acked acked_said v_order.answered;
       answered = v_order.finished;
       descs = v_order.descs;
       announced = named;
       asked = asked;
-      small = omega (arith, asked, k.agree.published, order.published, k.agree.completed, all, issued_few shape events s sound run);
+      small =
+          asked_small d.asked k.counts.published k.session.published k.session.completed (length s.client.pending) l.work.done k.counts.base (length l.work.issued) asked k.agree.published order.published
+          k.agree.completed all (issued_few shape events s sound run);
     }
 
 ring_if : (q : Option ServerCounts) (s : LaneState) (l : DiskLog) → ((d : ServerCounts) → q ≡ Some d → OneRing s l.work d) → IfServer q (OneRing s l.work)
@@ -195,15 +223,6 @@ pub range_answered : (slots : ℕ) (range : Option SlotRange) (d : ServerCounts)
 range_answered slots None d stands = omega (arith, stands)
 range_answered slots (Some range) d stands = omega (arith, stands.0)
 
-pub answered_small : (shape : Shape) (events : List DiskEvent) (s : LaneState) → IsShape shape → Run LaneStep (fresh shape) events s → s.wire.forged ≡ false → IsUp B s.wire.wire
-    → (d : ServerCounts) → (log_of after (nothing_yet shape) events).work.server ≡ Some d → d.answered < 2 ^ 64
-answered_small shape events s sound run clean up d is =
-    let l = log_of after (nothing_yet shape) events in
-    let server = (run_knows shape events s sound run).counted.server in
-    let v_open : is_some s.server.session ≡ true = server_open s.server.session s.server.work l.work.server d is server.agrees in
-    let one = order_of l.shape.slots s.server.session l.work.server d l.transcript is v_open server.order in
-    omega (arith, (one_ring shape events s sound run clean up d is).small, range_answered l.shape.slots one.0.range d one.1.range)
-
 -- WHAT A SERVER WAS ASKED FOR, where its end is up
 pub record AskedWithin (s : LaneState) (l : DiskLog) (session : ServerSession) : Type 0 where
   pub asked : session.asked ≡ range_sum l.shape.slots 1 (heard l.transcript.server)
@@ -216,7 +235,7 @@ server_counts_of : (o : Option ServerSession) (w : Option Work) (q : Option Serv
     → (d : ServerCounts) × (q ≡ Some d) × (session.asked ≡ wrapped d.asked)
 server_counts_of None w q session is agrees = absurd (cc is)
 server_counts_of (Some s) w None session is agrees = absurd agrees
-server_counts_of (Some s) w (Some c) session is agrees = let same : session ≡ s = cc is in (c, refl, ap (λ (x : ServerSession). x.asked) same ∙ agrees.0.asked)
+server_counts_of (Some s) w (Some c) session is agrees = let same : session ≡ s = sym (some_same is) in (c, refl, ap (λ (x : ServerSession). x.asked) same ∙ agrees.0.asked)
 
 pub client_some : (o : Option ClientSession) (done : ℕ) (q : Option ClientCounts) (k : ClientCounts) → q ≡ Some k → ClientAgrees o done q → is_some o ≡ true
 client_some None done None k is agrees = absurd (cc is)
@@ -236,14 +255,14 @@ asked_within shape events s session sound run clean up is =
     let order = (order_of l.shape.slots s.server.session l.work.server d l.transcript counts.1 (ap is_some is) server.order).1 in
     let k = counts_of s.client.session l.work.done l.work.client (client_some s.client.session l.work.done l.work.client ring.client ring.open_is client.agrees) client.agrees in
     let same : Some k.counts ≡ Some ring.client = sym k.counts_are ∙ ring.open_is in
-    let pair : k.counts ≡ ring.client = cc same in
+    let pair : k.counts ≡ ring.client = some_same same in
     let one : k.counts.published ≡ ring.client.published = ap (λ (c : ClientCounts). c.published) pair in
     let in_turn = in_order (length s.client.pending) s.client.session k.session k.session_is knows.all.sound.counts in
     let whole : session.asked ≡ d.asked = omega (arith, counts.2, ring.small) in
     record {
       asked = whole ∙ order.asked;
-      small = omega (arith, whole, ring.small);
+      small = subst (λ (n : ℕ). n < 2 ^ 64) (sym whole) ring.small;
       within = subst (λ (o : Option ClientSession). session.asked ≤ total (length s.client.pending) o) (sym k.session_is) (omega (arith, whole, ring.asked, one, k.agree.published, in_turn.published));
       up = server_alive shape events s sound run clean up d counts.1;
-      slots = omega (arith, ring.slots, knows.all.sound.slots);
+      slots = subst (λ (n : ℕ). n ≤ 256) (sym ring.slots) knows.all.sound.slots;
     }

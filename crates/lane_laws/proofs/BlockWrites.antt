@@ -11,6 +11,7 @@ use Rattle.vio_bytes.proofs.Putting.{length-put_at}
 use Rattle.vio_bytes.proofs.Ranges.{range_at-put_at_inside, range_at-put_at_outside}
 use Rattle.vio_bytes.specs.Place.{put_at}
 use Rattle.vio_bytes.specs.Range.{range_at}
+use Rattle.channel_laws.proofs.Apart.{some_same}
 use Rattle.lane_laws.specs.Blocks.{WritesBlock, Reaches, after_requests, block_at}
 
 -- WHAT IS PUT from a block on
@@ -92,7 +93,7 @@ puts_same Flush b one other puts also = absurd puts
 -- REQUESTS one after another
 pub take_more : (xs : List Request) (k : ℕ) (request : Request) → slice_get xs k ≡ Some request → take (suc k) xs ≡ take k xs ++ request ∷ []
 take_more [] k request is = absurd (cc is)
-take_more (x ∷ xs) zero request is = let same : x ≡ request = cc is in ap (λ (r : Request). r ∷ []) same
+take_more (x ∷ xs) zero request is = let same : x ≡ request = some_same is in ap (λ (r : Request). r ∷ []) same
 take_more (x ∷ xs) (suc k) request is = ap (λ (rs : List Request). x ∷ rs) (take_more xs k request is)
 
 pub after_append : (content : List ℕ) (xs : List Request) (request : Request) → after_requests content (xs ++ request ∷ []) ≡ after_request (after_requests content xs) request

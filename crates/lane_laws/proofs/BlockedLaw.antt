@@ -1,5 +1,5 @@
 -- An end that finds no room has a packet to put.
-use Rattle.std.proofs.Common.{◌≡◌, ◌≢◌, ◌<◌, ◌≤◌, Bool, true, false, Option, Some, None, ◌++◌, length, sym, ap, ◌∙◌, subst, arith, refl, inl, inr}
+use Rattle.std.proofs.Common.{◌≡◌, ◌≢◌, ◌<◌, ◌≤◌, Bool, true, false, Option, Some, None, ◌++◌, length, sym, ap, ◌∙◌, subst, arith, refl, inl, inr, ◌+◌, ◌⊎◌}
 use Rattle.ldc_link.specs.declared.phase.Role.TheVariants.{Initiator, Responder}
 use Rattle.ldc_link.specs.LinkState.{LinkState}
 use Rattle.ldc_link.specs.Putting.{owes, owes_control, owes_in}
@@ -15,6 +15,7 @@ use Rattle.disk_model.specs.LaneState.{LaneState}
 use Rattle.disk_model.specs.ServerPutting.{server_holds}
 use Rattle.disk_model.specs.ServerRule as server
 use Rattle.disk_model.specs.ServerState.{ServerSession, ServerState, SlotRange}
+use Rattle.channel_laws.proofs.Apart.{none_is_some, some_is_none}
 use Rattle.channel_laws.specs.EndFold.{link_phase}
 use Rattle.lane_laws.specs.ChannelEnds.{client_core}
 use Rattle.lane_laws.specs.Counted.{InServerOrder, RangeStands}
@@ -45,7 +46,7 @@ pub record Told (s : LaneState) (l : DiskLog) : Type 0 where
   pub server_phase : s.server.link.phase ≡ link_phase Responder l.transcript.server
 
 some_owed : (h g : Handshake) (message : Message) → h ≡ g → h.owed ≡ Some message → g.owed ≢ None
-some_owed h g message same owed none = let both : Some message ≡ None = sym owed ∙ ap (λ (x : Handshake). x.owed) same ∙ none in absurd (cc)
+some_owed h g message same owed none = some_is_none (sym owed ∙ ap (λ (x : Handshake). x.owed) same ∙ none)
 
 -- a link that owes a packet owes one of its handshake, or holds some of a message
 by_control : (k : LinkState) (b : Bool) (P : Type 0) → owes_control k ≡ b → owes k ≡ true → (owes_control k ≡ true → P) → (1 ≤ length k.to_send → P) → P
@@ -78,11 +79,7 @@ client_puts s l client.Puts held told rule is may =
     (λ some. client_left s l (is_announcing s.client.session) told refl some)
 client_puts s l (client.Says message) held told rule is may = inr (inl (some_owed s.client.handshake (client_handshake l) message told.are.client may.2))
 client_puts s l (client.Announces session) held told rule is may = more_published s l session told.grounded may.3 may.4
-client_puts s l client.Joins held told rule is may = absurd (cc)
-client_puts s l (client.Completes session) held told rule is may = absurd (cc)
-client_puts s l (client.Takes packet) held told rule is may = absurd (cc)
-client_puts s l (client.Publishes session request) held told rule is may = absurd (cc)
-client_puts s l client.Idles held told rule is may = absurd (cc)
+client_puts s l _ held told rule is may = none_is_some is
 
 pub client_to_put : (s : LaneState) (l : DiskLog) (held : ClientState) → Told s l → client_holds (client.client_rule s.client (at_client s)) s.client ≡ Some held → HasToPut A l
 client_to_put s l held told is = client_puts s l (client.client_rule s.client (at_client s)) held told refl is (client_may s.client (at_client s))
@@ -115,11 +112,7 @@ server_puts s l server.Puts held told is free =
     (λ some. server_left s l s.server.handshake.owed told refl some)
 server_puts s l (server.Says message) held told is (quiet, inl owed) = inr (inl (some_owed s.server.handshake (server_handshake l) message told.are.server owed))
 server_puts s l (server.Says message) held told is (quiet, inr own) = more_answered s l own.session own.range told.grounded own.session_is own.range_is own.finished
-server_puts s l server.Joins held told is free = absurd (cc)
-server_puts s l (server.Fetches session) held told is free = absurd (cc)
-server_puts s l (server.Serves session work) held told is free = absurd (cc)
-server_puts s l (server.Takes packet) held told is free = absurd (cc)
-server_puts s l server.Idles held told is free = absurd (cc)
+server_puts s l _ held told is free = none_is_some is
 
 pub server_to_put : (s : LaneState) (l : DiskLog) (held : ServerState) → Told s l → server_holds (server.server_rule s.server (at_server s)) s.server ≡ Some held → HasToPut B l
 server_to_put s l held told is = server_puts s l (server.server_rule s.server (at_server s)) held told is (server_free s.server (at_server s))

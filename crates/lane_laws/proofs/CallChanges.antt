@@ -6,6 +6,7 @@ use Rattle.ldc_queue.specs.Wire.{peer_behind}
 use Rattle.vio_tag.specs.declared.cause.Cause.{Cause}
 use Rattle.channel_model.specs.WireEvent.{Blocked, Declines, Idle, Injected, Joined, Lost, Poked, Reset, Sent, Took, WireEvent}
 use Rattle.channel_model.specs.WireLog.{WireLog, wire_moved}
+use Rattle.channel_laws.proofs.Apart.{ends_differ, some_same}
 use Rattle.lane_laws.specs.DiskLog.{DiskLog, after}
 use Rattle.lane_laws.specs.WorkLaws.{IfServer}
 use Rattle.lane_laws.specs.WorkLog.{ClientCounts, ServerCounts}
@@ -81,7 +82,7 @@ wire_opens s l packet t before facts step =
       change = record {
         nothing = λ session is.
             let both : Some (opened_session opened.base) ≡ Some session = sym opened.session ∙ is in
-            let one : opened_session opened.base ≡ session = cc both in
+            let one : opened_session opened.base ≡ session = some_same both in
             ap (λ (x : ClientSession). x.published) (sym one);
         unfinished = (opens_k s l packet t before facts).0;
         idle = idle_opening s l packet t (work_while s.wire.wire.end_b s.server.work) before facts refl;
@@ -103,8 +104,8 @@ wire_changes s l (Sent B packet opens) t before contents facts clean step = wire
 wire_changes s l (Took A packet opens) t before contents facts clean step = wire_rests s l (Took A packet opens) t before facts clean step.step.2 tt step
 wire_changes s l (Took B packet opens) t before contents facts clean step = wire_rests s l (Took B packet opens) t before facts clean tt tt step
 wire_changes s l (Joined e lost) t before contents facts clean step = wire_rests s l (Joined e lost) t before facts clean tt tt step
-wire_changes s l (Reset A cause packet lost) t before contents facts clean step = wire_resets A s l cause packet lost t before contents clean (λ is. absurd (cc is)) (λ is. refl) (λ is. refl) step
-wire_changes s l (Reset B cause packet lost) t before contents facts clean step = wire_resets B s l cause packet lost t before contents clean (λ is. refl) (λ is. absurd (cc is)) (λ is. absurd (cc is)) step
+wire_changes s l (Reset A cause packet lost) t before contents facts clean step = wire_resets A s l cause packet lost t before contents clean (λ is. ends_differ is) (λ is. refl) (λ is. refl) step
+wire_changes s l (Reset B cause packet lost) t before contents facts clean step = wire_resets B s l cause packet lost t before contents clean (λ is. refl) (λ is. ends_differ (sym is)) (λ is. ends_differ (sym is)) step
 wire_changes s l (Lost e packet) t before contents facts clean step = wire_rests s l (Lost e packet) t before facts clean tt tt step
 wire_changes s l (Injected e packet) t before contents facts clean step = wire_rests s l (Injected e packet) t before facts clean tt tt step
 wire_changes s l (Poked e at bytes) t before contents facts clean step = wire_rests s l (Poked e at bytes) t before facts clean tt tt step

@@ -31,6 +31,7 @@ use Rattle.lane_laws.proofs.LaneCores.{transcript_is}
 use Rattle.lane_laws.proofs.HeardFront.{heard_messages}
 use Rattle.lane_laws.specs.LaneTranscripts.{transcript_behind}
 use Rattle.lane_laws.proofs.CalmSteps.{ClientCalm, ServerCalm, client_calm, no_room, server_calm, are_still, waits_up_a, waits_up_b}
+use Rattle.channel_laws.proofs.Apart.{true_is_false}
 use Rattle.channel_laws.proofs.EndsAtRest.{none_waits}
 use Rattle.lane_laws.proofs.IdleRules.{client_idles, server_idles}
 use Rattle.channel_laws.specs.LinkPlaces.{live_phase, phase_at}
@@ -117,7 +118,7 @@ client_first shape events s one m next t at runs (inl rested) (inr (inl server))
     absurd (not_empty shape events s s.wire.wire.to_a at (no_room (length s.wire.wire.to_a + 1) s.shape.entries full)
     (none_waits s.wire.wire.to_a (client_idles s.client (at_client s) rested.rule).rests.first))
 client_first shape events s one m next t at runs (inl rested) (inr (inr off)) =
-    let never : true ≡ false = sym off.stopped ∙ ap (λ (x : LaneState). x.stopped) rested.same ∙ runs in absurd (cc never)
+    true_is_false (sym off.stopped ∙ ap (λ (x : LaneState). x.stopped) rested.same ∙ runs)
 client_first shape events s one m next t at runs (inr waits) (inl server) =
     let rule : server_rules.server_rule s.server (at_server s) ≡ server_rules.Idles =
     subst (λ (x : LaneState). server_rules.server_rule x.server (at_server x) ≡ server_rules.Idles) waits.is server.rule in
@@ -130,7 +131,7 @@ client_first shape events s one m next t at runs (inr waits) (inr (inl server)) 
     let up : s.wire.wire.end_b ≡ Up = sym (ap (λ (x : LaneState). x.wire.wire.end_b) waits.is) ∙ waits_up_b m t server in
     absurd (both_wait shape events s m.client t.server at (waits_up_a s m waits) up waits.holds waits.full holds full)
 client_first shape events s one m next t at runs (inr waits) (inr (inr off)) =
-    let never : true ≡ false = sym off.stopped ∙ ap (λ (x : LaneState). x.stopped) waits.is ∙ runs in absurd (cc never)
+    true_is_false (sym off.stopped ∙ ap (λ (x : LaneState). x.stopped) waits.is ∙ runs)
 
 server_first : (shape : Shape) (events : List DiskEvent) (s : LaneState) (one : DiskEvent) (m : LaneState) (next : DiskEvent) (t : LaneState) → Reached shape events s → s.stopped ≡ false
     → ServerCalm s one m → ClientCalm m next t → BothIdle B s one next t
@@ -155,7 +156,7 @@ server_first shape events s one m next t at runs (inr (inl waits)) (inr client) 
     subst (λ (x : LaneState). client_holds (client_rules.client_rule x.client (at_client x)) x.client ≡ Some t.client) waits.is client.holds in
     let up : s.wire.wire.end_a ≡ Up = sym (ap (λ (x : LaneState). x.wire.wire.end_a) waits.is) ∙ waits_up_a m t client in
     absurd (both_wait shape events s t.client m.server at up (waits_up_b s m waits) holds full waits.holds waits.full)
-server_first shape events s one m next t at runs (inr (inr off)) client = let never : true ≡ false = sym off.stopped ∙ runs in absurd (cc never)
+server_first shape events s one m next t at runs (inr (inr off)) client = true_is_false (sym off.stopped ∙ runs)
 
 pub both_idle : (e : End) (shape : Shape) (events : List DiskEvent) (s : LaneState) (one : DiskEvent) (m : LaneState) (next : DiskEvent) (t : LaneState) → Reached shape events s → s.stopped ≡ false
     → LaneStep s one m → IsCalm e one → LaneStep m next t → IsCalm (peer_of e) next → BothIdle e s one next t

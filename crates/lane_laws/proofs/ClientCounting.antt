@@ -18,6 +18,7 @@ use Rattle.disk_model.specs.LaneState.{Shape}
 use Rattle.disk_model.specs.Offering.{client_offer}
 use Rattle.dring.specs.Slots.{range_length}
 use Rattle.lane_laws.proofs.ClientTaken.{ClientAcked, ClientHearsPart, ClientHandshakes, ClientTook}
+use Rattle.channel_laws.proofs.Apart.{some_is_none, some_same}
 use Rattle.channel_laws.proofs.EndStanding.{open_declines}
 use Rattle.channel_laws.proofs.HandshakeFitting.{joined_fits, row_fits}
 use Rattle.lane_laws.proofs.RangeSums.{sum_heard, sum_more}
@@ -135,6 +136,9 @@ takes_handshake shape c t turns packet done k rests none counted handshakes =
 acked_session : (o : Option ClientSession) (session : ClientSession) (n : ℕ) → o ≡ Some session → SameButAcked o (Some (record session { acked = session.acked + n }))
 acked_session o session n is = subst (λ (x : Option ClientSession). SameButAcked x (Some (record session { acked = session.acked + n }))) (sym is) (refl, refl, refl, refl, refl)
 
+acked_more : (acked before now more length n : ℕ) → acked ≡ before → now ≡ more → more ≡ before + length → length ≡ n → acked + n ≡ now
+acked_more acked before now more length n was is adds long = omega arith
+
 takes_ack : (shape : Shape) (c t : ClientState) (turns : List Turn) (packet : List ℕ) (done : ℕ) (k : Option ClientCounts) → ClientCounted shape c turns done k
     → ClientAcked c turns packet t → Behind shape turns packet done k t
 takes_ack shape c t turns packet done k counted acks =
@@ -146,19 +150,19 @@ takes_ack shape c t turns packet done k counted acks =
     heard_range shape.slots 2 bytes acks.message acks.seq acks.ident acks.start acks.end acks.state acks.hears.spells (ap subtype_code acks.subtype_is) acks.body_is
     ∙ ap (λ (x : ℕ). range_length x acks.start acks.end) (sym counted.slots) in
     let acked : session.acked + n ≡ range_sum shape.slots 2 (heard (Heard_ packet ∷ turns)) =
-    omega (arith, before, ap (range_sum shape.slots 2) acks.hears.messages, sum_more shape.slots 2 (heard turns) bytes, adds) in
+    acked_more _ _ _ _ _ n before (ap (range_sum shape.slots 2) acks.hears.messages) (sum_more shape.slots 2 (heard turns) bytes) adds in
     subst (Behind shape turns packet done k) (sym acks.is) (record {
       slots = counted.slots;
       handshake = counted.handshake;
       holds = λ other is on.
-          let same : record session { acked = session.acked + n } ≡ other = cc is in
+          let same : record session { acked = session.acked + n } ≡ other = some_same is in
           ap (λ (xs : List ℕ). half_said turns ++ xs) acks.left
           ∙ counted.holds session acks.session_is (ap (λ (x : ClientSession). x.announcing) same ∙ on)
           ∙ ap (λ (x : ClientSession). canonical (announcement c x)) same;
       announced = ap announced_of (sym acks.session_is) ∙ counted.announced;
       infos = ap infos_of (sym acks.session_is) ∙ counted.infos;
       acked = acked;
-      ready = λ none. absurd (cc);
+      ready = λ none. some_is_none none;
       agrees = hears_agrees shape c (acknowledged (record c { link = acks.link }) session n) turns packet done k counted
           (record { same = acked_session c.session session n acks.session_is; acked = acked });
     })

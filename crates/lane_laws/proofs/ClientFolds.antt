@@ -17,7 +17,7 @@ use Rattle.vio_handshake.specs.State.{handshake_up}
 use Rattle.lane_laws.proofs.Speaking.{holds_owed}
 use Rattle.lane_laws.specs.BlockLog.{Blockage, Clear, Stuck, StuckBefore, hearing, is_stuck, stuck}
 use Rattle.disk_model.specs.ClientPutting.{announcement, announced, announcing, client_holds, client_kind, holding, is_announcing, opened_if, session_behind}
-use Rattle.disk_model.specs.ClientRule.{Announces, ClientRule, Completes, Idles, Joins, Publishes, Puts, Says, Takes, client_rule}
+use Rattle.disk_model.specs.ClientRule.{Announces, ClientRule, Completes, Publishes, Puts, Says, client_rule}
 use Rattle.disk_model.specs.ClientState.{ClientSession, ClientState, joined_client, slot_in}
 use Rattle.disk_model.specs.ClientStep.{ClientAdmits, ClientCompletes, ClientPublishes}
 use Rattle.disk_model.specs.DiskEvent.{Accepted, Admitted, Full, Refused}
@@ -29,6 +29,7 @@ use Rattle.channel_model.specs.Seeing.{Seen}
 use Rattle.lane_laws.proofs.ClientHolding.{info_long}
 use Rattle.lane_laws.proofs.ClientPutCounting.{own_info, put_as}
 use Rattle.lane_laws.proofs.ClientTaken.{ClientTook}
+use Rattle.channel_laws.proofs.Apart.{false_is_true, none_is_some, some_is_none, some_same, true_is_false}
 use Rattle.channel_laws.proofs.PutSayings.{PutSays}
 use Rattle.channel_laws.proofs.EndStanding.{open_up, owing_up}
 use Rattle.channel_laws.proofs.EndStanding.{SameSending}
@@ -78,12 +79,12 @@ pub sends_some : (k : LinkState) → is_up k ≡ true → owes k ≡ true → 1 
 sends_some k up owing = in_phase k.phase up owing
   where
     in_left : (left : List ℕ) → is_some (part_owed k left) ≡ true → 1 ≤ length left
-    in_left [] more = absurd (cc)
+    in_left [] more = false_is_true more
     in_left (byte ∷ left) more = omega arith
 
     in_phase : (ph : LinkPhase) → is_established ph ≡ true → is_some (owed_in ph k) ≡ true → 1 ≤ length k.to_send
     in_phase phase.Established at is = in_left k.to_send is
-    in_phase _ at is = absurd (cc)
+    in_phase _ at is = false_is_true at
 
 pub calm_up : (k : LinkState) → owes_control k ≡ false → owes k ≡ true → is_up k ≡ true
 calm_up k calm owing = in_phase k.phase calm owing
@@ -124,8 +125,8 @@ link_stuck k b owing = record { owes = λ now. owing; left = λ fresh some. stuc
 -- an end whose link owes nothing isn't stuck
 pub not_stuck : (k : LinkState) (b : Blockage) → LinkIs k b → owes k ≡ false → b ≡ Clear
 not_stuck k Clear is quiet = refl
-not_stuck k Stuck is quiet = let never : true ≡ false = sym (is.owes refl) ∙ quiet in absurd (cc)
-not_stuck k StuckBefore is quiet = let never : true ≡ false = sym (is.owes refl) ∙ quiet in absurd (cc)
+not_stuck k Stuck is quiet = true_is_false (sym (is.owes refl) ∙ quiet)
+not_stuck k StuckBefore is quiet = true_is_false (sym (is.owes refl) ∙ quiet)
 
 -- IT BEGINS ANEW
 pub client_begins : (c : ClientState) → ClientIs (joined_client c) Clear
@@ -249,13 +250,13 @@ first_stuck c turns (Some session) (Some message) is owes_is rests owing quiet =
 first_stuck c turns (Some session) None is owes_is rests owing quiet =
     let up : is_up c.link ≡ true = open_up Initiator (client_core c) turns rests.stands (ap is_some is) in
     let some : HoldsOwed c.handshake.owed (half_said turns ++ c.link.to_send) = holds_owed Initiator (client_core c) turns rests.stands quiet (sends_some c.link up owing) in
-    let never : Some some.message ≡ None = sym some.owed_is ∙ owes_is in absurd (cc)
+    some_is_none (sym some.owed_is ∙ owes_is)
 
 says_owes : (k : LinkState) (message : Message) → is_up k ≡ true → owes (offered (canonical message) k) ≡ true
 says_owes k message up = owes_up (offered (canonical message) k) up (some_bytes message)
 
 held_is : (one other : ClientState) (b : Blockage) → Some one ≡ Some other → ClientIs one b → ClientIs other b
-held_is one other b same is = let mine : one ≡ other = cc same in subst (λ (x : ClientState). ClientIs x b) mine is
+held_is one other b same is = let mine : one ≡ other = some_same same in subst (λ (x : ClientState). ClientIs x b) mine is
 
 none_stuck : (o : Option ClientSession) (h : Handshake) (b : Blockage) → b ≡ Clear → Announcing o h b → is_announcing o ≡ false
 none_stuck o h Clear clear is = is ∙ and_false (is_some o)
@@ -291,11 +292,7 @@ client_blocks_so s at (Announces session) t turns b rule may holds known is =
       link = link_stuck (offered (canonical (announcement s session)) s.link) b (says_owes s.link (announcement s session) up);
       announcing = own_stuck session s.handshake b clear may.2;
     })
-client_blocks_so s at Joins t turns b rule may holds known is = absurd (cc)
-client_blocks_so s at (Completes session) t turns b rule may holds known is = absurd (cc)
-client_blocks_so s at (Takes packet) t turns b rule may holds known is = absurd (cc)
-client_blocks_so s at (Publishes session request) t turns b rule may holds known is = absurd (cc)
-client_blocks_so s at Idles t turns b rule may holds known is = absurd (cc)
+client_blocks_so s at _ t turns b rule may holds known is = none_is_some holds
 
 -- ITS WORK, and a request
 pub client_admits_so : (s : ClientState) (event : Admitted) (t : ClientState) (b : Blockage) → ClientAdmits s event t → ClientIs s b → ClientIs t b

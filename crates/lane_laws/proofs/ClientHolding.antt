@@ -7,9 +7,10 @@ use Rattle.vio_tag.specs.declared.message.MsgBody.TheVariants.{DringData}
 use Rattle.vio_tag.specs.Spelling.{canonical}
 use Rattle.vio_handshake.specs.Messages.{info}
 use Rattle.disk_model.specs.ClientPutting.{announcement, announcing, client_holds, holding}
-use Rattle.disk_model.specs.ClientRule.{Announces, ClientRule, Completes, Joins, Publishes, Puts, Idles, Says, Takes}
+use Rattle.disk_model.specs.ClientRule.{Announces, ClientRule, Puts, Says}
 use Rattle.disk_model.specs.ClientState.{ClientSession, ClientState}
 use Rattle.channel_model.specs.Seeing.{Seen}
+use Rattle.channel_laws.proofs.Apart.{none_is_some, some_same}
 use Rattle.channel_laws.proofs.Short.{some_bytes}
 use Rattle.lane_laws.proofs.Sharing.{in_order}
 use Rattle.lane_laws.specs.RuleFacts.{ClientMay}
@@ -39,26 +40,18 @@ announces_held s session sound is more =
     }
 
 held_is : (one other : ClientState) → Some one ≡ Some other → ClientSound one → ClientSound other
-held_is one other is sound = let same : one ≡ other = cc is in subst ClientSound same sound
+held_is one other is sound = let same : one ≡ other = some_same is in subst ClientSound same sound
 
 pub client_held : (s : ClientState) (at : Seen) (rule : ClientRule) (held : ClientState) → ClientMay s at rule → client_holds rule s ≡ Some held → ClientSound s → ClientSound held
 client_held s at Puts held may is sound = held_is s held is sound
 client_held s at (Says message) held may is sound = held_is (holding message s) held is (says_held s message sound)
 client_held s at (Announces session) held may is sound =
     held_is (announcing session (holding (announcement s session) s)) held is (announces_held s session sound may.3 may.4)
-client_held s at Joins held may is sound = absurd (cc)
-client_held s at (Completes session) held may is sound = absurd (cc)
-client_held s at (Takes packet) held may is sound = absurd (cc)
-client_held s at (Publishes session request) held may is sound = absurd (cc)
-client_held s at Idles held may is sound = absurd (cc)
+client_held s at _ held may is sound = none_is_some is
 
 -- where the rule puts at all, the end is up
 pub holds_up : (s : ClientState) (at : Seen) (rule : ClientRule) (held : ClientState) → ClientMay s at rule → client_holds rule s ≡ Some held → at.state ≡ Up
 holds_up s at Puts held may is = may
 holds_up s at (Says message) held may is = may.0
 holds_up s at (Announces session) held may is = may.0
-holds_up s at Joins held may is = absurd (cc)
-holds_up s at (Completes session) held may is = absurd (cc)
-holds_up s at (Takes packet) held may is = absurd (cc)
-holds_up s at (Publishes session request) held may is = absurd (cc)
-holds_up s at Idles held may is = absurd (cc)
+holds_up s at _ held may is = none_is_some is

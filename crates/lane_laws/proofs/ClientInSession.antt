@@ -34,6 +34,7 @@ use Rattle.disk_model.specs.LaneStep.{LaneStep}
 use Rattle.channel_model.specs.Ranges.{is_other}
 use Rattle.dring.specs.Slots.{range_length}
 use Rattle.disk_model.specs.ServerState.{ServerSession}
+use Rattle.channel_laws.proofs.Apart.{some_same}
 use Rattle.channel_laws.proofs.EndStanding.{open_up}
 use Rattle.channel_laws.proofs.HandshakePlaces.{AtPlace, deal, open_place}
 use Rattle.channel_laws.specs.Sides.{sides_of}
@@ -81,7 +82,7 @@ takes_fitting s session n ident start end fits =
 
 pub no_fault : (o : Option ℕ) (n : ℕ) → o ≡ Some n → sid_fault o n ≡ None
 no_fault None n is = absurd (cc is)
-no_fault (Some m) n is = let same : n ≡ m = cc is in ap (λ (x : ℕ). sid_fault (Some m) x) same ∙ ap (λ (b : Bool). if b then None else Some (the_cause.Sid m m)) (same_number m)
+no_fault (Some m) n is = let same : n ≡ m = sym (some_same is) in ap (λ (x : ℕ). sid_fault (Some m) x) same ∙ ap (λ (b : Bool). if b then None else Some (the_cause.Sid m m)) (same_number m)
 
 hears_fitting : (s : ClientState) (session : ClientSession) (n ident start end : ℕ) (bytes : List ℕ) → AckFits s session n ident start end
     → hears_message s (Some session) (read_data Ack n ident start end bytes) ≡ GoesOn (acknowledged s session (range_length s.slots start end))

@@ -27,6 +27,7 @@ use Rattle.channel_model.specs.EndPuts.{ComesUp, EndsHandshake, EndsOwn, Goes, P
 use Rattle.disk_model.specs.Offering.{client_offer}
 use Rattle.dring.specs.Slots.{range_length}
 use Rattle.channel_model.specs.Seeing.{Seen}
+use Rattle.channel_laws.proofs.Apart.{none_is_some, some_same, true_is_false}
 use Rattle.channel_laws.specs.EndCore.{EndCore, holds}
 use Rattle.channel_laws.specs.EndStep.{EndBegins, EndFails, EndHears, EndSays, EndStays, EndWaits, HandshakeTakes, HearsWhole, Holding, Holds, HoldsOn, HoldsOwed, HoldsOwn, IsOfSession, KeepsOwn, LinkFails, MayTake, WholeFails}
 use Rattle.lane_laws.proofs.ClientAnswers.{Answers, HandshakesTo, comes_to, goes_by}
@@ -232,14 +233,14 @@ holds_announces s session sound quiet owed is more =
     one_or false = omega arith
 
 to_the : (s one other : ClientState) → Some one ≡ Some other → HoldsTo s one → HoldsTo s other
-to_the s one other is to = let same : one ≡ other = cc is in subst (HoldsTo s) same to
+to_the s one other is to = let same : one ≡ other = some_same is in subst (HoldsTo s) same to
 
 holds_by : (s : ClientState) (at : Seen) (rule : ClientRule) (held : ClientState) → ClientSound s → ClientMay s at rule → client_holds rule s ≡ Some held → HoldsTo s held
 holds_by s at Puts held sound may is = to_the s s held is (record { what = HoldsOn; holds = refl })
 holds_by s at (Says message) held sound may is = to_the s (holding message s) held is (holds_says s message sound may.1 may.2)
 holds_by s at (Announces session) held sound may is =
     to_the s (announcing session (holding (announcement s session) s)) held is (holds_announces s session sound may.1 may.2 may.3 may.4)
-holds_by s at _ held sound may is = absurd (cc is)
+holds_by s at _ held sound may is = none_is_some is
 
 pub client_waits : (s : ClientState) (at : Seen) (t : ClientState) → ClientSound s → client_holds (client_rule s at) s ≡ Some t → EndWaits (client_core s) (client_core t)
 client_waits s at t sound is = let to = holds_by s at (client_rule s at) t sound (client_may s at) is in record { what = to.what; holds = to.holds }
@@ -283,7 +284,7 @@ put_own_in phase.Established c true at short up still =
     (omega (arith, leb-true (length c.link.to_send) 56 short, length-drop 56 c.link.to_send)) still
 put_own_in phase.Established c false at long up still =
     ap (λ (b : Bool). is_announcing (session_behind (ending b (is_announcing c.session)) c)) long
-put_own_in _ c last at short up still = absurd (cc (sym up ∙ ap is_established at))
+put_own_in _ c last at short up still = true_is_false (sym up ∙ ap is_established at)
 
 infos_announced : (slots pending : ℕ) (open_one : Option ClientSession) → CountsInOrder pending open_one → is_announcing open_one ≡ true
     → infos_left slots (announced open_one) ≤ infos_left slots open_one
@@ -301,9 +302,6 @@ put_infos_in : (ph : LinkPhase) (c : ClientState) → ClientSound c → put_open
 put_infos_in phase.Established c sound opens = own_ends c (nat_le (length c.link.to_send) 56) (is_announcing c.session) refl sound opens
 put_infos_in phase.OwesRdx c sound opens = omega arith
 put_infos_in _ c sound opens = omega arith
-
-opened_is : (b c : Bool) (x : Bool) → b ≡ c → (c || x) ≡ (b || x)
-opened_is b c x is = ap (λ (y : Bool). y || x) (sym is)
 
 record PutsTo (packet : List ℕ) (opens : Bool) (held t : ClientState) : Type 0 where
   handshake : t.handshake ≡ (client_put held).handshake

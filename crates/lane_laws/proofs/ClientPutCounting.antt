@@ -20,6 +20,7 @@ use Rattle.disk_model.specs.LaneState.{Shape}
 use Rattle.disk_model.specs.Offering.{client_offer}
 use Rattle.channel_model.specs.Ranges.{wrapped}
 use Rattle.dring.specs.Slots.{range_length}
+use Rattle.channel_laws.proofs.Apart.{false_is_true, some_is_none, some_same}
 use Rattle.channel_laws.proofs.PutSayings.{SaysWhole, SaysOn}
 use Rattle.channel_laws.proofs.EndStanding.{open_up}
 use Rattle.channel_laws.proofs.HandshakeFitting.{up_fits}
@@ -115,7 +116,7 @@ comes_counting shape c turns packet sid done k rests utters down on counted =
       handshake = up_fits Initiator (client_offer shape.blocks shape.slots) c.handshake counted.handshake;
       holds = λ session is now.
           let up : is_up c.link ≡ true = open_up Initiator (client_core c) turns rests.stands (ap is_some is) in
-          let never : false ≡ true = sym down ∙ up in absurd (cc);
+          false_is_true (sym down ∙ up);
       announced = announced;
       infos = infos;
       acked = counted.acked;
@@ -138,6 +139,13 @@ pub none_left : (c : ClientState) (turns : List Turn) (packet : List ℕ) (hands
     → ((s : ClientSession) → session ≡ Some s → s.announcing ≡ true → ⊥)
     → ClientHolds (record c { link = behind_put c.link; handshake = handshake; session = session }) (Said packet ∷ turns)
 none_left c turns packet handshake session last never = λ s is now. absurd (never s is now)
+
+-- sums over what is announced, of numbers alone
+announced_more : (announced published before now more long : ℕ) → announced ≡ before → announced < published → now ≡ more → more ≡ before + long → long ≡ published - announced → published ≡ now
+announced_more announced published before now more long was some is adds length = omega arith
+
+infos_more : (infos before now more one : ℕ) → infos ≡ before → now ≡ more → more ≡ before + one → one ≡ 1 → infos + 1 ≡ now
+infos_more infos before now more one was is adds single = omega arith
 
 pub own_counting : (shape : Shape) (c : ClientState) (turns : List Turn) (packet : List ℕ) (sid done : ℕ) (k : Option ClientCounts) → ClientSound c → is_announcing c.session ≡ true
     → SaysWhole c.link turns packet → ClientCounted shape c turns done k
@@ -165,20 +173,20 @@ own_counting shape c turns packet sid done k sound own last counted =
     let before : s.announced ≡ range_sum shape.slots 1 (said turns) = ap announced_of (sym info.is) ∙ counted.announced in
     let before_infos : s.infos ≡ range_count 1 (said turns) = ap infos_of (sym info.is) ∙ counted.infos in
     let announced_is : s.published ≡ range_sum shape.slots 1 (said (Said packet ∷ turns)) =
-    omega (arith, before, adds, some, ap (range_sum shape.slots 1) last.messages, sum_more shape.slots 1 (said turns) bytes) in
+    announced_more s.announced s.published _ _ _ _ before some (ap (range_sum shape.slots 1) last.messages) (sum_more shape.slots 1 (said turns) bytes) adds in
     let infos_are : s.infos + 1 ≡ range_count 1 (said (Said packet ∷ turns)) =
-    omega (arith, before_infos, one, ap (range_count 1) last.messages, count_more 1 (said turns) bytes) in
+    infos_more s.infos _ _ _ _ before_infos (ap (range_count 1) last.messages) (count_more 1 (said turns) bytes) one in
     let same : SameButSaid c.session behind = subst (λ (o : Option ClientSession). SameButSaid o behind) (sym info.is) (refl, refl, refl, refl) in
     subst (λ (o : Option ClientSession). ClientCounted shape (record c { link = behind_put c.link; session = o }) (Said packet ∷ turns) done (counts_as shape false turns packet sid done k)) (sym becomes)
     (record {
       slots = counted.slots;
       handshake = counted.handshake;
       holds = none_left c turns packet c.handshake behind last (λ x is now.
-          let here : record s { announced = s.published; infos = s.infos + 1; announcing = false } ≡ x = cc is in
-          let never : false ≡ true = ap (λ (y : ClientSession). y.announcing) here ∙ now in absurd (cc));
+          let here : record s { announced = s.published; infos = s.infos + 1; announcing = false } ≡ x = some_same is in
+          false_is_true (ap (λ (y : ClientSession). y.announcing) here ∙ now));
       announced = announced_is;
       infos = infos_are;
       acked = ap acked_of (sym info.is) ∙ counted.acked;
-      ready = λ none. absurd (cc);
+      ready = λ none. some_is_none none;
       agrees = says_agrees shape c behind turns packet sid done k counted (record { same = same; announced = announced_is; infos = infos_are });
     })

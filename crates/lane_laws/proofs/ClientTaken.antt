@@ -17,6 +17,7 @@ use Rattle.disk_model.specs.ClientTaking.{ClientTake, ClientTakes, GoesOn, Reset
 use Rattle.dring.specs.Slots.{range_length}
 use Rattle.channel_model.specs.Sayings.{heard}
 use Rattle.lane_laws.proofs.ClientAnswers.{Answers, GoesBy, HandshakesTo, comes_to, goes_by}
+use Rattle.channel_laws.proofs.Apart.{none_is_some}
 use Rattle.channel_laws.proofs.EndStanding.{heard_leaves}
 use Rattle.channel_laws.proofs.EndCases.{HearsUp, link_hears}
 use Rattle.channel_laws.proofs.HandshakeCases.{HandshakeTook, goes_took, opens_took}
@@ -86,7 +87,7 @@ took_to h message true g is = opens_took h g message is
 -- a message is whole where the link was up
 pub was_up : (up : Bool) (whole : Option (List ℕ)) (bytes : List ℕ) → (up ≡ false → whole ≡ None) → whole ≡ Some bytes → up ≡ true
 was_up true whole bytes quiet is = refl
-was_up false whole bytes quiet is = let never : None ≡ Some bytes = sym (quiet refl) ∙ is in absurd (cc never)
+was_up false whole bytes quiet is = none_is_some (sym (quiet refl) ∙ is)
 
 answers : (s : ClientState) (turns : List Turn) (packet : List ℕ) (k : LinkState) (message : Message) → k.to_send ≡ s.link.to_send → is_up s.link ≡ true → is_up k ≡ true
     → HearsMessage turns packet message → Answers s k message (TookOn s turns packet)

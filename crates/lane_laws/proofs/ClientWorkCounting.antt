@@ -18,7 +18,7 @@ use Rattle.lane_laws.specs.Agreement.{ClientAgrees, ClientCountsAgree}
 use Rattle.channel_model.specs.Messages.{range_in}
 use Rattle.lane_laws.specs.WorkLog.{ClientCounts, change_client, length_in, one_in}
 use Rattle.disk_model.specs.ClientPutting.{announcement, announcing, client_holds, holding, is_announcing, opened_if}
-use Rattle.disk_model.specs.ClientRule.{Announces, ClientRule, Completes, Joins, Publishes, Puts, Idles, Says, Takes}
+use Rattle.disk_model.specs.ClientRule.{Announces, ClientRule, Completes, Publishes, Puts, Says}
 use Rattle.disk_model.specs.ClientState.{ClientSession, ClientState, first_id, opened_session}
 use Rattle.disk_model.specs.ClientStep.{ClientAdmits, ClientCompletes, ClientPublishes}
 use Rattle.disk_model.specs.DiskEvent.{Accepted, Admitted, Full, Refused}
@@ -26,6 +26,7 @@ use Rattle.disk_model.specs.LaneState.{Shape}
 use Rattle.disk_model.specs.Offering.{client_offer}
 use Rattle.channel_model.specs.Seeing.{Seen}
 use Rattle.lane_laws.proofs.ClientPutCounting.{counts_as, none_left, put_as, same_said, says_agrees}
+use Rattle.channel_laws.proofs.Apart.{false_is_true, none_is_some, some_is_none, some_same}
 use Rattle.channel_laws.proofs.PutSayings.{SaysWhole}
 use Rattle.channel_laws.proofs.EndStanding.{open_up, owing_up, up_empty}
 use Rattle.channel_laws.proofs.HandshakeFitting.{sent_fits}
@@ -86,6 +87,9 @@ not_ready : (b : Bool) (bytes : List ℕ) → is_ready bytes ≡ b → (is_ready
 not_ready true bytes is never = absurd (never is)
 not_ready false bytes is never = ap one_where is
 
+none_more : (n : ℕ) → n ≡ n + 0
+none_more n = omega arith
+
 handshake_as : (opens : Bool) (shape : Shape) (c : ClientState) (turns : List Turn) (packet : List ℕ) (sid done : ℕ) (k : Option ClientCounts) → opens_by_put c.handshake.role c.handshake.phase ≡ opens
     → ClientRests c turns → first_id c ≡ done → is_announcing c.session ≡ false → SaysWhole c.link turns packet → ClientCounted shape c turns done k
     → ClientCounted shape (record c { link = behind_put c.link; handshake = handshake_sent c.handshake; session = opened_if opens c }) (Said packet ∷ turns) done (counts_as shape opens turns packet sid done k)
@@ -96,13 +100,13 @@ handshake_as true shape c turns packet sid done k is rests first own last counte
       slots = counted.slots;
       handshake = sent_fits Initiator (client_offer shape.blocks shape.slots) c.handshake counted.handshake;
       holds = none_left c turns packet (handshake_sent c.handshake) (Some (opened_session (first_id c))) last (λ s now announces.
-          let here : opened_session (first_id c) ≡ s = cc is in
-          let never : false ≡ true = ap (λ (x : ClientSession). x.announcing) here ∙ announces in absurd (cc));
-      announced = omega (arith, same.ranges, counted.announced, ap announced_of none);
-      infos = omega (arith, same.infos, counted.infos, ap infos_of none);
-      acked = omega (arith, counted.acked, ap acked_of none);
-      ready = λ absent. absurd (cc);
-      agrees = record { base = first; published = refl; announced = refl; infos = refl; acked = refl; completed = omega arith };
+          let here : opened_session (first_id c) ≡ s = some_same now in
+          false_is_true (ap (λ (x : ClientSession). x.announcing) here ∙ announces));
+      announced = sym (ap announced_of none) ∙ counted.announced ∙ sym same.ranges;
+      infos = sym (ap infos_of none) ∙ counted.infos ∙ sym same.infos;
+      acked = sym (ap acked_of none) ∙ counted.acked;
+      ready = λ absent. some_is_none absent;
+      agrees = record { base = first; published = refl; announced = refl; infos = refl; acked = refl; completed = none_more done };
     }
 handshake_as false shape c turns packet sid done k is rests first own last counted =
     let owed = puts_owed shape c turns packet done k rests own last counted in
@@ -113,12 +117,12 @@ handshake_as false shape c turns packet sid done k is rests first own last count
     let unready : one_where (is_ready bytes) ≡ 0 = not_ready (is_ready bytes) bytes refl (λ test.
     let phase : c.handshake.phase ≡ PeerReadyTaken = canonical_ready c.handshake.phase owed.message owed.may (ap is_ready (sym owed.bytes_are) ∙ test) in
     let now : opens_by_put c.handshake.role c.handshake.phase ≡ true = ap (λ (r : Role). opens_by_put r c.handshake.phase) counted.handshake.role_is ∙ ap (λ (p : Phase). opens_by_put Initiator p) phase in
-    let never : false ≡ true = sym is ∙ now in absurd (cc)) in
+    false_is_true (sym is ∙ now)) in
     record {
       slots = counted.slots;
       handshake = sent_fits Initiator (client_offer shape.blocks shape.slots) c.handshake counted.handshake;
       holds = none_left c turns packet (handshake_sent c.handshake) c.session last (λ s now announces.
-          let never : false ≡ true = sym own ∙ ap is_announcing now ∙ announces in absurd (cc));
+          false_is_true (sym own ∙ ap is_announcing now ∙ announces));
       announced = announced;
       infos = infos;
       acked = counted.acked;
@@ -162,10 +166,10 @@ says_counting shape c turns message done k known free owed counted =
 
 announcing_agrees : (o : Option ClientSession) (session : ClientSession) (done : ℕ) (k : Option ClientCounts) → o ≡ Some session → ClientAgrees o done k
     → ClientAgrees (Some (record session { announcing = true })) done k
-announcing_agrees None session done k is agrees = absurd (cc is)
+announcing_agrees None session done k is agrees = none_is_some is
 announcing_agrees (Some s) session done None is agrees = absurd agrees
 announcing_agrees (Some s) session done (Some c) is agrees =
-    let same : s ≡ session = cc is in
+    let same : s ≡ session = some_same is in
     subst (λ (x : ClientSession). ClientCountsAgree (record x { announcing = true }) done c) same
     (record { base = agrees.base; published = agrees.published; announced = agrees.announced; infos = agrees.infos; acked = agrees.acked; completed = agrees.completed })
 
@@ -189,7 +193,7 @@ announces_counting shape c turns session done k known free is counted =
 
 held_is : (shape : Shape) (one other : ClientState) (turns : List Turn) (done : ℕ) (k : Option ClientCounts) → Some one ≡ Some other → ClientCounted shape one turns done k
     → ClientCounted shape other turns done k
-held_is shape one other turns done k is counted = let same : one ≡ other = cc is in subst (λ (x : ClientState). ClientCounted shape x turns done k) same counted
+held_is shape one other turns done k is counted = let same : one ≡ other = some_same is in subst (λ (x : ClientState). ClientCounted shape x turns done k) same counted
 
 pub client_holds_counting : (shape : Shape) (c : ClientState) (at : Seen) (rule : ClientRule) (held : ClientState) (turns : List Turn) (done : ℕ) (k : Option ClientCounts) → ClientSound c
     → ClientRests c turns → ClientUtters c turns → ClientMay c at rule → client_holds rule c ≡ Some held → ClientCounted shape c turns done k → ClientCounted shape held turns done k
@@ -200,19 +204,15 @@ client_holds_counting shape c at (Says message) held turns done k sound rests ut
 client_holds_counting shape c at (Announces session) held turns done k sound rests utters may is counted =
     held_is shape (announcing session (holding (announcement c session) c)) held turns done k is
     (announces_counting shape c turns session done k (record { sound = sound; rests = rests; utters = utters }) may.1 may.3 counted)
-client_holds_counting shape c at Joins held turns done k sound rests utters may is counted = absurd (cc)
-client_holds_counting shape c at (Completes session) held turns done k sound rests utters may is counted = absurd (cc)
-client_holds_counting shape c at (Takes packet) held turns done k sound rests utters may is counted = absurd (cc)
-client_holds_counting shape c at (Publishes session request) held turns done k sound rests utters may is counted = absurd (cc)
-client_holds_counting shape c at Idles held turns done k sound rests utters may is counted = absurd (cc)
+client_holds_counting shape c at _ held turns done k sound rests utters may is counted = none_is_some is
 
 -- ITS WORK: it publishes a request
 published_agrees : (o : Option ClientSession) (session : ClientSession) (done : ℕ) (k : Option ClientCounts) → o ≡ Some session → ClientAgrees o done k
     → ClientAgrees (Some (record session { published = session.published + 1 })) done (change_client (λ (c : ClientCounts). record c { published = c.published + 1 }) k)
-published_agrees None session done k is agrees = absurd (cc is)
+published_agrees None session done k is agrees = none_is_some is
 published_agrees (Some s) session done None is agrees = absurd agrees
 published_agrees (Some s) session done (Some c) is agrees =
-    let same : s ≡ session = cc is in
+    let same : s ≡ session = some_same is in
     subst (λ (x : ClientSession). ClientCountsAgree (record x { published = x.published + 1 }) done (record c { published = c.published + 1 })) same
     (record { base = agrees.base; published = ap (λ (n : ℕ). n + 1) agrees.published; announced = agrees.announced; infos = agrees.infos; acked = agrees.acked; completed = agrees.completed })
 
@@ -239,10 +239,10 @@ client_publishes_counting shape c at memory id t new turns done k sound rests st
 -- it completes one
 completed_agrees : (o : Option ClientSession) (session : ClientSession) (done : ℕ) (k : Option ClientCounts) → o ≡ Some session → ClientAgrees o done k
     → ClientAgrees (Some (record session { completed = session.completed + 1 })) (done + 1) k
-completed_agrees None session done k is agrees = absurd (cc is)
+completed_agrees None session done k is agrees = none_is_some is
 completed_agrees (Some s) session done None is agrees = absurd agrees
 completed_agrees (Some s) session done (Some c) is agrees =
-    let same : s ≡ session = cc is in
+    let same : s ≡ session = some_same is in
     subst (λ (x : ClientSession). ClientCountsAgree (record x { completed = x.completed + 1 }) (done + 1) c) same
     (record {
       base = agrees.base;

@@ -6,6 +6,7 @@ use Rattle.disk_model.specs.ClientState.{ClientSession}
 use Rattle.channel_model.specs.OwnMemory.{IsPowerOfTwo}
 use Rattle.channel_model.specs.Ranges.{wrapped}
 use Rattle.disk_model.specs.ServerState.{ServerSession, Work}
+use Rattle.channel_laws.proofs.Apart.{none_is_some, some_same}
 
 -- a client's session is open in the log too, with its counts
 pub record OfClient (session : ClientSession) (done : ℕ) (k : Option ClientCounts) : Type 0 where
@@ -14,11 +15,11 @@ pub record OfClient (session : ClientSession) (done : ℕ) (k : Option ClientCou
   pub agree : ClientCountsAgree session done counts
 
 pub of_client : (o : Option ClientSession) (session : ClientSession) (done : ℕ) (k : Option ClientCounts) → o ≡ Some session → ClientAgrees o done k → OfClient session done k
-of_client None session done k is agrees = let both : None ≡ Some session = is in absurd (cc)
+of_client None session done k is agrees = none_is_some (is)
 of_client (Some other) session done None is agrees = absurd agrees
 of_client (Some other) session done (Some c) is agrees =
     let both : Some other ≡ Some session = is in
-    let same : other ≡ session = cc in
+    let same : other ≡ session = some_same both in
     record { counts = c; is = refl; agree = subst (λ (s : ClientSession). ClientCountsAgree s done c) same agrees }
 
 -- and a server's, with its work
@@ -29,11 +30,11 @@ pub record OfServer (session : ServerSession) (work : Option Work) (d : Option S
   pub work_agrees : WorkAgrees work counts
 
 pub of_server : (o : Option ServerSession) (session : ServerSession) (work : Option Work) (d : Option ServerCounts) → o ≡ Some session → ServerAgrees o work d → OfServer session work d
-of_server None session work d is agrees = let both : None ≡ Some session = is in absurd (cc)
+of_server None session work d is agrees = none_is_some (is)
 of_server (Some other) session work None is agrees = absurd agrees
 of_server (Some other) session work (Some c) is agrees =
     let both : Some other ≡ Some session = is in
-    let same : other ≡ session = cc in
+    let same : other ≡ session = some_same both in
     record { counts = c; is = refl; agree = subst (λ (s : ServerSession). ServerCountsAgree s c) same agrees.0; work_agrees = agrees.1 }
 
 -- A RING has 2, 4, 8 slots and so on up to 256, so that a number modulo 2^64 has its slot

@@ -4,6 +4,7 @@ use Rattle.runs.specs.Lawful.{log_of}
 use Rattle.runs.specs.Run.{Run}
 use Rattle.ldc_queue.specs.declared.end.ChannelState.TheVariants.{Up}
 use Rattle.disk_model.specs.DiskEvent.{DiskEvent}
+use Rattle.channel_laws.proofs.Apart.{some_same}
 use Rattle.lane_laws.specs.DiskLog.{DiskLog, after, nothing_yet}
 use Rattle.disk_model.specs.LaneState.{IsShape, LaneState, Shape, fresh}
 use Rattle.disk_model.specs.LaneStep.{LaneStep}
@@ -31,7 +32,7 @@ counts_in_turn shape events s k d sound run clean client server =
     let up : l.wire.wire.end_b ≡ Up = ap (λ (w : WireLog). w.wire.end_b) (sym wire) ∙ ups.1 in
     let one : OneRing s l.work d = if_server (OneRing s l.work) l.work.server d server ((always_agree shape sound events s run clean).ring up) in
     let both : Some one.client ≡ Some k = sym one.open_is ∙ client in
-    let same : one.client ≡ k = cc both in
+    let same : one.client ≡ k = some_same both in
     let acked : one.client.acked ≡ k.acked = ap (λ (c : ClientCounts). c.acked) same in
     let announced : one.client.announced ≡ k.announced = ap (λ (c : ClientCounts). c.announced) same in
     record {

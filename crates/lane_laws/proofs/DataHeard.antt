@@ -1,5 +1,5 @@
 -- A range or the answer to one, heard: its bytes decode to it, whatever the fields are that nobody compares.
-use Rattle.std.proofs.Common.{◌≡◌, ℕ, ◌^◌, ◌<◌, Some, None, List, length, refl, sym, ap, ◌∙◌, subst, arith}
+use Rattle.std.proofs.Common.{◌≡◌, ℕ, ◌^◌, ◌<◌, List, length, refl, sym, ap, ◌∙◌, subst, arith}
 use Rattle.std.specs.Prelude.{Result, Ok, Err}
 use Rattle.ldc_packet.specs.declared.packet.Subtype.{Subtype}
 use Rattle.vio_bytes.specs.Place.{number_at}
@@ -12,12 +12,13 @@ use Rattle.vio_tag.specs.declared.message.TagFault.{TagFault}
 use Rattle.vio_tag.specs.Decoding.{Decodes}
 use Rattle.vio_tag.specs.Form.{IsWellFormed}
 use Rattle.vio_tag.specs.Spelling.{SpellsMessage, canonical, envelope_at, sid_at, subtype_at, type_at}
+use Rattle.channel_laws.proofs.Apart.{some_is_none}
 
 -- bytes that spell a message decode to it
 pub decodes_to : (bytes : List ℕ) (m : Message) (decoded : Result Message TagFault) → IsWellFormed m → SpellsMessage bytes m → Decodes bytes decoded → decoded ≡ Ok m
 decodes_to bytes m (Ok d) form spells decodes = ap Ok (spelled_once bytes d m decodes.message.0 form decodes.message.1 spells)
 decodes_to bytes m (Err fault) form spells decodes =
-    let never : Some fault ≡ None = sym decodes.fault ∙ spelled_no_fault bytes m form spells in absurd (cc never)
+    some_is_none (sym decodes.fault ∙ spelled_no_fault bytes m form spells)
 
 -- THE FIELDS of canonical bytes, with the two that nobody compares as they are read back
 data_of : Subtype → ℕ → ℕ → ℕ → ℕ → ℕ → ℕ → Message

@@ -1,10 +1,11 @@
 -- What a request that is published or done, and a descriptor that gets its status, are to a lane's view.
-use Rattle.std.proofs.Common.{◌≡◌, ℕ, ◌+◌, ◌-◌, ◌*◌, ◌%◌, ◌<◌, Some, None, List, [], ◌∷◌, drop, refl, sym, ap, ◌∙◌, subst, arith}
+use Rattle.std.proofs.Common.{◌≡◌, ℕ, ◌+◌, ◌-◌, ◌*◌, ◌%◌, ◌^◌, ◌<◌, ◌≤◌, Some, None, List, [], ◌∷◌, drop, length, refl, sym, ap, ◌∙◌, subst, arith}
 use Rattle.std.specs.Prelude.{slice_get}
 use Rattle.std.proofs.lemmas.Nat.{mod_below}
 use Rattle.ldc_queue.specs.declared.end.End.TheVariants.{A, B}
 use Rattle.vdisk_msg.proofs.Written.{is_admitted}
 use Rattle.vdisk_msg.specs.declared.request.Request.{Request}
+use Rattle.channel_laws.proofs.Apart.{some_same}
 use Rattle.lane_laws.specs.DiskLog.{DiskLog}
 use Rattle.disk_model.specs.ClientRule as client_rules
 use Rattle.disk_model.specs.ClientState.{ClientState}
@@ -66,7 +67,7 @@ published_changes s l id t before step =
 -- THE FIRST IS DONE
 pub front_split : (pending : List Request) (request : Request) → slice_get pending 0 ≡ Some request → pending ≡ request ∷ drop 1 pending
 front_split [] request is = absurd (cc is)
-front_split (first ∷ pending) request is = let same : first ≡ request = cc is in ap (λ (r : Request). r ∷ pending) same
+front_split (first ∷ pending) request is = let same : first ≡ request = some_same is in ap (λ (r : Request). r ∷ pending) same
 
 pub done_changes : (s : LaneState) (l : DiskLog) (id operation status : ℕ) (bytes : List ℕ) (t : LaneState) → Before s l → WorkStep s (Done id operation status bytes) t
     → Changed s (Works (Done id operation status bytes)) t
@@ -99,6 +100,12 @@ done_changes s l id operation status bytes t before step =
     }
 
 -- A DESCRIPTOR GETS ITS STATUS
+small_finished : (finished same descs asked : ℕ) → finished ≡ same → descs ≡ same + 1 → descs ≤ asked → asked < 2 ^ 64 → finished < 2 ^ 64
+small_finished finished same descs asked is single few small = omega arith
+
+pub risen_one : (k now pending slots : ℕ) → now ≡ risen k 1 → k ≤ pending → pending ≤ slots → slots ≤ 256 → now ≡ k + 1
+risen_one k now pending slots is few within most = omega arith
+
 pub finished_changes : (s : LaneState) (l : DiskLog) (slot status : ℕ) (t : LaneState) → Before s l → WorkStep s (Finished slot status) t → Changed s (Works (Finished slot status)) t
 finished_changes s l slot status t before step =
     let at = seen B s.shape.entries s.wire.wire in
@@ -111,14 +118,14 @@ finished_changes s l slot status t before step =
     let work = at_work s l f.session known may.0 may.1 in
     let d = work.of.counts in
     let single = on.has.one in
-    let same_d : on.at.of.counts ≡ d = let two : Some on.at.of.counts ≡ Some d = sym on.at.of.open_is ∙ work.of.open_is in cc two in
+    let same_d : on.at.of.counts ≡ d = let two : Some on.at.of.counts ≡ Some d = sym on.at.of.open_is ∙ work.of.open_is in some_same two in
     let slots = slots_are s l known.stands in
     let descs = on.at.one.descs in
     let fits = on.at.one.small in
     let d_finished : d.finished ≡ on.at.of.counts.finished = ap (λ x. x.finished) (sym same_d) in
-    let next : slot ≡ d.finished % l.shape.slots = f.slot_is ∙ numbered s l f.session work f.session.finished d.finished known.stands work.of.agree.finished (omega (arith, single, descs, fits, d_finished)) in
+    let next : slot ≡ d.finished % l.shape.slots = f.slot_is ∙ numbered s l f.session work f.session.finished d.finished known.stands work.of.agree.finished (small_finished d.finished on.at.of.counts.finished on.at.of.counts.descs on.at.of.counts.asked d_finished single descs fits) in
     let place : slot ≡ on.at.of.counts.finished % l.shape.slots = next ∙ ap (λ (m : ℕ). m % l.shape.slots) d_finished in
-    let below : slot < l.shape.slots = omega (arith, next, work_below s l d known) in
+    let below : slot < l.shape.slots = subst (λ (n : ℕ). n < l.shape.slots) (sym next) (work_below s l d known) in
     let holds : HoldsIssued (ring_in l) slot on.id 2 0 f.work.bytes = subst (λ (j : ℕ). HoldsIssued (ring_in l) j on.id 2 0 f.work.bytes) (sym place) on.holds in
     let new = with_done s.server r slot f.work status in
     let ended = ended_behind (ring_in l) s.server r (pages_of l.shape) slot on.id status f.work (work.reaches at.both) below holds f.status_written f.done_written in
@@ -129,7 +136,7 @@ finished_changes s l slot status t before step =
     let pending = known.sound.pending in
     let few = known.sound.slots in
     let k_is : t.near.k ≡ risen s.near.k 1 = ap (λ (x : NearCounts). x.k) near in
-    let k : t.near.k ≡ s.near.k + 1 = omega (arith, k_is, finished, pending, few) in
+    let k : t.near.k ≡ s.near.k + 1 = risen_one s.near.k t.near.k (length s.client.pending) s.client.slots k_is finished pending few in
     record {
       kind = Ended;
       change = record {

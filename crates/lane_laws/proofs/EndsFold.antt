@@ -39,6 +39,7 @@ use Rattle.lane_laws.proofs.ClientFolds.{ClientIs, client_admits_so, client_begi
 use Rattle.lane_laws.proofs.Speaking.{client_blocked_rests, holds_owed}
 use Rattle.lane_laws.proofs.ClientTaken.{client_took_what}
 use Rattle.lane_laws.proofs.Speaking.{client_blocked_utters}
+use Rattle.channel_laws.proofs.Apart.{false_is_true, none_is_some, some_is_none, some_same}
 use Rattle.channel_laws.proofs.PutSayings.{put_says}
 use Rattle.channel_laws.proofs.EndStanding.{hears_sending, open_up}
 use Rattle.lane_laws.proofs.LaneCounting.{Knows, knows_step, run_knows}
@@ -90,14 +91,10 @@ made_server s v is = subst (λ (x : ServerState). ServerIs x [] Clear) (sym is) 
 
 -- what a server holds leaves its session
 pub held_session : (s : ServerState) (rule : server_rules.ServerRule) (held : ServerState) → server_holds rule s ≡ Some held → held.session ≡ s.session
-held_session s server_rules.Puts held is = let same : s ≡ held = cc is in ap (λ (x : ServerState). x.session) (sym same)
+held_session s server_rules.Puts held is = let same : s ≡ held = some_same is in ap (λ (x : ServerState). x.session) (sym same)
 held_session s (server_rules.Says message) held is =
     let same : record s { link = offered (canonical message) s.link } ≡ held = cc is in ap (λ (x : ServerState). x.session) (sym same)
-held_session s server_rules.Joins held is = absurd (cc)
-held_session s (server_rules.Fetches session) held is = absurd (cc)
-held_session s (server_rules.Serves session work) held is = absurd (cc)
-held_session s (server_rules.Takes packet) held is = absurd (cc)
-held_session s server_rules.Idles held is = absurd (cc)
+held_session s _ held is = none_is_some is
 
 -- THE CLIENT on the wire
 pub first_false : (a b c : Bool) → (a || b || c) ≡ false → a ≡ false
@@ -351,7 +348,7 @@ has k half b (byte ∷ xs) y known some at stuck = ap (λ (zs : List ℕ). not (
 has k half b [] true known some at stuck = ap (λ (z : Bool). not (is_empty half) || z) stuck ∙ or_true (not (is_empty half))
 has k half b [] false known some at stuck =
     let fresh : k.begun ≡ false = known.begun ∙ ap (λ (zs : List ℕ). not (is_empty zs)) at in
-    let never : false ≡ true = sym stuck ∙ known.left fresh some in absurd (cc)
+    false_is_true (sym stuck ∙ known.left fresh some)
 
 has_none : (k : LinkState) (half : List ℕ) (b : Blockage) (y : Bool) → Left k half b → is_up k ≡ true → k.to_send ≡ [] → is_stuck b ≡ y → has_begun half b ≡ false
 has_none k half b false known up none stuck = ap (λ (zs : List ℕ). not (is_empty zs) || is_stuck b) (known.free none) ∙ stuck
@@ -372,12 +369,12 @@ owed_is_left : (k : LinkState) (half : List ℕ) (b : Blockage) (owed : Option M
 owed_is_left k half b None [] known is holds free = is
 owed_is_left k half b None (byte ∷ left) known is holds free =
     let some : HoldsOwed None (half ++ byte ∷ left) = holds (omega arith) in
-    let never : None ≡ Some some.message = some.owed_is in absurd (cc)
+    none_is_some (some.owed_is)
 owed_is_left k half b (Some message) [] known is holds free = none_left k half (canonical message) b known (awake (is_up k) refl) is
   where
     awake : (up : Bool) → is_up k ≡ up → is_up k ≡ true
     awake true at = at
-    awake false at = let never : Some message ≡ None = free at in absurd (cc)
+    awake false at = some_is_none (free at)
 owed_is_left k half b (Some message) (byte ∷ left) known is holds free =
     let some : HoldsOwed (Some message) (half ++ byte ∷ left) = holds (omega arith) in
     let same : some.message ≡ message = (let mine : Some message ≡ Some some.message = some.owed_is in cc) in

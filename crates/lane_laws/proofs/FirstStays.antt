@@ -8,6 +8,7 @@ use Rattle.ldc_queue.specs.declared.end.End.TheVariants.{A, B}
 use Rattle.ldc_queue.specs.Transcript.{Turn}
 use Rattle.vio_tag.specs.declared.cause.Cause.{Cause}
 use Rattle.channel_model.specs.WireEvent.{Blocked, ByRestart, ByScript, ByStep, ByTick, Declines, Giver, Idle, Injected, Joined, Lost, Poked, Reset, Sent, Took, WireEvent, giver}
+use Rattle.channel_laws.proofs.Apart.{none_is_some}
 use Rattle.lane_laws.specs.DiskLog.{DiskLog, after, nothing_yet}
 use Rattle.disk_model.specs.DiskEvent.{Asks, Desc, DiskEvent, Done, Finished, Misplaced, Moved, Off, OnWire, Published, Calms, Started, Stopped, Stored, Switched, Switches, Worked, Works}
 use Rattle.disk_model.specs.LaneState.{IsShape, LaneState, Shape, fresh}
@@ -29,11 +30,7 @@ first_in (Some x) otherwise = x.first
 held_first : (s : ServerState) (rule : server.ServerRule) (held : ServerState) → server_holds rule s ≡ Some held → held.first ≡ s.first
 held_first s server.Puts held is = ap (λ (o : Option ServerState). first_in o 0) (sym is)
 held_first s (server.Says message) held is = ap (λ (o : Option ServerState). first_in o 0) (sym is)
-held_first s server.Joins held is = absurd (cc)
-held_first s (server.Fetches session) held is = absurd (cc)
-held_first s (server.Serves session work) held is = absurd (cc)
-held_first s (server.Takes packet) held is = absurd (cc)
-held_first s server.Idles held is = absurd (cc)
+held_first s _ held is = none_is_some is
 
 took_first : (s : ServerState) (turns : List Turn) (packet : List ℕ) (t : ServerState) (opens : Bool) → ServerTook s turns packet t opens → t.first ≡ s.first
 took_first s turns packet t opens (inl part) = ap (λ (x : ServerState). x.first) part.is

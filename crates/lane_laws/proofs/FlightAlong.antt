@@ -28,6 +28,7 @@ use Rattle.lane_laws.specs.Budget.{infos_begun}
 use Rattle.lane_laws.specs.Counted.{range_count}
 use Rattle.lane_laws.specs.Remaining.{client_packets, server_packets}
 use Rattle.lane_laws.specs.Sound.{ClientSound}
+use Rattle.channel_laws.proofs.Apart.{true_is_false}
 
 -- RESETS that no step gave
 client_called : (shape : Shape) (events : List DiskEvent) (s : LaneState) (cause : Cause) (packet : Option (List ℕ)) (lost : ℕ) (t : LaneState) → StepKnown shape events s (OnWire (Reset A cause packet lost)) t
@@ -72,7 +73,7 @@ lost_by B s packet t turns step flight =
     })
 
 never_forged : (s t u : LaneState) (turns : List Turn) → t ≡ u → u.wire.forged ≡ true → t.wire.forged ≡ false → InFlight t turns
-never_forged s t u turns is forged clean = let never : true ≡ false = sym forged ∙ sym (ap (λ (x : LaneState). x.wire.forged) is) ∙ clean in absurd (cc never)
+never_forged s t u turns is forged clean = true_is_false (sym forged ∙ sym (ap (λ (x : LaneState). x.wire.forged) is) ∙ clean)
 
 poked_by : (e : End) (s : LaneState) (at : ℕ) (bytes : List ℕ) (t : LaneState) (turns : List Turn) → WireStep s (Poked e at bytes) t → t.wire.forged ≡ false → InFlight t turns
 poked_by A s at bytes t turns step clean = never_forged s t (record s { wire = wire_moved s.wire (Poked A at bytes); memory = _ }) turns step.1 refl clean

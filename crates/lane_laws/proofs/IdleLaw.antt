@@ -8,6 +8,7 @@ use Rattle.ldc_queue.specs.Wire.{waiting_for}
 use Rattle.vdisk_msg.specs.declared.request.Request.{Request}
 use Rattle.channel_model.specs.WireEvent.{Blocked, Declines, Idle, Injected, Joined, Lost, Poked, Reset, Sent, Took, WireEvent}
 use Rattle.channel_model.specs.WireLog.{WireLog}
+use Rattle.channel_laws.proofs.Apart.{some_same}
 use Rattle.channel_laws.proofs.EndsAtRest.{none_waits}
 use Rattle.lane_laws.specs.Agreement.{ClientAgrees, ServerAgrees, WorkAgrees}
 use Rattle.lane_laws.specs.DiskLog.{DiskLog}
@@ -52,7 +53,7 @@ idle_client s l grounded idles =
     some_client s.client.session l.work.done l.work.client (ClientIsIdle l) grounded.knows.counted.client.agrees (λ session c is has.
     let of = of_client s.client.session session l.work.done l.work.client is grounded.knows.counted.client.agrees in
     let both : Some of.counts ≡ Some c = sym of.is ∙ has in
-    let same : of.counts ≡ c = cc in
+    let same : of.counts ≡ c = some_same both in
     let order : InOrder (length s.client.pending) session =
     in_order (length s.client.pending) s.client.session session is grounded.knows.all.sound.counts in
     let stand = grounded.knows.all.stands.requests in
@@ -77,7 +78,7 @@ idle_server s l grounded idles =
     let of : OfServer session s.server.work l.work.server =
     of_server s.server.session session s.server.work l.work.server is grounded.knows.counted.server.agrees in
     let both : Some of.counts ≡ Some c = sym of.is ∙ has in
-    let same : of.counts ≡ c = cc in
+    let same : of.counts ≡ c = some_same both in
     let order : InServerOrder l.shape.slots session of.counts l.transcript.server =
     order_of l.shape.slots s.server.session session l.work.server of.counts l.transcript.server is of.is grounded.knows.counted.server.order in
     let all : of.counts.answered ≡ of.counts.asked =

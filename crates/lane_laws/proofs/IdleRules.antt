@@ -14,6 +14,7 @@ use Rattle.disk_model.specs.ClientState.{ClientSession, ClientState}
 use Rattle.channel_model.specs.Seeing.{Seen}
 use Rattle.disk_model.specs.ServerRule as server
 use Rattle.disk_model.specs.ServerState.{ServerSession, ServerState, SlotRange, Work}
+use Rattle.channel_laws.proofs.Apart.{none_is_some, some_same, true_is_false}
 
 -- a packet of the link's handshake is one that is owed
 pub control_in : (ph : LinkPhase) (k : LinkState) → owes_in ph ≡ true → is_some (owed_in ph k) ≡ true
@@ -31,7 +32,7 @@ control_in phase.AwaitsRdx k is = absurd (cc)
 control_in phase.Established k is = absurd (cc)
 
 not_owing : (a b c d : Bool) → (a ≡ true → c ≡ true) → c ≡ false → b ≡ false → (a || b || (d && c)) ≡ false
-not_owing true b c d owes free none = let both : true ≡ false = sym (owes refl) ∙ free in cc
+not_owing true b c d owes free none = true_is_false (sym (owes refl) ∙ free)
 not_owing false false false true owes free none = refl
 not_owing false false false false owes free none = refl
 not_owing false true c d owes free none = absurd (cc)
@@ -70,7 +71,7 @@ announces_rests s session false free none is published announced = record {
   owed = none;
   session = λ other now.
       let both : Some session ≡ Some other = sym is ∙ now in
-      let same : session ≡ other = cc in
+      let same : session ≡ other = some_same both in
       subst (λ (x : ClientSession). HasDone s x) same (record { announced = announced; published = published });
 }
 
@@ -80,7 +81,7 @@ next_rests s session None free none is published = announces_rests s session (na
 next_rests s session (Some request) free none is published = (free, none)
 
 session_rests : (s : ClientState) (open_one : Option ClientSession) → owes s.link ≡ false → s.handshake.owed ≡ None → s.session ≡ open_one → WhereRests s (client.in_session s open_one)
-session_rests s None free none is = record { free = free; owed = none; session = λ session now. let both : None ≡ Some session = sym is ∙ now in absurd (cc) }
+session_rests s None free none is = record { free = free; owed = none; session = λ session now. none_is_some (sym is ∙ now) }
 session_rests s (Some session) free none is = next_rests s session (slice_get s.pending (session.published - session.completed)) free none is refl
 
 says_rests : (s : ClientState) (owed : Option Message) → owes s.link ≡ false → s.handshake.owed ≡ owed → WhereRests s (client.says s owed)
@@ -123,14 +124,14 @@ takes_rests s at None is = with_first s at (client.puts_first s) is (puts_rests 
 takes_rests s at (Some packet) is = tt
 
 never_urgent : (s : ClientState) (at : Seen) (rule : client.ClientRule) → client.is_urgent s ≡ true → WhereRests s rule → WhereRestsAt s at rule
-never_urgent s at client.Idles urgent rests = let both : true ≡ false = sym urgent ∙ not_urgent s rests.free rests.owed in absurd (cc)
+never_urgent s at client.Idles urgent rests = true_is_false (sym urgent ∙ not_urgent s rests.free rests.owed)
 never_urgent s at client.Joins urgent rests = tt
 never_urgent s at (client.Completes session) urgent rests = tt
 never_urgent s at (client.Takes packet) urgent rests = tt
 never_urgent s at client.Puts urgent rests = tt
 never_urgent s at (client.Says message) urgent rests = tt
 never_urgent s at (client.Announces session) urgent rests = rests
-never_urgent s at (client.Publishes session request) urgent rests = let both : true ≡ false = sym urgent ∙ not_urgent s rests.0 rests.1 in absurd (cc)
+never_urgent s at (client.Publishes session request) urgent rests = true_is_false (sym urgent ∙ not_urgent s rests.0 rests.1)
 
 urgent_rests : (s : ClientState) (at : Seen) (b : Bool) → client.is_urgent s ≡ b → WhereRestsAt s at (if b then client.puts_first s else client.takes_first at.first (client.puts_first s))
 urgent_rests s at true is = never_urgent s at (client.puts_first s) is (puts_rests s (owes s.link) refl)
@@ -171,13 +172,13 @@ completes_idles s at session false is more =
     with_completed s at (client.puts_or_takes s at)
     (λ other now.
     let both : Some session ≡ Some other = sym is ∙ now in
-    let same : session ≡ other = cc in
+    let same : session ≡ other = some_same both in
     subst (λ (x : ClientSession). nat_lt x.completed x.acked ≡ false) same more)
     (urgent_rests s at (client.is_urgent s) refl)
 
 first_idles : (s : ClientState) (at : Seen) (open_one : Option ClientSession) → s.session ≡ open_one → ClientGoes s at (client.completes_first open_one (client.puts_or_takes s at))
 first_idles s at None is =
-    with_completed s at (client.puts_or_takes s at) (λ session now. let both : None ≡ Some session = sym is ∙ now in absurd (cc)) (urgent_rests s at (client.is_urgent s) refl)
+    with_completed s at (client.puts_or_takes s at) (λ session now. none_is_some (sym is ∙ now)) (urgent_rests s at (client.is_urgent s) refl)
 first_idles s at (Some session) is = completes_idles s at session (nat_lt session.completed session.acked) is refl
 
 up_idles : (s : ClientState) (at : Seen) (b : Bool) → ClientGoes s at (if b then client.completes_first s.session (client.puts_or_takes s at) else client.Joins)
@@ -225,14 +226,14 @@ range_serves s at session None free owed is ranged =
     first_serves s at at.first refl free owed
     (λ other now.
     let both : Some session ≡ Some other = sym is ∙ now in
-    let same : session ≡ other = cc in
+    let same : session ≡ other = some_same both in
     subst (λ (x : ServerSession). x.range ≡ None) same ranged)
 range_serves s at session (Some range) free owed is ranged = served_if s at session range (session.finished == session.asked)
 
 session_serves : (s : ServerState) (at : Seen) (open_one : Option ServerSession) → owes s.link ≡ false → s.handshake.owed ≡ None → s.session ≡ open_one
     → ServesNone s at (server.in_session s open_one at)
 session_serves s at None free owed is =
-    first_serves s at at.first refl free owed (λ session now. let both : None ≡ Some session = sym is ∙ now in absurd (cc))
+    first_serves s at at.first refl free owed (λ session now. none_is_some (sym is ∙ now))
 session_serves s at (Some session) free owed is = range_serves s at session session.range free owed is refl
 
 says_serves : (s : ServerState) (at : Seen) (owed : Option Message) → owes s.link ≡ false → s.handshake.owed ≡ owed → ServesNone s at (server.says s owed at)

@@ -3,6 +3,7 @@ use Rattle.std.proofs.Common.{◌≡◌, ℕ, zero, suc, ◌*◌, ◌<◌, ◌�
 use Rattle.std.specs.Prelude.{slice_get}
 use Rattle.vdisk_msg.specs.declared.request.Request.{Request}
 use Rattle.vdisk_msg.specs.Requests.{AreSound, after_request}
+use Rattle.channel_laws.proofs.Apart.{some_same}
 use Rattle.lane_laws.specs.Blocks.{WritesBlock, Reaches, after_requests, block_at}
 use Rattle.lane_laws.specs.Headline.{LastAmong, LastWrite, NoneAmong}
 use Rattle.lane_laws.proofs.BlockWrites.{after_long, after_missed, after_reached, reaches_or_not}
@@ -40,7 +41,7 @@ last_write blocks first (request ∷ requests) b sound long =
     by_first none (inr missed) = inr (record { none = never; bytes_are = none.bytes_are ∙ after_missed blocks first request b sound.0 long missed })
       where
         never : (other : ℕ) (one : Request) → slice_get (request ∷ requests) other ≡ Some one → Reaches one b → ⊥
-        never zero one there = let same : request ≡ one = cc there in subst (λ (r : Request). Reaches r b → ⊥) same missed
+        never zero one there = let same : request ≡ one = some_same there in subst (λ (r : Request). Reaches r b → ⊥) same missed
         never (suc other) one there = none.none other one there
 
     by_rest : LastWrite (after_request first request) requests b bytes → LastWrite first (request ∷ requests) b bytes

@@ -14,6 +14,7 @@ use Rattle.disk_model.specs.ServerRule as server
 use Rattle.disk_model.specs.ServerState.{ServerState, Work}
 use Rattle.disk_model.specs.ServerStep.{ServerSends}
 use Rattle.disk_model.specs.ServerTaking.{ServerTakes, GoesOn as ServerGoesOn}
+use Rattle.channel_laws.proofs.Apart.{none_is_some, some_same}
 use Rattle.lane_laws.proofs.ClientTaken.{ClientTook, client_took_what}
 use Rattle.lane_laws.proofs.Ruling.{client_may}
 use Rattle.lane_laws.proofs.ServerTaken.{ServerTook, server_took_what}
@@ -29,7 +30,7 @@ keeps_none before = λ session is. absurd (cc is)
 
 pub keeps_some : (before : Option ClientSession) (one other : ClientSession) → before ≡ Some one → other.completed ≡ one.completed → other.published ≡ one.published → Keeps before (Some other)
 keeps_some before one other there completed published = λ session is.
-    let same : other ≡ session = cc is in
+    let same : other ≡ session = some_same is in
     record {
       was = one;
       there = there;
@@ -69,17 +70,13 @@ pub client_took : (c : ClientState) (turns : List Turn) (packet : List ℕ) (t :
 client_took c turns packet t follows none takes = took_leaves c turns packet t (client_took_what c turns packet t follows none takes)
 
 held_is : (c one other : ClientState) → Some one ≡ Some other → ClientLeaves c one → ClientLeaves c other
-held_is c one other is leaves = let same : one ≡ other = cc is in subst (λ (x : ClientState). ClientLeaves c x) same leaves
+held_is c one other is leaves = let same : one ≡ other = some_same is in subst (λ (x : ClientState). ClientLeaves c x) same leaves
 
 pub held_leaves : (c : ClientState) (at : Seen) (rule : client.ClientRule) (held : ClientState) → ClientMay c at rule → client_holds rule c ≡ Some held → ClientLeaves c held
 held_leaves c at client.Puts held may is = held_is c c held is (leaves_same c c refl)
 held_leaves c at (client.Says message) held may is = held_is c _ held is (record { ever = refl; keeps = keeps_same c.session c.session refl })
 held_leaves c at (client.Announces session) held may is = held_is c _ held is (record { ever = refl; keeps = keeps_some c.session session _ may.3 refl refl })
-held_leaves c at client.Joins held may is = absurd (cc)
-held_leaves c at (client.Completes session) held may is = absurd (cc)
-held_leaves c at (client.Takes packet) held may is = absurd (cc)
-held_leaves c at (client.Publishes session request) held may is = absurd (cc)
-held_leaves c at client.Idles held may is = absurd (cc)
+held_leaves c at _ held may is = none_is_some is
 
 opened_not : (b : Bool) (c : ClientState) → b ≡ false → Keeps c.session (opened_if b c)
 opened_not false c is = keeps_same c.session c.session refl
@@ -138,11 +135,7 @@ work_in (Some x) = x.work
 pub server_held : (s : ServerState) (rule : server.ServerRule) (held : ServerState) → server_holds rule s ≡ Some held → held.work ≡ s.work
 server_held s server.Puts held is = ap work_in (sym is)
 server_held s (server.Says message) held is = ap work_in (sym is)
-server_held s server.Joins held is = absurd (cc)
-server_held s (server.Fetches session) held is = absurd (cc)
-server_held s (server.Serves session work) held is = absurd (cc)
-server_held s (server.Takes packet) held is = absurd (cc)
-server_held s server.Idles held is = absurd (cc)
+server_held s _ held is = none_is_some is
 
 pub server_sent : (s : ServerState) (at : Seen) (packet : List ℕ) (opens : Bool) (t : ServerState) → ServerSends s at packet opens t → t.work ≡ s.work
 server_sent s at packet opens t sends = ap (λ (x : ServerState). x.work) sends.is ∙ server_held s (server.server_rule s at) sends.held sends.holds

@@ -29,6 +29,7 @@ use Rattle.lane_laws.specs.Counted.{InServerOrder, NothingAsked, RangeStands, Se
 use Rattle.lane_laws.specs.LaneTranscripts.{transcript_behind}
 use Rattle.lane_laws.specs.Remaining.{asked_in, requests_left, serving_left, total, unfinished, work_left}
 use Rattle.lane_laws.specs.Sound.{InOrder}
+use Rattle.channel_laws.proofs.Apart.{true_is_false}
 
 -- THE REQUESTS of two ends that are up: what remains of them, and two packets for each INFO that isn't answered, are at most 16 for each
 -- that is pending
@@ -156,10 +157,14 @@ client_alone shape events s c sound run clean up_a is_c is_v =
     (own_within c.announcing c.announced c.published order.announced order.own) order.published (omega (arith, none, infos, announced, counts_fewer slots 1 (said l.transcript.client))) (omega arith)
 
 -- BOTH ENDS ARE UP
+none_left : (work : Option Work) (pending answers : ℕ) → RequestsLeft None None work pending answers
+none_left work pending answers = omega arith
+
 pub by_sessions : (o : Option ClientSession) (p : Option ServerSession) (shape : Shape) (events : List DiskEvent) (s : LaneState) → IsShape shape → Run LaneStep (fresh shape) events s → s.wire.forged ≡ false
     → s.wire.wire.end_a ≡ Up → s.wire.wire.end_b ≡ Up → s.client.session ≡ o → s.server.session ≡ p → FewPieces s.server.work
     → RequestsLeft o p s.server.work (length s.client.pending) (range_count 2 (heard (log_of after (nothing_yet shape) events).transcript.client))
-by_sessions None None shape events s sound run clean up_a up_b is_c is_v pieces = omega arith
+by_sessions None None shape events s sound run clean up_a up_b is_c is_v pieces =
+    none_left s.server.work (length s.client.pending) (range_count 2 (heard (log_of after (nothing_yet shape) events).transcript.client))
 by_sessions (Some c) None shape events s sound run clean up_a up_b is_c is_v pieces = client_alone shape events s c sound run clean up_a is_c is_v
 by_sessions (Some c) (Some v) shape events s sound run clean up_a up_b is_c is_v pieces = both_open shape events s c v sound run clean up_a up_b is_c is_v pieces
 by_sessions None (Some v) shape events s sound run clean up_a up_b is_c is_v pieces =
@@ -168,4 +173,4 @@ by_sessions None (Some v) shape events s sound run clean up_a up_b is_c is_v pie
     let serves : Serving s l v = serving_of s l v knows is_v in
     let ring = one_ring shape events s sound run clean up_b serves.counts serves.is in
     let now : is_some s.client.session ≡ true = client_some s.client.session l.work.done l.work.client ring.client ring.open_is knows.counted.client.agrees in
-    let never : true ≡ false = sym now ∙ ap is_some is_c in absurd (cc never)
+    true_is_false (sym now ∙ ap is_some is_c)

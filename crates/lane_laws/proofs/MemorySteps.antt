@@ -15,6 +15,7 @@ use Rattle.vio_bytes.proofs.Putting.{length-put_at}
 use Rattle.vio_bytes.specs.Place.{put_at}
 use Rattle.vio_tag.specs.declared.cause.Cause.{Cause}
 use Rattle.channel_model.specs.WireEvent.{Blocked, ByRestart, ByScript, ByStep, ByTick, Declines, Giver, Idle, Injected, Joined, Lost, Poked, Reset, Sent, Took, WireEvent, giver}
+use Rattle.channel_laws.proofs.Apart.{some_same}
 use Rattle.lane_laws.specs.RequestLaws.{carried_count}
 use Rattle.disk_model.specs.ClientPutting.{client_opens}
 use Rattle.disk_model.specs.ClientRule.{Publishes, client_rule}
@@ -146,7 +147,7 @@ moves_long _ work r unit fault next new moves = absurd moves
 
 pub got_sound : (blocks : ℕ) (requests : List Request) (n : ℕ) (request : Request) → AreSound blocks requests → slice_get requests n ≡ Some request → defect blocks request ≡ None
 got_sound blocks [] n request sound is = absurd (cc)
-got_sound blocks (one ∷ requests) zero request sound is = let same : one ≡ request = cc is in subst (λ (r : Request). defect blocks r ≡ None) same sound.0
+got_sound blocks (one ∷ requests) zero request sound is = let same : one ≡ request = some_same is in subst (λ (r : Request). defect blocks r ≡ None) same sound.0
 got_sound blocks (one ∷ requests) (suc n) request sound is = got_sound blocks requests n request sound.2 is
 
 published : (s : LaneState) (id : ℕ) (t : ClientState) (new : List ℕ) → MemoryStands s → ClientPublishes s.client (seen A s.shape.entries s.wire.wire) s.memory id t new

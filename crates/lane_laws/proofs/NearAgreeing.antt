@@ -1,5 +1,5 @@
 -- The near counts of a lane that nobody forged are those of its log.
-use Rattle.std.proofs.Common.{◌≡◌, ℕ, ◌+◌, ◌-◌, ◌≤◌, Bool, true, false, Option, None, List, [], refl, sym, ap, ◌∙◌, arith}
+use Rattle.std.proofs.Common.{◌≡◌, ℕ, ◌+◌, ◌-◌, ◌≤◌, Bool, true, false, Option, None, List, [], length, refl, sym, ap, ◌∙◌, arith}
 use Rattle.std.specs.Prelude.{max, ◌==◌, if◌then◌else◌, ⊤}
 use Rattle.std.proofs.lemmas.Bool.{eqb-true}
 use Rattle.runs.specs.Lawful.{log_of, run_lawful}
@@ -10,6 +10,7 @@ use Rattle.ldc_queue.specs.Wire.{peer_behind}
 use Rattle.vio_tag.specs.declared.cause.Cause.{Cause}
 use Rattle.channel_model.specs.WireEvent.{Blocked, Declines, Idle, Injected, Joined, Lost, Poked, Reset, Sent, Took, WireEvent}
 use Rattle.channel_model.specs.WireLog.{WireLog, wire_moved}
+use Rattle.channel_laws.proofs.Apart.{ends_differ}
 use Rattle.lane_laws.specs.Agreement.{NearAgrees}
 use Rattle.lane_laws.specs.DiskLog.{DiskLog, after, nothing_yet}
 use Rattle.lane_laws.specs.NearLog.{NearLog, stored_more}
@@ -24,6 +25,7 @@ use Rattle.lane_laws.proofs.RingRuns.{before as clean_before}
 use Rattle.lane_laws.proofs.SlotsStepping.{StepFacts}
 use Rattle.lane_laws.proofs.StandingSteps.{wire_only}
 use Rattle.lane_laws.specs.LaneView.{work_while}
+use Rattle.lane_laws.proofs.DoneChanges.{risen_one}
 use Rattle.lane_laws.proofs.LaneRuns.{AlongContents, at_step, contents_step, run_contents}
 use Rattle.lane_laws.proofs.Leaving.{client_opened}
 use Rattle.lane_laws.proofs.PlacedViews.{placed}
@@ -110,8 +112,8 @@ wire_same_near s l (Took A packet opens) t before facts step same = wire_stays s
 wire_same_near s l (Took B packet opens) t before facts step same = wire_stays s l (Took B packet opens) t before facts tt tt refl refl step same
 wire_same_near s l (Joined A lost) t before facts step same = wire_stays s l (Joined A lost) t before facts tt tt refl refl step same
 wire_same_near s l (Joined B lost) t before facts step same = wire_stays s l (Joined B lost) t before facts tt tt refl refl step same
-wire_same_near s l (Reset A cause packet lost) t before facts step same = wire_disturbs A s l cause packet lost t before (λ is. absurd (cc is)) (λ is. refl) (λ is. refl) refl step same
-wire_same_near s l (Reset B cause packet lost) t before facts step same = wire_disturbs B s l cause packet lost t before (λ is. refl) (λ is. absurd (cc is)) (λ is. absurd (cc is)) refl step same
+wire_same_near s l (Reset A cause packet lost) t before facts step same = wire_disturbs A s l cause packet lost t before (λ is. ends_differ is) (λ is. refl) (λ is. refl) refl step same
+wire_same_near s l (Reset B cause packet lost) t before facts step same = wire_disturbs B s l cause packet lost t before (λ is. refl) (λ is. ends_differ (sym is)) (λ is. ends_differ (sym is)) refl step same
 wire_same_near s l (Lost e packet) t before facts step same = wire_stays s l (Lost e packet) t before facts tt tt refl refl step same
 wire_same_near s l (Injected e packet) t before facts step same = wire_stays s l (Injected e packet) t before facts tt tt refl refl step same
 wire_same_near s l (Poked e at bytes) t before facts step same = wire_stays s l (Poked e at bytes) t before facts tt tt refl refl step same
@@ -160,29 +162,26 @@ work_same s l (Moved unit fault) t before step same =
 work_same s l (Stored operation block count failed) t before step same =
     let near = ap (λ (x : LaneState). x.near) step.1.is in
     let ever : t.client.ever_published ≡ s.client.ever_published = ap (λ (x : LaneState). x.client.ever_published) step.1.is in
-    let p = same.p in
     record {
       k = ap (λ (x : NearCounts). x.k) near ∙ same.k;
       m = ap (λ (x : NearCounts). x.m) near ∙ same.m;
       u = ap (λ (x : NearCounts). x.u) near ∙ blocks_same operation count failed s.near.u (stored_few s l operation block count failed t before step same.room)
           ∙ ap (stored_more operation count failed) same.u;
-      p = omega (arith, ever, p);
+      p = ap (λ (n : ℕ). n - l.work.done) ever ∙ same.p;
       room = work_room s l (Stored operation block count failed) t before step same.room;
     }
 work_same s l (Finished slot status) t before step same =
     let near = ap (λ (x : LaneState). x.near) step.1.is in
     let ever : t.client.ever_published ≡ s.client.ever_published = ap (λ (x : LaneState). x.client.ever_published) step.1.is in
-    let p = same.p in
     let finished = (placed s l before).finished in
     let pending = before.known.sound.pending in
     let few = before.known.sound.slots in
     let k_is : t.near.k ≡ risen s.near.k 1 = ap (λ (x : NearCounts). x.k) near in
-    let k = same.k in
     record {
-      k = omega (arith, k_is, finished, pending, few, k);
+      k = risen_one s.near.k t.near.k (length s.client.pending) s.client.slots k_is finished pending few ∙ ap (λ (n : ℕ). n + 1) same.k;
       m = ap (λ (x : NearCounts). x.m) near ∙ same.m;
       u = ap (λ (x : NearCounts). x.u) near;
-      p = omega (arith, ever, p);
+      p = ap (λ (n : ℕ). n - l.work.done) ever ∙ same.p;
       room = work_room s l (Finished slot status) t before step same.room;
     }
 work_same s l Misplaced t before step same = absurd step

@@ -9,6 +9,7 @@ use Rattle.vio_bytes.proofs.Ranges.{length-range_at, range_at-range_at}
 use Rattle.vio_bytes.specs.Range.{range_at}
 use Rattle.runs.specs.Lawful.{log_of}
 use Rattle.runs.specs.Run.{Run}
+use Rattle.channel_laws.proofs.Apart.{some_same}
 use Rattle.lane_laws.specs.DiskLog.{DiskLog, after, nothing_yet}
 use Rattle.disk_model.specs.ClientStep.{given_bytes}
 use Rattle.disk_model.specs.DiskEvent.{Asks, Desc, DiskEvent, Done, Finished, Misplaced, Moved, OnWire, Published, Calms, Stored, Switches, Works}
@@ -123,7 +124,7 @@ front_puts block count behind m b bytes puts = by puts.place puts.below puts.the
     by : (place : ℕ) → place < m → slice_get (Read block count ∷ behind) place ≡ Some puts.request → PendingPuts behind 0 (m - 1) b bytes
     by zero below there =
         let both : Some (Read block count) ≡ Some puts.request = there in
-        let same : Read block count ≡ puts.request = cc both in
+        let same : Read block count ≡ puts.request = some_same both in
         absurd (subst (λ (r : Request). WritesBlock r b bytes) (sym same) puts.puts)
     by (suc place) below there = record { place = place; request = puts.request; from = omega arith; below = omega (arith, below); there = there; puts = puts.puts }
 

@@ -11,6 +11,7 @@ use Rattle.vdisk_msg.specs.Requests.{AreSound, after_request, written}
 use Rattle.vio_bytes.proofs.Ranges.{length-range_at, range_at-range_at}
 use Rattle.vio_bytes.specs.Place.{put_at}
 use Rattle.vio_bytes.specs.Range.{range_at}
+use Rattle.channel_laws.proofs.Apart.{some_same}
 use Rattle.lane_laws.proofs.MemorySteps.{got_sound}
 use Rattle.lane_laws.specs.Blocks.{WritesBlock, Reaches, after_requests, block_at}
 use Rattle.lane_laws.specs.Contents.{stored_count}
@@ -167,7 +168,7 @@ past_one pending k m b bytes request is not puts =
       | inr here ↦
           let place : puts.place ≡ k = omega (arith, here, puts.from) in
           let both : Some puts.request ≡ Some request = sym puts.there ∙ ap (slice_get pending) place ∙ is in
-          let same : puts.request ≡ request = cc both in
+          let same : puts.request ≡ request = some_same both in
           absurd (not (subst (λ (r : Request). Reaches r b) same (puts_reaches puts.request b bytes puts.puts)))
     ]
 

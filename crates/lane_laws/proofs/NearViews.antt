@@ -21,6 +21,7 @@ use Rattle.lane_laws.proofs.ReadsGiven.{done_finished, done_given, work_flushed,
 use Rattle.lane_laws.proofs.ReadsSteps.{done_accepted, done_completed, done_kept, work_accepted, work_completed, work_kept}
 use Rattle.lane_laws.proofs.ReadsWork.{done_published, work_fetched, work_published}
 use Rattle.lane_laws.proofs.WorkSteps.{unit_blocks}
+use Rattle.channel_laws.proofs.Apart.{some_is_none}
 
 pub rests_near : (blocks : ℕ) (content : List ℕ) (v w : View) (image : List ℕ) → Unchanged v w → NearView blocks content v image → NearView blocks content w image
 rests_near blocks content v w image change near =
@@ -39,7 +40,7 @@ opens_near blocks content v w image change near =
       image_long = near.image_long;
       image_near = near.image_near;
       done = λ session is i below block count got. absurd (omega (arith, below, change.unfinished));
-      work = λ session is work now block count got. let both : Some work ≡ None = sym now ∙ change.idle in absurd (cc both);
+      work = λ session is work now block count got. some_is_none (sym now ∙ change.idle);
     })
 
 pub disturbs_near : (blocks : ℕ) (content : List ℕ) (p : ℕ) (v w : View) (image : List ℕ) → AreSound blocks v.pending → Disturbs p v w → NearView blocks content v image → NearView blocks content w image

@@ -22,6 +22,7 @@ use Rattle.disk_model.specs.ServerRule as server
 use Rattle.disk_model.specs.ServerState.{ServerSession, ServerState, SlotRange, Work}
 use Rattle.channel_laws.proofs.ManyWait.{owes_some}
 use Rattle.lane_laws.proofs.RulesFree.{ServerFree, server_free}
+use Rattle.channel_laws.proofs.Apart.{none_is_some}
 use Rattle.channel_laws.specs.Standing.{EndStands}
 use Rattle.lane_laws.proofs.Speaking.{holds_owed}
 use Rattle.lane_laws.specs.ChannelEnds.{client_core}
@@ -35,7 +36,7 @@ urgent_or : (s : ClientState) (at : Seen) (packet : List ℕ) (b : Bool) → cli
     → HoldsUrgent s (if b then client.puts_first s else client.takes_first at.first (client.puts_first s))
 urgent_or s at packet true is first t holds = is
 urgent_or s at packet false is first t holds =
-    let never : None ≡ Some t = ap (λ (o : Option (List ℕ)). client_holds (client.takes_first o (client.puts_first s)) s) (sym first) ∙ holds in absurd (cc never)
+    none_is_some (ap (λ (o : Option (List ℕ)). client_holds (client.takes_first o (client.puts_first s)) s) (sym first) ∙ holds)
 
 completes_or : (s : ClientState) (at : Seen) (packet : List ℕ) (session : ClientSession) (b : Bool) → at.first ≡ Some packet
     → HoldsUrgent s (if b then client.Completes session else client.puts_or_takes s at)
@@ -125,11 +126,7 @@ by_rule shape s turns d (server.Says message) t counted at owed free holds =
       | inl is ↦ inl (ap is_some is)
       | inr answers ↦ inr (ap is_some answers.session_is)
     ]
-by_rule shape s turns d server.Joins t counted at owed free holds = absurd (cc holds)
-by_rule shape s turns d (server.Fetches session) t counted at owed free holds = absurd (cc holds)
-by_rule shape s turns d (server.Serves session work) t counted at owed free holds = absurd (cc holds)
-by_rule shape s turns d (server.Takes packet) t counted at owed free holds = absurd (cc holds)
-by_rule shape s turns d server.Idles t counted at owed free holds = absurd (cc holds)
+by_rule shape s turns d _ t counted at owed free holds = none_is_some holds
 
 pub server_owes : (shape : Shape) (s : ServerState) (at : Seen) (turns : List Turn) (d : Option ServerCounts) (t : ServerState) → ServerCounted shape s turns d
     → s.link.phase ≡ phase.Established → server_holds (server.server_rule s at) s ≡ Some t → Owes s.handshake.owed ⊎ (is_some s.session ≡ true)

@@ -58,6 +58,7 @@ use Rattle.lane_laws.specs.RingAgreed.{ring_in}
 use Rattle.lane_laws.specs.RingSlots.{HoldsIssued}
 use Rattle.lane_laws.specs.RuleFacts.{ClientMay, ServerMay}
 use Rattle.lane_laws.specs.SlotsInOrder.{RingInOrder}
+use Rattle.channel_laws.proofs.Apart.{none_is_some}
 
 -- WHAT IS KNOWN after a run
 pub run_known : (shape : Shape) (events : List DiskEvent) (s : LaneState) → IsShape shape → Run LaneStep (fresh shape) events s
@@ -179,7 +180,7 @@ next_slot shape events s v sound run clean now none unfinished =
     }
 
 refuses_not : (bytes : List ℕ) (fault : Option CopyFault) (why : RingFault) → fault ≡ None → slice_index bytes 0 ≡ 2 → RefusesFetch fault bytes why → ⊥
-refuses_not bytes fault (refused.Copy why) none ready refuses = let never : None ≡ Some why = sym none ∙ refuses in absurd (cc never)
+refuses_not bytes fault (refused.Copy why) none ready refuses = none_is_some (sym none ∙ refuses)
 refuses_not bytes fault (refused.NotReady state) none ready refuses = refuses.2 (refuses.1 ∙ ready)
 
 fetch_fails_not : (s : ServerState) (r : Reach) (pages slots slot : ℕ) (cause : Cause) → r.both ≡ true → Reaches s r pages slots → slot < slots → slice_index (slot_bytes 128 slot r.memory) 0 ≡ 2
@@ -190,7 +191,7 @@ fetch_fails_not s r pages slots slot cause both reaches below ready (inl fails) 
     refuses_not (slot_fetched s r slot) (fetch_fault s r slot) fails.0 none (ap (λ (bs : List ℕ). slice_index bs 0) fetched ∙ ready) fails.1
 fetch_fails_not s r pages slots slot cause both reaches below ready (inr fails) =
     let none = word_answered s r pages slots slot 0 both reaches below (omega arith) refl in
-    let never : None ≡ Some fails.0 = sym none ∙ fails.2 in absurd (cc never)
+    none_is_some (sym none ∙ fails.2)
 
 pub server_fetches_all : (shape : Shape) (events : List DiskEvent) (s : LaneState) (v : ServerSession) (cause : Cause) → IsShape shape → Run LaneStep (fresh shape) events s
     → (log_of after (nothing_yet shape) events).wire.forged ≡ false → server_rules.server_rule s.server (seen B s.shape.entries s.wire.wire) ≡ server_rules.Fetches v
@@ -208,9 +209,9 @@ server_fetches_all shape events s v cause sound run clean rule fails =
 end_fails_not : (s : ServerState) (r : Reach) (pages slots slot : ℕ) (work : Work) (status : ℕ) (cause : Cause) (new : List ℕ) → r.both ≡ true → Reaches s r pages slots → slot < slots
     → EndFails s r slot work status cause new → ⊥
 end_fails_not s r pages slots slot work status cause new both reaches below (inl fails) =
-    let never : None ≡ Some fails.0 = sym (word_answered s r pages slots slot 16 both reaches below (omega arith) refl) ∙ fails.1 in absurd (cc never)
+    none_is_some (sym (word_answered s r pages slots slot 16 both reaches below (omega arith) refl) ∙ fails.1)
 end_fails_not s r pages slots slot work status cause new both reaches below (inr fails) =
-    let never : None ≡ Some fails.0 = sym (word_answered s r pages slots slot 0 both reaches below (omega arith) refl) ∙ fails.2 in absurd (cc never)
+    none_is_some (sym (word_answered s r pages slots slot 0 both reaches below (omega arith) refl) ∙ fails.2)
 
 pub server_ends_all : (shape : Shape) (events : List DiskEvent) (s : LaneState) (v : ServerSession) (work : Work) (status : ℕ) (cause : Cause) (new : List ℕ) → IsShape shape
     → Run LaneStep (fresh shape) events s → (log_of after (nothing_yet shape) events).wire.forged ≡ false

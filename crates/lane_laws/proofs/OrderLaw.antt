@@ -1,5 +1,5 @@
 -- An end does what its session has to do before it takes a packet, and a client takes before it publishes.
-use Rattle.std.proofs.Common.{◌≡◌, ℕ, ◌+◌, ◌-◌, ◌≤◌, Bool, true, false, Option, Some, None, List, refl, sym, ap, ◌∙◌, subst, arith, length, length-drop}
+use Rattle.std.proofs.Common.{◌≡◌, ℕ, ◌+◌, ◌-◌, ◌≤◌, Bool, true, false, Option, Some, None, List, refl, sym, ap, ◌∙◌, subst, arith, length, length-drop, []}
 use Rattle.std.specs.Prelude.{◌&&◌, ◌||◌, is_none, is_some}
 use Rattle.cookie_copy.specs.Reach.{Reach}
 use Rattle.ldc_link.specs.LinkState.{LinkState}
@@ -35,6 +35,7 @@ use Rattle.lane_laws.proofs.BlockedLaw.{Told, client_to_put, server_to_put}
 use Rattle.lane_laws.proofs.ClientFolds.{calm_up, not_stuck, sends_some}
 use Rattle.lane_laws.proofs.Counting.{OfServer, of_client, of_server}
 use Rattle.lane_laws.proofs.EndsFold.{BothAre, first_false}
+use Rattle.channel_laws.proofs.Apart.{none_is_some, some_same}
 use Rattle.channel_laws.proofs.EndsAtRest.{none_waits}
 use Rattle.lane_laws.proofs.IdleLaw.{not_below, past_all, same_waiting, some_client, some_server}
 use Rattle.lane_laws.proofs.IdleRules.{ClientGoes, ClientPublishesAt, CompletedAll, PublishedAll, client_goes, client_idles, control_in, published_all, server_idles}
@@ -51,7 +52,7 @@ completed_in_log s l grounded all =
     some_client s.client.session l.work.done l.work.client (λ (c : ClientCounts). l.work.done ≡ c.base + c.acked) grounded.knows.counted.client.agrees (λ session c is has.
     let of = of_client s.client.session session l.work.done l.work.client is grounded.knows.counted.client.agrees in
     let both : Some of.counts ≡ Some c = sym of.is ∙ has in
-    let same : of.counts ≡ c = cc in
+    let same : of.counts ≡ c = some_same both in
     let order : InOrder (length s.client.pending) session =
     in_order (length s.client.pending) s.client.session session is grounded.knows.all.sound.counts in
     let acked = not_below session.completed session.acked (all session is) in
@@ -61,11 +62,7 @@ holds_completed : (s : ClientState) (at : Seen) (rule : client.ClientRule) (held
 holds_completed s at client.Puts held is goes = goes
 holds_completed s at (client.Says message) held is goes = goes
 holds_completed s at (client.Announces session) held is goes = goes.0
-holds_completed s at client.Joins held is goes = absurd (cc)
-holds_completed s at (client.Completes session) held is goes = absurd (cc)
-holds_completed s at (client.Takes packet) held is goes = absurd (cc)
-holds_completed s at (client.Publishes session request) held is goes = absurd (cc)
-holds_completed s at client.Idles held is goes = absurd (cc)
+holds_completed s at _ held is goes = none_is_some is
 
 putting_completed : (s : LaneState) (l : DiskLog) (held : ClientState) → Grounded s l → client_holds (client.client_rule s.client (at_client s)) s.client ≡ Some held → HasCompleted l
 putting_completed s l held grounded is =
@@ -203,7 +200,7 @@ answered_in_log s l grounded free =
     let of : OfServer session s.server.work l.work.server =
     of_server s.server.session session s.server.work l.work.server is grounded.knows.counted.server.agrees in
     let both : Some of.counts ≡ Some c = sym of.is ∙ has in
-    let same : of.counts ≡ c = cc in
+    let same : of.counts ≡ c = some_same both in
     let order : InServerOrder l.shape.slots session of.counts l.transcript.server =
     order_of l.shape.slots s.server.session session l.work.server of.counts l.transcript.server is of.is grounded.knows.counted.server.order in
     subst (λ (k : ServerCounts). k.answered ≡ k.asked) same

@@ -25,6 +25,7 @@ use Rattle.lane_laws.specs.LaneView.{view_of, work_while}
 use Rattle.lane_laws.proofs.Changes.{Placed}
 use Rattle.lane_laws.proofs.LiveCounts.{KIs, counts_while, zero_where}
 use Rattle.lane_laws.proofs.Standing.{Before}
+use Rattle.channel_laws.proofs.Apart.{some_is_none, some_same}
 
 -- a server that works, or none does
 pub record IsLive (x : ChannelState) (q : Option ServerCounts) : Type 0 where
@@ -57,7 +58,7 @@ client_there : (o : Option ClientSession) (done : ℕ) (q : Option ClientCounts)
 client_there None done None k is agrees = absurd (cc is)
 client_there None done (Some x) k is agrees = absurd agrees
 client_there (Some c) done None k is agrees = absurd agrees
-client_there (Some c) done (Some x) k is agrees = let same : x ≡ k = cc is in (c, refl, subst (ClientCountsAgree c done) same agrees)
+client_there (Some c) done (Some x) k is agrees = let same : x ≡ k = some_same is in (c, refl, subst (ClientCountsAgree c done) same agrees)
 
 pub in_order : (s : LaneState) (l : DiskLog) (session : ClientSession) → Known s l → s.client.session ≡ Some session → InOrder (length s.client.pending) session
 in_order s l session known is = subst (CountsInOrder (length s.client.pending)) is known.sound.counts
@@ -83,7 +84,7 @@ live s l d before up is =
     }
 
 work_counts : (o : Option ServerSession) (w : Option Work) (q : Option ServerCounts) (work : Work) → w ≡ Some work → ServerAgrees o w q → (v : ServerSession) × (o ≡ Some v)
-work_counts None w None work is agrees = let never : Some work ≡ None = sym is ∙ agrees in absurd (cc never)
+work_counts None w None work is agrees = some_is_none (sym is ∙ agrees)
 work_counts None w (Some c) work is agrees = absurd agrees
 work_counts (Some v) w q work is agrees = (v, refl)
 
@@ -101,6 +102,29 @@ pub record Working (s : LaneState) (l : DiskLog) (work : Work) : Type 0 where
   pub number : live.session.completed + s.near.k ≡ at.of.counts.finished
   pub served : live.session.completed + s.near.k < live.session.published
 
+-- sums over the counts of both sessions, of numbers alone
+below_published : (finished descs asked published : ℕ) → descs ≡ finished + 1 → descs ≤ asked → asked ≤ published → finished < published
+below_published finished descs asked published single few within = omega arith
+
+number_of : (completed k finished done base : ℕ) → done ≡ base + completed → base + finished ≡ done + k → completed + k ≡ finished
+number_of completed k finished done base counted number = omega arith
+
+below_session : (at finished descs asked published other own : ℕ) → at ≡ finished → descs ≡ finished + 1 → descs ≤ asked → asked ≤ published → published ≡ other → own ≡ other → at < own
+below_session at finished descs asked published other own is single few within same counted = omega arith
+
+none_pending : (k pending : ℕ) → k ≡ 0 → k ≤ pending
+none_pending k pending zero = omega arith
+
+none_published : (k completed acked announced published : ℕ) → k ≡ 0 → completed ≤ acked → acked ≤ announced → announced ≤ published → completed + k ≤ published
+none_published k completed acked announced published zero few fewer more = omega arith
+
+few_published : (k completed finished descs asked published own done base : ℕ) → own ≡ published → done ≡ base + completed → asked ≤ published → descs ≤ asked → base + finished ≡ done + k
+    → finished ≤ descs → completed + k ≤ own
+few_published k completed finished descs asked published own done base counted from within few number first = omega arith
+
+few_pending : (k completed own pending : ℕ) → completed + k ≤ own → own ≤ completed + pending → k ≤ pending
+few_pending k completed own pending few most = omega arith
+
 pub working : (s : LaneState) (l : DiskLog) (work : Work) → Before s l → work_while s.wire.wire.end_b s.server.work ≡ Some work → Working s l work
 working s l work before is =
     let known = before.known in
@@ -117,13 +141,13 @@ working s l work before is =
     let single = has.one in
     let descs = at.one.descs in
     let asked = at.one.asked in
-    let same_client : k ≡ on.one.client = let two : Some k ≡ Some on.one.client = sym at.one.open_is ∙ on.one.open_is in cc two in
+    let same_client : k ≡ on.one.client = let two : Some k ≡ Some on.one.client = sym at.one.open_is ∙ on.one.open_is in some_same two in
     let base : k.base ≡ on.one.client.base = ap (λ (c : ClientCounts). c.base) same_client in
     let published : k.published ≡ on.one.client.published = ap (λ (c : ClientCounts). c.published) same_client in
-    let id_number : has.inside.id ≡ k.base + d.finished = id_is l.shape.slots l.work.done k slot has.inside.id d.finished stands at.one.done (omega (arith, single, descs, asked)) turn.turn refl in
-    let place : l.work.done + s.near.k ≡ has.inside.id = omega (arith, id_number, base, on.number) in
+    let id_number : has.inside.id ≡ k.base + d.finished = id_is l.shape.slots l.work.done k slot has.inside.id d.finished stands at.one.done (below_published d.finished d.descs d.asked k.published single descs asked) turn.turn refl in
+    let place : l.work.done + s.near.k ≡ has.inside.id = sym on.number ∙ ap (λ (n : ℕ). n + d.finished) (sym base) ∙ sym id_number in
     let counted = on.agree.completed in
-    let number : on.session.completed + s.near.k ≡ d.finished = omega (arith, counted, on.number) in
+    let number : on.session.completed + s.near.k ≡ d.finished = number_of on.session.completed s.near.k d.finished l.work.done on.one.client.base counted on.number in
     let holds : HoldsIssued (ring_in l) slot has.inside.id 2 0 work.bytes = subst (HoldsIssued (ring_in l) slot has.inside.id 2 0) has.desc has.inside.fetched in
     record {
       session = v.0;
@@ -137,7 +161,7 @@ working s l work before is =
       holds = holds;
       of_holds = refl;
       number = number;
-      served = let counted_published = on.agree.published in omega (arith, number, single, descs, asked, published, counted_published);
+      served = below_session (on.session.completed + s.near.k) d.finished d.descs d.asked k.published on.one.client.published on.session.published number single descs asked published on.agree.published;
     }
 
 -- THE PLACES
@@ -152,13 +176,13 @@ finished_by : (s : LaneState) (l : DiskLog) → Before s l → (counts_while l.w
 finished_by s l before (inl none) =
     let zero = zero_where (counts_while l.wire.wire.end_b l.work.server) l.work.client l.work.done s.near.k none before.near.k in
     record {
-      pending = omega (arith, zero);
+      pending = none_pending s.near.k (length s.client.pending) zero;
       published = λ session is.
           let order = in_order s l session before.known is in
           let completed = order.completed in
           let acked = order.acked in
           let announced = order.announced in
-          omega (arith, zero, completed, acked, announced);
+          none_published s.near.k session.completed session.acked session.announced session.published zero completed acked announced;
     }
 finished_by s l before (inr is) =
     let on = live s l is.counts before is.up is.there in
@@ -170,23 +194,29 @@ finished_by s l before (inr is) =
     let descs = on.one.descs in
     let number = on.number in
     let first = finished_descs s l is.counts before is.there in
+    let few : on.session.completed + s.near.k ≤ on.session.published =
+    few_published s.near.k on.session.completed is.counts.finished is.counts.descs is.counts.asked on.one.client.published on.session.published l.work.done on.one.client.base published counted asked
+    descs number first in
     record {
-      pending = omega (arith, most, counted, published, asked, descs, number, first);
+      pending = few_pending s.near.k on.session.completed on.session.published (length s.client.pending) few most;
       published = λ session there.
           let two : Some on.session ≡ Some session = sym on.there ∙ there in
-          let same : on.session ≡ session = cc two in
-          subst (λ (x : ClientSession). x.completed + s.near.k ≤ x.published) same (omega (arith, counted, published, asked, descs, number, first));
+          let same : on.session ≡ session = some_same two in
+          subst (λ (x : ClientSession). x.completed + s.near.k ≤ x.published) same few;
     }
   where
     counts_first : (o : Option ServerSession) (w : Option Work) (q : Option ServerCounts) (d : ServerCounts) → q ≡ Some d → ServerAgrees o w q → d.finished ≤ d.descs
     counts_first None w None d there agrees = absurd (cc there)
     counts_first None w (Some c) d there agrees = absurd agrees
     counts_first (Some v) w None d there agrees = absurd agrees
-    counts_first (Some v) None (Some c) d there agrees = let same : c ≡ d = cc there in subst (λ (x : ServerCounts). x.finished ≤ x.descs) same (omega (arith, agrees.1.1))
-    counts_first (Some v) (Some work) (Some c) d there agrees = let same : c ≡ d = cc there in subst (λ (x : ServerCounts). x.finished ≤ x.descs) same (omega (arith, agrees.1.2))
+    counts_first (Some v) None (Some c) d there agrees = let same : c ≡ d = some_same there in subst (λ (x : ServerCounts). x.finished ≤ x.descs) same (omega (arith, agrees.1.1))
+    counts_first (Some v) (Some work) (Some c) d there agrees = let same : c ≡ d = some_same there in subst (λ (x : ServerCounts). x.finished ≤ x.descs) same (omega (arith, agrees.1.2))
 
     finished_descs : (s : LaneState) (l : DiskLog) (d : ServerCounts) → Before s l → l.work.server ≡ Some d → d.finished ≤ d.descs
     finished_descs s l d before there = counts_first s.server.session s.server.work l.work.server d there before.known.agree.server
+
+below_pending : (k completed own pending : ℕ) → completed + k < own → own ≤ completed + pending → k < pending
+below_pending k completed own pending few most = omega arith
 
 pub placed : (s : LaneState) (l : DiskLog) → Before s l → Placed s.client.blocks (view_of s)
 placed s l before =
@@ -201,12 +231,12 @@ placed s l before =
           let on = working s l work before is in
           let order = in_order s l on.live.session before.known on.live.there in
           let most = order.published in
-          omega (arith, on.served, most);
+          below_pending s.near.k on.live.session.completed on.live.session.published (length s.client.pending) on.served most;
       published = finished.published;
       most = λ session is. (in_order s l session before.known is).published;
       served = λ session is work now.
           let on = working s l work before now in
           let two : Some on.live.session ≡ Some session = sym on.live.there ∙ is in
-          let same : on.live.session ≡ session = cc two in
+          let same : on.live.session ≡ session = some_same two in
           subst (λ (x : ClientSession). x.completed + s.near.k < x.published) same on.served;
     }

@@ -18,6 +18,7 @@ use Rattle.lane_laws.proofs.Ruling.{client_may, server_may}
 use Rattle.lane_laws.specs.Counted.{acked_of, announced_of, range_sum}
 use Rattle.lane_laws.specs.RuleFacts.{ClientMay, ServerMay}
 use Rattle.lane_laws.proofs.Counting.{OfClient, OfServer, of_client, of_server}
+use Rattle.channel_laws.proofs.Apart.{none_is_some}
 use Rattle.channel_laws.proofs.EndsAtRest.{none_waits}
 use Rattle.lane_laws.proofs.IdleLaw.{idle_client, idle_server}
 use Rattle.lane_laws.proofs.IdleRules.{ClientIdles, ServerIdles, client_idles, server_idles}
@@ -72,8 +73,8 @@ finished_all s l grounded rest all client_open server_open =
     let answered : d.counts.answered ≡ c.0.acked = order.answered ∙ ap (range_sum l.shape.slots 2) all.to_mine ∙ sym acked in
     record {
       finished = omega (arith, idle_c.completed, idle_c.published, idle_c.announced, idle_v.fetched, idle_v.answered, asked, answered, k.agree.announced, k.agree.acked);
-      client_open = λ none. let never : None ≡ Some k.counts = sym none ∙ k.is in absurd (cc never);
-      server_open = λ none. let never : None ≡ Some d.counts = sym none ∙ d.is in absurd (cc never);
+      client_open = λ none. none_is_some (sym none ∙ k.is);
+      server_open = λ none. none_is_some (sym none ∙ d.is);
     }
 
 -- THE LAW of two ends at rest

@@ -43,6 +43,7 @@ use Rattle.channel_model.specs.Ranges.{wrapped}
 use Rattle.dring.specs.Slots.{range_length}
 use Rattle.disk_model.specs.ServerState.{ServerSession, ServerState, SlotRange}
 use Rattle.disk_model.specs.ServerStep.{ServerSends}
+use Rattle.channel_laws.proofs.Apart.{none_is_some, some_same, true_is_false}
 use Rattle.channel_laws.proofs.TurnCases.{heard_none, heard_some, said_none, said_some}
 use Rattle.lane_laws.proofs.ClientFolds.{ClientIs}
 use Rattle.lane_laws.proofs.ClientPuts.{putting}
@@ -135,25 +136,17 @@ names_own h g bytes named same sid ident = record {
 }
 
 client_shaken : (s : ClientState) (rule : client_rules.ClientRule) (held : ClientState) → client_holds rule s ≡ Some held → held.handshake ≡ s.handshake
-client_shaken s client_rules.Puts held is = let same : s ≡ held = cc is in ap (λ (x : ClientState). x.handshake) (sym same)
-client_shaken s (client_rules.Says message) held is = let same : holding message s ≡ held = cc is in ap (λ (x : ClientState). x.handshake) (sym same)
+client_shaken s client_rules.Puts held is = let same : s ≡ held = some_same is in ap (λ (x : ClientState). x.handshake) (sym same)
+client_shaken s (client_rules.Says message) held is = let same : holding message s ≡ held = some_same is in ap (λ (x : ClientState). x.handshake) (sym same)
 client_shaken s (client_rules.Announces one) held is =
-    let same : announcing one (holding (announcement s one) s) ≡ held = cc is in ap (λ (x : ClientState). x.handshake) (sym same)
-client_shaken s client_rules.Joins held is = absurd (cc)
-client_shaken s (client_rules.Completes one) held is = absurd (cc)
-client_shaken s (client_rules.Takes packet) held is = absurd (cc)
-client_shaken s (client_rules.Publishes one request) held is = absurd (cc)
-client_shaken s client_rules.Idles held is = absurd (cc)
+    let same : announcing one (holding (announcement s one) s) ≡ held = some_same is in ap (λ (x : ClientState). x.handshake) (sym same)
+client_shaken s _ held is = none_is_some is
 
 server_shaken : (s : ServerState) (rule : server_rules.ServerRule) (held : ServerState) → server_holds rule s ≡ Some held → held.handshake ≡ s.handshake
-server_shaken s server_rules.Puts held is = let same : s ≡ held = cc is in ap (λ (x : ServerState). x.handshake) (sym same)
+server_shaken s server_rules.Puts held is = let same : s ≡ held = some_same is in ap (λ (x : ServerState). x.handshake) (sym same)
 server_shaken s (server_rules.Says message) held is =
     let same : record s { link = offered (canonical message) s.link } ≡ held = cc is in ap (λ (x : ServerState). x.handshake) (sym same)
-server_shaken s server_rules.Joins held is = absurd (cc)
-server_shaken s (server_rules.Fetches session) held is = absurd (cc)
-server_shaken s (server_rules.Serves session work) held is = absurd (cc)
-server_shaken s (server_rules.Takes packet) held is = absurd (cc)
-server_shaken s server_rules.Idles held is = absurd (cc)
+server_shaken s _ held is = none_is_some is
 
 -- AN INFO THAT IS SAID. A client that isn't blocked announces only once all that is pending is published.
 pub never_own : (s : ClientState) (b : Blockage) (session : ClientSession) → ClientIs s b → b ≡ Clear → s.session ≡ Some session → session.announcing ≡ true → true ≡ false
@@ -166,22 +159,18 @@ never_own s b session stands clear is own =
 holds_all : (s : ClientState) (at : Seen) (rule : client_rules.ClientRule) (held : ClientState) (b : Blockage) (session : ClientSession) → client_rules.client_rule s at ≡ rule
     → client_holds rule s ≡ Some held → ClientIs s b → b ≡ Clear → held.session ≡ Some session → session.announcing ≡ true → PublishedAll held session
 holds_all s at client_rules.Puts held b session rule is stands clear now own =
-    let same : s ≡ held = cc is in
-    let never : true ≡ false = never_own s b session stands clear (ap (λ (x : ClientState). x.session) same ∙ now) own in absurd (cc)
+    let same : s ≡ held = some_same is in
+    true_is_false (never_own s b session stands clear (ap (λ (x : ClientState). x.session) same ∙ now) own)
 holds_all s at (client_rules.Says message) held b session rule is stands clear now own =
-    let same : holding message s ≡ held = cc is in
-    let never : true ≡ false = never_own s b session stands clear (ap (λ (x : ClientState). x.session) same ∙ now) own in absurd (cc)
+    let same : holding message s ≡ held = some_same is in
+    true_is_false (never_own s b session stands clear (ap (λ (x : ClientState). x.session) same ∙ now) own)
 holds_all s at (client_rules.Announces one) held b session rule is stands clear now own =
-    let same : announcing one (holding (announcement s one) s) ≡ held = cc is in
+    let same : announcing one (holding (announcement s one) s) ≡ held = some_same is in
     let both : Some (record one { announcing = true }) ≡ Some session = ap (λ (x : ClientState). x.session) same ∙ now in
     let counts : record one { announcing = true } ≡ session = cc in
     subst (λ (x : ClientState). PublishedAll x session) same
     (subst (λ (x : ClientSession). slice_get s.pending (x.published - x.completed) ≡ None) counts (published_all s at one rule))
-holds_all s at client_rules.Joins held b session rule is stands clear now own = absurd (cc)
-holds_all s at (client_rules.Completes one) held b session rule is stands clear now own = absurd (cc)
-holds_all s at (client_rules.Takes packet) held b session rule is stands clear now own = absurd (cc)
-holds_all s at (client_rules.Publishes one request) held b session rule is stands clear now own = absurd (cc)
-holds_all s at client_rules.Idles held b session rule is stands clear now own = absurd (cc)
+holds_all s at _ held b session rule is stands clear now own = none_is_some is
 
 record Pending (l : DiskLog) (held : ClientState) : Type 0 where
   pending : held.pending ≡ drop l.work.done l.work.issued

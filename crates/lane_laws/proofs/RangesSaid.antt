@@ -51,12 +51,6 @@ pub record IsOf (bytes : List ℕ) (s : Subtype) (b : MsgBody) : Type 0 where
   pub envelope : envelope_at bytes ≡ envelope_code b
   pub subtype : subtype_at bytes ≡ subtype_code s
 
-pub spelled_of : (bytes : List ℕ) (m : Message) → SpellsMessage bytes m → IsOf bytes m.subtype m.body
-spelled_of bytes m spells = record { envelope = spells.envelope; subtype = spells.subtype }
-
-pub canonical_of : (m : Message) → IsNoPlain m.body → IsOf (canonical m) m.subtype m.body
-canonical_of m not = record { envelope = envelope_reads m.subtype m.sid m.body not; subtype = subtype_reads m }
-
 -- NO RANGE
 abbrev pub IsNoData : MsgBody → Type 0
 IsNoData (DringData seq ident start end state) = ⊥
@@ -306,12 +300,6 @@ said_range slots k n s seq ident start end state kind small_start small_end =
 pub said_one : (k n : ℕ) (s : Subtype) (seq ident start end state : ℕ) → subtype_code s ≡ k
     → one_in (range_in k (Some (canonical (record { subtype = s; sid = n; body = DringData seq ident start end state })))) ≡ 1
 said_one k n s seq ident start end state kind = ap one_in (said_is k n s seq ident start end state kind)
-
-pub said_other : (k other n : ℕ) (s : Subtype) (seq ident start end state : ℕ) → subtype_code s ≡ other → other ≢ k
-    → range_in k (Some (canonical (record { subtype = s; sid = n; body = DringData seq ident start end state }))) ≡ None
-said_other k other n s seq ident start end state kind not =
-    other_subtype k (canonical (record { subtype = s; sid = n; body = DringData seq ident start end state }))
-    (λ is. not (sym (subtype_reads (record { subtype = s; sid = n; body = DringData seq ident start end state }) ∙ kind) ∙ is))
 
 -- THE AGREEMENT TO RDX
 pub ready_heard : (bytes : List ℕ) (m : Message) → SpellsMessage bytes m → m.subtype ≡ Ack → m.body ≡ Rdx → is_ready bytes ≡ true

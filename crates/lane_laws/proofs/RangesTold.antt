@@ -36,6 +36,7 @@ use Rattle.disk_model.specs.LaneStep.{LaneStep}
 use Rattle.disk_model.specs.ServerPutting.{server_kind}
 use Rattle.disk_model.specs.ServerRule as server_rules
 use Rattle.disk_model.specs.ServerState.{ServerState, SlotRange}
+use Rattle.channel_laws.proofs.Apart.{some_is_none}
 use Rattle.channel_laws.proofs.Conversations.{held_phase}
 use Rattle.channel_laws.proofs.EndResting.{held_handshake}
 use Rattle.channel_laws.proofs.EndStanding.{held_stands, open_up, owing_up}
@@ -180,8 +181,8 @@ owed_apart role d held turns bytes here holds = by_turn (here.at (owing_up role 
               let both : Some holds.message ≡ Some (message_at d at.place) = owed ∙ owes_at false d role at.place own in
               let same : holds.message ≡ message_at d at.place = cc both in
               subst IsApart (sym (holds.bytes_are ∙ ap canonical same)) (other_apart (message_at d at.place) (place_other d at.place)))
-          | inr (inl turn) ↦ (let wrong : Some holds.message ≡ None = owed ∙ owes_not false d role at.place turn in absurd (cc wrong))
-          | inr (inr last) ↦ (let wrong : Some holds.message ≡ None = owed ∙ owes_none false d role at.place last in absurd (cc wrong))
+          | inr (inl turn) ↦ (some_is_none (owed ∙ owes_not false d role at.place turn))
+          | inr (inr last) ↦ (some_is_none (owed ∙ owes_none false d role at.place last))
         ]
 
 draft_there : (role : Role) (d : Deal) (held : EndCore) (turns : List Turn) → HeldAt role d held turns → held.is_open ≡ true → held.handshake.draft ≡ (handshake_at false d role AllSaid).draft

@@ -12,6 +12,7 @@ use Rattle.vio_bytes.specs.Range.{range_at}
 use Rattle.disk_model.specs.ClientState.{ClientSession}
 use Rattle.disk_model.specs.ServerState.{Ends, Flushes, Gathers, Gives, Progress, Reads, Writes}
 use Rattle.disk_model.specs.ServerWork.{gathers_next, reads_next, unit_length}
+use Rattle.channel_laws.proofs.Apart.{some_same}
 use Rattle.lane_laws.proofs.MemorySteps.{got_sound}
 use Rattle.lane_laws.specs.Blocks.{block_at}
 use Rattle.lane_laws.specs.Contents.{ContentsStand, ProgressIs}
@@ -69,7 +70,7 @@ done_given blocks content v w placed stand change done = λ session is i below b
     let c = change.session in
     let unit = change.unit in
     let both : Some c ≡ Some session = sym serves.there ∙ is in
-    let same : c ≡ session = cc both in
+    let same : c ≡ session = some_same both in
     let slot = (c.completed + v.k) % v.slots in
     let slot_below = mod_below (c.completed + v.k) v.slots placed.some in
     let new = put_at (place_of v.slots c v.k + 8192 * unit) change.bytes v.buffers in

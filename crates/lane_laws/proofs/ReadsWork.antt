@@ -15,6 +15,7 @@ use Rattle.vio_bytes.specs.Place.{put_at}
 use Rattle.vio_bytes.specs.Range.{range_at}
 use Rattle.disk_model.specs.ClientState.{ClientSession}
 use Rattle.disk_model.specs.ServerState.{Ends, Flushes, Gathers, Gives, Progress, Reads, Work, Writes}
+use Rattle.channel_laws.proofs.Apart.{some_same}
 use Rattle.lane_laws.proofs.MemorySteps.{got_sound}
 use Rattle.lane_laws.specs.Contents.{ContentsStand, ProgressIs}
 use Rattle.lane_laws.specs.LaneView.{View, place_of}
@@ -102,7 +103,7 @@ first_shows request progress content pending m k block count place buffers first
 
 pub work_fetched : (content : List ℕ) (v w : View) → (change : Fetches v w) → WorkShows content (record v { work = Some change.work })
 work_fetched content v w change = λ session is work now block count got.
-    let same : change.work ≡ work = cc now in
+    let same : change.work ≡ work = some_same now in
     let progress : work.progress ≡ first_of change.request = ap (λ (x : Work). x.progress) (sym same) ∙ change.first in
     first_shows change.request work.progress content v.pending v.m v.k block count (place_of v.slots session v.k) v.buffers progress (same_got v.pending v.k change.request (Read block count) change.next got)
 
@@ -113,7 +114,7 @@ pub work_served : (content : List ℕ) (session : ClientSession) (from to : Prog
     → WorkShows content v → WorkShows content (record v { work = Some (record change.work { progress = to }); u = u; buffers = buffers })
 work_served content session from to request u buffers v w change goes shows = λ other is work now block count got.
     let both : Some session ≡ Some other = sym change.there ∙ is in
-    let same : session ≡ other = cc both in
+    let same : session ≡ other = some_same both in
     let one : record change.work { progress = to } ≡ work = cc now in
     let progress : to ≡ work.progress = ap (λ (x : Work). x.progress) one in
     let old : UnitsShow from content v.pending v.m v.k block count (place_of v.slots session v.k) v.buffers =

@@ -11,11 +11,12 @@ use Rattle.ldc_queue.specs.Transcript.{Turn}
 use Rattle.vdisk_msg.specs.declared.request.Request.{Request}
 use Rattle.vio_handshake.specs.Rules.{opens_by_put}
 use Rattle.disk_model.specs.ClientPutting.{announced, announcement, announcing, client_holds, client_kind, client_put, holding, is_announcing, opened_if, session_behind}
-use Rattle.disk_model.specs.ClientRule.{Announces, ClientRule, Completes, Joins, Publishes, Puts, Idles, Says, Takes, client_rule}
+use Rattle.disk_model.specs.ClientRule.{Announces, ClientRule, Completes, Publishes, Puts, Says, client_rule}
 use Rattle.disk_model.specs.ClientState.{ClientSession, ClientState}
 use Rattle.disk_model.specs.ClientStep.{ClientCompletes, ClientPublishes, ClientSends}
 use Rattle.channel_model.specs.EndPuts.{ComesUp, EndsOwn, EndsHandshake, Goes, PutKind, ending, kind_in}
 use Rattle.channel_model.specs.Seeing.{Seen}
+use Rattle.channel_laws.proofs.Apart.{none_is_some, some_same}
 use Rattle.channel_laws.proofs.EndStanding.{held_stands, open_up, up_empty}
 use Rattle.channel_laws.proofs.PacketsLeft.{loud_none, opening_shut, owing_none, own_most, says_packets, stays_packets, waits_packets}
 use Rattle.channel_laws.specs.EndCore.{EndCore}
@@ -117,7 +118,7 @@ announces_spends s session is quiet more counts =
     (12 * ((length s.pending + session.completed) - asked)) (omega (arith, one)) (omega (arith, more, order.published)))
 
 to_the : (own : ℕ) (s one other : ClientState) → Some one ≡ Some other → ClientSpends own 0 s one → ClientSpends own 0 s other
-to_the own s one other is spends = let same : one ≡ other = cc is in subst (ClientSpends own 0 s) same spends
+to_the own s one other is spends = let same : one ≡ other = some_same is in subst (ClientSpends own 0 s) same spends
 
 holds_spend : (s : ClientState) (at : Seen) (rule : ClientRule) (held : ClientState) (turns : List Turn) → ClientMay s at rule → client_holds rule s ≡ Some held → ClientSound s
     → EndStands Initiator (client_core s) turns → ClientSpends (begun_by rule) 0 s held
@@ -127,22 +128,14 @@ holds_spend s at (Announces session) held turns may holds sound stands =
     let empty : s.link.to_send ≡ [] = up_empty s.link (open_up Initiator (client_core s) turns stands (ap is_some may.3)) may.1 in
     let quiet : session.announcing ≡ false = ap is_announcing (sym may.3) ∙ not_own (is_announcing s.session) s.link.to_send sound.own empty in
     to_the 1 s (announcing session (holding (announcement s session) s)) held holds (announces_spends s session may.3 quiet may.4 sound.counts)
-holds_spend s at Joins held turns may holds sound stands = absurd (cc holds)
-holds_spend s at (Completes session) held turns may holds sound stands = absurd (cc holds)
-holds_spend s at (Takes packet) held turns may holds sound stands = absurd (cc holds)
-holds_spend s at (Publishes session request) held turns may holds sound stands = absurd (cc holds)
-holds_spend s at Idles held turns may holds sound stands = absurd (cc holds)
+holds_spend s at _ held turns may holds sound stands = none_is_some holds
 
 own_begun : (s : ClientState) (at : Seen) (rule : ClientRule) (held : ClientState) (core : EndCore) (what : Holding) → client_rule s at ≡ rule → ClientMay s at rule
     → client_holds rule s ≡ Some held → Holds (client_core s) what core → own_in what ≤ begun_by rule
 own_begun s at Puts held core what rule may holds is = omega (arith, loud_none (client_core s) core what (puts_owe s at rule) is)
 own_begun s at (Says message) held core what rule may holds is = omega (arith, owing_none (client_core s) core message what may.2 is)
 own_begun s at (Announces session) held core what rule may holds is = own_most what
-own_begun s at Joins held core what rule may holds is = absurd (cc holds)
-own_begun s at (Completes session) held core what rule may holds is = absurd (cc holds)
-own_begun s at (Takes packet) held core what rule may holds is = absurd (cc holds)
-own_begun s at (Publishes session request) held core what rule may holds is = absurd (cc holds)
-own_begun s at Idles held core what rule may holds is = absurd (cc holds)
+own_begun s at _ held core what rule may holds is = none_is_some holds
 
 -- IT PUTS a packet: all that is published is announced by the last of its INFO, and its session may open by one of its handshake
 ends_own : (b own : Bool) → ending b own ≡ EndsOwn → own ≡ true

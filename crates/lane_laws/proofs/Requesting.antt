@@ -4,9 +4,10 @@ use Rattle.std.specs.Prelude.{zero, suc, slice_get}
 use Rattle.std.proofs.lemmas.List.{drop-append-le, drop-drop}
 use Rattle.vdisk_msg.specs.declared.request.Request.{Request}
 use Rattle.vdisk_msg.specs.Requests.{operation_of}
+use Rattle.channel_laws.proofs.Apart.{none_is_some, some_same}
 use Rattle.lane_laws.specs.WorkLog.{WorkLog}
 use Rattle.disk_model.specs.ClientPutting.{announced, announcement, announcing, client_holds, client_kind, client_put, holding, opened_if, session_behind}
-use Rattle.disk_model.specs.ClientRule.{Announces, ClientRule, Completes, Joins, Publishes, Puts, Idles, Says, Takes, client_rule}
+use Rattle.disk_model.specs.ClientRule.{Announces, ClientRule, Completes, Publishes, Puts, Says, client_rule}
 use Rattle.disk_model.specs.ClientState.{ClientSession, ClientState, first_id, joined_client}
 use Rattle.disk_model.specs.ClientStep.{ClientCompletes, ClientPublishes, ClientSends}
 use Rattle.disk_model.specs.ClientTaking.{ClientTakes, GoesOn}
@@ -62,7 +63,7 @@ put_kept c kind t session pending next blocks slots = record {
 }
 
 held_is : (c one other : ClientState) → Some one ≡ Some other → KeepsRequests c one → KeepsRequests c other
-held_is c one other is kept = let same : one ≡ other = cc is in subst (λ (x : ClientState). KeepsRequests c x) same kept
+held_is c one other is kept = let same : one ≡ other = some_same is in subst (λ (x : ClientState). KeepsRequests c x) same kept
 
 announcing_kept : (c : ClientState) (session : ClientSession) → c.session ≡ Some session → KeepsRequests c (announcing session (holding (announcement c session) c))
 announcing_kept c session is = record {
@@ -78,11 +79,7 @@ held_kept c at Puts held may is = held_is c c held is (stays_kept c)
 held_kept c at (Says message) held may is =
     held_is c (holding message c) held is (record { pending = refl; next = refl; blocks = refl; slots = refl; session = λ done first stands. stands })
 held_kept c at (Announces session) held may is = held_is c (announcing session (holding (announcement c session) c)) held is (announcing_kept c session may.3)
-held_kept c at Joins held may is = absurd (cc)
-held_kept c at (Completes session) held may is = absurd (cc)
-held_kept c at (Takes packet) held may is = absurd (cc)
-held_kept c at (Publishes session request) held may is = absurd (cc)
-held_kept c at Idles held may is = absurd (cc)
+held_kept c at _ held may is = none_is_some is
 
 -- one after the other
 both_kept : (c m t : ClientState) → KeepsRequests c m → KeepsRequests m t → KeepsRequests c t

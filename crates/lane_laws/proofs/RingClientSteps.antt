@@ -145,6 +145,29 @@ first_number : (bytes : List ℕ) → number_at 1 0 bytes ≡ slice_index bytes 
 first_number [] = refl
 first_number (x ∷ bytes) = omega arith
 
+-- sums over the counts of a session, of numbers alone
+place_done : (done base completed : ℕ) → done ≡ base + completed → completed ≡ done - base
+place_done done base completed is = omega arith
+
+within_long : (slot n long : ℕ) → slot < n → long ≡ n → slot < long
+within_long slot n long below is = omega arith
+
+done_published : (done base completed acked announced published number : ℕ) → done ≡ base + completed → completed < acked → acked ≤ announced → announced ≤ published
+    → published ≡ number → done - base < number
+done_published done base completed acked announced published number is more fewer few same = omega arith
+
+pub since_base : (done base : ℕ) → base ≤ done → done ≤ base + (done - base)
+since_base done base based = omega arith
+
+same_id : (id first base done completed other : ℕ) → id ≡ first + completed → first ≡ base → done ≡ base + completed → other ≡ base + (done - base) → id ≡ other
+same_id id first base done completed other is same counts number = omega arith
+
+is_next : (id other base done : ℕ) → id ≡ other → other ≡ base + (done - base) → base ≤ done → id ≡ done
+is_next id other base done same number based = omega arith
+
+done_small : 4 < 2 ^ 8
+done_small = omega arith
+
 pub completes_slot : (s : LaneState) (l : DiskLog) (id operation status : ℕ) (bytes : List ℕ) (t : LaneState) → Known s l → WorkStep s (Done id operation status bytes) t
     → (k : ClientCounts) × CompletesSlot s l id status k
 completes_slot s l id operation status bytes t known step =
@@ -164,26 +187,27 @@ completes_slot s l id operation status bytes t known step =
     let published = of_k.agree.published in
     let slot = (l.work.done - k.base) % n in
     let below : slot < n = mod_below (l.work.done - k.base) n (some_slots s l known) in
-    let place : c.session.completed ≡ l.work.done - k.base = omega (arith, done) in
+    let place : c.session.completed ≡ l.work.done - k.base = place_done l.work.done k.base c.session.completed done in
     let same_slot : c.session.completed % s.client.slots ≡ slot = ap (λ (m : ℕ). c.session.completed % m) (slots_are s l known.stands) ∙ ap (λ (x : ℕ). x % n) place in
     let state : (disk_desc_of (slot_bytes 128 slot s.memory)).state ≡ done_state = subst (λ (j : ℕ). (disk_desc_of (slot_bytes 128 j s.memory)).state ≡ done_state) same_slot c.done in
-    let entry = some_entry l.ring slot (omega (arith, below, known.ring.holds.long)) in
+    let entry = some_entry l.ring slot (within_long slot n (length l.ring) below known.ring.holds.long) in
     let is_done = done_slot r slot entry.0 (slot_bytes 128 slot s.memory) (known.ring.holds.each slot entry.0 entry.1) (sym (first_number (slot_bytes 128 slot s.memory)) ∙ state) in
     let sizes = sizes_of s l slot known.pages below in
-    let read = reads_back r slot is_done.id 4 is_done.status (slot_bytes 128 slot s.memory) sizes (omega arith) is_done.holds in
+    let read = reads_back r slot is_done.id 4 is_done.status (slot_bytes 128 slot s.memory) sizes done_small is_done.holds in
     let status_is : status ≡ is_done.status =
     c.status_is ∙ ap (λ (j : ℕ). (disk_desc_of (slot_bytes 128 j s.memory)).status) same_slot ∙ ap (λ (d : DiskDesc). d.status) read in
     let stands : IdStands n l.work.done k slot is_done.id = subst (SlotStands n l.work.done k slot) is_done.same (ids_in s l k known of_k.open_is slot entry.0 entry.1) in
     let turn = turn_in s l k known of_k.open_is in
     let number : is_done.id ≡ k.base + (l.work.done - k.base) =
-    id_is n l.work.done k slot is_done.id (l.work.done - k.base) stands (omega (arith, turn.based)) (omega (arith, done, more, acked, announced, published)) turn.turn refl in
-    let id_same : id ≡ is_done.id = omega (arith, c.id_is, base, done, number) in (
+    id_is n l.work.done k slot is_done.id (l.work.done - k.base) stands (since_base l.work.done k.base turn.based)
+    (done_published l.work.done k.base c.session.completed c.session.acked c.session.announced c.session.published k.published done more acked announced published) turn.turn refl in
+    let id_same : id ≡ is_done.id = same_id id c.session.base k.base l.work.done c.session.completed is_done.id c.id_is base done number in (
       k,
       record {
         open_is = of_k.open_is;
         based = turn.based;
         done_is = entry.1 ∙ ap (λ (e : SlotLog). Some e) is_done.same ∙ ap (λ (i : ℕ). Some (IsDone i is_done.status)) (sym id_same) ∙ ap (λ (x : ℕ). Some (IsDone id x)) (sym status_is);
-        number = omega (arith, id_same, number, turn.based);
+        number = is_next id is_done.id k.base l.work.done id_same number turn.based;
       },
     )
 
@@ -216,7 +240,8 @@ completed_in_ring s l id operation status bytes t known step =
     let same_k : of_k.counts.base ≡ k.base = ap base_of (sym of_k.open_is ∙ found.1.open_is) in
     let slot = (l.work.done - k.base) % n in
     let below : slot < n = mod_below (l.work.done - k.base) n (some_slots s l known) in
-    let place : c.session.completed ≡ l.work.done - k.base = omega (arith, done, same_k) in
+    let place : c.session.completed ≡ l.work.done - k.base =
+    place_done l.work.done k.base c.session.completed (done ∙ ap (λ (n : ℕ). n + c.session.completed) same_k) in
     let freed : t.memory ≡ put_at (128 * slot) (free_state ∷ []) s.memory =
     c.freed ∙ ap (λ (m : ℕ). put_at (128 * (c.session.completed % m)) (free_state ∷ []) s.memory) (slots_are s l known.stands)
     ∙ ap (λ (x : ℕ). put_at (128 * (x % n)) (free_state ∷ []) s.memory) place in
@@ -226,7 +251,7 @@ completed_in_ring s l id operation status bytes t known step =
     set_holds r l.ring s.memory t.memory slot Free known.ring.holds below (subst (OneSlot 128 n slot s.memory) (sym freed) frees.one)
     (ap (λ (m : List ℕ). slice_index (slot_bytes 128 slot m) 0) freed ∙ frees.there) in
     let ids : IdsStand n (l.work.done + 1) (set l.ring slot Free) (Some k) =
-    each_set (λ (j : ℕ) (is : SlotLog). SlotStands n (l.work.done + 1) k j is) l.ring slot Free (omega (arith, below, known.ring.holds.long))
+    each_set (λ (j : ℕ) (is : SlotLog). SlotStands n (l.work.done + 1) k j is) l.ring slot Free (within_long slot n (length l.ring) below known.ring.holds.long)
     (λ j is other got. map_stands n l.work.done (l.work.done + 1) k k j (ids_fewer n l.work.done k j other) is (ids_in s l k known found.1.open_is j is got)) tt in
     let apart : (d : ServerCounts) → InWork r l.ring d → d.finished % n ≢ slot =
     λ d work same.

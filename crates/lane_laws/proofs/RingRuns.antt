@@ -17,6 +17,7 @@ use Rattle.vdisk_msg.specs.declared.desc.DiskDesc.{DiskDesc}
 use Rattle.vdisk_msg.specs.Pieces.{Finishes, Moves, Piece, Stores, checked_pieces, operation_pieces, pieces, read_pieces, refusal_status, unit_count, write_pieces}
 use Rattle.channel_model.specs.TranscriptLog.{TranscriptLog}
 use Rattle.channel_model.specs.WireEvent.{Blocked, Declines, Idle, Injected, Joined, Lost, Poked, Reset, Sent, Took, WireEvent}
+use Rattle.channel_laws.proofs.Apart.{some_same}
 use Rattle.lane_laws.specs.Agreement.{RingAgrees, SlotAgrees}
 use Rattle.lane_laws.specs.DiskLog.{DiskLog, after, nothing_yet}
 use Rattle.lane_laws.specs.RingLog.{Accepted as IsAccepted, Done as IsDone, Free, Ready, SlotLog, Zeros, no_ring}
@@ -207,7 +208,7 @@ zeros_at pages slots slot below room =
 
 zeros_entry : (n j : ℕ) (is : SlotLog) → slice_get (replicate n Zeros) j ≡ Some is → is ≡ Zeros
 zeros_entry zero j is got = absurd (cc got)
-zeros_entry (suc n) zero is got = let same : Zeros ≡ is = cc got in sym same
+zeros_entry (suc n) zero is got = let same : Zeros ≡ is = some_same got in sym same
 zeros_entry (suc n) (suc j) is got = zeros_entry n j is got
 
 fresh_holds : (shape : Shape) → RingHolds (ring_in (nothing_yet shape)) (no_ring shape.slots) (fresh shape).memory

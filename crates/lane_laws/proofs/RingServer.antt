@@ -1,6 +1,6 @@
 -- What a server's writes through the cookies of the client's ring do to its slots: a word of one slot, and the two words that end a
 -- descriptor.
-use Rattle.std.proofs.Common.{◌≡◌, ℕ, ◌+◌, ◌*◌, ◌<◌, ◌≤◌, true, List, length, Some, None, inl, inr, refl, sym, ap, ◌∙◌, subst, arith}
+use Rattle.std.proofs.Common.{◌≡◌, ℕ, ◌+◌, ◌*◌, ◌<◌, ◌≤◌, true, List, length, None, inl, inr, refl, sym, ap, ◌∙◌, subst, arith}
 use Rattle.cookie_copy.specs.Identity.{IsIdentity}
 use Rattle.cookie_copy.specs.declared.fault.Access.TheVariants as access
 use Rattle.dring.proofs.Turning.{one_slot_put, slot_put}
@@ -18,6 +18,7 @@ use Rattle.lane_laws.proofs.MemoryStanding.{word_long}
 use Rattle.lane_laws.proofs.RingCookies.{copy_up}
 use Rattle.lane_laws.proofs.RingWrites.{one_after_one, ring_word, ring_word_answered}
 use Rattle.lane_laws.specs.RingSlots.{HoldsIssued, RingOf}
+use Rattle.channel_laws.proofs.Apart.{some_is_none}
 
 -- a server that reaches a ring of so many slots by its own cookies
 pub record Reaches (s : ServerState) (r : Reach) (pages slots : ℕ) : Type 0 where
@@ -81,5 +82,4 @@ end_refused s r pages slots slot work status cause new reaches below (inl fails)
 end_refused s r pages slots slot work status cause new reaches below (inr fails) =
     let both : r.both ≡ true = copy_up r.both access.Write r.table (slots_cookies s) (128 * slot + 16) 8 fails.1 in
     let none : word_fault s r slot 0 ≡ None = ring_word_answered s r pages slots slot 0 both reaches.identity reaches.cookies below (omega arith) refl reaches.within in
-    let clash : Some fails.0 ≡ None = sym fails.2 ∙ none in
-    absurd (cc clash)
+    some_is_none (sym fails.2 ∙ none)

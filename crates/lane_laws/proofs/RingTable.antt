@@ -7,6 +7,7 @@ use Rattle.std.proofs.lemmas.Option.{slice_get_within}
 use Rattle.dring.proofs.Turning.{one_turn}
 use Rattle.dring.specs.Slots.{OneSlot, free_state, slot_bytes}
 use Rattle.vdisk_msg.specs.declared.request.Request.{Request}
+use Rattle.channel_laws.proofs.Apart.{some_same}
 use Rattle.lane_laws.specs.RingLog.{Accepted, Done, Free, Ready, SlotLog, Zeros}
 use Rattle.lane_laws.specs.WorkLog.{ClientCounts, ServerCounts}
 use Rattle.lane_laws.proofs.SlotBytes.{more_holds}
@@ -47,7 +48,7 @@ each_if : (P : ℕ → SlotLog → Type 0) (ring : List SlotLog) (k : ℕ) (e : 
 each_if P ring k e below others here j is got (inl same) =
     let at_k : slice_get (set ring k e) k ≡ Some is = subst (λ (i : ℕ). slice_get (set ring k e) i ≡ Some is) same got in
     let both : Some e ≡ Some is = sym (got_same ring k e below) ∙ at_k in
-    let entry : e ≡ is = cc both in
+    let entry : e ≡ is = some_same both in
     subst (λ (i : ℕ). P i is) (sym same) (subst (P k) entry here)
 each_if P ring k e below others here j is got (inr other) = others j is other (sym (got_other ring k j e other) ∙ got)
 

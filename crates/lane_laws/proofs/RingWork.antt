@@ -13,6 +13,7 @@ use Rattle.vdisk_msg.specs.Pieces.{pieces}
 use Rattle.vdisk_msg.specs.Requested.{descriptor_of}
 use Rattle.vio_bytes.specs.Place.{put_at}
 use Rattle.channel_model.specs.WireLog.{WireLog}
+use Rattle.channel_laws.proofs.Apart.{some_same}
 use Rattle.lane_laws.specs.Agreement.{WorkAgrees}
 use Rattle.lane_laws.specs.DiskLog.{DiskLog, after}
 use Rattle.lane_laws.specs.RingLog.{Accepted, SlotLog, fetched_at, id_at}
@@ -194,6 +195,19 @@ pub record FetchedNext (s : LaneState) (l : DiskLog) (slot : ℕ) (bytes : List 
   pub work : AtWork s l session
   pub ready : ReadyNext s l work.of.counts work.one.client slot bytes
 
+-- sums over the counts of a request's work, of numbers alone
+pub more_published : (descs asked other published : ℕ) → descs + 1 ≤ asked → asked ≤ other → other ≡ published → descs < published
+more_published descs asked other published few within same = omega arith
+
+fits_small : (descs asked : ℕ) → descs + 1 ≤ asked → asked < 2 ^ 64 → descs < 2 ^ 64
+fits_small descs asked few small = omega arith
+
+done_since : (done other base finished descs : ℕ) → done ≤ other + finished → other ≡ base → finished ≤ descs → done ≤ base + descs
+done_since done other base finished descs few same first = omega arith
+
+pub finished_small : (finished descs asked : ℕ) → descs ≡ finished + 1 → descs ≤ asked → asked < 2 ^ 64 → finished < 2 ^ 64
+finished_small finished descs asked single few small = omega arith
+
 pub fetched_next : (s : LaneState) (l : DiskLog) (slot : ℕ) (bytes : List ℕ) (t : LaneState) → Known s l → SessionsAgree t (after l (Works (Desc slot bytes)))
     → WorkStep s (Desc slot bytes) t → FetchedNext s l slot bytes
 fetched_next s l slot bytes t known agree step =
@@ -207,19 +221,19 @@ fetched_next s l slot bytes t known agree step =
     let k = work.one.client in
     let one_more : OneRing t (after l (Works (Desc slot bytes))).work (fetched_counts l bytes d) =
     subst (λ (q : Option ServerCounts). IfServer (change_server (fetched_counts l bytes) q) (OneRing t (after l (Works (Desc slot bytes))).work)) work.of.open_is (agree.ring work.up) in
-    let same_client : k ≡ one_more.client = let both : Some k ≡ Some one_more.client = sym work.one.open_is ∙ one_more.open_is in cc both in
+    let same_client : k ≡ one_more.client = let both : Some k ≡ Some one_more.client = sym work.one.open_is ∙ one_more.open_is in some_same both in
     let published : one_more.client.published ≡ k.published = ap (λ (c : ClientCounts). c.published) (sym same_client) in
     let base : one_more.client.base ≡ k.base = ap (λ (c : ClientCounts). c.base) (sym same_client) in
     let descs = one_more.descs in
     let asked = one_more.asked in
     let small = one_more.small in
     let done = one_more.done in
-    let more : d.descs < k.published = omega (arith, descs, asked, published) in
-    let fits : d.descs < 2 ^ 64 = omega (arith, descs, small) in
-    let since : l.work.done ≤ k.base + d.descs = omega (arith, done, base, finished_first s l v known work) in
+    let more : d.descs < k.published = more_published d.descs d.asked one_more.client.published k.published descs asked published in
+    let fits : d.descs < 2 ^ 64 = fits_small d.descs d.asked descs small in
+    let since : l.work.done ≤ k.base + d.descs = done_since l.work.done one_more.client.base k.base d.finished d.descs done base (finished_first s l v known work) in
     let reaches = work.reaches at.both in
     let next_slot : slot < l.shape.slots =
-    omega (arith, f.slot_is ∙ numbered s l v work v.descs d.descs known.stands work.of.agree.descs fits, mod_below d.descs l.shape.slots (some_slots s l known)) in
+    subst (λ (x : ℕ). x < l.shape.slots) (sym (f.slot_is ∙ numbered s l v work v.descs d.descs known.stands work.of.agree.descs fits)) (mod_below d.descs l.shape.slots (some_slots s l known)) in
     let fetched = ring_fetched s.server r (pages_of l.shape) l.shape.slots slot reaches.identity reaches.cookies next_slot reaches.room f.fetched.0 in
     let state : slice_index (slot_fetched s.server r slot) 0 ≡ 2 = is_two (slice_index (slot_fetched s.server r slot) 0) f.fetched.1 in
     record {

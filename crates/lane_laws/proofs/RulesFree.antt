@@ -12,6 +12,7 @@ use Rattle.disk_model.specs.ClientState.{ClientSession, ClientState}
 use Rattle.channel_model.specs.Seeing.{Seen}
 use Rattle.disk_model.specs.ServerRule as server
 use Rattle.disk_model.specs.ServerState.{ServerSession, ServerState, SlotRange, Work}
+use Rattle.channel_laws.proofs.Apart.{none_is_some, some_same}
 
 -- THE CLIENT publishes only where its link holds nothing, puts a packet where it owes one, and takes one where nothing is urgent
 abbrev PublishesFree : ClientState → client.ClientRule → Type 0
@@ -179,7 +180,7 @@ range_free s session range true free none is ranged test = (
 range_free s session range false free none is ranged test = serves_free s session s.work (record { free = free; owed = none; session_is = is; unfinished = test }) refl
 
 same_range : (session other : ServerSession) → Some session ≡ Some other → session.range ≡ None → other.range ≡ None
-same_range session other is none = let same : session ≡ other = cc is in subst (λ (x : ServerSession). x.range ≡ None) same none
+same_range session other is none = let same : session ≡ other = some_same is in subst (λ (x : ServerSession). x.range ≡ None) same none
 
 in_range_free : (s : ServerState) (at : Seen) (session : ServerSession) (range : Option SlotRange) → owes s.link ≡ false → s.handshake.owed ≡ None → s.session ≡ Some session
     → session.range ≡ range → ServerFree s (server.in_range s session range at)
@@ -193,7 +194,7 @@ in_range_free s at session (Some range) free none is ranged = range_free s sessi
 
 in_session_free : (s : ServerState) (at : Seen) (open_one : Option ServerSession) → owes s.link ≡ false → s.handshake.owed ≡ None → s.session ≡ open_one
     → ServerFree s (server.in_session s open_one at)
-in_session_free s at None free none is = first_free s at.first (record { free = free; owed = none; range = λ session now. let none : None ≡ Some session = sym is ∙ now in absurd (cc) })
+in_session_free s at None free none is = first_free s at.first (record { free = free; owed = none; range = λ session now. none_is_some (sym is ∙ now) })
 in_session_free s at (Some session) free none is = in_range_free s at session session.range free none is refl
 
 server_says_free : (s : ServerState) (at : Seen) (owed : Option Message) → owes s.link ≡ false → s.handshake.owed ≡ owed → ServerFree s (server.says s owed at)

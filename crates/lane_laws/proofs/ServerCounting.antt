@@ -21,6 +21,7 @@ use Rattle.disk_model.specs.Offering.{server_offer}
 use Rattle.channel_model.specs.Ranges.{wrapped}
 use Rattle.dring.specs.Slots.{range_length}
 use Rattle.disk_model.specs.ServerState.{ServerSession, ServerState, SlotRange, Work, joined_server, restarted_server}
+use Rattle.channel_laws.proofs.Apart.{none_is_some, some_same, true_is_false}
 use Rattle.channel_laws.specs.Grounds.{has_named}
 use Rattle.lane_laws.proofs.ClientTaken.{HearsMessage}
 use Rattle.channel_laws.proofs.EndStanding.{open_declines, up_empty}
@@ -153,7 +154,7 @@ takes_part shape v t turns packet sid d opens utters counted part =
 
 -- a message of the handshake: its session may open by it
 opens_closed : (h g : Handshake) (message : Message) → h.phase ≡ Open → HandshakeTook h message g true → ⊥
-opens_closed h g message is took = let never : true ≡ false = (open_declines h g message true is took.row).1 in cc never
+opens_closed h g message is took = true_is_false ((open_declines h g message true is took.row).1)
 
 closed : (o : Option ServerSession) (phase : Phase) → (is_some o ≡ true → phase ≡ Open) → (phase ≡ Open → ⊥) → o ≡ None
 closed None phase opened never = refl
@@ -261,15 +262,15 @@ asked_order : (slots added n : ℕ) (o : Option ServerSession) (d : Option Serve
     → range_sum slots 1 (heard behind) ≡ range_sum slots 1 (heard turns) + added → range_sum slots 2 (said behind) ≡ range_sum slots 2 (said turns)
     → range_count 1 (heard behind) ≡ range_count 1 (heard turns) + 1 → range_count 2 (said behind) ≡ range_count 2 (said turns) → (w : Option Work) → ServerAgrees o w d → ServerOrder slots o d turns
     → ServerOrder slots (Some next) (change_server (λ (c : ServerCounts). record c { asked = c.asked + added }) d) behind
-asked_order slots added n None d turns behind session next range is same asks heard_is said_is one_more same_said w agrees order = absurd (cc is)
+asked_order slots added n None d turns behind session next range is same asks heard_is said_is one_more same_said w agrees order = none_is_some is
 asked_order slots added n (Some s) None turns behind session next range is same asks heard_is said_is one_more same_said w agrees order = absurd order
 asked_order slots added n (Some s) (Some c) turns behind session next range is same asks heard_is said_is one_more same_said w agrees order =
-    let one : s ≡ session = cc is in
+    let one : s ≡ session = some_same is in
     let counts : ServerCountsAgree s c = agrees.0 in
     let none : s.range ≡ None = ap (λ (x : ServerSession). x.range) one ∙ asks.none in
     let all : c.answered ≡ c.asked = subst (λ (r : Option SlotRange). RangeStands slots r c) none order.range in
     record {
-      asked = omega (arith, order.asked, heard_is);
+      asked = ap (λ (x : ℕ). x + added) order.asked ∙ sym heard_is;
       answered = order.answered ∙ sym said_is;
       finished = order.finished;
       descs = omega (arith, order.descs);
@@ -288,10 +289,10 @@ asked_order slots added n (Some s) (Some c) turns behind session next range is s
 asked_agrees : (o : Option ServerSession) (w : Option Work) (d : Option ServerCounts) (session next : ServerSession) (range : SlotRange) (n added : ℕ) → o ≡ Some session
     → next ≡ record session { asked = wrapped (session.asked + n); seq = wrapped (session.seq + 1); range = Some range } → added ≡ n → ServerAgrees o w d
     → ServerAgrees (Some next) w (change_server (λ (c : ServerCounts). record c { asked = c.asked + added }) d)
-asked_agrees None w d session next range n added is same adds agrees = absurd (cc is)
+asked_agrees None w d session next range n added is same adds agrees = none_is_some is
 asked_agrees (Some s) w None session next range n added is same adds agrees = absurd agrees
 asked_agrees (Some s) w (Some c) session next range n added is same adds agrees =
-    let one : s ≡ session = cc is in (
+    let one : s ≡ session = some_same is in (
       record {
         asked = ap (λ (x : ServerSession). x.asked) same ∙ wraps_more session.asked c.asked n (ap (λ (x : ServerSession). x.asked) (sym one) ∙ agrees.0.asked)
             ∙ ap (λ (x : ℕ). wrapped (c.asked + x)) (sym adds);
@@ -356,7 +357,7 @@ server_takes_counting shape v t turns packet sid d opens rests utters free count
 
 -- its session opens where it had none
 pub opens_new : (v t : ServerState) (turns : List Turn) (packet : List ℕ) → ServerRests v turns → ServerTook v turns packet t true → v.session ≡ None
-opens_new v t turns packet rests (inl part) = let never : true ≡ false = part.opens_is in absurd (cc)
+opens_new v t turns packet rests (inl part) = true_is_false (part.opens_is)
 opens_new v t turns packet rests (inr (inl handshakes)) =
     closed v.session v.handshake.phase rests.opened (λ (now : v.handshake.phase ≡ Open). opens_closed v.handshake handshakes.handshake handshakes.message now handshakes.took)
-opens_new v t turns packet rests (inr (inr asks)) = let never : true ≡ false = asks.opens_is in absurd (cc)
+opens_new v t turns packet rests (inr (inr asks)) = true_is_false (asks.opens_is)

@@ -22,6 +22,7 @@ use Rattle.disk_model.specs.ServerState.{Ends, Progress, ServerSession, ServerSt
 use Rattle.disk_model.specs.ServerStep.{ServerFetches, ServerFinishes, ServerSends}
 use Rattle.cookie_copy.specs.Reach.{Reach}
 use Rattle.disk_model.specs.ServerWork.{desc_of, first_progress}
+use Rattle.channel_laws.proofs.Apart.{none_is_some, some_same}
 use Rattle.channel_laws.proofs.PutSayings.{PutSays, put_says}
 use Rattle.lane_laws.proofs.RulesFree.{ServerFree, server_free}
 use Rattle.lane_laws.proofs.ServerPutCounting.{answers_more, comes_counting, goes_counting, own_counting, put_as, server_holds_counting, handshake_counting}
@@ -50,10 +51,10 @@ fetched_both : (slots blocks : ℕ) (o : Option ServerSession) (w : Option Work)
     → ServerOrder slots (Some (record session { descs = wrapped (session.descs + 1) })) (change_server (fetched_log blocks bytes) d) turns
     × ServerAgrees (Some (record session { descs = wrapped (session.descs + 1) })) (Some (record { bytes = bytes; progress = first_progress blocks (disk_desc_of bytes) }))
     (change_server (fetched_log blocks bytes) d)
-fetched_both slots blocks None w d turns session bytes is none unfinished order agrees = absurd (cc is)
+fetched_both slots blocks None w d turns session bytes is none unfinished order agrees = none_is_some is
 fetched_both slots blocks (Some s) w None turns session bytes is none unfinished order agrees = absurd order
 fetched_both slots blocks (Some s) w (Some c) turns session bytes is none unfinished order agrees =
-    let same : s ≡ session = cc is in
+    let same : s ≡ session = some_same is in
     let works : WorkAgrees None c = subst (λ (x : Option Work). WorkAgrees x c) none agrees.1 in
     let counts : ServerCountsAgree session c = subst (λ (x : ServerSession). ServerCountsAgree x c) same agrees.0 in
     let other : c.finished ≢ c.asked = λ all. absurd (not_same session.finished session.asked unfinished (counts.finished ∙ ap wrapped all ∙ sym counts.asked)) in (
@@ -111,10 +112,10 @@ finished_both : (slots : ℕ) (o : Option ServerSession) (w : Option Work) (d : 
     → o ≡ Some session → w ≡ Some work → work.progress ≡ Ends status → ServerOrder slots o d turns → ServerAgrees o w d
     → ServerOrder slots (Some (record session { finished = wrapped (session.finished + 1) })) (change_server finished_log d) turns
     × ServerAgrees (Some (record session { finished = wrapped (session.finished + 1) })) None (change_server finished_log d)
-finished_both slots None w d turns session work status is works ends order agrees = absurd (cc is)
+finished_both slots None w d turns session work status is works ends order agrees = none_is_some is
 finished_both slots (Some s) w None turns session work status is works ends order agrees = absurd order
 finished_both slots (Some s) w (Some c) turns session work status is works ends order agrees =
-    let same : s ≡ session = cc is in
+    let same : s ≡ session = some_same is in
     let work_is : WorkAgrees (Some work) c = subst (λ (x : Option Work). WorkAgrees x c) works agrees.1 in
     let counts : ServerCountsAgree session c = subst (λ (x : ServerSession). ServerCountsAgree x c) same agrees.0 in (
       record {

@@ -20,11 +20,12 @@ use Rattle.channel_model.specs.Messages.{ended_by, is_range, range_if, range_in}
 use Rattle.channel_model.specs.Sayings.{half_heard, half_said}
 use Rattle.channel_model.specs.Seeing.{Seen}
 use Rattle.disk_model.specs.ServerPutting.{answered, server_holds}
-use Rattle.disk_model.specs.ServerRule.{Fetches, Idles, Joins, Puts, Says, ServerRule, Serves, Takes}
+use Rattle.disk_model.specs.ServerRule.{Fetches, Puts, Says, ServerRule, Serves}
 use Rattle.disk_model.specs.ServerState.{ServerSession, ServerState, SlotRange, joined_server, restarted_server}
 use Rattle.disk_model.specs.ServerStep.{ServerFetches, ServerFinishes, ServerMoves, ServerStores}
 use Rattle.cookie_copy.specs.Reach.{Reach}
 use Rattle.lane_laws.proofs.ClientFolds.{LinkIs, link_begins, link_hears, link_puts, link_stuck, owes_up}
+use Rattle.channel_laws.proofs.Apart.{none_is_some, some_same, true_is_false}
 use Rattle.channel_laws.proofs.PutSayings.{PutSays}
 use Rattle.channel_laws.proofs.EndStanding.{open_up, owing_up}
 use Rattle.channel_laws.proofs.TurnCases.{heard_none, heard_some, said_none, said_some}
@@ -92,7 +93,7 @@ opened_none false o new = refl
 takes_by : (s t : ServerState) (turns : List Turn) (packet : List ℕ) (b : Blockage) → Taking s t → ServerIs s turns b → (is_up s.link ≡ true → is_up t.link ≡ true)
     → ranged t.session ≡ range_in_work (Heard_ packet ∷ turns) → ServerIs t (Heard_ packet ∷ turns) (hearing b)
 takes_by s t turns packet b taking is stays range = record {
-  link = link_hears s.link t.link b taking.same stays (λ now. let never : true ≡ false = sym (is.link.owes now) ∙ taking.free.free in absurd (cc)) is.link;
+  link = link_hears s.link t.link b taking.same stays (λ now. true_is_false (sym (is.link.owes now) ∙ taking.free.free)) is.link;
   range = range;
 }
 
@@ -162,7 +163,7 @@ pub record Blocking (v : ServerState) (turns : List Turn) : Type 0 where
   pub utters : ServerUtters v turns
 
 held_is : (one other : ServerState) (turns : List Turn) (b : Blockage) → Some one ≡ Some other → ServerIs one turns b → ServerIs other turns b
-held_is one other turns b same is = let mine : one ≡ other = cc same in subst (λ (x : ServerState). ServerIs x turns b) mine is
+held_is one other turns b same is = let mine : one ≡ other = some_same same in subst (λ (x : ServerState). ServerIs x turns b) mine is
 
 says_up : (v : ServerState) (turns : List Turn) (message : Message) → Blocking v turns → (v.handshake.owed ≡ Some message) ⊎ AnswersFree v message → is_up v.link ≡ true
 says_up v turns message known (inl owed) = owing_up Responder (server_core v) turns message known.rests.stands owed
@@ -177,11 +178,7 @@ server_blocks_so s (Says message) t turns b free holds known is =
       link = link_stuck (offered (canonical message) s.link) b (owes_up (offered (canonical message) s.link) up (some_bytes message));
       range = is.range;
     })
-server_blocks_so s Joins t turns b free holds known is = absurd (cc)
-server_blocks_so s (Fetches session) t turns b free holds known is = absurd (cc)
-server_blocks_so s (Serves session work) t turns b free holds known is = absurd (cc)
-server_blocks_so s (Takes packet) t turns b free holds known is = absurd (cc)
-server_blocks_so s Idles t turns b free holds known is = absurd (cc)
+server_blocks_so s _ t turns b free holds known is = none_is_some holds
 
 -- ITS WORK leaves all but the counts of its session
 session_same : (s : ServerState) (session next : ServerSession) (turns : List Turn) (b : Blockage) → s.session ≡ Some session → next.range ≡ session.range → ServerIs s turns b

@@ -29,6 +29,7 @@ use Rattle.disk_model.specs.LaneStep.{LaneStep}
 use Rattle.channel_model.specs.Ranges.{is_other, wrapped}
 use Rattle.disk_model.specs.ServerState.{ServerSession, ServerState, SlotRange}
 use Rattle.disk_model.specs.ServerTaking.{GoesOn, HearsWhole, Resets, ServerTake, asked, hears_message, place_of, reads, sid_first, takes_info}
+use Rattle.channel_laws.proofs.Apart.{some_same}
 use Rattle.channel_laws.proofs.EndStanding.{open_up}
 use Rattle.channel_laws.proofs.HandshakePlaces.{AtPlace, deal, open_place}
 use Rattle.channel_laws.specs.Sides.{sides_of, swapped}
@@ -92,7 +93,7 @@ number_of : (slots : ℕ) (o : Option ServerSession) (q : Option ServerCounts) (
     → session.seq ≡ wrapped (range_count 1 (heard turns) + 1)
 number_of slots None q turns session is order = absurd (cc is)
 number_of slots (Some s) None turns session is order = absurd order
-number_of slots (Some s) (Some c) turns session is order = let same : s ≡ session = cc is in ap (λ (x : ServerSession). x.seq) (sym same) ∙ order.seq
+number_of slots (Some s) (Some c) turns session is order = let same : s ≡ session = some_same is in ap (λ (x : ServerSession). x.seq) (sym same) ∙ order.seq
 
 -- the next range of the client is one that the server takes
 info_fits : (shape : Shape) (d : Deal) (v : ServerState) (session : ServerSession) (turns : List Turn) (bytes : List ℕ)

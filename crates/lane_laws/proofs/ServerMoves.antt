@@ -32,6 +32,7 @@ use Rattle.disk_model.specs.ServerTaking.{GoesOn, HearsLink, Resets, ServerTake,
 use Rattle.cookie_copy.specs.Reach.{Reach}
 use Rattle.disk_model.specs.ServerWork.{first_progress}
 use Rattle.vdisk_msg.specs.Descriptor as slot_says
+use Rattle.channel_laws.proofs.Apart.{none_is_some, some_same, true_is_false}
 use Rattle.channel_laws.specs.EndCore.{holds}
 use Rattle.channel_laws.specs.EndStep.{EndBegins, EndFails, EndHears, EndRenews, EndSays, EndStays, EndWaits, HandshakeTakes, HearsWhole, Holding, Holds, HoldsOn, HoldsOwed, HoldsOwn, IsOfSession, KeepsOwn, LinkFails, MayTake, WholeFails}
 use Rattle.channel_laws.specs.EndStep as core
@@ -305,12 +306,12 @@ holds_says s message quiet (inr answers) =
     subst (λ (m : Message). HoldsTo s (holding m s)) (sym answers.message_is) (holds_answer s answers.range answers.session quiet answers.nothing_owed answers.session_is answers.range_is)
 
 to_the : (s one other : ServerState) → Some one ≡ Some other → HoldsTo s one → HoldsTo s other
-to_the s one other is to = let same : one ≡ other = cc is in subst (HoldsTo s) same to
+to_the s one other is to = let same : one ≡ other = some_same is in subst (HoldsTo s) same to
 
 holds_by : (s : ServerState) (at : Seen) (rule : ServerRule) (held : ServerState) → ServerMay s at rule → server_holds rule s ≡ Some held → HoldsTo s held
 holds_by s at Puts held may is = to_the s s held is (record { what = HoldsOn; holds = refl })
 holds_by s at (Says message) held may is = to_the s (holding message s) held is (holds_says s message may.1 may.2)
-holds_by s at _ held may is = absurd (cc is)
+holds_by s at _ held may is = none_is_some is
 
 pub server_waits : (s : ServerState) (at : Seen) (t : ServerState) → server_holds (server_rule s at) s ≡ Some t → EndWaits (server_core s) (server_core t)
 server_waits s at t is = let to = holds_by s at (server_rule s at) t (server_may s at) is in record { what = to.what; holds = to.holds }
@@ -343,7 +344,7 @@ put_own_in phase.Established v true at short up still =
     holds_none (behind_put v.link) (drop 56 v.link.to_send) _ (ap (λ (p : LinkPhase). left_behind_put p v.link.to_send) at)
     (omega (arith, leb-true (length v.link.to_send) 56 short, length-drop 56 v.link.to_send)) still
 put_own_in phase.Established v false at long up still = ap (λ (b : Bool). is_none (handshake_behind (ending b (is_none v.handshake.owed)) v.handshake).owed) long
-put_own_in _ v last at short up still = absurd (cc (sym up ∙ ap is_established at))
+put_own_in _ v last at short up still = true_is_false (sym up ∙ ap is_established at)
 
 abbrev left_in : LinkPhase → ServerState → ℕ
 left_in ph v = answers_to_begin (holds (behind_put v.link) && is_none (behind_in ph v).owed) (range_left (session_behind (kind_in ph v.link (is_none v.handshake.owed)) v.session))

@@ -20,8 +20,9 @@ use Rattle.disk_model.specs.Offering.{server_offer}
 use Rattle.channel_model.specs.Ranges.{wrapped}
 use Rattle.dring.specs.Slots.{range_length}
 use Rattle.disk_model.specs.ServerPutting.{answered, server_holds, session_behind}
-use Rattle.disk_model.specs.ServerRule.{Fetches, Joins, Puts, Idles, Says, ServerRule, Serves, Takes}
+use Rattle.disk_model.specs.ServerRule.{Puts, Says, ServerRule}
 use Rattle.disk_model.specs.ServerState.{ServerSession, ServerState, SlotRange, Work}
+use Rattle.channel_laws.proofs.Apart.{none_is_some, some_same}
 use Rattle.channel_laws.proofs.PutSayings.{SaysWhole, SaysOn}
 use Rattle.channel_laws.proofs.EndStanding.{open_up, owing_up, up_empty}
 use Rattle.channel_laws.proofs.HandshakeFitting.{sent_fits, up_fits}
@@ -48,7 +49,7 @@ answer_with v k bytes a = record {
 -- IT HOLDS a message
 says_answer : (v : ServerState) (turns : List Turn) (message : Message) → half_said turns ≡ [] → (v.handshake.owed ≡ Some message) ⊎ AnswersFree v message → v.handshake.owed ≡ None
     → HoldsAnswer v (half_said turns ++ canonical message)
-says_answer v turns message half (inl owed) none = let never : None ≡ Some message = sym none ∙ owed in absurd (cc never)
+says_answer v turns message half (inl owed) none = none_is_some (sym none ∙ owed)
 says_answer v turns message half (inr a) none = record {
   session = a.session;
   range = a.range;
@@ -63,7 +64,7 @@ says_up v turns message rests (inl owed) = owing_up Responder (server_core v) tu
 says_up v turns message rests (inr a) = open_up Responder (server_core v) turns rests.stands (ap is_some a.session_is)
 
 held_is : (shape : Shape) (one other : ServerState) (turns : List Turn) (d : Option ServerCounts) → Some one ≡ Some other → ServerCounted shape one turns d → ServerCounted shape other turns d
-held_is shape one other turns d is counted = let same : one ≡ other = cc is in subst (λ (x : ServerState). ServerCounted shape x turns d) same counted
+held_is shape one other turns d is counted = let same : one ≡ other = some_same is in subst (λ (x : ServerState). ServerCounted shape x turns d) same counted
 
 pub server_holds_counting : (shape : Shape) (v : ServerState) (rule : ServerRule) (held : ServerState) (turns : List Turn) (d : Option ServerCounts) → ServerRests v turns → ServerUtters v turns
     → ServerFree v rule → server_holds rule v ≡ Some held → ServerCounted shape v turns d → ServerCounted shape held turns d
@@ -81,11 +82,7 @@ server_holds_counting shape v (Says message) held turns d rests utters free is c
       ready = counted.ready;
       agrees = counted.agrees;
     })
-server_holds_counting shape v Joins held turns d rests utters free is counted = absurd (cc)
-server_holds_counting shape v (Fetches session) held turns d rests utters free is counted = absurd (cc)
-server_holds_counting shape v (Serves session work) held turns d rests utters free is counted = absurd (cc)
-server_holds_counting shape v (Takes packet) held turns d rests utters free is counted = absurd (cc)
-server_holds_counting shape v Idles held turns d rests utters free is counted = absurd (cc)
+server_holds_counting shape v _ held turns d rests utters free is counted = none_is_some is
 
 -- THE LOG counts what is said
 abbrev pub answers_more : Shape → List Turn → List ℕ → Option ServerCounts → Option ServerCounts
@@ -228,10 +225,10 @@ answered_order : (slots n : ℕ) (o : Option ServerSession) (w : Option Work) (d
     → (1 ≤ n → range_count 2 (said behind) ≡ range_count 2 (said turns) + 1) → heard behind ≡ heard turns → ServerOrder slots o d turns → ServerAgrees o w d
     → ServerOrder slots (answered o) (change_server (λ (c : ServerCounts). record c { answered = c.answered + n }) d) behind
     × ServerAgrees (answered o) w (change_server (λ (c : ServerCounts). record c { answered = c.answered + n }) d)
-answered_order slots n None w d turns behind session range few is answers said_is counted heard_is order agrees = absurd (cc is)
+answered_order slots n None w d turns behind session range few is answers said_is counted heard_is order agrees = none_is_some is
 answered_order slots n (Some s) w None turns behind session range few is answers said_is counted heard_is order agrees = absurd order
 answered_order slots n (Some s) w (Some c) turns behind session range few is answers said_is counted heard_is order agrees =
-    let same : s ≡ session = cc is in
+    let same : s ≡ session = some_same is in
     let ranged : s.range ≡ Some range = ap (λ (x : ServerSession). x.range) same ∙ answers.range_is in
     let stands : RangeStands slots (Some range) c = subst (λ (r : Option SlotRange). RangeStands slots r c) ranged order.range in
     let adds : n ≡ range_length slots range.start range.end = answers.adds stands.1 stands.2 in

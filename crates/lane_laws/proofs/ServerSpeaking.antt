@@ -3,8 +3,9 @@ use Rattle.std.proofs.Common.{◌≡◌, ◌≤◌, Option, Some, None, arith}
 use Rattle.ldc_queue.specs.declared.end.ChannelState.TheVariants.{Up}
 use Rattle.channel_model.specs.Seeing.{Seen}
 use Rattle.disk_model.specs.ServerPutting.{server_holds}
-use Rattle.disk_model.specs.ServerRule.{Fetches, Joins, Puts, Idles, Says, ServerRule, Serves, Takes}
+use Rattle.disk_model.specs.ServerRule.{Puts, Says, ServerRule}
 use Rattle.disk_model.specs.ServerState.{ServerSession, ServerState, SlotRange}
+use Rattle.channel_laws.proofs.Apart.{none_is_some}
 use Rattle.lane_laws.specs.Budget.{one_range, range_left}
 use Rattle.lane_laws.specs.RuleFacts.{ServerMay}
 
@@ -19,8 +20,4 @@ range_few (Some s) = range_one s.range
 pub server_holds_up : (s : ServerState) (at : Seen) (rule : ServerRule) (held : ServerState) → ServerMay s at rule → server_holds rule s ≡ Some held → at.state ≡ Up
 server_holds_up s at Puts held may is = may
 server_holds_up s at (Says message) held may is = may.0
-server_holds_up s at Joins held may is = absurd (cc)
-server_holds_up s at (Fetches session) held may is = absurd (cc)
-server_holds_up s at (Serves session work) held may is = absurd (cc)
-server_holds_up s at (Takes packet) held may is = absurd (cc)
-server_holds_up s at Idles held may is = absurd (cc)
+server_holds_up s at _ held may is = none_is_some is

@@ -21,7 +21,7 @@ use Rattle.disk_model.specs.ServerState.{Ends, Flushes, Gathers, Gives, Progress
 use Rattle.disk_model.specs.ServerStep.{ServerMoves, ServerStores, with_progress}
 use Rattle.disk_model.specs.ServerWork as server_work
 use Rattle.cookie_copy.specs.Reach.{Reach}
-use Rattle.disk_model.specs.ServerWork.{MovesIn, StoresIn, desc_of, first_progress, gathers_next, or_ends, reads_next}
+use Rattle.disk_model.specs.ServerWork.{MovesIn, StoresIn, desc_of, first_progress, gathers_next, or_ends}
 use Rattle.channel_laws.proofs.EndStanding.{open_up, up_empty}
 use Rattle.lane_laws.proofs.RulesFree.{ServerFree, ServesFree, server_free}
 use Rattle.lane_laws.specs.Counted.{RangeStands, ServerCounted, ServerHolds, ServerOrder, UnitFits, UnitIn}

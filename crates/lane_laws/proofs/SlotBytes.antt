@@ -83,10 +83,6 @@ reads_back r slot id state status bytes sizes small holds =
     ap disk_desc_of holds.bytes_are ∙ canonical_reads_back (stated id holds.request slot r.slots state status) fits
 
 -- THE MARK: ACCEPTED after READY
-ack_is : (id : ℕ) (request : Request) (slot slots state status : ℕ) → (stated id request slot slots state status).ack ≡ 1
-unfolding descriptor_of
-ack_is id request slot slots state status = refl
-
 marked_bytes : (desc : DiskDesc) (old state status : ℕ) → put_at 0 (header state desc.ack) (canonical (record desc { state = old; status = status })) ≡ canonical (record desc { state = state; status = status })
 marked_bytes desc old state status = refl
 

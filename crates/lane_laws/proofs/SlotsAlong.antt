@@ -38,6 +38,7 @@ use Rattle.lane_laws.specs.RingSlots.{HoldsIssued, RingHolds, RingOf, SlotHolds}
 use Rattle.lane_laws.specs.SlotsInOrder.{BytesOf, RingInOrder, ServerAt, SlotOf, SlotsIn, SlotsInOrder}
 use Rattle.lane_laws.specs.Sound.{CountsInOrder}
 use Rattle.lane_laws.specs.TableStands.{TableAt}
+use Rattle.channel_laws.proofs.Apart.{some_same, true_is_false}
 
 -- the counts of the ranges
 pub announced_in : (pending : ℕ) (o : Option ClientSession) (done : ℕ) (q : Option ClientCounts) (k : ClientCounts) → q ≡ Some k → ClientAgrees o done q → CountsInOrder pending o
@@ -46,7 +47,7 @@ announced_in pending None done None k is agrees order = absurd (cc is)
 announced_in pending None done (Some c) k is agrees order = absurd agrees
 announced_in pending (Some x) done None k is agrees order = absurd agrees
 announced_in pending (Some x) done (Some c) k is agrees order =
-    let same : c ≡ k = cc is in
+    let same : c ≡ k = some_same is in
     let announced : c.announced ≡ k.announced = ap (λ (y : ClientCounts). y.announced) same in
     let published : c.published ≡ k.published = ap (λ (y : ClientCounts). y.published) same in
     omega (arith, announced, published, agrees.announced, agrees.published, order.announced)
@@ -68,7 +69,7 @@ never_sends s l event t packet knows step is =
     let here : LaneStep s (OnWire (Sent B packet true)) t = subst (λ (e : DiskEvent). LaneStep s e t) is step in
     let both = server_puts_counting l.shape s.server (seen B s.shape.entries s.wire.wire) packet true t.server l.transcript.server l.work.server (few_slots s l knows)
     here.1.step.1.0 knows.rests.server knows.utters.server knows.counted.server in
-    let never : true ≡ false = both.1 in absurd (cc)
+    true_is_false (both.1)
 
 pub facts_at : (shape : Shape) (events : List DiskEvent) (s : LaneState) (event : DiskEvent) (t : LaneState) → IsShape shape → Along shape s (log_of after (nothing_yet shape) events)
     → Run LaneStep (fresh shape) events s → LaneStep s event t → (after (log_of after (nothing_yet shape) events) event).wire.forged ≡ false
@@ -149,7 +150,7 @@ if_still P Q (Some d) still holds = still d holds
 asked_in : (s : LaneState) (w : WorkLog) (k : ClientCounts) → w.client ≡ Some k → (d : ServerCounts) → OneRing s w d → d.asked ≤ k.announced
 asked_in s w k is d one =
     let both : Some one.client ≡ Some k = sym one.open_is ∙ is in
-    let same : one.client ≡ k = cc both in
+    let same : one.client ≡ k = some_same both in
     let announced : one.client.announced ≡ k.announced = ap (λ (y : ClientCounts). y.announced) same in
     omega (arith, announced, one.announced)
 

@@ -5,6 +5,7 @@ use Rattle.std.proofs.lemmas.Bool.{cases_lt}
 use Rattle.std.proofs.lemmas.Nat.{mod_below}
 use Rattle.std.proofs.Math.Nat.{add-mod_right}
 use Rattle.dring.proofs.Turning.{one_turn}
+use Rattle.channel_laws.proofs.Apart.{some_same}
 use Rattle.lane_laws.specs.RingLog.{Accepted, Done, Free, Ready, SlotLog}
 use Rattle.lane_laws.proofs.RingTable.{free_entry, got_other, got_same, same_or_other}
 use Rattle.lane_laws.specs.SlotsInOrder.{SlotOf, SlotsOf}
@@ -18,7 +19,7 @@ same_number n lo a b la ua lb ub same =
     ]
 
 entry_is : (ring : List SlotLog) (k : ℕ) (e is : SlotLog) → k < length ring → slice_get (set ring k e) k ≡ Some is → is ≡ e
-entry_is ring k e is below got = let both : Some e ≡ Some is = sym (got_same ring k e below) ∙ got in let here : e ≡ is = cc both in sym here
+entry_is ring k e is below got = let both : Some e ≡ Some is = sym (got_same ring k e below) ∙ got in let here : e ≡ is = some_same both in sym here
 
 -- the slot of a number of the turn is set
 pub set_slots : (n done base a : ℕ) (P Q : ℕ → SlotLog → Type 0) (ring : List SlotLog) (e : SlotLog) → length ring ≡ n → done ≤ base + a → base + a < done + n → base ≤ done

@@ -22,7 +22,7 @@ use Rattle.disk_model.specs.ServerState.{ServerSession, Work}
 use Rattle.lane_laws.proofs.RingClientSteps.{completes_slot, publishing}
 use Rattle.lane_laws.proofs.RingEnds.{has_work}
 use Rattle.lane_laws.proofs.RingSessions.{of_client}
-use Rattle.lane_laws.proofs.RingWork.{Known, at_work, fetched_counts, fetched_next, numbered, some_slots, turn_in}
+use Rattle.lane_laws.proofs.RingWork.{Known, at_work, fetched_counts, fetched_next, finished_small, more_published, numbered, some_slots, turn_in}
 use Rattle.lane_laws.proofs.RulesFree.{ServerFree, server_free}
 use Rattle.lane_laws.proofs.Ruling.{client_may, server_may}
 use Rattle.lane_laws.proofs.SlotsOrdered.{announced_slots, cleared_slots, completed_slots, fetched_slots, finished_more, finished_slots, published_slots}
@@ -30,6 +30,7 @@ use Rattle.lane_laws.specs.RingAgreed.{OneRing, SessionsAgree}
 use Rattle.lane_laws.specs.RuleFacts.{ClientMay, ServerMay}
 use Rattle.lane_laws.specs.SlotsInOrder.{ServerAt, SlotsIn, SlotsInOrder, SlotsOf}
 use Rattle.lane_laws.specs.TableStands.{TableAt}
+use Rattle.channel_laws.proofs.Apart.{some_same, true_is_false}
 
 -- what is known of an event
 pub record StepFacts (s : LaneState) (l : DiskLog) (event : DiskEvent) (t : LaneState) : Type 0 where
@@ -135,8 +136,8 @@ pub work_first : (o : Option ServerSession) (w : Option Work) (q : Option Server
 work_first None w None d is agrees = absurd (cc is)
 work_first None w (Some c) d is agrees = absurd agrees
 work_first (Some s) w None d is agrees = absurd agrees
-work_first (Some s) None (Some c) d is agrees = let same : c ≡ d = cc is in subst (λ (x : ServerCounts). x.finished ≤ x.descs) same (omega (arith, agrees.1.1))
-work_first (Some s) (Some work) (Some c) d is agrees = let same : c ≡ d = cc is in subst (λ (x : ServerCounts). x.finished ≤ x.descs) same (omega (arith, agrees.1.2))
+work_first (Some s) None (Some c) d is agrees = let same : c ≡ d = some_same is in subst (λ (x : ServerCounts). x.finished ≤ x.descs) same (omega (arith, agrees.1.1))
+work_first (Some s) (Some work) (Some c) d is agrees = let same : c ≡ d = some_same is in subst (λ (x : ServerCounts). x.finished ≤ x.descs) same (omega (arith, agrees.1.2))
 
 pub if_server : (P : ServerCounts → Type 0) (q : Option ServerCounts) (d : ServerCounts) → q ≡ Some d → IfServer q P → P d
 if_server P q d is holds = subst (λ (x : Option ServerCounts). IfServer x P) is holds
@@ -188,7 +189,7 @@ wire_slots s l (Took A packet false) t step facts slots =
     (λ k is. (omega arith, facts.announced (adds k) (ap (change_client adds) is)))
     (λ k finished descs is at most. facts.acked (adds k) finished descs (ap (change_client adds) is) facts.table.0 at)
     (keep_server l.shape.slots l.work (after l (OnWire (Took A packet false))).work l.wire.wire (after l (OnWire (Took A packet false))).wire.wire l.ring l.work.client refl (λ finished descs at. same_at l.wire.wire (after l (OnWire (Took A packet false))).wire.wire l.work.server finished descs refl refl at) slots)
-wire_slots s l (Took A packet true) t step facts slots = let never : true ≡ false = step.step.2 in absurd (cc)
+wire_slots s l (Took A packet true) t step facts slots = true_is_false (step.step.2)
 wire_slots s l (Took B packet opens) t step facts slots = took_server opens s l packet t facts slots
 wire_slots s l (Sent A packet true) t step facts slots = opened_slots s l packet t facts
 wire_slots s l (Sent A packet false) t step facts slots =
@@ -280,7 +281,7 @@ fetched_in s l slot bytes t known agree step slots =
     let turn = turn_in s l k known next.work.one.open_is in
     let here : SlotsIn n l.work l.wire.wire l.ring (Some k) = subst (SlotsIn n l.work l.wire.wire l.ring) next.work.one.open_is slots in
     let counts = if_server (λ (x : ServerCounts). (here.0 ≡ x.finished) × (here.1 ≡ x.descs)) l.work.server d next.work.of.open_is (here.3.works next.work.up) in
-    let same : here.0 ≡ here.1 = omega (arith, counts.0, counts.1, none.1) in
+    let same : here.0 ≡ here.1 = counts.0 ∙ sym none.1 ∙ sym counts.1 in
     let before : SlotsOf n l.work.done k.base k.announced k.published here.1 here.1 l.ring = subst (λ (x : ℕ). SlotsOf n l.work.done k.base k.announced k.published x here.1 l.ring) same here.2 in
     let id = k.base + d.descs in
     let place : slot ≡ here.1 % n = next.ready.next ∙ ap (λ (x : ℕ). x % n) (sym counts.1) in
@@ -292,9 +293,10 @@ fetched_in s l slot bytes t known agree step slots =
     let one_more : OneRing t m.work (fetched_counts l bytes d) =
     subst (λ (q : Option ServerCounts). IfServer (change_server (fetched_counts l bytes) q) (OneRing t m.work)) next.work.of.open_is (agree.ring next.work.up) in
     let two : Some k ≡ Some one_more.client = sym next.work.one.open_is ∙ one_more.open_is in
-    let same_client : k ≡ one_more.client = cc two in
+    let same_client : k ≡ one_more.client = some_same two in
     let named : one_more.client.announced ≡ k.announced = ap (λ (c : ClientCounts). c.announced) (sym same_client) in
-    let more : here.1 < k.announced = omega (arith, counts.1, one_more.descs, one_more.announced, named) in
+    let more : here.1 < k.announced =
+    subst (λ (x : ℕ). x < k.announced) (sym counts.1) (more_published d.descs d.asked one_more.client.announced k.announced one_more.descs one_more.announced named) in
     let of = fetched_slots n l.work.done k.base k.announced k.published here.1 id l.ring known.ring.holds.long turn.based turn.turn more (ap (λ (x : ℕ). k.base + x) (sym counts.1)) before in
     let behind : SlotsIn n m.work l.wire.wire (fetched_at n l.work l.work.server slot l.ring) (Some k) = (
       here.1,
@@ -321,8 +323,8 @@ finished_in s l slot status t known step slots =
     let here : SlotsIn n l.work l.wire.wire l.ring (Some k) = subst (SlotsIn n l.work l.wire.wire l.ring) work.one.open_is slots in
     let counts = if_server (λ (x : ServerCounts). (here.0 ≡ x.finished) × (here.1 ≡ x.descs)) l.work.server d work.of.open_is (here.3.works work.up) in
     let next : slot ≡ d.finished % n =
-    f.slot_is ∙ numbered s l f.session work f.session.finished d.finished known.stands work.of.agree.finished (omega (arith, has.one, work.one.descs, work.one.small)) in
-    let same : here.1 ≡ here.0 + 1 = omega (arith, counts.0, counts.1, has.one) in
+    f.slot_is ∙ numbered s l f.session work f.session.finished d.finished known.stands work.of.agree.finished (finished_small d.finished d.descs d.asked has.one work.one.descs work.one.small) in
+    let same : here.1 ≡ here.0 + 1 = counts.1 ∙ has.one ∙ ap (λ (x : ℕ). x + 1) (sym counts.0) in
     let before : SlotsOf n l.work.done k.base k.announced k.published here.0 (here.0 + 1) l.ring =
     subst (λ (x : ℕ). SlotsOf n l.work.done k.base k.announced k.published here.0 x l.ring) same here.2 in
     let id = k.base + d.finished in

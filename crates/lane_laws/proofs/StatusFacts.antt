@@ -32,6 +32,7 @@ use Rattle.disk_model.specs.LaneState.{IsShape, LaneState, Shape, fresh}
 use Rattle.disk_model.specs.LaneStep.{LaneStep}
 use Rattle.channel_model.specs.Seeing.{seen}
 use Rattle.disk_model.specs.ServerState.{ServerState}
+use Rattle.channel_laws.proofs.Apart.{false_is_true, true_is_false}
 use Rattle.channel_laws.proofs.EndStanding.{open_up}
 use Rattle.channel_laws.proofs.HandshakePlaces.{AtPlace, deal, open_place, place_open}
 use Rattle.channel_laws.proofs.Script.{said_at}
@@ -117,7 +118,7 @@ five_at : (d : Deal) (n : Place) (more : List (List ℕ)) → n ≡ AllSaid → 
 five_at d n more last = subst (λ (p : Place). 5 ≤ length (said_at false d Initiator p ++ more)) (sym last) (omega arith)
 
 not_open : (b : Bool) → b ≡ false → b ≡ true → ⊥
-not_open b closed is = let never : false ≡ true = sym closed ∙ is in absurd (cc never)
+not_open b closed is = false_is_true (sym closed ∙ is)
 
 -- A SESSION OF THE CLIENT opens where it had none
 kind_opens : (kind : PutKind) (c : ClientState) → c.handshake.phase ≡ Open → put_opens kind c.handshake ≡ false
@@ -144,7 +145,7 @@ sends_new shape s l packet t now step =
     let same : is_some held.session ≡ is_some s.client.session = held_open s.client at held now.knows.all.sound sends.holds in
     none_if s.client.session (λ open_one.
     let closed : put_opens (client_kind held) held.handshake ≡ false = kind_opens (client_kind held) held (rests.opened (same ∙ open_one)) in
-    let never : true ≡ false = sends.opens_is ∙ closed in absurd (cc never))
+    true_is_false (sends.opens_is ∙ closed))
 
 few_said : (d : Deal) (c : ClientState) (turns : List Turn) → EndStands Initiator (client_core c) turns → (is_up c.link ≡ true → AtPlace false d Initiator c.handshake turns) → c.session ≡ None
     → length (said turns) ≤ 4
@@ -236,4 +237,4 @@ pub sends_not : (shape : Shape) (s : LaneState) (l : DiskLog) (packet : List ℕ
 sends_not shape s l packet t now step =
     let both = server_puts_counting l.shape s.server (seen B s.shape.entries s.wire.wire) packet true t.server l.transcript.server l.work.server (few_slots s l now.knows)
     step.1.step.1.0 now.knows.rests.server now.knows.utters.server now.knows.counted.server in
-    let never : true ≡ false = both.1 in absurd (cc never)
+    true_is_false (both.1)

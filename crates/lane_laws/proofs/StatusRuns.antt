@@ -29,6 +29,7 @@ use Rattle.lane_laws.proofs.UnforgedMoves.{moved_answered}
 use Rattle.lane_laws.proofs.PieceLaw.{Working}
 use Rattle.lane_laws.proofs.WorkRuns.{fresh_working, working_step}
 use Rattle.lane_laws.specs.Statuses.{IsLast, IsNamed, KeepsStatus, LastIn, StatusesStand}
+use Rattle.channel_laws.proofs.Apart.{true_is_false}
 
 -- A SESSION OPENS
 opened_last : (l : DiskLog) (packet : List ℕ) (o : Option ClientCounts) → IfClient o (λ (k : ClientCounts). IsNamed k.sid (said l.transcript.client))
@@ -83,7 +84,7 @@ wire_status shape s l (Took A packet false) t now step stand = record {
   last = λ up. last_client _ l.work.server l.work.client l.work.opened (λ k. refl) (stand.last up);
   named = named_changed _ l.work.client (said l.transcript.client) (λ k. refl) stand.named;
 }
-wire_status shape s l (Took A packet true) t now step stand = let never : true ≡ false = step.step.2 in absurd (cc never)
+wire_status shape s l (Took A packet true) t now step stand = true_is_false (step.step.2)
 wire_status shape s l (Took B packet opens) t now step stand = took_status opens shape s l packet t now step stand
 wire_status shape s l (Sent A packet opens) t now step stand = sent_status opens shape s l packet t now step stand
 wire_status shape s l (Sent B packet true) t now step stand = absurd (sends_not shape s l packet t now step)

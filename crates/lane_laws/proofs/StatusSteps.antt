@@ -7,6 +7,7 @@ use Rattle.ldc_queue.specs.OneStream.{IsFront}
 use Rattle.ldc_queue.specs.Transcript.{Heard as Heard_, Said, Turn}
 use Rattle.channel_model.specs.Sayings.{half_heard, half_said, heard, said, whole_by, whole_past}
 use Rattle.channel_model.specs.Messages.{sid_of, whole_with, opening_sid, sid_in}
+use Rattle.channel_laws.proofs.Apart.{some_same}
 use Rattle.lane_laws.specs.RingLog.{Done, Free, Ready, SlotLog, fetched_at, freed_at, published_at}
 use Rattle.lane_laws.specs.WorkLaws.{IfClient, last_of}
 use Rattle.lane_laws.specs.WorkLog.{ClientCounts, Opened, ServerCounts, WorkLog, change_client, change_server, finished_in}
@@ -96,7 +97,7 @@ front_named sid messages all front named = subst (IsNamed sid) (sym front.1) (mo
 pub one_name : (sid other : ℕ) (messages : List (List ℕ)) → IsNamed sid messages → IsNamed other messages → sid ≡ other
 one_name sid other messages named also =
     let both : Some named.message ≡ Some also.message = sym named.fifth ∙ also.fifth in
-    let same : named.message ≡ also.message = cc both in
+    let same : named.message ≡ also.message = some_same both in
     named.sid_is ∙ ap sid_of same ∙ sym also.sid_is
 
 -- ONE SLOT of the ring changes
@@ -106,7 +107,7 @@ IsNotDone _ = ⊤
 
 set_or : (ring : List SlotLog) (k j : ℕ) (e x : SlotLog) → slice_get (set ring k e) j ≡ Some x → (x ≡ e) ⊎ (slice_get ring j ≡ Some x)
 set_or [] k j e x is = absurd (cc is)
-set_or (y ∷ ring) zero zero e x is = let same : e ≡ x = cc is in inl (sym same)
+set_or (y ∷ ring) zero zero e x is = let same : e ≡ x = some_same is in inl (sym same)
 set_or (y ∷ ring) zero (suc j) e x is = inr is
 set_or (y ∷ ring) (suc k) zero e x is = inr is
 set_or (y ∷ ring) (suc k) (suc j) e x is = set_or ring k j e x is

@@ -7,6 +7,7 @@ use Rattle.cookie_copy.specs.declared.fault.CopyFault.{CopyFault}
 use Rattle.ldc_queue.specs.declared.end.End.TheVariants.{A, B}
 use Rattle.ldc_queue.specs.declared.end.ChannelState.{ChannelState}
 use Rattle.channel_model.specs.WireEvent.{Blocked, Declines, Idle, Injected, Joined, Lost, Poked, Reset, Sent, Took, WireEvent}
+use Rattle.channel_laws.proofs.Apart.{some_same}
 use Rattle.lane_laws.specs.DiskLog.{DiskLog, after, nothing_yet}
 use Rattle.lane_laws.specs.RingLog.{Done as IsDone, Free, Ready, SlotLog, Zeros, cleared_if, fetched_at, finished_at, freed_at, published_at}
 use Rattle.lane_laws.specs.WorkLog.{ClientCounts, Opened, ServerCounts, WorkLog, finished_in, opened_more}
@@ -38,7 +39,7 @@ set_zero (x ∷ ring) (suc k) e here zeros = (zeros.0, set_zero ring k e here ze
 
 got_zero : (ring : List SlotLog) (k : ℕ) (is : SlotLog) → RingZero ring → slice_get ring k ≡ Some is → IsZero is
 got_zero [] k is zeros got = absurd (cc got)
-got_zero (x ∷ ring) zero is zeros got = let same : x ≡ is = cc got in subst IsZero same zeros.0
+got_zero (x ∷ ring) zero is zeros got = let same : x ≡ is = some_same got in subst IsZero same zeros.0
 got_zero (x ∷ ring) (suc k) is zeros got = got_zero ring k is zeros.1 got
 
 many_zero : (n : ℕ) (e : SlotLog) → IsZero e → RingZero (replicate n e)

@@ -1,5 +1,5 @@
 -- What a unit that is read or stored, a fetched descriptor, and the end of one are to a lane's view.
-use Rattle.std.proofs.Common.{◌≡◌, ℕ, ◌+◌, ◌*◌, ◌/◌, ◌≤◌, Bool, false, Option, Some, None, List, drop, length, refl, sym, ap, ◌∙◌, subst, arith}
+use Rattle.std.proofs.Common.{◌≡◌, ℕ, ◌+◌, ◌*◌, ◌/◌, ◌^◌, ◌<◌, ◌≤◌, Bool, false, Option, Some, None, List, drop, length, refl, sym, ap, ◌∙◌, subst, arith}
 use Rattle.std.specs.Prelude.{slice_get, ◌==◌, if◌then◌else◌}
 use Rattle.ldc_queue.specs.declared.end.ChannelState.{ChannelState}
 use Rattle.ldc_queue.specs.declared.end.ChannelState.TheVariants.{Down, Resetting, Up}
@@ -15,6 +15,7 @@ use Rattle.vdisk_msg.specs.Requested.{block_of, descriptor_of, size_of}
 use Rattle.vdisk_msg.specs.Requests.{operation_of}
 use Rattle.vio_bytes.specs.Place.{put_at}
 use Rattle.vio_bytes.specs.Range.{range_at}
+use Rattle.channel_laws.proofs.Apart.{some_same}
 use Rattle.lane_laws.specs.Agreement.{WorkAgrees}
 use Rattle.lane_laws.specs.DiskLog.{DiskLog}
 use Rattle.lane_laws.specs.WorkLog.{ClientCounts}
@@ -226,6 +227,12 @@ asks_operation : (id : ℕ) (request : Request) (slot slots : ℕ) → (descript
 unfolding descriptor_of
 asks_operation id request slot slots = refl
 
+fetched_place : (done k id first descs base finished : ℕ) → id ≡ first + descs → first ≡ base → base + finished ≡ done + k → descs ≡ finished → done + k ≡ id
+fetched_place done k id first descs base finished number same at none = omega arith
+
+ready_small : 2 < 2 ^ 8
+ready_small = omega arith
+
 pub fetched_changes : (s : LaneState) (l : DiskLog) (slot : ℕ) (bytes : List ℕ) (t : LaneState) → Before s l → StepFacts s l (Works (Desc slot bytes)) t → WorkStep s (Desc slot bytes) t
     → Changed s (Works (Desc slot bytes)) t
 fetched_changes s l slot bytes t before facts step =
@@ -240,13 +247,13 @@ fetched_changes s l slot bytes t before facts step =
     let none : WorkAgrees None d = subst (λ (w : Option Work). WorkAgrees w d) free.1 next.work.of.work in
     let on = live s l d before next.work.up next.work.of.open_is in
     let two : Some next.work.one.client ≡ Some on.one.client = sym next.work.one.open_is ∙ on.one.open_is in
-    let same : next.work.one.client ≡ on.one.client = cc two in
+    let same : next.work.one.client ≡ on.one.client = some_same two in
     let base : next.work.one.client.base ≡ on.one.client.base = ap (λ (c : ClientCounts). c.base) same in
     let ready = next.ready in
     let request = ready.holds.request in
-    let place : l.work.done + s.near.k ≡ ready.id = omega (arith, ready.number, base, on.number, none.1) in
+    let place : l.work.done + s.near.k ≡ ready.id = fetched_place l.work.done s.near.k ready.id next.work.one.client.base d.descs on.one.client.base d.finished ready.number base on.number none.1 in
     let sizes = sizes_of s l slot known.pages ready.below in
-    let read = reads_back (ring_in l) slot ready.id 2 0 bytes sizes (omega arith) ready.holds ∙ descriptor_is ready.id request slot l.shape.slots in
+    let read = reads_back (ring_in l) slot ready.id 2 0 bytes sizes ready_small ready.holds ∙ descriptor_is ready.id request slot l.shape.slots in
     let sound : first_defect (slot_says.disk_desc_of bytes) s.server.blocks 0x0e ≡ None =
     ap (λ (n : ℕ). first_defect (slot_says.disk_desc_of bytes) n 0x0e) before.knows.counted.server.blocks
     ∙ ap (λ (x : DiskDesc). first_defect x l.shape.blocks 0x0e) read ∙ requested_is_sound l.shape.blocks ready.id request slot l.shape.slots ready.holds.admitted in

@@ -5,6 +5,7 @@ use Rattle.ldc_queue.specs.declared.end.ChannelState.TheVariants.{Down, Resettin
 use Rattle.ldc_queue.specs.declared.end.End.TheVariants.{A, B}
 use Rattle.ldc_queue.specs.Wire.{peer_behind}
 use Rattle.channel_model.specs.WireEvent.{Blocked, Declines, Idle, Injected, Joined, Lost, Poked, Reset, Sent, Took, WireEvent}
+use Rattle.channel_laws.proofs.Apart.{some_same}
 use Rattle.lane_laws.specs.Agreement.{ServerAgrees}
 use Rattle.lane_laws.specs.DiskLog.{DiskLog, after}
 use Rattle.lane_laws.specs.WorkLaws.{IfServer}
@@ -42,7 +43,7 @@ took_opens s l packet t before facts =
     opened_k l.wire.wire.end_b _ l.work.client l.work.done s.near.k refl
     (λ c is.
     let both : Some one.client ≡ Some c = sym one.open_is ∙ is in
-    let same : one.client ≡ c = cc both in
+    let same : one.client ≡ c = some_same both in
     let base : c.base ≡ one.client.base = ap (λ (x : ClientCounts). x.base) (sym same) in
     let done = one.done in
     let turn = turn_in s l c before.known is in
@@ -101,8 +102,8 @@ work_first : (o : Option ServerSession) (w : Option Work) (q : Option ServerCoun
 work_first None w None d is agrees = absurd (cc is)
 work_first None w (Some c) d is agrees = absurd agrees
 work_first (Some s) w None d is agrees = absurd agrees
-work_first (Some s) None (Some c) d is agrees = let same : c ≡ d = cc is in subst (λ (x : ServerCounts). x.finished ≤ x.descs) same (omega (arith, agrees.1.1))
-work_first (Some s) (Some work) (Some c) d is agrees = let same : c ≡ d = cc is in subst (λ (x : ServerCounts). x.finished ≤ x.descs) same (omega (arith, agrees.1.2))
+work_first (Some s) None (Some c) d is agrees = let same : c ≡ d = some_same is in subst (λ (x : ServerCounts). x.finished ≤ x.descs) same (omega (arith, agrees.1.1))
+work_first (Some s) (Some work) (Some c) d is agrees = let same : c ≡ d = some_same is in subst (λ (x : ServerCounts). x.finished ≤ x.descs) same (omega (arith, agrees.1.2))
 
 published_in : Option ClientCounts → ℕ
 published_in None = 0
@@ -161,7 +162,7 @@ near_opens s l packet t before facts behind step =
         most = omega (arith, most, ever, next);
         session = λ session is.
             let both : Some (opened_session opened.base) ≡ Some session = sym opened.session ∙ is in
-            let one : opened_session opened.base ≡ session = cc both in
+            let one : opened_session opened.base ≡ session = some_same both in
             subst (λ (x : ClientSession). x.base + x.published ≤ t.client.ever_published) one (omega (arith, base, first, ever));
       };
     }

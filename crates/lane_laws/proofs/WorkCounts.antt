@@ -7,6 +7,7 @@ use Rattle.ldc_queue.specs.declared.end.ChannelState.TheVariants.{Down, Resettin
 use Rattle.ldc_queue.specs.declared.end.End.TheVariants.{A, B}
 use Rattle.ldc_queue.specs.Wire.{Wire}
 use Rattle.channel_model.specs.WireLog.{WireLog}
+use Rattle.channel_laws.proofs.Apart.{some_same}
 use Rattle.lane_laws.specs.DiskLog.{DiskLog, after}
 use Rattle.lane_laws.specs.RingLog.{Done as IsDone}
 use Rattle.lane_laws.specs.WorkLaws.{IfServer}
@@ -18,7 +19,7 @@ use Rattle.disk_model.specs.LaneState.{LaneState, NearCounts, risen}
 use Rattle.disk_model.specs.LaneStep.{LaneStep, RestStep, TurnStep, WorkStep}
 use Rattle.channel_model.specs.Seeing.{seen}
 use Rattle.disk_model.specs.ServerRule as server_rules
-use Rattle.lane_laws.proofs.RingClientSteps.{completes_slot, publishing}
+use Rattle.lane_laws.proofs.RingClientSteps.{completes_slot, publishing, since_base}
 use Rattle.lane_laws.proofs.RingSessions.{of_client}
 use Rattle.lane_laws.proofs.RingWork.{at_work, some_slots, turn_in}
 use Rattle.lane_laws.proofs.Ruling.{client_may, server_may}
@@ -92,6 +93,9 @@ if_some server d finished descs is holds =
     let here : IfServer (Some d) (λ x. (finished ≡ x.finished) × (descs ≡ x.descs)) = subst (λ (q : Option ServerCounts). IfServer q (λ x. (finished ≡ x.finished) × (descs ≡ x.descs))) is holds in
     here.0
 
+in_ring : (done base slots : ℕ) → base ≤ done → 1 ≤ slots → base + (done - base) < done + slots
+in_ring done base slots based some = omega arith
+
 pub completed_some : (s : LaneState) (l : DiskLog) (id operation status : ℕ) (bytes : List ℕ) (t : LaneState) → Before s l → WorkStep s (Done id operation status bytes) t → 1 ≤ s.near.k
 completed_some s l id operation status bytes t before step =
     let at = seen A s.shape.entries s.wire.wire in
@@ -101,7 +105,7 @@ completed_some s l id operation status bytes t before step =
     let some = some_slots s l before.known in
     let turn = turn_in s l k before.known found.1.open_is in
     let here : SlotsIn n l.work l.wire.wire l.ring (Some k) = subst (SlotsIn n l.work l.wire.wire l.ring) found.1.open_is before.order in
-    let first = here.2.each (l.work.done - k.base) (IsDone id status) (omega (arith, turn.based)) (omega (arith, turn.based, some)) found.1.done_is in
+    let first = here.2.each (l.work.done - k.base) (IsDone id status) (since_base l.work.done k.base turn.based) (in_ring l.work.done k.base n turn.based some) found.1.done_is in
     let less : l.work.done - k.base < here.0 =
     finished_more k.base k.announced k.published here.0 here.1 (l.work.done - k.base) id status (IsDone id status) refl first in
     let may : ClientMay s.client at (client_rules.Completes step.step.session) = subst (ClientMay s.client at) step.step.rule (client_may s.client at) in
@@ -116,7 +120,7 @@ completed_some s l id operation status bytes t before step =
         let on = live s l is.counts before is.up is.there in
         let counts = if_some l.work.server is.counts finished descs is.there (at.works is.up) in
         let two : Some k ≡ Some on.one.client = sym open_is ∙ on.one.open_is in
-        let one : k ≡ on.one.client = cc two in
+        let one : k ≡ on.one.client = some_same two in
         let base : k.base ≡ on.one.client.base = ap (λ (c : ClientCounts). c.base) one in
         let number = on.number in
         let turn = turn_in s l k before.known open_is in

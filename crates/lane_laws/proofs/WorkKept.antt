@@ -17,6 +17,7 @@ use Rattle.disk_model.specs.ServerState.{ServerState, Work, joined_server, resta
 use Rattle.disk_model.specs.ServerStep.{ServerSends, ServerStep}
 use Rattle.disk_model.specs.ServerTaking.{GoesOn, Resets, ServerTake, ServerTakes}
 use Rattle.cookie_copy.specs.Reach.{Reach}
+use Rattle.channel_laws.proofs.Apart.{none_is_some}
 use Rattle.lane_laws.proofs.LaneStepping.{calm_same}
 use Rattle.lane_laws.proofs.RulesFree.{ServerFree, server_free}
 use Rattle.lane_laws.proofs.ServerAnswers.{comes_to, goes_by}
@@ -43,11 +44,7 @@ same_as s one t is same = subst (SameWork s) is same
 held_work : (s : ServerState) (rule : server.ServerRule) (held : ServerState) → server_holds rule s ≡ Some held → SameWork s held
 held_work s server.Puts held is = same_as s s held (cc is) (record { blocks = refl; work = refl })
 held_work s (server.Says message) held is = same_as s (record s { link = offered (canonical message) s.link }) held (cc is) (record { blocks = refl; work = refl })
-held_work s server.Joins held is = absurd (cc is)
-held_work s (server.Fetches session) held is = absurd (cc is)
-held_work s (server.Serves session work) held is = absurd (cc is)
-held_work s (server.Takes packet) held is = absurd (cc is)
-held_work s server.Idles held is = absurd (cc is)
+held_work s _ held is = none_is_some is
 
 abbrev TookWork : ServerState → ServerTake → Type 0
 TookWork s (GoesOn t opens) = SameWork s t

@@ -19,6 +19,7 @@ use Rattle.vio_bytes.specs.Range.{range_at}
 use Rattle.disk_model.specs.ClientState.{ClientSession}
 use Rattle.disk_model.specs.ServerState.{Ends, Flushes, Gathers, Gives, Progress, Reads, Work, Writes}
 use Rattle.disk_model.specs.ServerWork.{gathers_next, reads_next, unit_length}
+use Rattle.channel_laws.proofs.Apart.{some_same}
 use Rattle.lane_laws.proofs.MemorySteps.{got_sound}
 use Rattle.lane_laws.specs.Contents.{ContentsStand, HoldsWritten, ProgressIs, WritesStand}
 use Rattle.lane_laws.specs.LaneView.{View, place_of}
@@ -41,7 +42,7 @@ fetches_contents blocks v w placed change stand =
     subst ContentsStand (sym change.is) (record {
       writes = stand.writes;
       work = λ work is other got.
-          let same : change.work ≡ work = cc is in
+          let same : change.work ≡ work = some_same is in
           let one : request ≡ other = same_got v.pending v.k request other change.next got in
           let progress : first_of request ≡ work.progress = sym change.first ∙ ap (λ (x : Work). x.progress) same in
           subst (λ (r : Request). ProgressIs work.progress v.u r) one
@@ -101,7 +102,7 @@ writes_given : (blocks : ℕ) (v : View) (c : ClientSession) (work : Work) (bloc
     → HoldsWritten (place_of v.slots session i) other (put_at (place_of v.slots c v.k + 8192 * unit) bytes v.buffers)
 writes_given blocks v c work block count unit bytes placed there now next fits stand session is i below other got =
     let both : Some c ≡ Some session = sym there ∙ is in
-    let same : c ≡ session = cc both in
+    let same : c ≡ session = some_same both in
     let completed : session.completed ≡ c.completed = ap (λ (x : ClientSession). x.completed) (sym same) in
     let slot = (c.completed + v.k) % v.slots in
     let slot_below : slot < v.slots = mod_below (c.completed + v.k) v.slots placed.some in
