@@ -110,10 +110,8 @@ reset_is cause packet is = ap (λ (x : Giver). reset_move x cause packet) is
 
 moves_own : (e : End) (s : NetLaneState) (answer : NetAnswer) (left : NetLeft)
     → NetEndStep (role_at e) (net_end e s) (seen_at e s) (memory_of e s) (reach_of e s) answer left → move_of e (core_event (Steps e answer)) ≡ move_by answer
-moves_own A s (Reset cause packet lost) left step =
-    reset_is cause packet (net_resets_own Initiator (port_rule Initiator s.guest (seen_at A s)) s.guest s.guest_memory (reach_of A s) cause packet step.0)
-moves_own B s (Reset cause packet lost) left step =
-    reset_is cause packet (net_resets_own Responder (port_rule Responder s.hub (seen_at B s)) s.hub s.hub_memory (reach_of B s) cause packet step.0)
+moves_own A s (Reset cause packet lost) left step = reset_is cause packet (net_resets_own Initiator (port_rule Initiator s.guest (seen_at A s)) s.guest s.guest_memory (reach_of A s) cause packet step.0)
+moves_own B s (Reset cause packet lost) left step = reset_is cause packet (net_resets_own Responder (port_rule Responder s.hub (seen_at B s)) s.hub s.hub_memory (reach_of B s) cause packet step.0)
 moves_own _ s _ left step = refl
 
 moves_b : (answer : NetAnswer) → move_of B (core_event (Steps A answer)) ≡ Stays
@@ -187,59 +185,39 @@ reset_up : (e : End) (s : NetLaneState) (cause : Cause) (packet : Option (List �
     → NetEndStep (role_at e) (net_end e s) (seen_at e s) (memory_of e s) (reach_of e s) (Reset cause packet lost) left → IsUp e s.wire.wire
 reset_up e s cause packet lost left step = (fails_stand e s (port_rule (role_at e) (net_end e s) (seen_at e s)) cause packet refl step.0).0
 
-guest_moves : (s : NetLaneState) (answer : NetAnswer) (left : NetLeft) → NetFits Initiator s.guest
-    → NetEndStep Initiator s.guest (seen_at A s) s.guest_memory (reach_of A s) answer left
-    → EndStep Initiator (net_core_at Initiator (is_begun s.wire.wire.end_a) s.guest) (move_of A (core_event (Steps A answer)))
-    (net_core_at Initiator (is_begun (net_wire (Steps A answer) s).wire.end_a) left.end)
-guest_moves s (Joined lost) left fits step = joined_moves Initiator (is_begun s.wire.wire.end_a) true s.guest left.end (ap (λ (x : NetLeft). x.end) step.2)
-guest_moves s (Took packet opens) left fits step =
-    let up = begun_up A s (answer_stands A s (Took packet opens) left step).0 in
-    moved_up Initiator s.guest left.end (is_begun s.wire.wire.end_a) (is_begun s.wire.wire.end_a) (move_of A (core_event (Steps A (Took packet opens)))) (move_by (Took packet opens)) refl up up (step_core Initiator s.guest (seen_at A s) s.guest_memory (reach_of A s) (Took packet opens) left fits step)
-guest_moves s (Sent packet opens) left fits step =
-    let up = begun_up A s (answer_stands A s (Sent packet opens) left step).0 in
-    moved_up Initiator s.guest left.end (is_begun s.wire.wire.end_a) (is_begun s.wire.wire.end_a) (move_of A (core_event (Steps A (Sent packet opens)))) (move_by (Sent packet opens)) refl up up (step_core Initiator s.guest (seen_at A s) s.guest_memory (reach_of A s) (Sent packet opens) left fits step)
-guest_moves s Blocked left fits step =
-    let up = begun_up A s (answer_stands A s Blocked left step).0 in
-    moved_up Initiator s.guest left.end (is_begun s.wire.wire.end_a) (is_begun s.wire.wire.end_a) (move_of A (core_event (Steps A Blocked))) (move_by Blocked) refl up up (step_core Initiator s.guest (seen_at A s) s.guest_memory (reach_of A s) Blocked left fits step)
-guest_moves s Idle left fits step =
-    let up = begun_up A s (answer_stands A s Idle left step).0 in
-    moved_up Initiator s.guest left.end (is_begun s.wire.wire.end_a) (is_begun s.wire.wire.end_a) (move_of A (core_event (Steps A Idle))) (move_by Idle) refl up up (step_core Initiator s.guest (seen_at A s) s.guest_memory (reach_of A s) Idle left fits step)
-guest_moves s (Published id) left fits step =
-    let up = begun_up A s (published_up A s id left step) in
-    moved_up Initiator s.guest left.end (is_begun s.wire.wire.end_a) (is_begun s.wire.wire.end_a) (move_of A (core_event (Steps A (Published id)))) (move_by (Published id)) refl up up (step_core Initiator s.guest (seen_at A s) s.guest_memory (reach_of A s) (Published id) left fits step)
-guest_moves s (Frame frame) left fits step =
-    let up = begun_up A s (frame_up A s frame left step) in
-    moved_up Initiator s.guest left.end (is_begun s.wire.wire.end_a) (is_begun s.wire.wire.end_a) (move_of A (core_event (Steps A (Frame frame)))) (move_by (Frame frame)) refl up up (step_core Initiator s.guest (seen_at A s) s.guest_memory (reach_of A s) (Frame frame) left fits step)
-guest_moves s (Reset cause packet lost) left fits step =
-    moved_up Initiator s.guest left.end (is_begun s.wire.wire.end_a) true (move_of A (core_event (Steps A (Reset cause packet lost)))) (move_by (Reset cause packet lost)) (moves_own A s (Reset cause packet lost) left step) (begun_up A s (reset_up A s cause packet lost left step)) refl
-    (step_core Initiator s.guest (seen_at A s) s.guest_memory (reach_of A s) (Reset cause packet lost) left fits step)
+begun_now : (e : End) (s : NetLaneState) (answer : NetAnswer) → IsUp e s.wire.wire → is_begun (state_of e (net_wire (Steps e answer) s).wire) ≡ true
+begun_now A s (Joined lost) up = refl
+begun_now A s (Reset cause packet lost) up = refl
+begun_now B s (Joined lost) up = refl
+begun_now B s (Reset cause packet lost) up = refl
+begun_now A s _ up = begun_up A s up
+begun_now B s _ up = begun_up B s up
 
-hub_moves : (s : NetLaneState) (answer : NetAnswer) (left : NetLeft) → NetFits Responder s.hub
-    → NetEndStep Responder s.hub (seen_at B s) s.hub_memory (reach_of B s) answer left
-    → EndStep Responder (net_core_at Responder (is_begun s.wire.wire.end_b) s.hub) (move_of B (core_event (Steps B answer)))
-    (net_core_at Responder (is_begun (net_wire (Steps B answer) s).wire.end_b) left.end)
-hub_moves s (Joined lost) left fits step = joined_moves Responder (is_begun s.wire.wire.end_b) true s.hub left.end (ap (λ (x : NetLeft). x.end) step.2)
-hub_moves s (Took packet opens) left fits step =
-    let up = begun_up B s (answer_stands B s (Took packet opens) left step).0 in
-    moved_up Responder s.hub left.end (is_begun s.wire.wire.end_b) (is_begun s.wire.wire.end_b) (move_of B (core_event (Steps B (Took packet opens)))) (move_by (Took packet opens)) refl up up (step_core Responder s.hub (seen_at B s) s.hub_memory (reach_of B s) (Took packet opens) left fits step)
-hub_moves s (Sent packet opens) left fits step =
-    let up = begun_up B s (answer_stands B s (Sent packet opens) left step).0 in
-    moved_up Responder s.hub left.end (is_begun s.wire.wire.end_b) (is_begun s.wire.wire.end_b) (move_of B (core_event (Steps B (Sent packet opens)))) (move_by (Sent packet opens)) refl up up (step_core Responder s.hub (seen_at B s) s.hub_memory (reach_of B s) (Sent packet opens) left fits step)
-hub_moves s Blocked left fits step =
-    let up = begun_up B s (answer_stands B s Blocked left step).0 in
-    moved_up Responder s.hub left.end (is_begun s.wire.wire.end_b) (is_begun s.wire.wire.end_b) (move_of B (core_event (Steps B Blocked))) (move_by Blocked) refl up up (step_core Responder s.hub (seen_at B s) s.hub_memory (reach_of B s) Blocked left fits step)
-hub_moves s Idle left fits step =
-    let up = begun_up B s (answer_stands B s Idle left step).0 in
-    moved_up Responder s.hub left.end (is_begun s.wire.wire.end_b) (is_begun s.wire.wire.end_b) (move_of B (core_event (Steps B Idle))) (move_by Idle) refl up up (step_core Responder s.hub (seen_at B s) s.hub_memory (reach_of B s) Idle left fits step)
-hub_moves s (Published id) left fits step =
-    let up = begun_up B s (published_up B s id left step) in
-    moved_up Responder s.hub left.end (is_begun s.wire.wire.end_b) (is_begun s.wire.wire.end_b) (move_of B (core_event (Steps B (Published id)))) (move_by (Published id)) refl up up (step_core Responder s.hub (seen_at B s) s.hub_memory (reach_of B s) (Published id) left fits step)
-hub_moves s (Frame frame) left fits step =
-    let up = begun_up B s (frame_up B s frame left step) in
-    moved_up Responder s.hub left.end (is_begun s.wire.wire.end_b) (is_begun s.wire.wire.end_b) (move_of B (core_event (Steps B (Frame frame)))) (move_by (Frame frame)) refl up up (step_core Responder s.hub (seen_at B s) s.hub_memory (reach_of B s) (Frame frame) left fits step)
-hub_moves s (Reset cause packet lost) left fits step =
-    moved_up Responder s.hub left.end (is_begun s.wire.wire.end_b) true (move_of B (core_event (Steps B (Reset cause packet lost)))) (move_by (Reset cause packet lost)) (moves_own B s (Reset cause packet lost) left step) (begun_up B s (reset_up B s cause packet lost left step)) refl
-    (step_core Responder s.hub (seen_at B s) s.hub_memory (reach_of B s) (Reset cause packet lost) left fits step)
+abbrev Moves : End → NetLaneState → NetAnswer → NetLeft → Type 0
+Moves e s answer left =
+    EndStep (role_at e) (net_core_at (role_at e) (is_begun (state_of e s.wire.wire)) (net_end e s)) (move_of e (core_event (Steps e answer)))
+    (net_core_at (role_at e) (is_begun (state_of e (net_wire (Steps e answer) s).wire)) left.end)
+
+up_moves : (e : End) (s : NetLaneState) (answer : NetAnswer) (left : NetLeft) → NetFits (role_at e) (net_end e s)
+    → NetEndStep (role_at e) (net_end e s) (seen_at e s) (memory_of e s) (reach_of e s) answer left → IsUp e s.wire.wire → Moves e s answer left
+up_moves e s answer left fits step up =
+    moved_up (role_at e) (net_end e s) left.end (is_begun (state_of e s.wire.wire)) (is_begun (state_of e (net_wire (Steps e answer) s).wire)) (move_of e (core_event (Steps e answer))) (move_by answer)
+    (moves_own e s answer left step) (begun_up e s up) (begun_now e s answer up) (step_core (role_at e) (net_end e s) (seen_at e s) (memory_of e s) (reach_of e s) answer left fits step)
+
+end_moves : (e : End) (s : NetLaneState) (answer : NetAnswer) (left : NetLeft) → NetFits (role_at e) (net_end e s)
+    → NetEndStep (role_at e) (net_end e s) (seen_at e s) (memory_of e s) (reach_of e s) answer left → Moves e s answer left
+end_moves e s (Joined lost) left fits step =
+    let before = is_begun (state_of e s.wire.wire) in
+    let now = is_begun (state_of e (net_wire (Steps e (Joined lost)) s).wire) in
+    subst (λ (m : EndMove). EndStep (role_at e) (net_core_at (role_at e) before (net_end e s)) m (net_core_at (role_at e) now left.end)) (sym (moves_own e s (Joined lost) left step))
+    (joined_moves (role_at e) before now (net_end e s) left.end (ap (λ (x : NetLeft). x.end) step.2))
+end_moves e s (Took packet opens) left fits step = up_moves e s (Took packet opens) left fits step (answer_stands e s (Took packet opens) left step).0
+end_moves e s (Sent packet opens) left fits step = up_moves e s (Sent packet opens) left fits step (answer_stands e s (Sent packet opens) left step).0
+end_moves e s Blocked left fits step = up_moves e s Blocked left fits step (answer_stands e s Blocked left step).0
+end_moves e s Idle left fits step = up_moves e s Idle left fits step (answer_stands e s Idle left step).0
+end_moves e s (Published id) left fits step = up_moves e s (Published id) left fits step (published_up e s id left step)
+end_moves e s (Frame frame) left fits step = up_moves e s (Frame frame) left fits step (frame_up e s frame left step)
+end_moves e s (Reset cause packet lost) left fits step = up_moves e s (Reset cause packet lost) left fits step (reset_up e s cause packet lost left step)
 
 hub_begun : (s : NetLaneState) (answer : NetAnswer) → is_begun (net_wire (Steps A answer) s).wire.end_b ≡ is_begun s.wire.wire.end_b
 hub_begun s (Joined lost) = peer_begun s.wire.wire.end_a s.wire.wire.end_b
@@ -327,7 +305,7 @@ event_core_step s (Steps A answer) t fits step =
       entries = refl;
       stands = answer_stands A s answer step.left step.step;
       wire = wire_same s.wire (on_wire (Steps A answer));
-      a = guest_moves s answer step.left fits.0 step.step;
+      a = end_moves A s answer step.left fits.0 step.step;
       b = still_by Responder (hub_up s) (is_begun (net_wire (Steps A answer) s).wire.end_b) s.hub (move_of B (core_event (Steps A answer))) (moves_b answer) (hub_begun s answer);
     })
 event_core_step s (Steps B answer) t fits step =
@@ -337,7 +315,7 @@ event_core_step s (Steps B answer) t fits step =
       stands = answer_stands B s answer step.left step.step;
       wire = wire_same s.wire (on_wire (Steps B answer));
       a = still_by Initiator (guest_up s) (is_begun (net_wire (Steps B answer) s).wire.end_a) s.guest (move_of A (core_event (Steps B answer))) (moves_a answer) (guest_begun s answer);
-      b = hub_moves s answer step.left fits.1 step.step;
+      b = end_moves B s answer step.left fits.1 step.step;
     })
 event_core_step s (Asked e lost) t fits step = asked_core e s lost t step
 event_core_step s (Ticked queued lost) t fits step = ticked_core s queued lost t step.1
