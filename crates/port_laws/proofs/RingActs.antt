@@ -297,7 +297,7 @@ kind_taken GroupsInfo message v = refl
 kind_taken GroupsAck message v = refl
 kind_taken Other message v = refl
 
-left_taken : (left : Option (List ℕ)) (v : SessionLog) → (said_in left v).taken ≡ v.taken
+pub left_taken : (left : Option (List ℕ)) (v : SessionLog) → (said_in left v).taken ≡ v.taken
 left_taken None v = refl
 left_taken (Some message) v = kind_taken (spoken message) message v
 
@@ -408,7 +408,7 @@ acts_shut shape e u t l answer left acts opened =
     opening_same (Joined lost) x opened = false_true opened
     opening_same (Reset cause packet lost) x opened = false_true opened
 
-goes_same : (answer : NetAnswer) (x : ChannelState) → Goes answer → mine_now answer x ≡ x
+pub goes_same : (answer : NetAnswer) (x : ChannelState) → Goes answer → mine_now answer x ≡ x
 goes_same (Took packet opens) x goes = refl
 goes_same (Sent packet opens) x goes = refl
 goes_same Blocked x goes = refl

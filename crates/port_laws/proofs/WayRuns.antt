@@ -120,7 +120,7 @@ fits_at shape e u t l answer left v acts other is front = by_answer answer acts 
     by_answer (Joined lost) moves ahead = tt
     by_answer (Reset cause packet lost) moves ahead = tt
 
-goes_theirs : (answer : NetAnswer) (x y : ChannelState) → Goes answer → theirs_now answer x y ≡ y
+pub goes_theirs : (answer : NetAnswer) (x y : ChannelState) → Goes answer → theirs_now answer x y ≡ y
 goes_theirs (Took packet opens) x y goes = refl
 goes_theirs (Sent packet opens) x y goes = refl
 goes_theirs Blocked x y goes = refl
