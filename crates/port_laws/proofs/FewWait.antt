@@ -1,5 +1,5 @@
--- While a guest that nobody forged is in session, and nothing was lost, at most five packets of its wait for the switch's end: the end of its
--- handshake, an INFO, an ACK and its groups, each whole in one packet.
+-- While a guest that nobody forged is in session, and nothing was lost, at most five packets of its wait for the switch's end. They are the
+-- end of its handshake, an INFO, an ACK and its groups, each whole in one packet.
 use Rattle.std.proofs.Common.{◌≡◌, ◌≢◌, ℕ, ◌+◌, ◌*◌, ◌≤◌, ◌⊎◌, inl, inr, Bool, true, false, Option, Some, None, List, [], ◌∷◌, ◌++◌, length, drop, refl, sym, subst, ap, ◌∙◌, arith, length-append}
 use Rattle.std.specs.Prelude.{◌==◌, is_none, is_some}
 use Rattle.std.proofs.lemmas.List.{append_cancel_left}

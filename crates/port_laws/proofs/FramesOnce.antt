@@ -1,4 +1,4 @@
--- On a port that nobody forged the frames that an end took are frames that the other end was given, in their order, each at most once: the
+-- On a port that nobody forged the frames that an end took are frames that the other end was given, in their order, each at most once. The
 -- place of the next one among those given never falls, and rises with each frame that is taken.
 use Rattle.std.proofs.Common.{◌≡◌, ◌≢◌, ℕ, ◌+◌, ◌-◌, ◌≤◌, ◌⊎◌, inl, inr, true, false, Option, Some, None, List, [], ◌∷◌, ◌++◌, refl, sym, subst, ap, ◌∙◌, arith, append_assoc}
 use Rattle.std.specs.Prelude.{is_some, slice_get}
@@ -70,8 +70,8 @@ unfolding Below
 below_in n m [] given below = tt
 below_in n m (frame ∷ frames) given below = (below.0, below.1, below.2, below_in (below.0 + 1) m frames given below.3)
 
--- THE PLACE of the next frame, of an end whose frames the other takes: behind those that are gone so many as were taken of the others; and
--- behind all that were published, where the end isn't up and in session
+-- THE PLACE of the next frame, of an end whose frames the other takes: behind those that are gone so many as were taken of the others.
+-- Where the end isn't up and in session it is behind all that were published.
 abbrev place_by : ChannelState → Option SessionLog → (gone published taken : ℕ) → ℕ
 place_by Up (Some v) gone published taken = gone + (taken - v.seen)
 place_by Up None gone published taken = published

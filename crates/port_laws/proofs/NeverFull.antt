@@ -1,4 +1,4 @@
--- Never do both ends of a port that nobody forged find no room, one directly after the other: in the opening one of them waits for the other,
+-- Never do both ends of a port that nobody forged find no room, one directly after the other. In the opening one of them waits for the other,
 -- and a guest in session has few packets on the way.
 use Rattle.std.proofs.Common.{◌≡◌, ◌+◌, ◌≤◌, ◌⊎◌, inl, inr, true, false, Option, Some, None, List, [], ◌∷◌, ◌++◌, length, refl, sym, subst, ap, ◌∙◌, arith}
 use Rattle.std.specs.Prelude.{is_none, is_some}

@@ -1,5 +1,5 @@
 -- What an event of a port leaves of its wire: forging isn't undone, no step of an end forges or loses anything, and a calm one leaves the wire
--- as it was; and what a frame that the switch puts into the out queue adds to what remains.
+-- as it was. And what a frame that the switch puts into the out queue adds to what remains.
 use Rattle.std.proofs.Common.{◌≡◌, ℕ, ◌+◌, ◌-◌, ◌≤◌, Bool, false, Option, Some, None, List, [], ◌∷◌, ◌++◌, length, refl, sym, subst, ap, ◌∙◌, arith, length-append}
 use Rattle.ldc_link.specs.declared.phase.Role.TheVariants.{Initiator, Responder}
 use Rattle.ldc_queue.specs.declared.end.ChannelState.{ChannelState}

@@ -1,4 +1,4 @@
--- The frames that an end of a port took, by the events of the port; and that frames stand in a list in their order, each at a place of its own.
+-- The frames that an end of a port took, by the events of the port. And that frames stand in a list in their order, each at a place of its own.
 use Rattle.std.specs.Prelude.{◌≡◌, ℕ, ◌+◌, ◌≤◌, List, [], ◌∷◌, ◌++◌, Some, slice_get, ⊤}
 use Rattle.ldc_queue.specs.declared.end.End.{End}
 use Rattle.ldc_queue.specs.declared.end.End.TheVariants.{A, B}

@@ -1,4 +1,4 @@
--- In a settle of a switch each port has one tick at most, no end is stuck three times with nothing else between, and each round that goes on
+-- In a settle of a switch each port has one tick at most, and no end is stuck three times with nothing else between. Each round that goes on
 -- moves something.
 use Rattle.std.proofs.Common.{◌≡◌, ◌⊎◌, inl, inr, ℕ, ◌+◌, ◌≤◌, Bool, true, false, List, [], ◌∷◌, refl, ap, arith}
 use Rattle.std.specs.Prelude.{◌==◌, ◌&&◌}
