@@ -1,14 +1,12 @@
 -- Where nobody forged, never does each end find no room for its packet: in the opening one of them waits for the other, and in session a
 -- client takes what waits before it puts.
-use Rattle.std.proofs.Common.{◌≡◌, ℕ, ◌≤◌, ◌⊎◌, inl, inr, Bool, true, false, Option, Some, None, List, [], ◌∷◌, length, refl, sym, ap, ◌∙◌, arith}
+use Rattle.std.proofs.Common.{◌≡◌, ℕ, ◌⊎◌, inl, inr, Bool, true, false, Option, Some, None, List, refl, sym, ap, ◌∙◌}
 use Rattle.std.specs.Prelude.{◌&&◌, ◌||◌, is_none, is_some, if◌then◌else◌, nat_lt, ⊤}
 use Rattle.cookie_copy.specs.Faults.{is_up as is_up_end}
-use Rattle.ldc_link.specs.declared.phase.LinkPhase.{LinkPhase}
 use Rattle.ldc_link.specs.declared.phase.LinkPhase.TheVariants as phase
-use Rattle.ldc_link.specs.declared.phase.Role.TheVariants.{Initiator, Responder}
+use Rattle.ldc_link.specs.declared.phase.Role.TheVariants.{Initiator}
 use Rattle.ldc_link.specs.LinkState.{LinkState}
-use Rattle.ldc_link.specs.Putting.{owed_in, owes, owes_control, owes_in, part_owed}
-use Rattle.ldc_packet.specs.declared.packet.Packet.{Packet}
+use Rattle.ldc_link.specs.Putting.{owes, owes_control, owes_in}
 use Rattle.ldc_queue.specs.Transcript.{Turn}
 use Rattle.vio_tag.specs.declared.message.Message.{Message}
 use Rattle.lane_laws.specs.WorkLog.{ServerCounts}

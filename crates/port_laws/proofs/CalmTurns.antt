@@ -1,25 +1,24 @@
 -- A calm turn of a port that nobody forged and on which nothing was lost: first the guest's end and then the switch's is idle or finds no
 -- room. Then the port is finished.
-use Rattle.std.proofs.Common.{◌≡◌, ◌≢◌, ℕ, ◌+◌, ◌-◌, ◌<◌, ◌≤◌, Bool, true, false, Option, Some, None, List, [], ◌∷◌, ◌++◌, length, refl, sym, subst, ap, ◌∙◌, arith, length-append}
+use Rattle.std.proofs.Common.{◌≡◌, ◌≢◌, ℕ, ◌+◌, ◌-◌, ◌≤◌, Bool, true, false, Option, Some, None, List, [], ◌∷◌, ◌++◌, length, refl, sym, subst, ap, ◌∙◌, arith, length-append}
 use Rattle.std.specs.Prelude.{◌&&◌, is_some, nat_lt}
 use Rattle.std.proofs.lemmas.Bool.Decides.{nat_tests}
 use Rattle.ldc_link.specs.declared.phase.Role.TheVariants.{Initiator, Responder}
 use Rattle.ldc_queue.specs.declared.end.End.TheVariants.{A, B}
-use Rattle.runs.specs.Lawful.{Lawful, lawful_split, log_append, log_of}
+use Rattle.runs.specs.Lawful.{log_append, log_of}
 use Rattle.runs.specs.Run.{Run, run_push}
 use Rattle.channel_model.specs.WireLog.{WireLog}
 use Rattle.port_model.proofs.Refuting.{none_some, true_false}
 use Rattle.port_model.specs.EndLog.{SessionLog, held}
 use Rattle.port_model.specs.FrameLaws.{InSession, IsFinished, TickAt, ToldAll}
-use Rattle.port_model.specs.NetEndRule.{Idles, port_rule}
 use Rattle.port_model.specs.NetEndState.{joined_net_end, unseen}
 use Rattle.port_model.specs.NetEndStep.{Blocked, Idle, NetAnswer}
 use Rattle.port_model.specs.NetEvent.{CalmTick, NetEvent, Steps, Ticked}
-use Rattle.port_model.specs.NetLaneState.{IsNetShape, NetLaneState, NetShape, seen_at, with_net_end}
+use Rattle.port_model.specs.NetLaneState.{IsNetShape, NetShape, with_net_end}
 use Rattle.port_model.specs.NetLaneStep.{is_finished, net_wire}
 use Rattle.port_model.specs.PortLog.{PortLog, after, no_events}
 use Rattle.port_model.specs.PortMay.{PortMay}
-use Rattle.port_model.specs.PortState.{OnLane, PortEvent, PortState, PortStep, before, fresh_port, moved, moves_first, takes_more}
+use Rattle.port_model.specs.PortState.{OnLane, PortEvent, PortState, PortStep, before, fresh_port, moves_first, takes_more}
 use Rattle.port_laws.specs.RemainingSteps.{IsCalm}
 use Rattle.port_laws.specs.NoneLeft.{AllSeen, NoneLeft, NoneLeftAt}
 use Rattle.port_laws.specs.NoneUntold.{NoneUntoldAt}

@@ -1,10 +1,9 @@
 -- No step of an end raises how many frames of a guest may still cross, and a frame that the switch's end takes lowers it.
-use Rattle.std.proofs.Common.{◌≡◌, ℕ, ◌+◌, ◌-◌, ◌*◌, ◌%◌, ◌<◌, ◌≤◌, Bool, true, false, Option, Some, None, List, [], ◌∷◌, length, drop, refl, sym, subst, ap, ◌∙◌, arith, length-drop}
-use Rattle.std.specs.Prelude.{is_some, ⊤}
+use Rattle.std.proofs.Common.{◌≡◌, ℕ, ◌+◌, ◌-◌, ◌*◌, ◌%◌, ◌<◌, ◌≤◌, Bool, true, false, Option, Some, None, List, [], ◌∷◌, length, refl, sym, subst, ap, ◌∙◌, arith, length-drop}
+use Rattle.std.specs.Prelude.{⊤}
 use Rattle.std.proofs.lemmas.Nat.{mod_below}
 use Rattle.std.proofs.lemmas.Option.{slice_get_within}
-use Rattle.ldc_link.specs.Calls.{Puts as PutsPacket}
-use Rattle.ldc_link.specs.declared.phase.Role.TheVariants.{Initiator, Responder}
+use Rattle.ldc_link.specs.declared.phase.Role.TheVariants.{Initiator}
 use Rattle.ldc_link.specs.LinkState.{LinkState}
 use Rattle.ldc_link.specs.Putting.{behind_put}
 use Rattle.ldc_queue.specs.declared.end.ChannelState.{ChannelState}
@@ -34,10 +33,10 @@ use Rattle.port_model.specs.FramesStand.{CountsStand, FramesStand}
 use Rattle.port_model.specs.NetEndPutting.{announcement, answer, answers, cleared_by_put, groups_answer, holding, holding_own, net_holds, net_kind, net_opens, net_put, opened_by_put}
 use Rattle.port_model.specs.Groups.{membership}
 use Rattle.port_model.specs.NetEndRule.{Announces, Fetches, Idles, Joins, NetRule, Publishes, Puts, Replies, Says, Takes, Tells, port_rule}
-use Rattle.port_model.specs.NetEndState.{Activity, NetEndState, NetSession, joined_net_end, unseen, unseen_in, with_session}
-use Rattle.port_model.specs.NetEndStep.{Blocked, Frame, Idle, Joined, NetAnswer, NetEndStep, NetLeft, NetPublishes, NetSends, Published, Reset, Sent, Took, leaves, published, published_memory, taken}
-use Rattle.port_model.specs.NetEndTaking.{GoesOn, NetTake, NetTakes, Resets, acknowledged, active, freed, replying}
-use Rattle.port_model.specs.NetEvent.{CalmTick, NetEvent, Steps, Ticked}
+use Rattle.port_model.specs.NetEndState.{Activity, NetEndState, NetSession, joined_net_end, unseen, unseen_in}
+use Rattle.port_model.specs.NetEndStep.{Blocked, Frame, Idle, Joined, NetAnswer, NetEndStep, NetLeft, NetPublishes, NetSends, Published, Reset, Sent, Took, published, taken}
+use Rattle.port_model.specs.NetEndTaking.{GoesOn, NetTake, NetTakes, Resets, active, freed}
+use Rattle.port_model.specs.NetEvent.{CalmTick, Steps, Ticked}
 use Rattle.port_model.specs.NetLaneState.{IsNetShape, NetLaneState, NetShape, reach_of, seen_at}
 use Rattle.port_model.specs.NetLaneStep.{EndSteps}
 use Rattle.port_model.specs.PortLog.{PortLog, after, no_events}
@@ -47,10 +46,10 @@ use Rattle.port_laws.specs.NetCore.{net_core}
 use Rattle.port_laws.specs.Remaining.{ready_slots}
 use Rattle.port_laws.specs.RingHolds.{RingHolds}
 use Rattle.port_laws.specs.RingStands.{RingIn, taken_of}
-use Rattle.port_laws.proofs.EndMoves.{HeldCore, held_core, puts_behind}
+use Rattle.port_laws.proofs.EndMoves.{HeldCore, held_core}
 use Rattle.port_laws.proofs.MessageDoes.{Acks, Asks, Declines, MessageDoes, Names, TakeDoes, Told}
-use Rattle.port_laws.proofs.PortCounts.{Ready, ready_before}
-use Rattle.port_laws.proofs.MemoryRoom.{HasRoom, before_room, room_behind}
+use Rattle.port_laws.proofs.PortCounts.{Ready}
+use Rattle.port_laws.proofs.MemoryRoom.{HasRoom}
 use Rattle.port_laws.proofs.ReadyFrames.{ready_most}
 use Rattle.port_laws.proofs.RemainingEnds.{counts_stand, held_slots, kind_shut, shut_none}
 use Rattle.port_laws.proofs.RemainingFrames.{ready_falls}

@@ -1,14 +1,11 @@
--- While a guest that nobody forged is in session, and nothing was lost, at most five packets of its wait for the switch's end: the end of its
--- handshake, an INFO, an ACK and its groups, each whole in one packet.
-use Rattle.std.proofs.Common.{◌≡◌, ◌≢◌, ℕ, zero, suc, ◌+◌, ◌*◌, ◌≤◌, ◌⊎◌, inl, inr, Bool, true, false, Option, Some, None, List, [], ◌∷◌, ◌++◌, length, drop, refl, sym, subst, ap, ◌∙◌, arith, length-append}
+-- While a guest that nobody forged is in session, and nothing was lost, at most five packets of its wait for the switch's end. They are the
+-- end of its handshake, an INFO, an ACK and its groups, each whole in one packet.
+use Rattle.std.proofs.Common.{◌≡◌, ◌≢◌, ℕ, ◌+◌, ◌*◌, ◌≤◌, ◌⊎◌, inl, inr, Bool, true, false, Option, Some, None, List, [], ◌∷◌, ◌++◌, length, drop, refl, sym, subst, ap, ◌∙◌, arith, length-append}
 use Rattle.std.specs.Prelude.{◌==◌, is_none, is_some}
-use Rattle.std.proofs.lemmas.Bool.{eq-eqb}
-use Rattle.std.proofs.lemmas.List.{append-nil, append_cancel_left}
-use Rattle.ldc_link.specs.declared.phase.LinkPhase.{LinkPhase}
+use Rattle.std.proofs.lemmas.List.{append_cancel_left}
 use Rattle.ldc_link.specs.declared.phase.Role.TheVariants.{Initiator, Responder}
 use Rattle.ldc_link.specs.LinkState.{first_phase, is_established, is_up}
 use Rattle.ldc_queue.specs.declared.end.ChannelState.{ChannelState}
-use Rattle.ldc_queue.specs.declared.end.ChannelState.TheVariants.{Up}
 use Rattle.ldc_queue.specs.declared.end.End.TheVariants.{A, B}
 use Rattle.ldc_queue.specs.OneStream.{IsFront}
 use Rattle.vio_handshake.proofs.Places.{AllSaid, AttributesAnswered, AttributesSaid, Deal, PeerReadyAnswered, PeerReadySaid, PeerRingAnswered, PeerRingSaid, Place, ReadyAnswered, ReadySaid, RingAnswered, RingSaid, VersionAnswered, VersionSaid}
@@ -24,10 +21,10 @@ use Rattle.channel_laws.proofs.HandshakesPlaced.{envelope_reads, own_code}
 use Rattle.channel_laws.proofs.PartsSaid.{PartsSaid}
 use Rattle.channel_laws.proofs.PartsWaiting.{LongSaid, Unheard, room_of, unheard}
 use Rattle.channel_laws.proofs.Script.{bytes_at, last_or, said_at}
-use Rattle.channel_laws.specs.LinkPlaces.{AnswerTaken, BothUp, LinkPlace, LinksAt, ModeAgreed, ModePut, ModeTaken, NothingPut, ReadyPut, VersionPut, VersionTaken, live_phase}
+use Rattle.channel_laws.specs.LinkPlaces.{AnswerTaken, BothUp, LinkPlace, ModeAgreed, ModePut, ModeTaken, NothingPut, ReadyPut, VersionPut, VersionTaken, live_phase}
 use Rattle.channel_laws.specs.LinkPlaces as link
 use Rattle.channel_laws.specs.Sides.{Sides, sides_of}
-use Rattle.port_model.proofs.Refuting.{false_true, none_some, true_false}
+use Rattle.port_model.proofs.Refuting.{none_some, true_false}
 use Rattle.port_model.specs.EndLog.{SessionLog, opened_log}
 use Rattle.port_model.specs.NetEndState.{NetSession}
 use Rattle.port_model.specs.NetLaneState.{NetShape}

@@ -1,15 +1,15 @@
 -- A step of the switch's end that is idle leaves the whole port as it was: a frame that moves to the end from the out queue is published.
-use Rattle.std.proofs.Common.{◌≡◌, ℕ, ◌+◌, ◌-◌, ◌<◌, ◌≤◌, Bool, true, false, Option, Some, None, List, [], ◌∷◌, ◌++◌, length, refl, sym, subst, ap, ◌∙◌, arith, length-append}
-use Rattle.std.specs.Prelude.{◌&&◌, is_some, nat_lt}
+use Rattle.std.proofs.Common.{◌≡◌, ℕ, ◌-◌, ◌≤◌, Bool, true, false, Option, Some, None, List, [], ◌∷◌, length, refl, subst, ap, ◌∙◌, arith, length-append}
+use Rattle.std.specs.Prelude.{is_some, nat_lt}
 use Rattle.std.proofs.lemmas.Bool.{and_parts}
-use Rattle.ldc_link.specs.declared.phase.Role.TheVariants.{Initiator, Responder}
-use Rattle.ldc_queue.specs.declared.end.End.TheVariants.{A, B}
+use Rattle.ldc_link.specs.declared.phase.Role.TheVariants.{Responder}
+use Rattle.ldc_queue.specs.declared.end.End.TheVariants.{B}
 use Rattle.runs.specs.Lawful.{log_of}
 use Rattle.runs.specs.Run.{Run}
 use Rattle.port_model.proofs.Ruling.{says_of}
-use Rattle.port_model.specs.FramesStand.{CountsStand, FramesStand}
+use Rattle.port_model.specs.FramesStand.{FramesStand}
 use Rattle.port_model.specs.NetEndRule.{Idles, port_rule}
-use Rattle.port_model.specs.NetEndState.{NetEndState, NetSession, unseen_in, with_frame}
+use Rattle.port_model.specs.NetEndState.{NetSession, unseen_in}
 use Rattle.port_model.specs.NetEndStep.{Idle, NetLeft}
 use Rattle.port_model.specs.NetEvent.{CalmTick, Steps}
 use Rattle.port_model.specs.NetLaneState.{IsNetShape, NetLaneState, NetShape, seen_at, with_left}

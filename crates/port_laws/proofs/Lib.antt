@@ -78,3 +78,4 @@ pub mod CalmTurns
 pub mod CrossingFrames
 pub mod PortWire
 pub mod IdleSteps
+pub mod FramesOnce

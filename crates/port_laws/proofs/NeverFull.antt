@@ -1,8 +1,7 @@
--- Never do both ends of a port that nobody forged find no room, one directly after the other: in the opening one of them waits for the other,
+-- Never do both ends of a port that nobody forged find no room, one directly after the other. In the opening one of them waits for the other,
 -- and a guest in session has few packets on the way.
-use Rattle.std.proofs.Common.{◌≡◌, ℕ, ◌+◌, ◌≤◌, ◌⊎◌, inl, inr, Bool, true, false, Option, Some, None, List, [], ◌∷◌, ◌++◌, length, refl, sym, subst, ap, ◌∙◌, arith}
+use Rattle.std.proofs.Common.{◌≡◌, ◌+◌, ◌≤◌, ◌⊎◌, inl, inr, true, false, Option, Some, None, List, [], ◌∷◌, ◌++◌, length, refl, sym, subst, ap, ◌∙◌, arith}
 use Rattle.std.specs.Prelude.{is_none, is_some}
-use Rattle.ldc_link.specs.declared.phase.LinkPhase.{LinkPhase}
 use Rattle.ldc_link.specs.declared.phase.LinkPhase.TheVariants as phase
 use Rattle.ldc_link.specs.declared.phase.Role.{Role}
 use Rattle.ldc_link.specs.declared.phase.Role.TheVariants.{Initiator, Responder}
@@ -19,13 +18,13 @@ use Rattle.channel_model.specs.Seeing.{Seen}
 use Rattle.channel_model.specs.TranscriptLog.{TranscriptLog}
 use Rattle.channel_model.specs.WireAt.{IsUp}
 use Rattle.channel_model.specs.WireLog.{WireLog}
-use Rattle.channel_laws.proofs.HandshakePlaces.{AtPlace, deal, open_place}
+use Rattle.channel_laws.proofs.HandshakePlaces.{deal, open_place}
 use Rattle.channel_laws.proofs.ManyWait.{many_wait, owes_some}
 use Rattle.channel_laws.proofs.PartsWaiting.{LongSaid, long_run}
 use Rattle.channel_laws.proofs.WhoseTurn.{never_both}
 use Rattle.channel_laws.specs.EndCore.{EndCore}
 use Rattle.channel_laws.specs.LaneCore.{LaneCore}
-use Rattle.channel_laws.specs.LinkPlaces.{BothUp, LinkPlace, live_phase, phase_at}
+use Rattle.channel_laws.specs.LinkPlaces.{BothUp, live_phase, phase_at}
 use Rattle.channel_laws.specs.Sides.{Sides, sides_of}
 use Rattle.channel_laws.specs.Standing.{EndStands}
 use Rattle.cookie_copy.specs.Reach.{Reach}
@@ -36,7 +35,7 @@ use Rattle.port_model.specs.NetEndRule.{Announces, Fetches, Idles, Joins, NetRul
 use Rattle.port_model.specs.NetEndState.{NetEndState, NetSession}
 use Rattle.port_model.specs.NetEndStep.{Blocked}
 use Rattle.port_model.specs.NetEvent.{CalmTick, Steps}
-use Rattle.port_model.specs.NetLaneState.{IsNetShape, NetLaneState, NetShape, reach_of, seen_at}
+use Rattle.port_model.specs.NetLaneState.{IsNetShape, NetShape, reach_of, seen_at}
 use Rattle.port_model.specs.PortLog.{PortLog, after, no_events}
 use Rattle.port_model.specs.PortMay.{PortMay}
 use Rattle.port_model.specs.PortState.{OnLane, PortEvent, PortState, PortStep, before, fresh_port}

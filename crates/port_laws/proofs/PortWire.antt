@@ -1,15 +1,15 @@
 -- What an event of a port leaves of its wire: forging isn't undone, no step of an end forges or loses anything, and a calm one leaves the wire
--- as it was; and what a frame that the switch puts into the out queue adds to what remains.
-use Rattle.std.proofs.Common.{◌≡◌, ℕ, ◌+◌, ◌-◌, ◌*◌, ◌≤◌, Bool, true, false, Option, Some, None, List, [], ◌∷◌, ◌++◌, length, refl, sym, subst, ap, ◌∙◌, arith, length-append}
+-- as it was. And what a frame that the switch puts into the out queue adds to what remains.
+use Rattle.std.proofs.Common.{◌≡◌, ℕ, ◌+◌, ◌-◌, ◌≤◌, Bool, false, Option, Some, None, List, [], ◌∷◌, ◌++◌, length, refl, sym, subst, ap, ◌∙◌, arith, length-append}
 use Rattle.ldc_link.specs.declared.phase.Role.TheVariants.{Initiator, Responder}
 use Rattle.ldc_queue.specs.declared.end.ChannelState.{ChannelState}
 use Rattle.ldc_queue.specs.declared.end.ChannelState.TheVariants.{Down, Resetting, Up}
 use Rattle.ldc_queue.specs.declared.end.End.{End}
-use Rattle.ldc_queue.specs.declared.end.End.TheVariants.{A, B}
+use Rattle.ldc_queue.specs.declared.end.End.TheVariants.{A}
 use Rattle.ldc_queue.specs.Wire.{state_of}
 use Rattle.channel_model.specs.WireLog.{WireLog, lossy_behind}
-use Rattle.port_model.specs.NetEndState.{NetEndState, NetSession, unseen}
-use Rattle.port_model.specs.NetEndStep.{Blocked, Frame, Idle, Joined, NetAnswer, NetEndStep, Published, Reset, Sent, Took}
+use Rattle.port_model.specs.NetEndState.{NetEndState, NetSession}
+use Rattle.port_model.specs.NetEndStep.{Blocked, Frame, Idle, Joined, NetAnswer, Published, Reset, Sent, Took}
 use Rattle.port_model.specs.NetEvent.{NetEvent, Steps, Ticked, on_wire}
 use Rattle.port_model.specs.NetLaneState.{reach_of, seen_at}
 use Rattle.port_model.specs.NetLaneStep.{moved_on}

@@ -275,7 +275,7 @@ pub record Finds (shape : NetShape) (u : PortState) (l : PortLog) : Type 0 where
   pub talks : PortTalks shape (lane_core u.lane) l
   pub rings : Rings u.lane l
 
-left_taken : (left : Option (List ℕ)) (v : SessionLog) → (said_in left v).taken ≡ v.taken
+pub left_taken : (left : Option (List ℕ)) (v : SessionLog) → (said_in left v).taken ≡ v.taken
 left_taken None v = refl
 left_taken (Some message) v = saying_taken (spoken message) message v
 
@@ -374,7 +374,7 @@ acts_shut shape e u t l answer left acts opened =
     opening_same (Reset cause packet lost) x opened = false_true opened
     opening_same _ x opened = refl
 
-goes_same : (answer : NetAnswer) (x : ChannelState) → Goes answer → mine_now answer x ≡ x
+pub goes_same : (answer : NetAnswer) (x : ChannelState) → Goes answer → mine_now answer x ≡ x
 goes_same (Joined lost) x goes = absurd goes
 goes_same (Reset cause packet lost) x goes = absurd goes
 goes_same _ x goes = refl

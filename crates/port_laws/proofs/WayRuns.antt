@@ -120,7 +120,7 @@ fits_at shape e u t l answer left v acts other is front = by_answer answer acts 
     by_answer (Joined lost) moves ahead = tt
     by_answer (Reset cause packet lost) moves ahead = tt
 
-goes_theirs : (answer : NetAnswer) (x y : ChannelState) → Goes answer → theirs_now answer x y ≡ y
+pub goes_theirs : (answer : NetAnswer) (x y : ChannelState) → Goes answer → theirs_now answer x y ≡ y
 goes_theirs (Joined lost) x y goes = absurd goes
 goes_theirs (Reset cause packet lost) x y goes = absurd goes
 goes_theirs _ x y goes = refl

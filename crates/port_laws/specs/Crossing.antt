@@ -1,5 +1,5 @@
--- How many frames of a guest may still cross to the switch's end: those that it holds and didn't publish in its session, and while it is up
--- those that stand READY in its ring.
+-- How many frames of a guest may still cross to the switch's end. They are those that it holds and didn't publish in its session. While it
+-- is up, those that stand READY in its ring come to them.
 use Rattle.std.specs.Prelude.{ℕ, ◌+◌, ◌-◌, List, length, Option, Some, None}
 use Rattle.ldc_queue.specs.declared.end.ChannelState.{ChannelState}
 use Rattle.ldc_queue.specs.declared.end.ChannelState.TheVariants.{Down, Resetting, Up}

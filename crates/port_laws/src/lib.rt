@@ -30,12 +30,12 @@ pub use reset_laws::{
     a_packet_resets_a_session_of_a_port_for_its_first_cause, resets_of_a_port_say_why,
 };
 pub use rest_laws::{
-    a_calm_turn_finishes_a_port,
-    a_tick_is_calm_where_the_port_is_finished, an_end_resets_itself_without_a_packet_for_a_slot,
-    an_idle_end_of_a_port_has_nothing_to_do, only_an_end_that_is_up_moves_frames,
-    two_idle_ends_of_a_port_are_in_session,
+    a_calm_turn_finishes_a_port, a_tick_is_calm_where_the_port_is_finished,
+    an_end_resets_itself_without_a_packet_for_a_slot, an_idle_end_of_a_port_has_nothing_to_do,
+    only_an_end_that_is_up_moves_frames, two_idle_ends_of_a_port_are_in_session,
 };
 pub use ring_laws::{
+    frames_arrive_in_order_and_at_most_once,
     a_frame_that_is_taken_is_the_next_that_was_published,
     at_most_one_announcement_of_an_end_is_on_the_way, no_end_of_a_port_resets_itself_for_a_slot,
     no_frame_is_left_where_both_ends_are_idle, no_group_is_left_untold_where_both_ends_are_idle,

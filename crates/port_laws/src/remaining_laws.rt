@@ -72,9 +72,9 @@ pub fn little_remains_on_a_port_that_nobody_forged()
         → remaining s ≤ 192 + 64 * frames_held s }
 {}
 
-/// How many frames of a guest may still cross to the switch's end, on a port that nobody forged: those that it didn't
-/// publish, and those that stand READY in its ring while it is up. No step of an end raises that, nor does a tick. Each
-/// frame that the switch's end takes lowers it. It is never more than the guest holds.
+/// How many frames of a guest may still cross to the switch's end, on a port that nobody forged. They are those that it
+/// didn't publish, and those that stand READY in its ring while it is up. No step of an end raises that, nor does a
+/// tick. Each frame that the switch's end takes lowers it. It is never more than the guest holds.
 pub fn each_frame_of_a_guest_crosses_once()
     ensures steps { (shape : NetShape) (events : List PortEvent) (s : PortState) (e : End) (answer : NetAnswer) (t : PortState)
         → IsNetShape shape → Run PortStep (fresh_port shape) events s → s.lane.wire.forged ≡ false

@@ -52,7 +52,7 @@ pub fn two_idle_ends_of_a_port_are_in_session()
         → Lawful TwoIdleAt after (no_events shape) events }
 {}
 
-/// On a port that nobody forged, where no packet was lost since the queues were last emptied, let first the guest's end
+/// Take a port that nobody forged, where no packet was lost since the queues were last emptied. Let first the guest's end
 /// and then the switch's be idle or find no room for its packet. Then both were idle, and the port is finished: no frame
 /// is held at either end or in the out queue, and the guest told all its groups.
 pub fn a_calm_turn_finishes_a_port()

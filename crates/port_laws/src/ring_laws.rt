@@ -4,10 +4,12 @@ ghost use Rattle.std.specs.Prelude.{◌≡◌, false, List};
 ghost use Rattle.runs.specs.Lawful.{log_of, Lawful};
 ghost use Rattle.runs.specs.Run.{Run};
 ghost use Rattle.ldc_queue.specs.declared.end.End.{End};
+ghost use Rattle.ldc_queue.specs.declared.end.End.TheVariants.{A, B};
 ghost use Rattle.port_model.specs.NetLaneState.{IsNetShape, NetShape};
 ghost use Rattle.port_model.specs.PortLog.{after, no_events};
 ghost use Rattle.port_model.specs.PortState.{fresh_port, PortEvent, PortState, PortStep};
 ghost use Rattle.port_model.specs.RestLaws.{UnforgedAt};
+ghost use Rattle.port_laws.specs.InOrder.{frames_taken, InOrder};
 ghost use Rattle.port_laws.specs.NoneLeft.{NoneLeftAt};
 ghost use Rattle.port_laws.specs.NoneUntold.{NoneUntoldAt};
 ghost use Rattle.port_laws.specs.NoSlotReset.{NoSlotResetAt};
@@ -58,4 +60,13 @@ pub fn no_group_is_left_untold_where_both_ends_are_idle()
 pub fn no_end_of_a_port_resets_itself_for_a_slot()
     ensures { (shape : NetShape) (events : List PortEvent) (s : PortState) → IsNetShape shape → Run PortStep (fresh_port shape) events s
         → Lawful NoSlotResetAt after (no_events shape) events }
+{}
+
+/// On a port that nobody forged, the frames that an end took are some of those that the other end was given, in their
+/// order, each at most once. That is so over all sessions, whatever was lost and reset between.
+pub fn frames_arrive_in_order_and_at_most_once()
+    ensures to_switch { (shape : NetShape) (events : List PortEvent) (s : PortState) → IsNetShape shape → Run PortStep (fresh_port shape) events s
+        → s.lane.wire.forged ≡ false → InOrder 0 (frames_taken B events) (log_of after (no_events shape) events).guest.given }
+    ensures to_guest { (shape : NetShape) (events : List PortEvent) (s : PortState) → IsNetShape shape → Run PortStep (fresh_port shape) events s
+        → s.lane.wire.forged ≡ false → InOrder 0 (frames_taken A events) (log_of after (no_events shape) events).hub.given }
 {}

@@ -1,7 +1,7 @@
--- In a settle of a switch each port has one tick at most, no end is stuck three times with nothing else between, and each round that goes on
+-- In a settle of a switch each port has one tick at most, and no end is stuck three times with nothing else between. Each round that goes on
 -- moves something.
-use Rattle.std.proofs.Common.{◌≡◌, ◌⊎◌, inl, inr, ℕ, ◌+◌, ◌≤◌, Bool, true, false, List, [], ◌∷◌, length, refl, sym, ap, ◌∙◌, subst, arith}
-use Rattle.std.specs.Prelude.{◌==◌, ◌&&◌, if◌then◌else◌}
+use Rattle.std.proofs.Common.{◌≡◌, ◌⊎◌, inl, inr, ℕ, ◌+◌, ◌≤◌, Bool, true, false, List, [], ◌∷◌, refl, ap, arith}
+use Rattle.std.specs.Prelude.{◌==◌, ◌&&◌}
 use Rattle.ldc_queue.specs.declared.end.End.{End}
 use Rattle.ldc_queue.specs.declared.end.End.TheVariants.{A, B}
 use Rattle.lane_kinds.proofs.Counting.{out_moves, part_counted}
@@ -11,12 +11,12 @@ use Rattle.lane_kinds.specs.LaneCounts.{LaneMoves, LaneTicks, LaneUnsticks, mark
 use Rattle.lane_kinds.specs.Lanes.{turn_entries}
 use Rattle.lane_kinds.specs.Settles.{RunsOut, SettlePart, most_rounds}
 use Rattle.lane_kinds.specs.Stuck.{NeverThree, sum_over}
-use Rattle.port_laws.specs.NetEndStep.{Blocked, Frame, Idle, Joined, NetAnswer, Published, Reset, Sent, Took}
+use Rattle.port_laws.specs.NetEndStep.{Blocked, Idle}
 use Rattle.port_laws.specs.NetEvent.{Steps}
 use Rattle.port_laws.specs.PortState.{OnLane, PortState}
 use Rattle.switch_laws.specs.Events.{OnPort, SwitchEvent, Switched}
 use Rattle.switch_laws.specs.PortCounts.{is_end, moves, port_blocked, port_stuck, port_ticks, stuck_on}
-use Rattle.switch_laws.specs.Ports.{IsStepOf, IsTurn, OfPort, Settled, SwitchEntry, Unsettled, is_calm, of_ports, ports, switch}
+use Rattle.switch_laws.specs.Ports.{IsStepOf, IsTurn, OfPort, SwitchEntry, is_calm, of_ports, ports, switch}
 use Rattle.switch_laws.proofs.Turns.{silent_calm, turn_steps}
 
 -- WHAT MOVES

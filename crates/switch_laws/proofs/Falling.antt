@@ -1,6 +1,5 @@
 -- What remains of a port on a switch falls by each step that isn't calm, by more than it may rise on seven others.
-use Rattle.std.proofs.Common.{◌≡◌, ℕ, ◌+◌, ◌*◌, ◌<◌, ◌≤◌, ◌⊎◌, inl, inr, Bool, true, false, List, [], ◌∷◌, length, refl, sym, subst, ap, ◌∙◌, arith}
-use Rattle.std.specs.Prelude.{not, ⊤}
+use Rattle.std.proofs.Common.{◌≡◌, ℕ, ◌+◌, ◌*◌, ◌<◌, ◌≤◌, inl, inr, Bool, true, false, List, [], ◌∷◌, length, refl, sym, subst, ap, ◌∙◌, arith}
 use Rattle.runs.specs.Run.{Run}
 use Rattle.lane_kinds.specs.Lanes.{CalmTurn, EachStep, LaneFalls}
 use Rattle.ldc_queue.specs.declared.end.End.{End}
@@ -13,13 +12,13 @@ use Rattle.port_laws.specs.Crossing.{crossing}
 use Rattle.port_laws.specs.NetEndState.{unseen}
 use Rattle.port_laws.specs.NetEndStep.{Blocked, Frame, Idle, NetAnswer}
 use Rattle.port_laws.specs.NetEvent.{Steps, Ticked}
-use Rattle.port_laws.specs.PortState.{OnLane, PortState, PortStep, Receives}
+use Rattle.port_laws.specs.PortState.{OnLane, PortState, PortStep}
 use Rattle.port_laws.specs.Remaining.{remaining}
 use Rattle.port_laws.specs.RemainingSteps.{IsCalm}
 use Rattle.port_laws.specs.WireLog.{WireLog}
 use Rattle.switch_laws.specs.Events.{OnPort, SwitchEvent, SwitchStep, Switched}
 use Rattle.switch_laws.specs.Ports.{IsStepOf, gets, is_calm, pending, ports, tick, waits_on}
-use Rattle.switch_laws.specs.Reached.{IsClean, IsLossless, IsReached, IsUnforged}
+use Rattle.switch_laws.specs.Reached.{IsClean}
 use Rattle.switch_laws.specs.Remaining.{port_raises, port_remaining}
 use Rattle.switch_laws.proofs.Resting.{finishes, turn_wire, two_calm}
 use Rattle.switch_laws.proofs.Steps.{Given, Nothing, One, clean_step, given, given_clean, reached_step}

@@ -1,7 +1,7 @@
 -- The two sets of a frame that is switched are apart, and together they are the ports that it is for. An event of one port leaves the others
 -- as they were, but for that frame.
-use Rattle.std.proofs.Common.{◌≡◌, ◌≢◌, ◌⊎◌, ◌↔◌, inl, inr, ℕ, zero, suc, ◌+◌, ◌<◌, ◌≤◌, Bool, true, false, Option, Some, None, List, [], ◌∷◌, ◌++◌, length, refl, sym, subst, ap, ◌∙◌, arith}
-use Rattle.std.specs.Prelude.{◌==◌, ⊤, IsBitSet, IsSomeAnd, slice_get}
+use Rattle.std.proofs.Common.{◌≡◌, ◌⊎◌, ◌↔◌, inl, inr, ℕ, zero, suc, ◌+◌, Bool, true, false, Option, Some, None, List, [], ◌∷◌, length, refl, sym, subst, ◌∙◌, arith}
+use Rattle.std.specs.Prelude.{◌==◌, IsBitSet, IsSomeAnd, slice_get}
 use Rattle.std.specs.Int.{bit_at}
 use Rattle.std.proofs.lemmas.Bool.{cases_lt, eq-eqb, eqb-true}
 use Rattle.runs.specs.Run.{Run}
@@ -11,7 +11,7 @@ use Rattle.vnet_switch.proofs.Bits.{set_from, set_means}
 use Rattle.vnet_switch.specs.Forward.{PortIs}
 use Rattle.vnet_switch.specs.PortView.{PortView}
 use Rattle.vnet_switch.specs.Queues.{HasRoom, IsFull}
-use Rattle.port_laws.specs.PortState.{PortState, Receives}
+use Rattle.port_laws.specs.PortState.{PortState}
 use Rattle.switch_laws.specs.Events.{OnPort, SwitchEvent, SwitchStep, Switched}
 use Rattle.switch_laws.specs.Forwards.{Forwards, GoesTo, views}
 use Rattle.switch_laws.specs.Ports.{gets, gift, ports}

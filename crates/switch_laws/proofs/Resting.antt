@@ -1,26 +1,24 @@
 -- A calm turn finishes a port that nobody forged and on which nothing was lost; and a tick leaves nothing lost.
-use Rattle.std.proofs.Common.{◌≡◌, ℕ, Bool, true, false, List, [], ◌∷◌, length, refl, sym, subst, ap, ◌∙◌}
-use Rattle.std.specs.Prelude.{◌&&◌, not}
-use Rattle.runs.specs.Run.{Run}
+use Rattle.std.proofs.Common.{◌≡◌, true, false, List, [], ◌∷◌, length, subst, ap, ◌∙◌}
+use Rattle.std.specs.Prelude.{not}
 use Rattle.lane_kinds.proofs.Sums.{and_left, and_right}
 use Rattle.lane_kinds.specs.LaneCounts.{TickWaits}
 use Rattle.lane_kinds.specs.Lanes.{CalmTurn, LaneRests, all_calm}
-use Rattle.ldc_queue.specs.declared.end.ChannelState.{ChannelState}
 use Rattle.ldc_queue.specs.declared.end.ChannelState.TheVariants.{Up}
 use Rattle.ldc_queue.specs.declared.end.End.{End}
 use Rattle.ldc_queue.specs.declared.end.End.TheVariants.{A, B}
 use Rattle.port_laws.proofs.CalmTurns.{calm_turn}
 use Rattle.port_laws.proofs.PortWire.{calm_up, calm_wire, tick_lossless}
 use Rattle.port_laws.specs.NetEndState.{unseen}
-use Rattle.port_laws.specs.NetEndStep.{Blocked, Frame, Idle, NetAnswer}
+use Rattle.port_laws.specs.NetEndStep.{Blocked, Idle, NetAnswer}
 use Rattle.port_laws.specs.NetEvent.{Steps}
 use Rattle.port_laws.specs.NetLaneState.{NetLaneState}
-use Rattle.port_laws.specs.NetLaneStep.{is_finished, told_all}
+use Rattle.port_laws.specs.NetLaneStep.{is_finished}
 use Rattle.port_laws.specs.PortState.{OnLane, PortState, PortStep}
 use Rattle.port_laws.specs.RemainingSteps.{IsCalm}
 use Rattle.port_laws.specs.WireLog.{WireLog}
-use Rattle.switch_laws.specs.Events.{OnPort, SwitchEvent, SwitchStep, Switched}
-use Rattle.switch_laws.specs.Ports.{IsStepOf, IsTurn, is_calm, ports, tick, waits_on}
+use Rattle.switch_laws.specs.Events.{OnPort, SwitchEvent, SwitchStep}
+use Rattle.switch_laws.specs.Ports.{IsStepOf, is_calm, ports, tick, waits_on}
 use Rattle.switch_laws.specs.Reached.{IsLossless, IsReached, IsUnforged}
 use Rattle.switch_laws.proofs.Steps.{given_lossless, lossless_step, reached_step, was_unforged}
 use Rattle.switch_laws.proofs.Turns.{calm_gives, turn_steps}

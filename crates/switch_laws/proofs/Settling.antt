@@ -1,6 +1,6 @@
 -- A settle over the ports of a switch that nobody forged ends settled; behind one that does each port is finished, or was forged and had its
 -- tick.
-use Rattle.std.proofs.Common.{◌≡◌, ℕ, ◌+◌, ◌*◌, ◌<◌, ◌≤◌, Bool, refl, List, [], ◌∷◌, length, arith}
+use Rattle.std.proofs.Common.{◌≡◌, ℕ, ◌+◌, ◌*◌, ◌<◌, ◌≤◌, Bool, List, [], ◌∷◌, length, arith}
 use Rattle.lane_kinds.proofs.Falling.{ends_settled}
 use Rattle.lane_kinds.proofs.Finishing.{IsWhole, all_rest, lanes_keep, whole_fresh}
 use Rattle.lane_kinds.proofs.LaneCounts.{lanes_name}
@@ -9,7 +9,7 @@ use Rattle.lane_kinds.proofs.Naming.{out_names}
 use Rattle.lane_kinds.proofs.Standing.{ends_with}
 use Rattle.lane_kinds.specs.Lanes.{AreClean, EachMarked, EachOf, IsAtRest, sum_of}
 use Rattle.lane_kinds.specs.Laws.{Keeps}
-use Rattle.lane_kinds.specs.Settles.{RunsOut, SettlePart, Settles, most_rounds}
+use Rattle.lane_kinds.specs.Settles.{RunsOut, SettlePart, Settles}
 use Rattle.port_laws.specs.PortState.{PortState}
 use Rattle.switch_laws.specs.Ports.{SwitchEntry, of_ports, pending, ports, switch}
 use Rattle.switch_laws.specs.Reached.{IsClean, IsLossless, IsReached, IsUnforged}

@@ -1,21 +1,34 @@
 -- A step of a port on a switch is one of the port: it leads from a reached port to a reached one, and forging isn't undone.
-use Rattle.std.proofs.Common.{◌≡◌, ℕ, Bool, true, false, List, [], ◌∷◌, ◌++◌, refl, sym, subst, ap, ◌∙◌}
-use Rattle.std.specs.Prelude.{◌==◌, ⊤}
+use Rattle.std.proofs.Common.{◌≡◌, ℕ, Bool, true, false, List, [], ◌∷◌, ◌++◌, refl, sym, subst, ◌∙◌}
+use Rattle.std.specs.Prelude.{◌==◌, map}
 use Rattle.std.specs.Int.{bit_at}
 use Rattle.runs.specs.Run.{Run, run_push}
 use Rattle.ldc_queue.specs.declared.end.End.{End}
-use Rattle.ldc_queue.specs.declared.end.End.TheVariants.{A, B}
+use Rattle.ldc_queue.specs.declared.end.End.TheVariants.{B}
+use Rattle.port_laws.proofs.IdleSteps.{idle_stays}
 use Rattle.port_laws.proofs.PortWire.{step_lossless, step_unforged, was_unforged as port_unforged}
-use Rattle.port_laws.specs.NetEndStep.{Frame, NetAnswer}
+use Rattle.port_laws.specs.NetEndStep.{Frame, Idle, NetAnswer}
 use Rattle.port_laws.specs.NetEvent.{Steps}
 use Rattle.port_laws.specs.PortState.{OnLane, PortEvent, PortState, PortStep, Receives, fresh_port}
-use Rattle.switch_laws.specs.Events.{OnPort, SwitchEvent, SwitchStep, Switched, at_port}
+use Rattle.switch_laws.specs.Events.{IdleStays, IsAlone, OnPort, SwitchEvent, SwitchStep, Switched, at_port}
 use Rattle.switch_laws.specs.Ports.{IsStepOf, gets, gift}
 use Rattle.switch_laws.specs.Reached.{IsClean, IsLossless, IsReached, IsUnforged}
 
 pub on_port : (s : PortState) (event : SwitchEvent) (t : PortState) → SwitchStep s event t → PortStep s (at_port event) t
 on_port s (OnPort event) t step = step.1
 on_port s (Switched frame out full) t step = step
+
+-- and all that a port does is on a switch what it is by itself
+stays : (s : PortState) (event : PortEvent) (t : PortState) → IsReached s → PortStep s event t → IdleStays event s t
+stays s (OnLane (Steps B Idle)) t at step = idle_stays at.shape at.events s t at.sound at.run step
+stays s _ t at step = tt
+
+pub as_on_switch : (s : PortState) (event : PortEvent) (t : PortState) → IsReached s → IsAlone event → PortStep s event t → SwitchStep s (OnPort event) t
+as_on_switch s event t at alone step = (alone, step, stays s event t at step)
+
+pub run_on_port : (s : PortState) (events : List SwitchEvent) (t : PortState) → Run SwitchStep s events t → Run PortStep s (map at_port events) t
+run_on_port s [] t run = run
+run_on_port s (event ∷ events) t run = (run.0, on_port s event run.0 run.1, run_on_port run.0 events t run.2)
 
 pub reached_step : (s : PortState) (event : SwitchEvent) (t : PortState) → IsReached s → SwitchStep s event t → IsReached t
 reached_step s event t at step = record {

@@ -1,9 +1,8 @@
 -- A turn of a port on a switch is two steps, one of each end; and what such steps leave in a settle.
-use Rattle.std.proofs.Common.{◌≡◌, ℕ, ◌+◌, Bool, true, false, List, [], ◌∷◌, refl, sym, ap, ◌∙◌}
-use Rattle.std.specs.Prelude.{⊤}
+use Rattle.std.proofs.Common.{◌≡◌, ℕ, true, List, [], ◌∷◌, refl, sym, ap, ◌∙◌}
 use Rattle.lane_kinds.specs.Lanes.{EachStep, IsSilent}
 use Rattle.ldc_queue.specs.declared.end.End.TheVariants.{A, B}
-use Rattle.port_laws.specs.NetEndStep.{Blocked, Frame, Idle, Joined, NetLeft, Published, Reset, Sent, Took}
+use Rattle.port_laws.specs.NetEndStep.{Idle, NetLeft}
 use Rattle.port_laws.specs.NetEvent.{Steps}
 use Rattle.port_laws.specs.NetLaneState.{NetLaneState, with_left}
 use Rattle.port_laws.specs.NetLaneStep.{EndSteps}

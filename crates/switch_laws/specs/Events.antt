@@ -1,5 +1,5 @@
--- What may happen to a port on a switch: an event of the port alone; or its end at the switch took a frame, which the switch put into the
--- out queues of one set of ports, and not into those of another, which were full. A set of ports is a number.
+-- What may happen to a port on a switch: an event of the port alone, or its end at the switch took a frame. The switch put that frame into
+-- the out queues of one set of ports, and not into those of another, which were full. A set of ports is a number.
 use Rattle.std.specs.Prelude.{◌≡◌, ℕ, List, ⊤}
 use Rattle.ldc_queue.specs.declared.end.End.TheVariants.{B}
 use Rattle.port_laws.specs.NetEndStep.{Frame, Idle}

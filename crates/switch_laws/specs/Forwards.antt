@@ -9,7 +9,7 @@ use Rattle.port_laws.specs.PortState.{PortState}
 use Rattle.switch_laws.specs.Events.{OnPort, SwitchEvent, Switched}
 
 -- A PORT AS THE SWITCH SEES IT: its address while the session of its end at the switch is open, the groups that this
--- end was told, and its out queue, which has room for as many frames as a ring
+-- end was told, and its out queue. The queue has room for as many frames as a ring.
 abbrev pub address_in : Option NetSession → List ℕ → Option (List ℕ)
 address_in None address = None
 address_in (Some session) address = Some address

@@ -1,5 +1,5 @@
--- What remains to be done for a port on a switch: on the port itself, and for each frame that may still cross what it makes remain on seven
--- other ports, eight on each.
+-- What remains to be done for a port on a switch: on the port itself, and for each frame that may still cross. Such a frame makes eight
+-- remain on each of seven other ports.
 use Rattle.std.specs.Prelude.{ℕ, ◌+◌, ◌*◌}
 use Rattle.port_laws.specs.Crossing.{crossing}
 use Rattle.port_laws.specs.PortState.{PortState}

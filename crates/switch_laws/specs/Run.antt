@@ -5,8 +5,8 @@ use Rattle.port_laws.specs.PortState.{PortState}
 use Rattle.switch_laws.specs.Events.{OnPort, SwitchEvent, SwitchStep, Switched}
 use Rattle.switch_laws.specs.Ports.{OfPort, Settled, SwitchEntry, Unsettled, ports}
 
--- ONE ENTRY: an event of a port, by which a frame goes as the states of all ports before it let it; what a settle says at
--- its end changes nothing
+-- ONE ENTRY: an event of a port, by which a frame goes as the states of all ports before it let it. What a settle says
+-- at its end changes nothing.
 abbrev pub SwitchMoves : List PortState → SwitchEntry → List PortState → Type 0
 SwitchMoves w (OfPort k event) v = StepOf ports k w event v
 SwitchMoves w (Unsettled k) v = v ≡ w

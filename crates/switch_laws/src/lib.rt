@@ -6,8 +6,8 @@ mod forward_laws;
 mod settle_laws;
 
 pub use forward_laws::{
-    a_frame_goes_to_its_forwarding_set, an_event_of_a_port_leaves_the_others,
-    each_entry_of_a_settle_is_a_step_of_the_switch,
+    a_frame_goes_to_its_forwarding_set, a_step_of_a_port_is_one_on_its_switch,
+    an_event_of_a_port_leaves_the_others, each_entry_of_a_settle_is_a_step_of_the_switch,
 };
 pub use settle_laws::{
     a_settle_of_an_unforged_switch_ends_settled, each_port_is_run_by_what_happened_to_it,

@@ -12,8 +12,8 @@ ghost use Rattle.switch_laws.specs.Ports.{pending, ports, said_port, switch, Swi
 ghost use Rattle.switch_laws.specs.Reached.{IsClean, IsReached, IsUnforged};
 ghost use Rattle.switch_laws.specs.Remaining.{port_raises, port_remaining};
 
-/// The part of a settle says what happened to each port of a switch: it is run by its own events, and by the frames that
-/// those of other ports gave it.
+/// The part of a settle says what happened to each port of a switch. The port is run by its own events, and by the frames
+/// that those of other ports gave it.
 pub fn each_port_is_run_by_what_happened_to_it()
     ensures { (start : List PortState) (part : List SwitchEntry) (behind : List PortState) → SettlePart switch start part behind
         → AllMove SwitchStep said_port 0 start part behind }
