@@ -10,3 +10,6 @@ pub mod Lanes
 pub mod Finishing
 pub mod Moving
 pub mod LaneCounts
+pub mod LaneFronts
+pub mod Places
+pub mod LanesMade

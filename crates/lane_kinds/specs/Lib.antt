@@ -5,4 +5,6 @@ pub mod Stuck
 pub mod Both
 pub mod Lanes
 pub mod LaneCounts
+pub mod LaneFronts
+pub mod LanesMade
 pub mod Laws

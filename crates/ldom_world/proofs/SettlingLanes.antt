@@ -6,7 +6,8 @@ use Rattle.disk_model.specs.DiskEvent.{CalmTick, Calms}
 use Rattle.disk_model.specs.LaneState.{LaneState}
 use Rattle.domain_script.specs.LaneKinds.{disk_lane, disk_of}
 use Rattle.world_laws.specs.Settle.{OfLane, SettleEntry, Unsettled}
-use Rattle.world_laws.specs.Ticks.{gets_tick, tick, waits_on}
+use Rattle.world_laws.specs.DiskKind.{tick, waits_on}
+use Rattle.world_laws.specs.Ticks.{gets_tick}
 use Rattle.world_laws.specs.Lines.{AnswersCall, Calls, Line, OneEntry, Settles, Ticks}
 use Rattle.world_laws.specs.World.{OneMoves, WorldState, WorldStep}
 use Rattle.ldom_report.specs.LaneEvents.{ChangesNothing, Meaning, NoRoomFor, Refuses, meaning}
@@ -16,7 +17,7 @@ use Rattle.ldom_entries.specs.declared.entry.Entry.{Entry}
 use Rattle.ldom_entries.specs.declared.entry.Entry.TheVariants as entry
 use Rattle.ldom_entries.specs.declared.entry.Who.{Who}
 use Rattle.ldom_entries.specs.declared.entry.Who.TheVariants.{Lane as OfWhole, End as OfEnd}
-use Rattle.world_laws.proofs.Places.{after_one, set_same, take_set_one}
+use Rattle.lane_kinds.proofs.Places.{after_one, set_same, take_set_one}
 use Rattle.world_laws.proofs.TicksOn.{lane_gets_none, lane_gets_tick}
 use Rattle.world_laws.specs.Names.{name_of}
 use Rattle.world_laws.specs.RoundMade.{all_true}

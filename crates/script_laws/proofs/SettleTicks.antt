@@ -15,7 +15,8 @@ use Rattle.world_laws.proofs.TicksOnce.{counts, entry_ticks}
 use Rattle.world_laws.specs.Begun.{NoMore, SettleFront, TickFront, fronts}
 use Rattle.world_laws.specs.Moves.{is_tick, ticks, ticks_in}
 use Rattle.world_laws.specs.Settle.{OfLane, SettleEntry, disks}
-use Rattle.world_laws.specs.Ticks.{gets_tick, waits_on}
+use Rattle.world_laws.specs.DiskKind.{waits_on}
+use Rattle.world_laws.specs.Ticks.{gets_tick}
 use Rattle.ldc_queue.specs.declared.end.End.{End}
 use Rattle.vio_tag.specs.declared.cause.Cause.TheVariants as the_cause
 

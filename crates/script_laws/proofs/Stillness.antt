@@ -20,7 +20,8 @@ use Rattle.lane_kinds.proofs.Sums.{and_left, and_right}
 use Rattle.world_laws.proofs.LaneRounds.{quiet_still}
 use Rattle.world_laws.proofs.LineEntries.{EachEntry, each_both, entry_each}
 use Rattle.world_laws.specs.Along.{event_at, happened}
-use Rattle.world_laws.specs.Rounds.{LaneRound, MakesRound, are_quiet, is_calm, is_quiet}
+use Rattle.world_laws.specs.DiskKind.{is_calm}
+use Rattle.world_laws.specs.Rounds.{LaneRound, MakesRound, are_quiet, is_quiet}
 use Rattle.world_laws.specs.Settle.{OfLane, SettleEntry, entry_of, round_entries}
 use Rattle.ldc_queue.specs.Wire.{peer_of, waiting_for}
 use Rattle.ldc_queue.specs.declared.end.End.{End}

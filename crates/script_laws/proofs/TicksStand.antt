@@ -27,7 +27,8 @@ use Rattle.world_laws.specs.Moves.{is_tick}
 use Rattle.world_laws.specs.Rounds.{Each, LaneRound, MakeRound, MakesRound, are_quiet, is_quiet}
 use Rattle.world_laws.specs.Settle.{OfLane, SettleEntry, Settled, Settles, disks, most_rounds, round_entries, tick_entries}
 use Rattle.world_laws.specs.Sums.{IsUnforged}
-use Rattle.world_laws.specs.Ticks.{TickLanes, gets_tick, tick, waits_on}
+use Rattle.world_laws.specs.DiskKind.{tick, waits_on}
+use Rattle.world_laws.specs.Ticks.{TickLanes, gets_tick}
 use Rattle.world_laws.proofs.LaneLists.{each_there, is_there, lane_moved, many_moved}
 use Rattle.script_laws.proofs.Places.{InEither, no_place, place_in}
 use Rattle.script_laws.proofs.SettleTicks.{NoTick, step_none}

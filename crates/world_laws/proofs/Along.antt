@@ -10,8 +10,8 @@ use Rattle.disk_model.specs.LaneState.{IsShape, LaneState, Shape, fresh}
 use Rattle.disk_model.specs.LaneStep.{LaneStep}
 use Rattle.disk_model.specs.Reached.{IsReached}
 use Rattle.lane_laws.proofs.RingPages.{same_pages}
-use Rattle.world_laws.proofs.FrontMoving.{moved_reached}
-use Rattle.world_laws.proofs.Moving.{moves_on, nothing_moves, stay}
+
+use Rattle.world_laws.proofs.Moving.{moved_reached, moves_on, nothing_moves, stay}
 use Rattle.world_laws.specs.Along.{LanesMove, happened}
 use Rattle.world_laws.specs.Rounds.{Each}
 use Rattle.world_laws.specs.Settle.{OfLane, SettleEntry}

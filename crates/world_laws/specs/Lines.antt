@@ -11,7 +11,7 @@ use Rattle.disk_model.specs.LaneState.{LaneState}
 use Rattle.lane_laws.specs.CalmEnds.{IsStep}
 use Rattle.world_laws.specs.Begun.{SettleFront}
 use Rattle.world_laws.specs.Settle.{OfLane, SettleEntry, SettlePart}
-use Rattle.world_laws.specs.World.{WorldState, WorldStep}
+use Rattle.world_laws.specs.World.{PartMade, WorldState, WorldStep}
 
 -- what a script may do to a lane, beside asking and stepping it
 pub data Call : Type 0 where
@@ -109,12 +109,10 @@ BeginsPart (Rounds count) lanes part behind = AreFirstSteps (turns_of count (len
 BeginsPart Settles lanes part behind = SettleFront lanes part behind
 BeginsPart (Calls k call) lanes part behind = part ≡ []
 
--- A LINE with its part leads the world from one state to another
-pub record LineMoves (w : WorldState) (line : Line) (part : List SettleEntry) (v : WorldState) : Type 0 where
-  pub part_of : PartOf line w.lanes part v.lanes
-  pub run : Run WorldStep w part v
+-- A LINE with its part leads the world from one state to another, and so does a front of it
+abbrev pub LineMoves : WorldState → Line → List SettleEntry → WorldState → Type 0
+LineMoves w line part v = PartMade (PartOf line) w part v
 
--- and a front of it
 pub record LineBegins (w : WorldState) (line : Line) (part : List SettleEntry) (v : WorldState) : Type 0 where
   pub begins : BeginsPart line w.lanes part v.lanes
   pub run : Run WorldStep w part v
