@@ -4,8 +4,8 @@ use Rattle.disk_model.specs.DiskEvent.{DiskEvent}
 use Rattle.disk_model.specs.LaneState.{LaneState}
 use Rattle.world_laws.proofs.Falling.{ends_settled, rounds_few}
 use Rattle.world_laws.proofs.LineEntries.{EachEntry, each_as, each_both, each_in, one_each, steps_each}
-use Rattle.world_laws.proofs.Stuck.{part_never}
-use Rattle.world_laws.proofs.TicksOnce.{part_ticks}
+use Rattle.world_laws.proofs.Stuck.{front_never, part_never}
+use Rattle.world_laws.proofs.TicksOnce.{front_ticks, part_ticks}
 use Rattle.world_laws.specs.Begun.{SettleFront}
 use Rattle.world_laws.specs.Settle.{SettleEntry, SettlePart, Settled, Settles}
 use Rattle.world_laws.specs.Lines.{AnswersCall, AnswersRequest, AreSteps, Asked, BeginsPart, Calls, Line}
@@ -13,9 +13,7 @@ use Rattle.world_laws.specs.Lines.{Nothing, OneEntry, PartOf, Rounds, Steps, End
 use Rattle.world_laws.specs.Lines as world
 use Rattle.script_laws.proofs.CleanLanes.{AreClean}
 use Rattle.script_laws.proofs.Entries.{IsOfLane, LeavesNone, lanes_leave}
-use Rattle.script_laws.proofs.FrontStuck.{front_never}
 use Rattle.script_laws.proofs.SettleEntries.{AreOfLanes, SettledLast, settle_front, settled_last}
-use Rattle.script_laws.proofs.SettleTicks.{front_ticks}
 use Rattle.script_laws.specs.Settled.{EndsSettled, KeepsRules}
 
 -- STEPS, and what comes of a request or a call

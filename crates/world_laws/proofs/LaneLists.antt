@@ -48,7 +48,7 @@ none_where : (c : Bool) (event : DiskEvent) → (c ≡ true → ⊥) → (if c t
 none_where true event other = absurd (other refl)
 none_where false event other = refl
 
-other_event : (j n : ℕ) (event : DiskEvent) → (n ≡ j → ⊥) → happened j (OfLane n event ∷ []) ≡ []
+pub other_event : (j n : ℕ) (event : DiskEvent) → (n ≡ j → ⊥) → happened j (OfLane n event ∷ []) ≡ []
 other_event j n event other = none_where (n == j) event (λ same. other (eqb-true n j same))
 
 stays : (j n : ℕ) (s : LaneState) (event : DiskEvent) → (n ≡ j → ⊥) → Run LaneStep s (happened j (OfLane n event ∷ [])) s
