@@ -104,6 +104,13 @@ module _ {S V E : Type 0} (K : LaneKind S V) (N : Entries V E) (said : ℕ → E
   told_run j k s event t run =
       subst (λ (l : List V). Run K.Step s l t) (sym (append-nil (said j (N.of_lane k event)) ∙ reads.of_lane j k event)) run
 
+  -- each lane by one entry, whether it would be left or not
+  pub told_moves : (j k : ℕ) (lanes : List S) (event : V) (behind : List S) → AllStep K j lanes k event behind → AllMove K.Step said j lanes (N.of_lane k event ∷ []) behind
+  told_moves j k [] event [] step = tt
+  told_moves j k (s ∷ lanes) event (t ∷ behind) step = (told_run j k s event t step.0, told_moves (j + 1) k lanes event behind step.1)
+  told_moves j k [] event (t ∷ behind) step = absurd step
+  told_moves j k (s ∷ lanes) event [] step = absurd step
+
   lane_moves : (quiet : Bool) (j k : ℕ) (s : S) (event : V) (t : S) → K.is_silent event ≡ quiet → Run K.Step s (own_or (j == k) event (K.gets j event)) t
       → Run K.Step s (happened said j (if quiet then [] else N.of_lane k event ∷ [])) t
   lane_moves true j k s event t is run = silent_run (j == k) j s event t is run

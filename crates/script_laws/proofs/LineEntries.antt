@@ -8,7 +8,7 @@ use Rattle.world_laws.proofs.Stuck.{front_never, part_never}
 use Rattle.world_laws.proofs.TicksOnce.{front_ticks, part_ticks}
 use Rattle.world_laws.specs.Begun.{SettleFront}
 use Rattle.world_laws.specs.Settle.{SettleEntry, SettlePart, Settled, Settles}
-use Rattle.world_laws.specs.Lines.{AnswersCall, AnswersRequest, AreSteps, Asked, BeginsPart, Calls, Line}
+use Rattle.world_laws.specs.Lines.{AnswersCall, AnswersRequest, AreSteps, Asked, BeginsPart, Calls, Line, OfDisk}
 use Rattle.world_laws.specs.Lines.{Nothing, OneEntry, PartOf, Rounds, Steps, EndTurn, turn, turns_of}
 use Rattle.world_laws.specs.Lines as world
 use Rattle.script_laws.proofs.CleanLanes.{AreClean}
@@ -34,7 +34,7 @@ part_is (Asked k request) lanes part behind is = inr (one k (AnswersRequest requ
 part_is (Steps k e count) lanes part behind is = inr (steps (replicate count (turn k e)) part is)
 part_is (Rounds count) lanes part behind is = inr (steps (turns_of count (length lanes)) part is)
 part_is world.Settles lanes part behind is = inl is
-part_is (Calls k call) lanes part behind is = inr (one k (AnswersCall call) part is)
+part_is (Calls (OfDisk k) call) lanes part behind is = inr (one k (AnswersCall call) part is)
 
 -- A SETTLE over clean lanes
 pub clean_settles : (lanes : List LaneState) (part : List SettleEntry) (behind : List LaneState) → AreClean lanes

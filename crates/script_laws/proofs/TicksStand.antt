@@ -35,7 +35,8 @@ use Rattle.world_laws.specs.Settle.{OfLane, SettleEntry, Settled, Settles, disks
 use Rattle.world_laws.specs.Sums.{IsUnforged}
 use Rattle.world_laws.specs.DiskKind.{disk_kind, tick, waits_on}
 use Rattle.world_laws.specs.Ticks.{TickLanes, gets_tick}
-use Rattle.world_laws.proofs.LaneLists.{each_there, other_event, is_there, lane_moved, many_moved}
+use Rattle.lane_kinds.proofs.Places.{get_within}
+use Rattle.world_laws.proofs.LaneLists.{each_there, other_event, lane_moved, many_moved}
 use Rattle.script_laws.proofs.Places.{InEither, no_place, place_in}
 use Rattle.script_laws.proofs.Stillness.{calm_round, still_by}
 use Rattle.script_laws.specs.Still.{AreStillBy}
@@ -79,7 +80,7 @@ pub moved_to : (start : List LaneState) (part : List SettleEntry) (behind : List
     → LanesMove 0 start part behind → slice_get start x ≡ Some s → MovedTo x part s behind
 moved_to start part behind x s moves there =
     let many = many_moved 0 start part behind moves in
-    let lane = is_there behind x (omega (arith, slice_get_within start x s there, many)) in
+    let lane = get_within behind x (omega (arith, slice_get_within start x s there, many)) in
     record { lane = lane.0; there = lane.1; run = lane_moved 0 x x start part behind s lane.0 (own x) moves there lane.1 }
   where
     own : (x : ℕ) → x ≡ 0 + x

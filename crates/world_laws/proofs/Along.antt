@@ -10,12 +10,15 @@ use Rattle.disk_model.specs.LaneState.{IsShape, LaneState, Shape, fresh}
 use Rattle.disk_model.specs.LaneStep.{LaneStep}
 use Rattle.disk_model.specs.Reached.{IsReached}
 use Rattle.lane_laws.proofs.RingPages.{same_pages}
-
+use Rattle.lane_kinds.proofs.Moving.{lane_steps, told_moves}
+use Rattle.world_laws.proofs.DiskLaws.{disk_reads, disk_silent, gives_nothing}
+use Rattle.world_laws.specs.DiskKind.{disk_kind}
 use Rattle.world_laws.proofs.Moving.{moved_reached, moves_on, nothing_moves, stay}
-use Rattle.world_laws.specs.Along.{LanesMove, happened}
+use Rattle.world_laws.specs.Along.{LanesMove, event_at, happened}
 use Rattle.world_laws.specs.Rounds.{Each}
-use Rattle.world_laws.specs.Settle.{OfLane, SettleEntry}
-use Rattle.world_laws.proofs.LaneLists.{is_there, lane_moved, many_moved, set_moves}
+use Rattle.world_laws.specs.Settle.{OfLane, SettleEntry, disk_entries}
+use Rattle.lane_kinds.proofs.Places.{get_within}
+use Rattle.world_laws.proofs.LaneLists.{lane_moved, many_moved}
 use Rattle.world_laws.specs.WorldAlong.{LanesRun}
 use Rattle.world_laws.specs.Lines.{Line, LineStep, entries_of_lines}
 use Rattle.world_laws.specs.World.{AreShapes, LaneMoves, WorldState, WorldStep, fresh_world}
@@ -37,8 +40,8 @@ lane_step s i (Calms event) t j moves = moves.0
 -- EACH ENTRY moves all lanes, and so does a run
 pub entry_moves : (w : WorldState) (entry : SettleEntry) (v : WorldState) → WorldStep w entry v → LanesMove 0 w.lanes (entry ∷ []) v.lanes
 entry_moves w (OfLane k event) v step =
-    subst (λ (l : List LaneState). LanesMove 0 w.lanes (OfLane k event ∷ []) l) (sym step.lanes)
-    (set_moves 0 k k w.lanes step.lane event step.after (omega (arith)) step.there (lane_step step.lane w.image event step.after v.image step.moves))
+    told_moves disk_kind disk_entries event_at disk_reads disk_silent 0 k w.lanes event v.lanes
+    (lane_steps disk_kind gives_nothing k w.lanes step.lane event step.after v.lanes step.there (lane_step step.lane w.image event step.after v.image step.moves) step.lanes).step
 entry_moves w entry v step =
     subst (λ (x : WorldState). LanesMove 0 w.lanes (entry ∷ []) x.lanes) (sym step) (nothing_moves 0 w.lanes (entry ∷ []) (λ j. refl))
 
@@ -71,7 +74,7 @@ pub lane_at : (shapes : List Shape) (image : ImageState) (entries : List SettleE
 lane_at shapes image entries w k shape run there =
     let within = slice_get_within shapes k shape there in
     let many = (lanes_run shapes image entries w run).many in
-    is_there w.lanes k (omega (arith, within, many))
+    get_within w.lanes k (omega (arith, within, many))
 
 pub shape_at : (first : ℕ) (shapes : List Shape) (k : ℕ) (shape : Shape) → AreShapes first shapes → slice_get shapes k ≡ Some shape → IsShape shape
 shape_at first [] k shape are there = absurd (cc there)

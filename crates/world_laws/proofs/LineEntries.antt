@@ -22,7 +22,7 @@ use Rattle.world_laws.specs.Begun.{RoundFront, SettleFront, fronts}
 use Rattle.world_laws.specs.Rounds.{LaneRound, MakeRound}
 use Rattle.world_laws.specs.Settle.{OfLane, SettleEntry, Settled, Settles, Unsettled, disk_entries, disks, entries_of_rounds, entry_of, left_over, most_rounds, round_entries, tick_entries}
 use Rattle.world_laws.specs.DiskKind.{disk_kind, tick}
-use Rattle.world_laws.specs.Lines.{AnswersCall, AnswersRequest, AreSteps, Asked, BeginsPart, Call, Calls, Line, Nothing, OneEntry, PartOf, Rounds, Steps, EndTurn, turn, turns_of}
+use Rattle.world_laws.specs.Lines.{AnswersCall, AnswersRequest, AreSteps, Asked, BeginsPart, Call, Calls, Line, Nothing, OneEntry, PartOf, Rounds, Steps, EndTurn, turn, turns_of, LaneName, OfDisk, IsStepOf}
 use Rattle.world_laws.specs.Lines as script
 
 abbrev pub EachEntry : (SettleEntry → Type 0) → List SettleEntry → Type 0
@@ -62,11 +62,15 @@ module _ (P : SettleEntry → Type 0) where
 
   -- STEPS
   module _ (steps : (k : ℕ) (e : End) (event : DiskEvent) → IsStep e event → P (OfLane k event)) where
+    of_step : (lane : LaneName) (side : End) (entry : SettleEntry) → IsStepOf lane side entry → P entry
+    of_step (OfDisk k) side (OfLane j event) is = steps j side event is.1
+    of_step (OfDisk k) side _ is = absurd is
+
     pub steps_each : (turns : List EndTurn) (part : List SettleEntry) → AreSteps turns part → EachEntry P part
     steps_each [] [] are = tt
-    steps_each (next ∷ turns) (OfLane k event ∷ part) are = (steps k next.side event are.1, steps_each turns part are.2)
+    steps_each (next ∷ turns) (entry ∷ part) are = (of_step next.lane next.side entry are.0, steps_each turns part are.1)
     steps_each [] (entry ∷ part) are = absurd are
-    steps_each (next ∷ turns) _ are = absurd are
+    steps_each (next ∷ turns) [] are = absurd are
 
     pub round_each : (lanes : List LaneState) (rounds : List LaneRound) (behind : List LaneState) → MakeRound lanes rounds behind → EachEntry P (round_entries 0 rounds)
     round_each lanes rounds behind made = lanes_each P disk_kind disk_entries turn_steps (λ k event own. steps k own.0 event own.1) lanes rounds behind made
@@ -120,14 +124,14 @@ module _ (P : SettleEntry → Type 0) where
 
         -- A LINE, by what may come of a request, and of the calls of these lines
         pub line_each : ((k : ℕ) (request : Request) (event : DiskEvent) → AnswersRequest request event → P (OfLane k event)) → (line : Line)
-            → ((k : ℕ) (call : Call) (event : DiskEvent) → line ≡ Calls k call → AnswersCall call event → P (OfLane k event)) → (lanes : List LaneState) (part : List SettleEntry) (behind : List LaneState)
+            → ((k : ℕ) (call : Call) (event : DiskEvent) → line ≡ Calls (OfDisk k) call → AnswersCall call event → P (OfLane k event)) → (lanes : List LaneState) (part : List SettleEntry) (behind : List LaneState)
             → length lanes ≡ n → PartOf line lanes part behind → EachEntry P part
         line_each asked Nothing called lanes part behind long is = each_as part [] is tt
         line_each asked (Asked k request) called lanes part behind long one = one_each k (AnswersRequest request) part (asked k request) one
         line_each asked (Steps k e count) called lanes part behind long are = steps_each (replicate count (turn k e)) part are
         line_each asked (Rounds count) called lanes part behind long are = steps_each (turns_of count (length lanes)) part are
         line_each asked script.Settles called lanes part behind long settle = (part_leads disks (Over n) (leads n) ends lanes part behind settle long).0
-        line_each asked (Calls k call) called lanes part behind long one = one_each k (AnswersCall call) part (λ event answers. called k call event refl answers) one
+        line_each asked (Calls (OfDisk k) call) called lanes part behind long one = one_each k (AnswersCall call) part (λ event answers. called k call event refl answers) one
 
         pub begins_each : (line : Line) (lanes : List LaneState) (part : List SettleEntry) (behind : List LaneState) → length lanes ≡ n → BeginsPart line lanes part behind → EachEntry P part
         begins_each Nothing lanes part behind long is = each_as part [] is tt
