@@ -6,7 +6,7 @@ use Rattle.lane_kinds.proofs.LaneCounts.{not_there, one_here, tick_is}
 use Rattle.lane_kinds.proofs.Moving.{both_move, none_move, one_more, tick_moves, turn_moves, turns_move}
 use Rattle.lane_kinds.proofs.Stuck.{sum_both}
 use Rattle.lane_kinds.specs.LaneCounts.{LaneTicks, LaneUnsticks, mark_at, once}
-use Rattle.lane_kinds.specs.LaneFronts.{BeginsTurn, NoMore, RoundFront, TickFront, TickMade, fronts_of}
+use Rattle.lane_kinds.specs.LaneFronts.{BeginsTurn, NoMore, RoundFront, TickFront, fronts_of}
 use Rattle.lane_kinds.specs.Lanes.{AllMove, EachOf, EachStep, Entries, IsSilent, LaneKind, MakeRound, MakeTurns, Reads, all_calm, gets_tick, lanes_of, left_names, round_entries, tick_entries, turn_entries}
 use Rattle.lane_kinds.specs.Laws.{FrontsCount, FrontsLead, FrontsUnstick}
 use Rattle.lane_kinds.specs.Stuck.{sum_over}
@@ -136,7 +136,7 @@ at_most n none = omega (arith, none)
 sum_none : (all a b : ℕ) → all ≡ a + b → a ≤ 0 → b ≤ 0 → all ≤ 0
 sum_none all a b sum one two = omega (arith, sum, one, two)
 
-zero_of : {E : Type 0} (count : E → ℕ) (part : List E) → EachOf (λ x. count x ≡ 0) part → sum_over count part ≤ 0
+pub zero_of : {E : Type 0} (count : E → ℕ) (part : List E) → EachOf (λ x. count x ≡ 0) part → sum_over count part ≤ 0
 zero_of count [] each = omega (arith)
 zero_of count (x ∷ part) each = sum_none (count x + sum_over count part) (count x) (sum_over count part) refl (at_most (count x) each.0) (zero_of count part each.1)
 

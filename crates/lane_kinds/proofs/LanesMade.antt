@@ -1,15 +1,17 @@
 -- A round, its ticks and names up to a lane: they begin, go on by the next lane, and are those of all lanes after the
 -- last. Rounds of a settle so far: none yet, one more, and how it ends. Where memory is wanted, what was made is a front.
-use Rattle.std.proofs.Common.{◌≡◌, ℕ, zero, suc, ◌+◌, ◌*◌, ◌<◌, ◌≤◌, ◌⊎◌, Bool, true, false, inl, inr, List, [], ◌∷◌, ◌++◌, length, map, take, drop, replicate, slice_get, slice_set, Some, refl, sym, ap, ap₂, ◌∙◌, subst, arith, append_assoc, append-nil, length-append, take-append-drop}
+use Rattle.std.proofs.Common.{◌≡◌, ℕ, zero, suc, ◌+◌, ◌<◌, ◌≤◌, Bool, true, false, inl, inr, List, [], ◌∷◌, ◌++◌, length, map, take, drop, replicate, slice_get, slice_set, Some, refl, sym, ap, ap₂, ◌∙◌, subst, arith, append_assoc, append-nil, length-append, take-append-drop}
 use Rattle.std.specs.Prelude.{◌&&◌, ◌||◌, if◌then◌else◌}
-use Rattle.runs.specs.Run.{Run, run_push}
-use Rattle.lane_kinds.proofs.LaneCounts.{run_many, turns_many}
-use Rattle.lane_kinds.proofs.Places.{HasLast, after_one, drop_one, drop_set, drop_whole, get_set, has_last, map_both, never_empty, same_first, same_last, same_next, take_length, take_most, take_one, take_set, take_set_one, take_whole, take_within}
-use Rattle.lane_kinds.specs.Fronts.{NamesFront, QuietFront, SettleFront}
-use Rattle.lane_kinds.specs.LaneFronts.{BeginsTurn, NoMore, RoundFront, TickFront, fronts_of}
+use Rattle.runs.specs.Run.{Run}
+use Rattle.lane_kinds.proofs.LaneCounts.{turns_many}
+use Rattle.lane_kinds.proofs.Places.{after_one, drop_set, drop_whole, get_set, map_both, same_first, same_next, take_length, take_most, take_one, take_set, take_set_one, take_whole, take_within}
+use Rattle.lane_kinds.proofs.RoundsMade as rounds
+use Rattle.lane_kinds.specs.Fronts.{SettleFront}
+use Rattle.lane_kinds.specs.LaneFronts.{BeginsTurn, RoundFront, TickFront, fronts_of}
 use Rattle.lane_kinds.specs.Lanes.{Entries, LaneKind, MakeRound, MakeTurns, MakesTurn, StepOf, TickAll, TicksIf, all_calm, are_still, gets_tick, lanes_of, left_names, marked, round_entries, some_tick, tick_entries, turn_entries, unmarked}
-use Rattle.lane_kinds.specs.LanesMade.{GoneOn, LastQuiet, RoundUpTo, TicksUpTo, all_true, name_of, names}
-use Rattle.lane_kinds.specs.Settles.{GoesOn, IsLast, RunsOut, SettlePart, SettleRound, Settles, Settling, TicksBehind, begin, entries_of_rounds, most_rounds}
+use Rattle.lane_kinds.specs.LanesMade.{GoneOn, RoundUpTo, TicksUpTo, all_true, name_of, names}
+use Rattle.lane_kinds.specs.RoundsMade as made
+use Rattle.lane_kinds.specs.Settles.{SettlePart, most_rounds}
 
 or_false : (b : Bool) → (b || false) ≡ b
 or_false true = refl
@@ -319,215 +321,108 @@ module _ {S V E : Type 0} (K : LaneKind S V) (N : Entries V E) where
       ∙ ap₂ (λ (m : List Bool) (l : List S). names K N 0 m l) (sym marks) (sym next)
 
   -- THE ROUNDS OF A SETTLE: none yet
-  abbrev Rounds : Type 0
-  Rounds = List (SettleRound (List (List V)) E)
-
-  none_last : (marks : List Bool) → LastQuiet {E = E} K [] marks
-  none_last marks before last is = absurd (never_empty before last is)
-
   pub nothing_gone : (start : List S) (had quiet : List Bool) → take (length start) had ≡ unmarked start → GoneOn K N 0 had quiet start [] start
-  nothing_gone start had quiet fresh = record {
-    rounds = [];
-    settling = begin (lanes_of K N) start;
-    run = refl;
-    many = refl;
-    lanes = refl;
-    marks = sym fresh;
-    last = none_last (take (length start) quiet);
-    leaves = refl;
-  }
+  nothing_gone start had quiet fresh =
+      let Last = λ (steps : List (List V)). take (length start) quiet ≡ map (all_calm K) steps in
+      subst (λ (m : List Bool). made.GoneOn (lanes_of K N) 0 m Last start [] start) (sym fresh) (rounds.nothing_gone (lanes_of K N) start Last)
 
-  -- one more at the end
-  rounds_more : (rounds : Rounds) (round : SettleRound (List (List V)) E) → entries_of_rounds (rounds ++ round ∷ []) ≡ entries_of_rounds rounds ++ round.entries
-  rounds_more [] round = append-nil round.entries
-  rounds_more (first ∷ rounds) round =
-      ap (λ (l : List E). first.entries ++ l) (rounds_more rounds round) ∙ sym (append_assoc first.entries (entries_of_rounds rounds) round.entries)
+  made_so : (marks : List Bool) (w : List S) (part : List E) (m : List S) (up : RoundUpTo K N (length w) marks w part m) → made.RoundMade (lanes_of K N) up.steps w part m
+  made_so marks w part m up = record { made = round_made marks w part m up; leaves = up.leaves }
 
-  one_counted : (count many long : ℕ) → many ≡ count → long ≡ many + 1 → long ≡ count + 1
-  one_counted count many long one two = omega (arith, one, two)
+  -- marks of as many lanes
+  abbrev Gone : ℕ → List Bool → List Bool → List S → List E → List S → ℕ → Type 0
+  Gone count had quiet start entries now n = made.GoneOn (lanes_of K N) count (take n had) (λ steps. take n quiet ≡ map (all_calm K) steps) start entries now
 
   module _ (count : ℕ) (had quiet : List Bool) (start : List S) (entries : List E) (w : List S) (gone : GoneOn K N count had quiet start entries w) where
-    gone_more : (have marks : List Bool) (round : SettleRound (List (List V)) E) (next : Settling (List S) (List Bool)) (v : List S) → GoesOn (lanes_of K N) gone.settling round next → next.lanes ≡ v
-        → next.marks ≡ take (length v) have → take (length v) marks ≡ map (all_calm K) round.steps → GoneOn K N (count + 1) have marks start (entries ++ round.entries) v
-    gone_more have marks round next v goes lanes next_marks steps = record {
-      rounds = gone.rounds ++ round ∷ [];
-      settling = next;
-      run = run_push (GoesOn (lanes_of K N)) (begin (lanes_of K N) start) gone.settling next gone.rounds round gone.run goes;
-      many = one_counted count (length gone.rounds) (length (gone.rounds ++ round ∷ [])) gone.many (length-append gone.rounds (round ∷ []));
-      lanes = lanes;
-      marks = next_marks;
-      last = λ before last is. steps ∙ ap (λ (x : SettleRound (List (List V)) E). map (all_calm K) x.steps) (same_last gone.rounds before round last is);
-      leaves = ap (λ (l : List E). l ++ round.entries) gone.leaves ∙ sym (rounds_more gone.rounds round);
-    }
+    abbrev Last : List (List V) → Type 0
+    Last steps = take (length w) quiet ≡ map (all_calm K) steps
 
-    -- from where the settle stands
-    from_here : (steps : List (List V)) (m : List S) → MakeRound K w steps m → MakeRound K gone.settling.lanes steps m
-    from_here steps m made = subst (λ (l : List S). MakeRound K l steps m) (sym gone.lanes) made
-
-    -- in which not all lanes were quiet
+    -- one more, in which not all lanes were quiet
     pub one_round : (marks : List Bool) (part : List E) (v : List S) → RoundUpTo K N (length w) marks w part v → all_true (take (length w) marks) ≡ false
         → GoneOn K N (count + 1) had marks start (entries ++ part) v
     one_round marks part v up loud =
-        let same : length v ≡ length w = round_many (length w) marks w part v up in
-        let is : are_still K up.steps ≡ false = round_quiet (length w) marks w part v up false loud in
-        let next : Settling (List S) (List Bool) = record { lanes = v; marks = gone.settling.marks } in
-        gone_more had marks (record { steps = up.steps; entries = part }) next v
-        (record {
-          between = v;
-          made = from_here up.steps v (round_made marks w part v up);
-          behind = subst (λ (b : Bool). TicksBehind (lanes_of K N) b gone.settling up.steps v part next) (sym is) (refl, up.leaves);
-        })
-        refl (gone.marks ∙ ap (λ (n : ℕ). take n had) (sym same)) (ap (λ (n : ℕ). take n marks) same ∙ up.marks)
-
-    -- the marks of ticks, from there
-    record TicksHere (some : Bool) (have : List Bool) (m : List S) (later : List E) (v : List S) : Type 0 where
-      ticks : TickAll K m gone.settling.marks v
-      leaves : later ≡ tick_entries K N 0 m gone.settling.marks
-      any : some ≡ some_tick K m gone.settling.marks
-      marks_are : marked K m gone.settling.marks ≡ take (length v) have
-      many : length v ≡ length m
-
-    ticks_here : (some : Bool) (have : List Bool) (m : List S) (later : List E) (v : List S) → length m ≡ length w → TicksUpTo K N (length m) had some have m later v → TicksHere some have m later v
-    ticks_here some have m later v long up =
-        let all : AllTicked had some have m later v = all_ticked had some have m later v up in
-        let marks : take (length m) had ≡ gone.settling.marks = ap (λ (n : ℕ). take n had) long ∙ sym gone.marks in
-        record {
-          ticks = subst (λ (l : List Bool). TickAll K m l v) marks all.ticks;
-          leaves = all.leaves ∙ ap (λ (l : List Bool). tick_entries K N 0 m l) marks;
-          any = all.any ∙ ap (λ (l : List Bool). some_tick K m l) marks;
-          marks_are = ap (λ (l : List Bool). marked K m l) (sym marks) ∙ sym all.marks ∙ ap (λ (n : ℕ). take n have) (sym all.many);
-          many = all.many;
-        }
+        subst (Gone (count + 1) had marks start (entries ++ part) v) (sym (round_many (length w) marks w part v up))
+        (rounds.one_round (lanes_of K N) count (take (length w) had) Last start entries w gone (λ steps. take (length w) marks ≡ map (all_calm K) steps) up.steps part v
+        (made_so marks w part v up) (round_quiet (length w) marks w part v up false loud) up.marks)
 
     module _ (marks : List Bool) (part : List E) (m : List S) (up : RoundUpTo K N (length w) marks w part m) (calm : all_true (take (length w) marks) ≡ true) where
       all_quiet : are_still K up.steps ≡ true
       all_quiet = round_quiet (length w) marks w part m up true calm
 
-      as_many : length m ≡ length w
-      as_many = round_many (length w) marks w part m up
+      had_are : take (length m) had ≡ take (length w) had
+      had_are = ap (λ (n : ℕ). take n had) (round_many (length w) marks w part m up)
+
+      record TicksHere (some : Bool) (have : List Bool) (later : List E) (v : List S) : Type 0 where
+        ticks : TickAll K m (take (length w) had) v
+        leaves : later ≡ tick_entries K N 0 m (take (length w) had)
+        any : some ≡ some_tick K m (take (length w) had)
+        marks_are : marked K m (take (length w) had) ≡ take (length w) have
+        many : length v ≡ length w
+
+      ticks_here : (some : Bool) (have : List Bool) (later : List E) (v : List S) → TicksUpTo K N (length m) had some have m later v → TicksHere some have later v
+      ticks_here some have later v ticks =
+          let all : AllTicked had some have m later v = all_ticked had some have m later v ticks in
+          let many : length m ≡ length w = round_many (length w) marks w part m up in
+          record {
+            ticks = subst (λ (l : List Bool). TickAll K m l v) had_are all.ticks;
+            leaves = all.leaves ∙ ap (λ (l : List Bool). tick_entries K N 0 m l) had_are;
+            any = all.any ∙ ap (λ (l : List Bool). some_tick K m l) had_are;
+            marks_are = ap (λ (l : List Bool). marked K m l) (sym had_are) ∙ sym all.marks ∙ ap (λ (n : ℕ). take n have) many;
+            many = all.many ∙ many;
+          }
 
       -- all were, and some got a tick
       pub one_round_ticked : (some : Bool) (have : List Bool) (later : List E) (v : List S) → TicksUpTo K N (length m) had some have m later v → some ≡ true
           → GoneOn K N (count + 1) have marks start (entries ++ (part ++ later)) v
       one_round_ticked some have later v ticks any =
-          let here : TicksHere some have m later v = ticks_here some have m later v as_many ticks in
-          let next : Settling (List S) (List Bool) = record { lanes = v; marks = marked K m gone.settling.marks } in
-          gone_more have marks (record { steps = up.steps; entries = part ++ later }) next v
-          (record {
-            between = m;
-            made = from_here up.steps m (round_made marks w part m up);
-            behind = subst (λ (b : Bool). TicksBehind (lanes_of K N) b gone.settling up.steps m (part ++ later) next) (sym all_quiet)
-                (sym here.any ∙ any, here.ticks, refl, ap₂ (λ (x y : List E). x ++ y) up.leaves here.leaves);
-          })
-          refl here.marks_are (ap (λ (n : ℕ). take n marks) (here.many ∙ as_many) ∙ up.marks)
+          let here : TicksHere some have later v = ticks_here some have later v ticks in
+          let Next = λ (steps : List (List V)). take (length w) marks ≡ map (all_calm K) steps in
+          subst (Gone (count + 1) have marks start (entries ++ (part ++ later)) v) (sym here.many)
+          (subst (λ (l : List Bool). made.GoneOn (lanes_of K N) (count + 1) l Next start (entries ++ (part ++ later)) v) here.marks_are
+          (rounds.one_round_ticked (lanes_of K N) count (take (length w) had) Last start entries w gone up.steps part m (made_so marks w part m up) all_quiet Next later v
+          (sym here.any ∙ any) here.ticks here.leaves up.marks))
 
       -- or none did: nothing is left by the ticks, and it ends settled
       pub no_ticks : (some : Bool) (have : List Bool) (later : List E) (v : List S) → TicksUpTo K N (length m) had some have m later v → some ≡ false → later ≡ []
       no_ticks some have later v ticks any =
-          let here : TicksHere some have m later v = ticks_here some have m later v as_many ticks in
-          here.leaves ∙ no_entries 0 m gone.settling.marks (sym here.any ∙ any)
+          let here : TicksHere some have later v = ticks_here some have later v ticks in
+          here.leaves ∙ no_entries 0 m (take (length w) had) (sym here.any ∙ any)
 
       pub settled : (some : Bool) (have : List Bool) (later : List E) (v : List S) → count < most_rounds (lanes_of K N) start → TicksUpTo K N (length m) had some have m later v → some ≡ false → m ≡ v
           → SettlePart (lanes_of K N) start (entries ++ (part ++ (later ++ N.settled ∷ []))) v
       settled some have later v few ticks any stays =
-          let here : TicksHere some have m later v = ticks_here some have m later v as_many ticks in
-          inl (record {
-            rounds = gone.rounds;
-            now = gone.settling;
-            run = gone.run;
-            few = subst (λ (n : ℕ). n < most_rounds (lanes_of K N) start) (sym gone.many) few;
-            steps = up.steps;
-            last = subst (IsLast (lanes_of K N) gone.settling up.steps) stays (record {
-              made = from_here up.steps m (round_made marks w part m up);
-              quiet = all_quiet;
-              no_tick = sym here.any ∙ any;
-            });
-            is = ap₂ (λ (x y : List E). x ++ y) gone.leaves (ap₂ (λ (x y : List E). x ++ (y ++ N.settled ∷ [])) up.leaves (no_ticks some have later v ticks any))
-                ∙ sym (append_assoc (entries_of_rounds gone.rounds) (round_entries K N 0 up.steps) (N.settled ∷ []));
-          })
+          let here : TicksHere some have later v = ticks_here some have later v ticks in
+          subst (SettlePart (lanes_of K N) start (entries ++ (part ++ (later ++ N.settled ∷ [])))) stays
+          (subst (λ (l : List E). SettlePart (lanes_of K N) start (entries ++ (part ++ (l ++ N.settled ∷ []))) m) (sym (no_ticks some have later v ticks any))
+          (rounds.settled (lanes_of K N) count (take (length w) had) Last start entries w gone up.steps part m (made_so marks w part m up) all_quiet few (sym here.any ∙ any)))
 
       -- memory is wanted among the ticks or for the answer
       pub wants_in_ticks : (later : List E) (v : List S) → count < most_rounds (lanes_of K N) start → TickFront K N 0 m (take (length m) had) later v
           → SettleFront (lanes_of K N) (fronts_of K N) start (entries ++ (part ++ later)) v
       wants_in_ticks later v few front =
-          let had_are : take (length m) had ≡ gone.settling.marks = ap (λ (n : ℕ). take n had) as_many ∙ sym gone.marks in
-          let quiet_front : QuietFront (lanes_of K N) (fronts_of K N) gone.settling (part ++ later) v = record {
-            steps = up.steps;
-            between = m;
-            made = from_here up.steps m (round_made marks w part m up);
-            quiet = all_quiet;
-            later = later;
-            ticks = subst (λ (l : List Bool). TickFront K N 0 m l later v) had_are front;
-            is = ap (λ (l : List E). l ++ later) up.leaves;
-          } in
-          record {
-            rounds = gone.rounds;
-            now = gone.settling;
-            run = gone.run;
-            later = part ++ later;
-            front = inl (subst (λ (n : ℕ). n < most_rounds (lanes_of K N) start) (sym gone.many) few, inr quiet_front);
-            is = ap (λ (l : List E). l ++ (part ++ later)) gone.leaves;
-          }
+          rounds.wants_in_ticks (lanes_of K N) count (take (length w) had) Last start entries w gone up.steps part m (made_so marks w part m up) all_quiet (fronts_of K N) later v few
+          (subst (λ (l : List Bool). TickFront K N 0 m l later v) had_are front)
 
     -- in a round
     pub wants_in_round : (later : List E) (v : List S) → count < most_rounds (lanes_of K N) start → RoundFront K N w later v → SettleFront (lanes_of K N) (fronts_of K N) start (entries ++ later) v
-    wants_in_round later v few front = record {
-      rounds = gone.rounds;
-      now = gone.settling;
-      run = gone.run;
-      later = later;
-      front = inl (subst (λ (n : ℕ). n < most_rounds (lanes_of K N) start) (sym gone.many) few, inl (subst (λ (l : List S). RoundFront K N l later v) (sym gone.lanes) front));
-      is = ap (λ (l : List E). l ++ later) gone.leaves;
-    }
+    wants_in_round later v few front = rounds.wants_in_round (lanes_of K N) count (take (length w) had) Last start entries w gone (fronts_of K N) later v few front
 
     -- THE ROUNDS RAN OUT, and the names stand after them
-    some_rounds : (count pending many : ℕ) → many ≡ count → count ≡ 4096 + 64 * pending → 1 ≤ many
-    some_rounds count pending many one two = omega (arith, one, two)
-
-    last_of : count ≡ most_rounds (lanes_of K N) start → HasLast gone.rounds
-    last_of most = has_last gone.rounds (some_rounds count ((lanes_of K N).pending start) (length gone.rounds) gone.many most)
+    all_named : (steps : List (List V)) → Last steps → names K N 0 (take (length w) quiet) w ≡ left_names K N 0 steps w
+    all_named steps last = ap (λ (m : List Bool). names K N 0 m w) last ∙ left_named 0 steps w
 
     pub run_out : (part : List E) → count ≡ most_rounds (lanes_of K N) start → part ≡ names K N 0 (take (length w) quiet) (take (length w) w)
         → SettlePart (lanes_of K N) start (entries ++ part) w
     run_out part most named =
-        let at : HasLast gone.rounds = last_of most in
-        let marks : take (length w) quiet ≡ map (all_calm K) at.last.steps = gone.last at.before at.last at.is in
-        let left : part ≡ left_names K N 0 at.last.steps w =
-        named ∙ ap₂ (λ (m : List Bool) (l : List S). names K N 0 m l) marks (take_whole w) ∙ left_named 0 at.last.steps w in
-        inr (record {
-          rounds = at.before;
-          last = at.last;
-          now = gone.settling;
-          run = subst (λ (l : Rounds). Run (GoesOn (lanes_of K N)) (begin (lanes_of K N) start) l gone.settling) at.is gone.run;
-          most = ap (λ (l : Rounds). length l) (sym at.is) ∙ gone.many ∙ most;
-          lanes = sym gone.lanes;
-          is = ap₂ (λ (x y : List E). x ++ y) (gone.leaves ∙ ap entries_of_rounds at.is) left;
-        })
+        rounds.run_out (lanes_of K N) count (take (length w) had) Last start entries w gone part most
+        (λ steps last. named ∙ ap (names K N 0 (take (length w) quiet)) (take_whole w) ∙ all_named steps last)
 
     pub wants_in_names : (k : ℕ) (part : List E) → count ≡ most_rounds (lanes_of K N) start → k ≤ length w → part ≡ names K N 0 (take k quiet) (take k w)
         → SettleFront (lanes_of K N) (fronts_of K N) start (entries ++ part) w
     wants_in_names k part most within named =
-        let at : HasLast gone.rounds = last_of most in
         let all = take (length w) quiet in
-        let marks : all ≡ map (all_calm K) at.last.steps = gone.last at.before at.last at.is in
         let unnamed = names K N k (drop k all) (drop k w) in
-        let left : part ++ unnamed ≡ left_names K N 0 at.last.steps gone.settling.lanes =
+        let first : part ++ unnamed ≡ names K N 0 all w =
         ap (λ (l : List E). l ++ unnamed) (named ∙ ap (λ (m : List Bool). names K N 0 m (take k w)) (sym (take_within k (length w) quiet within)))
-        ∙ names_split k 0 k all w (place_is k k refl) ∙ ap (λ (m : List Bool). names K N 0 m w) marks ∙ left_named 0 at.last.steps w
-        ∙ ap (λ (l : List S). left_names K N 0 at.last.steps l) (sym gone.lanes) in
-        let front : NamesFront (lanes_of K N) gone.rounds gone.settling part w = record {
-          before = at.before;
-          last = at.last;
-          is_last = at.is;
-          unnamed = unnamed;
-          is = left;
-          lanes = sym gone.lanes;
-        } in
-        record {
-          rounds = gone.rounds;
-          now = gone.settling;
-          run = gone.run;
-          later = part;
-          front = inr (gone.many ∙ most, front);
-          is = ap (λ (l : List E). l ++ part) gone.leaves;
-        }
+        ∙ names_split k 0 k all w (place_is k k refl) in
+        rounds.wants_in_names (lanes_of K N) count (take (length w) had) Last start entries w gone (fronts_of K N) part unnamed most (λ steps last. first ∙ all_named steps last)

@@ -12,4 +12,6 @@ pub mod Moving
 pub mod LaneCounts
 pub mod LaneFronts
 pub mod Places
+pub mod BothFronts
+pub mod RoundsMade
 pub mod LanesMade

@@ -1,9 +1,8 @@
 -- What was made so far, lane by lane, of a round over lanes of one kind, of the ticks after it and of the names; and
 -- round by round of a settle.
 use Rattle.std.specs.Prelude.{◌≡◌, ℕ, ◌+◌, ◌≤◌, Bool, true, false, ◌&&◌, if◌then◌else◌, List, [], ◌∷◌, ◌++◌, length, map, take, drop}
-use Rattle.runs.specs.Run.{Run}
 use Rattle.lane_kinds.specs.Lanes.{Entries, LaneKind, MakeTurns, TickAll, all_calm, lanes_of, marked, round_entries, some_tick, tick_entries}
-use Rattle.lane_kinds.specs.Settles.{GoesOn, SettleRound, Settling, begin, entries_of_rounds}
+use Rattle.lane_kinds.specs.RoundsMade as rounds
 
 -- whether all of these lanes were quiet
 abbrev pub all_true : List Bool → Bool
@@ -37,18 +36,8 @@ abbrev pub names : {S V E : Type 0} → LaneKind S V → Entries V E → ℕ →
 names K N k (quiet ∷ marks) (lane ∷ lanes) = name_of K N k quiet lane ++ names K N (k + 1) marks lanes
 names K N k _ _ = []
 
--- THE ROUNDS that were made and go on, so many, with what they left in the journal; and which lanes were quiet in the
--- last of them
-abbrev pub LastQuiet : {S V E : Type 0} → LaneKind S V → List (SettleRound (List (List V)) E) → List Bool → Type 0
-LastQuiet {S} {V} {E} K rounds marks =
-    (before : List (SettleRound (List (List V)) E)) (last : SettleRound (List (List V)) E) → rounds ≡ before ++ last ∷ [] → marks ≡ map (all_calm K) last.steps
-
-pub record GoneOn {S V E : Type 0} (K : LaneKind S V) (N : Entries V E) (count : ℕ) (had quiet : List Bool) (start : List S) (entries : List E) (now : List S) : Type 0 where
-  pub rounds : List (SettleRound (List (List V)) E)
-  pub settling : Settling (List S) (List Bool)
-  pub run : Run (GoesOn (lanes_of K N)) (begin (lanes_of K N) start) rounds settling
-  pub many : length rounds ≡ count
-  pub lanes : settling.lanes ≡ now
-  pub marks : settling.marks ≡ take (length now) had
-  pub last : LastQuiet K rounds (take (length now) quiet)
-  pub leaves : entries ≡ entries_of_rounds rounds
+-- THE ROUNDS that were made and go on, so many; the one marks say which lanes had a tick, and the others which were
+-- quiet in the last of them
+abbrev pub GoneOn : {S V E : Type 0} → LaneKind S V → Entries V E → ℕ → List Bool → List Bool → List S → List E → List S → Type 0
+GoneOn K N count had quiet start entries now =
+    rounds.GoneOn (lanes_of K N) count (take (length now) had) (λ steps. take (length now) quiet ≡ map (all_calm K) steps) start entries now

@@ -6,5 +6,6 @@ pub mod Both
 pub mod Lanes
 pub mod LaneCounts
 pub mod LaneFronts
+pub mod RoundsMade
 pub mod LanesMade
 pub mod Laws
