@@ -1,3 +1,4 @@
 pub mod PortLaws
 pub mod Settling
 pub mod PortCounting
+pub mod PortFronts

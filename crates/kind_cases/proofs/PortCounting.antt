@@ -53,14 +53,14 @@ pub runs_out_moving : (start : Two (List Port) (List Port)) (part : List WorldEn
 runs_out_moving start part behind out = out_moves two_switches (sum_over moves) moving start part behind out
 
 -- TICKS of a port
-ticks : LaneTicks ports of_ports port_ticks
+pub ticks : LaneTicks ports of_ports port_ticks
 ticks = record { turn_steps = turn_steps; step = step; tick = λ k j s. refl; left = λ k j. refl; answer = λ k. refl }
   where
     step : (k j : ℕ) (event : PortEvent) → IsEither event → port_ticks k (OfPort j event) ≡ 0
     step k j Tick own = absurd own
     step k j _ own = refl
 
-ticks_counted : (k : ℕ) → Counts two_switches (sum_over (port_ticks k)) (λ m. mark_at k 0 m.first)
+pub ticks_counted : (k : ℕ) → Counts two_switches (sum_over (port_ticks k)) (λ m. mark_at k 0 m.first)
 ticks_counted k =
     first_counts (lanes_of ports of_ports) (lanes_of ports of_twins) (sum_over (port_ticks k)) (mark_at k 0) (lanes_tick ports of_ports port_ticks ticks k)
     (lanes_ignore ports of_twins (port_ticks k) (λ j event. refl) (λ j. refl))
@@ -111,7 +111,7 @@ turn_once k j [] turn = absurd turn
 turn_once k j (one ∷ []) turn = absurd turn
 turn_once k j (one ∷ two ∷ three ∷ events) turn = absurd turn
 
-unsticks : (k : ℕ) → LaneUnsticks ports of_ports k (port_stuck k) (port_blocked k) moves
+pub unsticks : (k : ℕ) → LaneUnsticks ports of_ports k (port_stuck k) (port_blocked k) moves
 unsticks k = record {
   moving = port_moves;
   most = stuck_most k;
@@ -122,7 +122,7 @@ unsticks k = record {
   answer = refl;
 }
 
-all_unstick : (k : ℕ) → Unsticks two_switches (port_stuck k) (port_blocked k) moves
+pub all_unstick : (k : ℕ) → Unsticks two_switches (port_stuck k) (port_blocked k) moves
 all_unstick k =
     first_unsticks (lanes_of ports of_ports) (lanes_of ports of_twins) (port_stuck k) (port_blocked k) moves
     (lanes_unstick ports of_ports k (port_stuck k) (port_blocked k) moves (unsticks k)) (lanes_move ports of_twins moves twin_moves)

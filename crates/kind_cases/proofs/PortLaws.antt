@@ -86,9 +86,9 @@ has_room s event t at step = record { some = subst (λ (n : ℕ). 0 < n) (sym (k
 is_clean : (s : Port) (event : PortEvent) (t : Port) → IsClean s → PortStep s event t → IsHonest event → IsClean t
 is_clean s event t at step own = record { room = has_room s event t at.room step; unforged = (keeps s event t step own).forged ∙ at.unforged }
 
-was_unforged : (s : Port) (event : PortEvent) (t : Port) → PortStep s event t → IsUnforged t → IsUnforged s
-was_unforged s Forged t step clean = let never : true ≡ false = sym (ap (λ (x : Port). x.forged) step) ∙ clean in absurd (cc never)
-was_unforged s event t step clean = sym (keeps s event t step tt).forged ∙ clean
+was_unforged : (s : Port) (event : PortEvent) (t : Port) → PortStep s event t → IsEither event → IsUnforged t → IsUnforged s
+was_unforged s Forged t step own clean = absurd own
+was_unforged s event t step own clean = sym (keeps s event t step (honest event own)).forged ∙ clean
 
 lossless : (s : Port) (event : PortEvent) (t : Port) → PortStep s event t → IsEither event → t.lossy ≡ s.lossy
 lossless s Joined t step own = ap (λ (x : Port). x.lossy) step.1

@@ -73,28 +73,28 @@ two_rest start part behind at rooms =
     }
 
 -- EACH PORT is run by what the part says happened to it
-port_reads : Reads ports of_ports said_port
+pub port_reads : Reads ports of_ports said_port
 port_reads = record { of_lane = λ j k event. refl; of_left = λ j k. refl; of_answer = λ j. refl }
 
-twin_reads : Reads ports of_twins said_twin
+pub twin_reads : Reads ports of_twins said_twin
 twin_reads = record { of_lane = λ j k event. refl; of_left = λ j k. refl; of_answer = λ j. refl }
 
-ports_lead : Leads two_switches (OnFirst (AllMove ports.Step said_port 0))
+pub ports_lead : Leads two_switches (OnFirst (AllMove ports.Step said_port 0))
 ports_lead =
     first_leads (lanes_of ports of_ports) (lanes_of ports of_twins) (AllMove ports.Step said_port 0) (lanes_lead ports of_ports said_port port_reads port_silence)
     (lanes_skip ports.Step said_port ports of_twins (λ j k event. refl) (λ j k. refl))
 
-ports_end : Ends two_switches (OnFirst (AllMove ports.Step said_port 0))
+pub ports_end : Ends two_switches (OnFirst (AllMove ports.Step said_port 0))
 ports_end =
     first_ends (lanes_of ports of_ports) (lanes_of ports of_twins) (AllMove ports.Step said_port 0) (lanes_lead ports of_ports said_port port_reads port_silence)
     (lanes_skip ports.Step said_port ports of_twins (λ j k event. refl) (λ j k. refl)) (lanes_end ports of_ports said_port port_reads port_silence)
 
-twins_lead : Leads two_switches (OnSecond (AllMove ports.Step said_twin 0))
+pub twins_lead : Leads two_switches (OnSecond (AllMove ports.Step said_twin 0))
 twins_lead =
     second_leads (lanes_of ports of_ports) (lanes_of ports of_twins) (AllMove ports.Step said_twin 0) (lanes_lead ports of_twins said_twin twin_reads port_silence)
     (lanes_skip ports.Step said_twin ports of_ports (λ j k event. refl) (λ j k. refl))
 
-twins_end : Ends two_switches (OnSecond (AllMove ports.Step said_twin 0))
+pub twins_end : Ends two_switches (OnSecond (AllMove ports.Step said_twin 0))
 twins_end =
     second_ends (lanes_of ports of_ports) (lanes_of ports of_twins) (AllMove ports.Step said_twin 0) (lanes_lead ports of_twins said_twin twin_reads port_silence)
     (lanes_skip ports.Step said_twin ports of_ports (λ j k event. refl) (λ j k. refl)) (lanes_end ports of_twins said_twin twin_reads port_silence) refl

@@ -2,12 +2,13 @@
 
 ghost use Rattle.std.specs.Prelude.{ℕ, ◌≤◌, List, length};
 ghost use Rattle.lane_kinds.specs.Both.{BothHold, BothStand, Two};
+ghost use Rattle.lane_kinds.specs.Fronts.{SettleFront};
 ghost use Rattle.lane_kinds.specs.Lanes.{AllMove, AreClean, EachMarked, EachOf, IsAtRest};
 ghost use Rattle.lane_kinds.specs.Settles.{most_rounds, RunsOut, SettlePart, Settles};
 ghost use Rattle.lane_kinds.specs.Stuck.{NeverThree, sum_over};
 ghost use Rattle.kind_cases.specs.PortCounts.{moves, port_stuck, port_ticks};
 ghost use Rattle.kind_cases.specs.Ports.{HasRoom, IsClean, IsUnforged, Port, ports};
-ghost use Rattle.kind_cases.specs.World.{said_port, said_twin, two_switches, WorldEntry};
+ghost use Rattle.kind_cases.specs.World.{said_port, said_twin, two_fronts, two_switches, WorldEntry};
 
 /// A settle over the ports of two switches, at most eight each, none of them forged, ends settled, though each frame
 /// that is switched gives one to every other port. What remains on all of them falls by each round that goes on.
@@ -55,4 +56,21 @@ pub fn rounds_that_run_out_move_and_name()
     ensures named { (start : Two (List Port) (List Port)) (part : List WorldEntry)
         (behind : Two (List Port) (List Port)) (out : RunsOut two_switches start part behind)
         → BothHold (EachOf HasRoom) (EachOf HasRoom) start → 1 ≤ length (two_switches.names out.last.steps behind) }
+{}
+
+/// Where memory is wanted in a settle its part, as far as it goes, says what happened to each port of both switches, and
+/// keeps its rules.
+pub fn fronts_of_a_settle_keep_its_rules()
+    ensures one { (start : Two (List Port) (List Port)) (part : List WorldEntry) (behind : Two (List Port) (List Port))
+        → SettleFront two_switches two_fronts start part behind
+        → AllMove ports.Step said_port 0 start.first part behind.first }
+    ensures other { (start : Two (List Port) (List Port)) (part : List WorldEntry)
+        (behind : Two (List Port) (List Port)) → SettleFront two_switches two_fronts start part behind
+        → AllMove ports.Step said_twin 0 start.second part behind.second }
+    ensures ticks { (start : Two (List Port) (List Port)) (part : List WorldEntry)
+        (behind : Two (List Port) (List Port)) (k : ℕ) → SettleFront two_switches two_fronts start part behind
+        → sum_over (port_ticks k) part ≤ 1 }
+    ensures stuck { (start : Two (List Port) (List Port)) (part : List WorldEntry)
+        (behind : Two (List Port) (List Port)) (k : ℕ) → SettleFront two_switches two_fronts start part behind
+        → NeverThree (port_stuck k) 0 part }
 {}

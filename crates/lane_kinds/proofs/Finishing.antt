@@ -14,9 +14,9 @@ module _ {S V : Type 0} (K : LaneKind S V) (Reached Unforged Lossless : S → Ty
   run_reached s [] t at run = subst Reached run at
   run_reached s (event ∷ events) t at run = run_reached run.0 events t (laws.reached s event run.0 at run.1) run.2
 
-  run_unforged : (s : S) (events : List V) (t : S) → Run K.Step s events t → Unforged t → Unforged s
-  run_unforged s [] t run clean = subst Unforged (sym run) clean
-  run_unforged s (event ∷ events) t run clean = laws.was_unforged s event run.0 run.1 (run_unforged run.0 events t run.2 clean)
+  run_unforged : (s : S) (events : List V) (t : S) → EachStep K events → Run K.Step s events t → Unforged t → Unforged s
+  run_unforged s [] t steps run clean = subst Unforged (sym run) clean
+  run_unforged s (event ∷ events) t steps run clean = laws.was_unforged s event run.0 run.1 steps.0 (run_unforged run.0 events t steps.1 run.2 clean)
 
   -- A LANE was reached, and lost nothing where it had its tick
   pub record IsWhole (s : S) (had : Bool) : Type 0 where
@@ -98,7 +98,7 @@ module _ {S V : Type 0} (K : LaneKind S V) (Reached Unforged Lossless : S → Ty
 
   finished_by : (had : Bool) (s : S) (r : List V) (t : S) → IsWhole s had → CalmTurn K s r t → (K.waits_on t ≡ false) ⊎ (had ≡ true) → Unforged t → K.waits_on t ≡ false
   finished_by had s r t at turn (inl finished) clean = finished
-  finished_by had s r t at turn (inr marked) clean = laws.finishes s r t at.reached (run_unforged s r t turn.run clean) (at.whole marked) turn
+  finished_by had s r t at turn (inr marked) clean = laws.finishes s r t at.reached (run_unforged s r t (laws.turn_steps r turn.of_turn) turn.run clean) (at.whole marked) turn
 
   lane_rests : (had : Bool) (s : S) (r : List V) (t : S) → IsWhole s had → CalmTurn K s r t → gets_tick K t had ≡ false → IsAtRest K Unforged t had
   lane_rests had s r t at turn none = record {
@@ -106,20 +106,25 @@ module _ {S V : Type 0} (K : LaneKind S V) (Reached Unforged Lossless : S → Ty
     finished = λ clean. finished_by had s r t at turn (ticked_or had (K.waits_on t) none) clean;
   }
 
-  last_rests : (lanes : List S) (turns : List (List V)) (behind : List S) (marks : List Bool) → EachMarked IsWhole lanes marks → Calmly K lanes turns behind → some_tick K behind marks ≡ false
-      → EachMarked (IsAtRest K Unforged) behind marks
-  last_rests [] [] [] [] at calm none = tt
-  last_rests (s ∷ lanes) (r ∷ turns) (t ∷ behind) (had ∷ marks) at calm none = (
-    lane_rests had s r t at.0 calm.0 (or_left (gets_tick K t had) (some_tick K behind marks) none),
-    last_rests lanes turns behind marks at.1 calm.1 (or_right (gets_tick K t had) (some_tick K behind marks) none),
-  )
-  last_rests [] [] [] (had ∷ marks) at calm none = absurd at
-  last_rests [] [] (t ∷ behind) marks at calm none = absurd calm
-  last_rests [] (r ∷ turns) behind marks at calm none = absurd calm
-  last_rests (s ∷ lanes) [] behind marks at calm none = absurd calm
-  last_rests (s ∷ lanes) (r ∷ turns) [] marks at calm none = absurd calm
-  last_rests (s ∷ lanes) (r ∷ turns) (t ∷ behind) [] at calm none = absurd at
+  -- whatever follows for one lane
+  module _ (P : S → Bool → Type 0) (lane : (had : Bool) (s : S) (r : List V) (t : S) → IsWhole s had → CalmTurn K s r t → gets_tick K t had ≡ false → P t had) where
+    last_each : (lanes : List S) (turns : List (List V)) (behind : List S) (marks : List Bool) → EachMarked IsWhole lanes marks → Calmly K lanes turns behind → some_tick K behind marks ≡ false
+        → EachMarked P behind marks
+    last_each [] [] [] [] at calm none = tt
+    last_each (s ∷ lanes) (r ∷ turns) (t ∷ behind) (had ∷ marks) at calm none = (
+      lane had s r t at.0 calm.0 (or_left (gets_tick K t had) (some_tick K behind marks) none),
+      last_each lanes turns behind marks at.1 calm.1 (or_right (gets_tick K t had) (some_tick K behind marks) none),
+    )
+    last_each [] [] [] (had ∷ marks) at calm none = absurd at
+    last_each [] [] (t ∷ behind) marks at calm none = absurd calm
+    last_each [] (r ∷ turns) behind marks at calm none = absurd calm
+    last_each (s ∷ lanes) [] behind marks at calm none = absurd calm
+    last_each (s ∷ lanes) (r ∷ turns) [] marks at calm none = absurd calm
+    last_each (s ∷ lanes) (r ∷ turns) (t ∷ behind) [] at calm none = absurd at
+
+    pub all_each : {E : Type 0} (N : Entries V E) (behind : List S) (marks : List Bool) → EndsWith (lanes_of K N) (EachMarked IsWhole) behind marks → EachMarked P behind marks
+    all_each N behind marks at = last_each at.before at.steps behind marks at.stands (round_calmly K laws.calm_gives at.before at.steps behind at.quiet at.made) at.no_tick
 
   pub all_rest : {E : Type 0} (N : Entries V E) (behind : List S) (marks : List Bool) → EndsWith (lanes_of K N) (EachMarked IsWhole) behind marks
       → EachMarked (IsAtRest K Unforged) behind marks
-  all_rest N behind marks at = last_rests at.before at.steps behind marks at.stands (round_calmly K laws.calm_gives at.before at.steps behind at.quiet at.made) at.no_tick
+  all_rest N behind marks at = all_each (IsAtRest K Unforged) lane_rests N behind marks at

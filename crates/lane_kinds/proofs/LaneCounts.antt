@@ -32,11 +32,11 @@ alone_none n none = omega (arith, none)
 below_next : (j k : ℕ) → k < j → k < j + 1
 below_next j k less = omega (arith, less)
 
-not_there : (c : Bool) (a j k : ℕ) → (c ≡ true → j ≡ k) → k < j → a ≤ once c → a ≤ 0
+pub not_there : (c : Bool) (a j k : ℕ) → (c ≡ true → j ≡ k) → k < j → a ≤ once c → a ≤ 0
 not_there true a j k same less few = absurd (omega (arith, same refl, less))
 not_there false a j k same less few = few
 
-one_here : (c : Bool) (a b d j k : ℕ) → a ≡ b + d → b ≤ once c → (c ≡ true → j ≡ k) → (k < j + 1 → d ≤ 0) → d ≤ 1 → a ≤ 1
+pub one_here : (c : Bool) (a b d j k : ℕ) → a ≡ b + d → b ≤ once c → (c ≡ true → j ≡ k) → (k < j + 1 → d ≤ 0) → d ≤ 1 → a ≤ 1
 one_here true a b d j k is one same none few = omega (arith, is, one, none (omega (arith, same refl)))
 one_here false a b d j k is one same none few = omega (arith, is, one, few)
 
@@ -258,11 +258,11 @@ module _ {S V E : Type 0} (K : LaneKind S V) (N : Entries V E) where
   loud_named k (r ∷ turns) (s ∷ lanes) long loud =
       loud_here (all_calm K r) (K.waits_on s) (are_still K turns) (N.left_over k) (left_names K N (k + 1) turns lanes) loud (λ more. loud_named (k + 1) turns lanes (omega (arith, long)) more)
 
-  run_many : (k : ℕ) (lanes : List S) (events : List V) (behind : List S) → Run (StepOf K k) lanes events behind → length behind ≡ length lanes
+  pub run_many : (k : ℕ) (lanes : List S) (events : List V) (behind : List S) → Run (StepOf K k) lanes events behind → length behind ≡ length lanes
   run_many k lanes [] behind run = ap (λ (l : List S). length l) (sym run)
   run_many k lanes (event ∷ events) behind run = run_many k run.0 events behind run.2 ∙ as_many K 0 k lanes event run.0 run.1.step
 
-  turns_many : (k : ℕ) (lanes : List S) (turns : List (List V)) (behind : List S) → MakeTurns K k lanes turns behind → length behind ≡ length lanes
+  pub turns_many : (k : ℕ) (lanes : List S) (turns : List (List V)) (behind : List S) → MakeTurns K k lanes turns behind → length behind ≡ length lanes
   turns_many k lanes [] behind made = ap (λ (l : List S). length l) (sym made)
   turns_many k lanes (r ∷ turns) behind made = turns_many (k + 1) made.0 turns behind made.2 ∙ run_many k lanes r made.0 made.1.run
 

@@ -2,10 +2,10 @@
 -- not all are quiet, and by the ticks after one in which all are.
 use Rattle.std.proofs.Common.{◌≡◌, ℕ, zero, suc, ◌+◌, ◌*◌, ◌≤◌, ◌<◌, inl, inr, Bool, true, false, List, [], ◌∷◌, ◌++◌, length, refl, sym, ap, ◌∙◌, subst, arith, append_assoc, length-append}
 use Rattle.std.proofs.lemmas.Bool.{eq-eqb, eqb-true}
-use Rattle.std.specs.Prelude.{◌&&◌, ◌==◌, if◌then◌else◌}
+use Rattle.std.specs.Prelude.{◌&&◌, ◌==◌, if◌then◌else◌, ⊤}
 use Rattle.runs.specs.Run.{Run}
 use Rattle.lane_kinds.proofs.Sums.{and_left, and_right, both_true, both_unless}
-use Rattle.lane_kinds.specs.Lanes.{AllStep, AreClean, CalmTurn, Calmly, EachOf, EachStep, Entries, LaneFalls, LaneKind, MakeRound, MakeTurns, StepOf, TickAll, TicksIf, all_calm, are_still, gets_tick, lanes_of, own_or, some_tick, sum_of}
+use Rattle.lane_kinds.specs.Lanes.{AllStep, AreClean, AreCleanWhere, CalmTurn, Calmly, EachOf, EachStep, Entries, GivesNothing, LaneFalls, LaneKind, MakeRound, MakeTurns, OwnTurns, StepOf, TickAll, TicksIf, all_calm, are_still, gets_tick, lanes_of, own_or, some_tick, sum_of}
 use Rattle.lane_kinds.specs.Laws.{Falls, Lowers, LowersUnless}
 
 -- NUMBERS
@@ -38,8 +38,8 @@ own_sum s t r rest others load one more = omega (arith, one, more)
 later_sum : (s t r rest others load : ℕ) → t ≤ s + r → rest + 8 * r < others + load → (t + rest) + 8 * r < (s + others) + (r + load)
 later_sum s t r rest others load one more = omega (arith, one, more)
 
-falls_in_all : (a b r load times : ℕ) → a + 8 * r < b + load → load ≤ times → times ≤ 8 * r → a < b
-falls_in_all a b r load times less most few = omega (arith, less, most, few)
+falls_in_all : (a b r load : ℕ) → a + 8 * r < b + load → load ≤ 8 * r → a < b
+falls_in_all a b r load less most = omega (arith, less, most)
 
 then_lower : (one two : Bool) (a b c : ℕ) → Lowers one a b → Lowers two b c → Lowers (one && two) a c
 then_lower one two a b c (inl first) (inl second) = inl (both_true one two first.0 second.0, omega (arith, first.1, second.1))
@@ -106,52 +106,94 @@ module _ {S V : Type 0} (K : LaneKind S V) where
       let same : x ≡ y = subst (λ (l : List V). Run K.Step x l y) (none j) (gift_run j k x event y (λ same. omega (arith, place, same)) step.0) in
       alone_more x y front s lanes (event ∷ []) m same (event_alone (j + 1) k front s lanes event m none (omega (arith, place)) step.1)
 
--- WHERE CALM EVENTS GIVE NOTHING
-module _ {S V : Type 0} (K : LaneKind S V) (calm_gives : (k : ℕ) (event : V) → K.is_calm event ≡ true → K.gets k event ≡ []) where
-  none_given : (event : V) → K.is_calm event ≡ true → (i : ℕ) → K.gets i event ≡ []
-  none_given event calm i = calm_gives i event calm
+-- WHERE THESE EVENTS GIVE NOTHING, a round is a turn of each lane alone
+module _ {S V : Type 0} (K : LaneKind S V) where
+  abbrev NoneGiven : List V → Type 0
+  NoneGiven [] = ⊤
+  NoneGiven (event ∷ events) = ((i : ℕ) → K.gets i event ≡ []) × NoneGiven events
 
-  -- A QUIET ROUND is a calm turn of each lane alone
-  calm_turn : (k : ℕ) (front : List S) (s : S) (rest : List S) (events : List V) (behind : List S) → length front ≡ k → all_calm K events ≡ true
+  abbrev AllNone : List (List V) → Type 0
+  AllNone [] = ⊤
+  AllNone (r ∷ turns) = NoneGiven r × AllNone turns
+
+  own_turn : (k : ℕ) (front : List S) (s : S) (rest : List S) (events : List V) (behind : List S) → length front ≡ k → NoneGiven events
       → Run (StepOf K k) (front ++ s ∷ rest) events behind → Alone K front s rest events behind
-  calm_turn k front s rest [] behind long calm run = record { after = s; is = sym run; run = refl }
-  calm_turn k front s rest (event ∷ events) behind long calm run =
+  own_turn k front s rest [] behind long none run = record { after = s; is = sym run; run = refl }
+  own_turn k front s rest (event ∷ events) behind long none run =
       let one : Alone K front s rest (event ∷ []) run.0 =
-      event_alone K 0 k front s rest event run.0 (none_given event (and_left (K.is_calm event) (all_calm K events) calm)) (sym long ∙ itself_place (length front)) run.1.step in
+      event_alone K 0 k front s rest event run.0 none.0 (sym long ∙ itself_place (length front)) run.1.step in
       let more : Alone K front one.after rest events behind =
-      calm_turn k front one.after rest events behind long (and_right (K.is_calm event) (all_calm K events) calm) (subst (λ (l : List S). Run (StepOf K k) l events behind) one.is run.2) in
+      own_turn k front one.after rest events behind long none.1 (subst (λ (l : List S). Run (StepOf K k) l events behind) one.is run.2) in
       record { after = more.after; is = more.is; run = (one.after, subst (K.Step s event) one.run.2 one.run.1, more.run) }
 
   record Behind (front lanes : List S) (turns : List (List V)) (behind : List S) : Type 0 where
     rest : List S
     is : behind ≡ front ++ rest
-    calmly : Calmly K lanes turns rest
+    own : OwnTurns K lanes turns rest
 
-  calm_turns : (k : ℕ) (front lanes : List S) (turns : List (List V)) (behind : List S) → length front ≡ k → length turns ≡ length lanes → are_still K turns ≡ true
+  own_from : (k : ℕ) (front lanes : List S) (turns : List (List V)) (behind : List S) → length front ≡ k → length turns ≡ length lanes → AllNone turns
       → MakeTurns K k (front ++ lanes) turns behind → Behind front lanes turns behind
-  calm_turns k front [] [] behind long many still made = record { rest = []; is = sym made; calmly = tt }
-  calm_turns k front [] (r ∷ turns) behind long many still made = absurd (omega (arith, many))
-  calm_turns k front (s ∷ lanes) [] behind long many still made = absurd (omega (arith, many))
-  calm_turns k front (s ∷ lanes) (r ∷ turns) behind long many still made =
-      let one : Alone K front s lanes r made.0 = calm_turn k front s lanes r made.0 long (and_left (all_calm K r) (are_still K turns) still) made.1.run in
+  own_from k front [] [] behind long many none made = record { rest = []; is = sym made; own = tt }
+  own_from k front [] (r ∷ turns) behind long many none made = absurd (omega (arith, many))
+  own_from k front (s ∷ lanes) [] behind long many none made = absurd (omega (arith, many))
+  own_from k front (s ∷ lanes) (r ∷ turns) behind long many none made =
+      let one : Alone K front s lanes r made.0 = own_turn k front s lanes r made.0 long none.0 made.1.run in
       let place : length (front ++ one.after ∷ []) ≡ k + 1 = length-append front (one.after ∷ []) ∙ ap (λ (n : ℕ). n + 1) long in
       let same : made.0 ≡ (front ++ one.after ∷ []) ++ lanes = one.is ∙ sym (append_assoc front (one.after ∷ []) lanes) in
       let more : Behind (front ++ one.after ∷ []) lanes turns behind =
-      calm_turns (k + 1) (front ++ one.after ∷ []) lanes turns behind place (omega (arith, many)) (and_right (all_calm K r) (are_still K turns) still)
+      own_from (k + 1) (front ++ one.after ∷ []) lanes turns behind place (omega (arith, many)) none.1
       (subst (λ (l : List S). MakeTurns K (k + 1) l turns behind) same made.2) in
       record {
         rest = one.after ∷ more.rest;
         is = more.is ∙ append_assoc front (one.after ∷ []) more.rest;
-        calmly = (record { of_turn = made.1.of_turn; run = one.run; calm = and_left (all_calm K r) (are_still K turns) still }, more.calmly);
+        own = (record { of_turn = made.1.of_turn; run = one.run }, more.own);
       }
 
-  pub round_calmly : (lanes : List S) (turns : List (List V)) (behind : List S) → are_still K turns ≡ true → MakeRound K lanes turns behind → Calmly K lanes turns behind
-  round_calmly lanes turns behind still made =
-      let at : Behind [] lanes turns behind = calm_turns 0 [] lanes turns behind refl made.many still made.turns_made in
-      subst (Calmly K lanes turns) (sym at.is) at.calmly
+  own_round : (lanes : List S) (turns : List (List V)) (behind : List S) → AllNone turns → MakeRound K lanes turns behind → OwnTurns K lanes turns behind
+  own_round lanes turns behind none made =
+      let at : Behind [] lanes turns behind = own_from 0 [] lanes turns behind refl made.many none made.turns_made in
+      subst (OwnTurns K lanes turns) (sym at.is) at.own
 
--- WHAT REMAINS
-module _ {S V : Type 0} (K : LaneKind S V) (Clean : S → Type 0) (remaining : S → ℕ) (raises : V → ℕ) (laws : LaneFalls K Clean remaining raises) where
+  -- of a kind none of whose events give anything
+  pub own_turns : GivesNothing K → (lanes : List S) (turns : List (List V)) (behind : List S) → MakeRound K lanes turns behind → OwnTurns K lanes turns behind
+  own_turns nothing lanes turns behind made = own_round lanes turns behind (all_none turns) made
+    where
+      none_given : (events : List V) → NoneGiven events
+      none_given [] = tt
+      none_given (event ∷ events) = ((λ i. nothing.gives i event), none_given events)
+
+      all_none : (turns : List (List V)) → AllNone turns
+      all_none [] = tt
+      all_none (r ∷ turns) = (none_given r, all_none turns)
+
+  -- and a quiet one is a calm turn of each
+  pub calmly : (lanes : List S) (turns : List (List V)) (behind : List S) → are_still K turns ≡ true → OwnTurns K lanes turns behind → Calmly K lanes turns behind
+  calmly [] [] [] still own = tt
+  calmly (s ∷ lanes) (r ∷ turns) (t ∷ behind) still own = (
+    record { of_turn = own.0.of_turn; run = own.0.run; calm = and_left (all_calm K r) (are_still K turns) still },
+    calmly lanes turns behind (and_right (all_calm K r) (are_still K turns) still) own.1,
+  )
+  calmly _ _ _ still own = absurd own
+
+-- WHERE CALM EVENTS GIVE NOTHING
+module _ {S V : Type 0} (K : LaneKind S V) (calm_gives : (k : ℕ) (event : V) → K.is_calm event ≡ true → K.gets k event ≡ []) where
+  none_given : (event : V) → K.is_calm event ≡ true → (i : ℕ) → K.gets i event ≡ []
+  none_given event calm i = calm_gives i event calm
+
+  calm_none : (events : List V) → all_calm K events ≡ true → NoneGiven K events
+  calm_none [] calm = tt
+  calm_none (event ∷ events) calm = (none_given event (and_left (K.is_calm event) (all_calm K events) calm), calm_none events (and_right (K.is_calm event) (all_calm K events) calm))
+
+  still_none : (turns : List (List V)) → are_still K turns ≡ true → AllNone K turns
+  still_none [] still = tt
+  still_none (r ∷ turns) still = (calm_none r (and_left (all_calm K r) (are_still K turns) still), still_none turns (and_right (all_calm K r) (are_still K turns) still))
+
+  pub round_calmly : (lanes : List S) (turns : List (List V)) (behind : List S) → are_still K turns ≡ true → MakeRound K lanes turns behind → Calmly K lanes turns behind
+  round_calmly lanes turns behind still made = calmly K lanes turns behind still (own_round K lanes turns behind (still_none turns still) made)
+
+-- WHAT REMAINS, of so few lanes that an event raises it by no more than eight times what it may on one
+module _ {S V : Type 0} (K : LaneKind S V) (Clean : S → Type 0) (remaining : S → ℕ) (raises : V → ℕ) (laws : LaneFalls K Clean remaining raises) (Few : ℕ → Type 0)
+    (room : (event : V) (lanes : List S) → Few (length lanes) → load (raises event) lanes ≤ 8 * raises event) where
   -- other lanes
   record Given (r : ℕ) (lanes behind : List S) : Type 0 where
     clean : EachOf Clean behind
@@ -244,7 +286,7 @@ module _ {S V : Type 0} (K : LaneKind S V) (Clean : S → Type 0) (remaining : S
       let at : Alone K front s rest (event ∷ []) behind = event_alone K 0 k front s rest event behind (none_given K laws.calm_gives event calm) (sym long ∙ itself_place (length front)) step in
       subst (Calmer (front ++ s ∷ rest)) (sym at.is) (calm_at front s rest event at.after clean own calm (subst (K.Step s event) at.run.2 at.run.1))
 
-  event_fell : (calm : Bool) (k : ℕ) (lanes : List S) (event : V) (behind : List S) → K.is_calm event ≡ calm → k < length lanes → length lanes ≤ 8 → EachOf Clean lanes → K.IsStep event
+  event_fell : (calm : Bool) (k : ℕ) (lanes : List S) (event : V) (behind : List S) → K.is_calm event ≡ calm → k < length lanes → Few (length lanes) → EachOf Clean lanes → K.IsStep event
       → AllStep K 0 lanes k event behind → Fell calm lanes behind
   event_fell true k lanes event behind is within few clean own step =
       let c : Cut k lanes = cut k lanes within in
@@ -260,8 +302,7 @@ module _ {S V : Type 0} (K : LaneKind S V) (Clean : S → Type 0) (remaining : S
       record {
         clean = at.clean;
         many = as_many K 0 k lanes event behind step;
-        lowers = inr (falls_in_all (sum_of remaining behind) (sum_of remaining lanes) (raises event) (load (raises event) lanes) (times 8 (raises event)) at.less
-            (load_most (raises event) 8 lanes few) (eight (raises event)));
+        lowers = inr (falls_in_all (sum_of remaining behind) (sum_of remaining lanes) (raises event) (load (raises event) lanes) at.less (room event lanes few));
       }
 
   -- A TURN
@@ -272,26 +313,26 @@ module _ {S V : Type 0} (K : LaneKind S V) (Clean : S → Type 0) (remaining : S
     lowers = then_lower one two (sum_of remaining lanes) (sum_of remaining m) (sum_of remaining behind) first.lowers second.lowers;
   }
 
-  turn_fell : (k : ℕ) (lanes : List S) (events : List V) (behind : List S) → k < length lanes → length lanes ≤ 8 → EachOf Clean lanes → EachStep K events
+  turn_fell : (k : ℕ) (lanes : List S) (events : List V) (behind : List S) → k < length lanes → Few (length lanes) → EachOf Clean lanes → EachStep K events
       → Run (StepOf K k) lanes events behind → Fell (all_calm K events) lanes behind
   turn_fell k lanes [] behind within few clean steps run =
       subst (Fell true lanes) run (record { clean = clean; many = refl; lowers = inl (refl, no_rise (sum_of remaining lanes)) })
   turn_fell k lanes (event ∷ events) behind within few clean steps run =
       let first : Fell (K.is_calm event) lanes run.0 = event_fell (K.is_calm event) k lanes event run.0 refl within few clean steps.0 run.1.step in
       fell_then (K.is_calm event) (all_calm K events) lanes run.0 behind first
-      (turn_fell k run.0 events behind (omega (arith, within, first.many)) (omega (arith, few, first.many)) first.clean steps.1 run.2)
+      (turn_fell k run.0 events behind (omega (arith, within, first.many)) (subst Few (sym first.many) few) first.clean steps.1 run.2)
 
   -- TURNS, and a round
-  turns_fell : (k : ℕ) (lanes : List S) (turns : List (List V)) (behind : List S) → k + length turns ≡ length lanes → length lanes ≤ 8 → EachOf Clean lanes → MakeTurns K k lanes turns behind
+  turns_fell : (k : ℕ) (lanes : List S) (turns : List (List V)) (behind : List S) → k + length turns ≡ length lanes → Few (length lanes) → EachOf Clean lanes → MakeTurns K k lanes turns behind
       → Fell (are_still K turns) lanes behind
   turns_fell k lanes [] behind many few clean made =
       subst (Fell true lanes) made (record { clean = clean; many = refl; lowers = inl (refl, no_rise (sum_of remaining lanes)) })
   turns_fell k lanes (r ∷ turns) behind many few clean made =
       let first : Fell (all_calm K r) lanes made.0 = turn_fell k lanes r made.0 (omega (arith, many)) few clean (laws.turn_steps r made.1.of_turn) made.1.run in
       fell_then (all_calm K r) (are_still K turns) lanes made.0 behind first
-      (turns_fell (k + 1) made.0 turns behind (omega (arith, many, first.many)) (omega (arith, few, first.many)) first.clean made.2)
+      (turns_fell (k + 1) made.0 turns behind (omega (arith, many, first.many)) (subst Few (sym first.many) few) first.clean made.2)
 
-  round_fell : (lanes : List S) (turns : List (List V)) (behind : List S) → length lanes ≤ 8 → EachOf Clean lanes → MakeRound K lanes turns behind → Fell (are_still K turns) lanes behind
+  round_fell : (lanes : List S) (turns : List (List V)) (behind : List S) → Few (length lanes) → EachOf Clean lanes → MakeRound K lanes turns behind → Fell (are_still K turns) lanes behind
   round_fell lanes turns behind few clean made = turns_fell 0 lanes turns behind (omega (arith, made.many)) few clean made.turns_made
 
   -- TICKS
@@ -335,14 +376,14 @@ module _ {S V : Type 0} (K : LaneKind S V) (Clean : S → Type 0) (remaining : S
   ticks_lower (s ∷ lanes) (r ∷ turns) (t ∷ between) [] behind clean calm ticks = absurd ticks
   ticks_lower (s ∷ lanes) (r ∷ turns) (t ∷ between) (had ∷ marks) [] clean calm ticks = absurd ticks
 
-  -- THE COUNT of a list of at most eight
-  clean_round : (lanes : List S) (turns : List (List V)) (behind : List S) → AreClean Clean lanes → MakeRound K lanes turns behind → AreClean Clean behind
+  -- THE COUNT
+  clean_round : (lanes : List S) (turns : List (List V)) (behind : List S) → AreCleanWhere Few Clean lanes → MakeRound K lanes turns behind → AreCleanWhere Few Clean behind
   clean_round lanes turns behind at made =
       let fell : Fell (are_still K turns) lanes behind = round_fell lanes turns behind at.few at.clean made in
-      record { few = omega (arith, at.few, fell.many); clean = fell.clean }
+      record { few = subst Few (sym fell.many) at.few; clean = fell.clean }
 
-  pub lanes_fall : {E : Type 0} (N : Entries V E) → Falls (lanes_of K N) (AreClean Clean) (sum_of remaining)
-  lanes_fall N = record {
+  pub few_fall : {E : Type 0} (N : Entries V E) → Falls (lanes_of K N) (AreCleanWhere Few Clean) (sum_of remaining)
+  few_fall N = record {
     keeps = record {
       round = λ w m r v at made. clean_round w r v at made;
       ticks = λ w m r v u at made quiet ticks. ticked w m r v u at made ticks;
@@ -351,7 +392,32 @@ module _ {S V : Type 0} (K : LaneKind S V) (Clean : S → Type 0) (remaining : S
     ticks = λ w m r v u at made quiet ticks. ticks_lower w r v m u at.clean (round_calmly K laws.calm_gives w r v quiet made) ticks;
   }
     where
-      ticked : (w : List S) (m : List Bool) (r : List (List V)) (v u : List S) → AreClean Clean w → MakeRound K w r v → TickAll K v m u → AreClean Clean u
+      ticked : (w : List S) (m : List Bool) (r : List (List V)) (v u : List S) → AreCleanWhere Few Clean w → MakeRound K w r v → TickAll K v m u → AreCleanWhere Few Clean u
       ticked w m r v u at made ticks =
-          let behind : AreClean Clean v = clean_round w r v at made in
-          record { few = omega (arith, behind.few, ticks_many v m u ticks); clean = ticks_clean v m u behind.clean ticks }
+          let behind : AreCleanWhere Few Clean v = clean_round w r v at made in
+          record { few = subst Few (sym (ticks_many v m u ticks)) behind.few; clean = ticks_clean v m u behind.clean ticks }
+
+-- at most eight; and where no event raises it on others, however many there are
+pub lanes_fall : {S V E : Type 0} (K : LaneKind S V) (Clean : S → Type 0) (remaining : S → ℕ) (raises : V → ℕ) → LaneFalls K Clean remaining raises → (N : Entries V E)
+    → Falls (lanes_of K N) (AreClean Clean) (sum_of remaining)
+lanes_fall {S} {V} K Clean remaining raises laws N = few_fall K Clean remaining raises laws (λ n. n ≤ 8) room N
+  where
+    within : (a b c : ℕ) → a ≤ b → b ≤ c → a ≤ c
+    within a b c one two = omega (arith, one, two)
+
+    room : (event : V) (lanes : List S) → length lanes ≤ 8 → load (raises event) lanes ≤ 8 * raises event
+    room event lanes few = within (load (raises event) lanes) (times 8 (raises event)) (8 * raises event) (load_most (raises event) 8 lanes few) (eight (raises event))
+
+none_load : {S : Type 0} (lanes : List S) → load 0 lanes ≡ 0
+none_load [] = refl
+none_load (s ∷ lanes) = omega (arith, none_load lanes)
+
+pub all_fall : {S V E : Type 0} (K : LaneKind S V) (Clean : S → Type 0) (remaining : S → ℕ) → LaneFalls K Clean remaining (λ event. 0) → (N : Entries V E)
+    → Falls (lanes_of K N) (AreCleanWhere (λ n. ⊤) Clean) (sum_of remaining)
+all_fall {S} {V} K Clean remaining laws N = few_fall K Clean remaining (λ event. 0) laws (λ n. ⊤) room N
+  where
+    none_most : (n : ℕ) → n ≡ 0 → n ≤ 0
+    none_most n none = omega (arith, none)
+
+    room : (event : V) (lanes : List S) → ⊤ → load 0 lanes ≤ 8 * 0
+    room event lanes few = none_most (load 0 lanes) (none_load lanes)

@@ -10,3 +10,8 @@ pub mod Lanes
 pub mod Finishing
 pub mod Moving
 pub mod LaneCounts
+pub mod LaneFronts
+pub mod Places
+pub mod BothFronts
+pub mod RoundsMade
+pub mod LanesMade

@@ -1,18 +1,21 @@
 -- Each lane of a list is run by what the part of a settle says happened to it: its own events, and what those of
 -- others gave it.
-use Rattle.std.proofs.Common.{◌≡◌, ℕ, ◌+◌, ◌<◌, Bool, true, false, List, [], ◌∷◌, ◌++◌, length, refl, sym, ap, ◌∙◌, subst, arith, append_assoc, append-nil, length-append}
+use Rattle.std.proofs.Common.{◌≡◌, ℕ, zero, suc, ◌+◌, ◌<◌, Some, slice_get, slice_set, Bool, true, false, List, [], ◌∷◌, ◌++◌, length, refl, sym, ap, ◌∙◌, subst, arith, append_assoc, append-nil, length-append}
 use Rattle.std.proofs.lemmas.Bool.{eq-eqb}
 use Rattle.std.specs.Prelude.{◌==◌, ◌&&◌, if◌then◌else◌}
 use Rattle.runs.specs.Run.{Run, run_append}
 use Rattle.lane_kinds.proofs.Lanes.{other_test}
 use Rattle.lane_kinds.specs.Both.{Skips}
-use Rattle.lane_kinds.specs.Lanes.{AllMove, AllStep, Entries, IsSilent, LaneKind, MakeTurns, Reads, StepOf, TickAll, TicksIf, all_calm, gets_tick, happened, lanes_of, left_names, own_or, round_entries, tick_entries, turn_entries}
+use Rattle.lane_kinds.specs.Lanes.{AllMove, AllStep, Entries, GivesNothing, IsSilent, LaneKind, MakeTurns, Reads, StepOf, TickAll, TicksIf, all_calm, gets_tick, happened, lanes_of, left_names, own_or, round_entries, tick_entries, turn_entries}
 use Rattle.lane_kinds.specs.Laws.{Ends, Leads}
 
 pub happened_both : {V E : Type 0} (said : ℕ → E → List V) (j : ℕ) (before behind : List E) → happened said j (before ++ behind) ≡ happened said j before ++ happened said j behind
 happened_both said j [] behind = refl
 happened_both {V} {E} said j (x ∷ before) behind =
     ap (λ (l : List V). said j x ++ l) (happened_both said j before behind) ∙ sym (append_assoc (said j x) (happened said j before) (happened said j behind))
+
+pub one_more : (k n m : ℕ) → k ≡ 0 + n → m ≡ n + 1 → k + 1 ≡ 0 + m
+one_more k n m place long = omega (arith, place, long)
 
 -- WHAT A PART SAYS of the lanes
 module _ {S V E : Type 0} (Step : S → V → S → Type 0) (said : ℕ → E → List V) where
@@ -52,41 +55,8 @@ module _ {S V E : Type 0} (Step : S → V → S → Type 0) (said : ℕ → E �
   one_none j true x none = refl
   one_none j false x none = append-nil (said j x) ∙ none
 
-module _ {S V E : Type 0} (K : LaneKind S V) (N : Entries V E) (said : ℕ → E → List V) (reads : Reads K N said) (silent : IsSilent K) where
-  -- ONE EVENT
-  pub silent_run : (own : Bool) (j : ℕ) (s : S) (event : V) (t : S) → K.is_silent event ≡ true → Run K.Step s (own_or own event (K.gets j event)) t → s ≡ t
-  silent_run true j s event t is run = silent.same s event run.0 run.1 is ∙ run.2
-  silent_run false j s event t is run = subst (λ (l : List V). Run K.Step s l t) (silent.gives j event is) run
-
-  told_run : (j k : ℕ) (s : S) (event : V) (t : S) → Run K.Step s (own_or (j == k) event (K.gets j event)) t → Run K.Step s (happened said j (N.of_lane k event ∷ [])) t
-  told_run j k s event t run =
-      subst (λ (l : List V). Run K.Step s l t) (sym (append-nil (said j (N.of_lane k event)) ∙ reads.of_lane j k event)) run
-
-  lane_moves : (quiet : Bool) (j k : ℕ) (s : S) (event : V) (t : S) → K.is_silent event ≡ quiet → Run K.Step s (own_or (j == k) event (K.gets j event)) t
-      → Run K.Step s (happened said j (if quiet then [] else N.of_lane k event ∷ [])) t
-  lane_moves true j k s event t is run = silent_run (j == k) j s event t is run
-  lane_moves false j k s event t is run = told_run j k s event t run
-
-  event_moves : (j k : ℕ) (lanes : List S) (event : V) (behind : List S) → AllStep K j lanes k event behind
-      → AllMove K.Step said j lanes (if K.is_silent event then [] else N.of_lane k event ∷ []) behind
-  event_moves j k [] event [] step = tt
-  event_moves j k (s ∷ lanes) event (t ∷ behind) step = (lane_moves (K.is_silent event) j k s event t refl step.0, event_moves (j + 1) k lanes event behind step.1)
-  event_moves j k [] event (t ∷ behind) step = absurd step
-  event_moves j k (s ∷ lanes) event [] step = absurd step
-
-  -- TURNS
-  turn_moves : (k : ℕ) (lanes : List S) (events : List V) (behind : List S) → Run (StepOf K k) lanes events behind → AllMove K.Step said 0 lanes (turn_entries K N k events) behind
-  turn_moves k lanes [] behind run = subst (AllMove K.Step said 0 lanes []) run (none_move K.Step said 0 lanes)
-  turn_moves k lanes (event ∷ events) behind run =
-      both_move K.Step said 0 lanes run.0 behind (if K.is_silent event then [] else N.of_lane k event ∷ []) (turn_entries K N k events) (event_moves 0 k lanes event run.0 run.1.step)
-      (turn_moves k run.0 events behind run.2)
-
-  turns_move : (k : ℕ) (lanes : List S) (turns : List (List V)) (behind : List S) → MakeTurns K k lanes turns behind → AllMove K.Step said 0 lanes (round_entries K N k turns) behind
-  turns_move k lanes [] behind made = subst (AllMove K.Step said 0 lanes []) made (none_move K.Step said 0 lanes)
-  turns_move k lanes (r ∷ turns) behind made =
-      both_move K.Step said 0 lanes made.0 behind (turn_entries K N k r) (round_entries K N (k + 1) turns) (turn_moves k lanes r made.0 made.1.run) (turns_move (k + 1) made.0 turns behind made.2)
-
-  -- TICKS, each an event of its lane that gives nothing
+-- AN EVENT THAT GIVES NOTHING moves its own lane
+module _ {S V : Type 0} (K : LaneKind S V) where
   own_run : (j k : ℕ) (s : S) (event : V) (t : S) → j ≡ k → K.Step s event t → Run K.Step s (own_or (j == k) event (K.gets j event)) t
   own_run j k s event t same step = subst (λ (c : Bool). Run K.Step s (own_or c event (K.gets j event)) t) (sym (eq-eqb j k same)) (t, step, refl)
 
@@ -105,14 +75,75 @@ module _ {S V E : Type 0} (K : LaneKind S V) (N : Entries V E) (said : ℕ → E
   one_steps j k (x ∷ front) s lanes event t none place step =
       (stays j k x event (none j) (λ same. omega (arith, place, same)), one_steps (j + 1) k front s lanes event t none (omega (arith, place)) step)
 
+  set_steps : (j k n : ℕ) (lanes : List S) (s : S) (event : V) (t : S) → ((i : ℕ) → K.gets i event ≡ []) → n ≡ j + k → slice_get lanes k ≡ Some s → K.Step s event t
+      → AllStep K j lanes n event (slice_set lanes k t)
+  set_steps j k n [] s event t none place there step = absurd (cc there)
+  set_steps j zero n (x ∷ lanes) s event t none place there step =
+      let same : s ≡ x = cc there in
+      (own_run j n x event t (omega (arith, place)) (subst (λ (y : S). K.Step y event t) same step), later_stay (j + 1) n lanes event none (omega (arith, place)))
+  set_steps j (suc k) n (x ∷ lanes) s event t none place there step =
+      (stays j n x event (none j) (λ same. omega (arith, place, same)), set_steps (j + 1) k n lanes s event t none (omega (arith, place)) there step)
+
+  own_place : (k : ℕ) → k ≡ 0 + k
+  own_place k = omega (arith)
+
+  pub lane_steps : GivesNothing K → (k : ℕ) (lanes : List S) (s : S) (event : V) (t : S) (behind : List S) → slice_get lanes k ≡ Some s → K.Step s event t → behind ≡ slice_set lanes k t
+      → StepOf K k lanes event behind
+  lane_steps nothing k lanes s event t behind there step is = record {
+    sees = nothing.sees lanes k event;
+    step = subst (AllStep K 0 lanes k event) (sym is) (set_steps 0 k k lanes s event t (λ i. nothing.gives i event) (own_place k) there step);
+  }
+
+module _ {S V E : Type 0} (K : LaneKind S V) (N : Entries V E) (said : ℕ → E → List V) (reads : Reads K N said) (silent : IsSilent K) where
+  -- ONE EVENT
+  pub silent_run : (own : Bool) (j : ℕ) (s : S) (event : V) (t : S) → K.is_silent event ≡ true → Run K.Step s (own_or own event (K.gets j event)) t → s ≡ t
+  silent_run true j s event t is run = silent.same s event run.0 run.1 is ∙ run.2
+  silent_run false j s event t is run = subst (λ (l : List V). Run K.Step s l t) (silent.gives j event is) run
+
+  told_run : (j k : ℕ) (s : S) (event : V) (t : S) → Run K.Step s (own_or (j == k) event (K.gets j event)) t → Run K.Step s (happened said j (N.of_lane k event ∷ [])) t
+  told_run j k s event t run =
+      subst (λ (l : List V). Run K.Step s l t) (sym (append-nil (said j (N.of_lane k event)) ∙ reads.of_lane j k event)) run
+
+  -- each lane by one entry, whether it would be left or not
+  pub told_moves : (j k : ℕ) (lanes : List S) (event : V) (behind : List S) → AllStep K j lanes k event behind → AllMove K.Step said j lanes (N.of_lane k event ∷ []) behind
+  told_moves j k [] event [] step = tt
+  told_moves j k (s ∷ lanes) event (t ∷ behind) step = (told_run j k s event t step.0, told_moves (j + 1) k lanes event behind step.1)
+  told_moves j k [] event (t ∷ behind) step = absurd step
+  told_moves j k (s ∷ lanes) event [] step = absurd step
+
+  lane_moves : (quiet : Bool) (j k : ℕ) (s : S) (event : V) (t : S) → K.is_silent event ≡ quiet → Run K.Step s (own_or (j == k) event (K.gets j event)) t
+      → Run K.Step s (happened said j (if quiet then [] else N.of_lane k event ∷ [])) t
+  lane_moves true j k s event t is run = silent_run (j == k) j s event t is run
+  lane_moves false j k s event t is run = told_run j k s event t run
+
+  event_moves : (j k : ℕ) (lanes : List S) (event : V) (behind : List S) → AllStep K j lanes k event behind
+      → AllMove K.Step said j lanes (if K.is_silent event then [] else N.of_lane k event ∷ []) behind
+  event_moves j k [] event [] step = tt
+  event_moves j k (s ∷ lanes) event (t ∷ behind) step = (lane_moves (K.is_silent event) j k s event t refl step.0, event_moves (j + 1) k lanes event behind step.1)
+  event_moves j k [] event (t ∷ behind) step = absurd step
+  event_moves j k (s ∷ lanes) event [] step = absurd step
+
+  -- TURNS
+  pub turn_moves : (k : ℕ) (lanes : List S) (events : List V) (behind : List S) → Run (StepOf K k) lanes events behind → AllMove K.Step said 0 lanes (turn_entries K N k events) behind
+  turn_moves k lanes [] behind run = subst (AllMove K.Step said 0 lanes []) run (none_move K.Step said 0 lanes)
+  turn_moves k lanes (event ∷ events) behind run =
+      both_move K.Step said 0 lanes run.0 behind (if K.is_silent event then [] else N.of_lane k event ∷ []) (turn_entries K N k events) (event_moves 0 k lanes event run.0 run.1.step)
+      (turn_moves k run.0 events behind run.2)
+
+  pub turns_move : (k : ℕ) (lanes : List S) (turns : List (List V)) (behind : List S) → MakeTurns K k lanes turns behind → AllMove K.Step said 0 lanes (round_entries K N k turns) behind
+  turns_move k lanes [] behind made = subst (AllMove K.Step said 0 lanes []) made (none_move K.Step said 0 lanes)
+  turns_move k lanes (r ∷ turns) behind made =
+      both_move K.Step said 0 lanes made.0 behind (turn_entries K N k r) (round_entries K N (k + 1) turns) (turn_moves k lanes r made.0 made.1.run) (turns_move (k + 1) made.0 turns behind made.2)
+
+  -- TICKS
   told_tick : (k : ℕ) (s : S) → (if K.is_silent (K.tick s) then [] else N.of_lane k (K.tick s) ∷ []) ≡ N.of_lane k (K.tick s) ∷ []
   told_tick k s = ap (λ (c : Bool). if c then [] else N.of_lane k (K.tick s) ∷ []) (silent.tick_loud s)
 
-  tick_moves : (get : Bool) (k : ℕ) (front : List S) (s : S) (lanes : List S) (t : S) → k ≡ 0 + length front → TicksIf K get s t
+  pub tick_moves : (get : Bool) (k : ℕ) (front : List S) (s : S) (lanes : List S) (t : S) → k ≡ 0 + length front → TicksIf K get s t
       → AllMove K.Step said 0 (front ++ s ∷ lanes) (if get then N.of_lane k (K.tick s) ∷ [] else []) (front ++ t ∷ lanes)
   tick_moves true k front s lanes t place step =
       subst (λ (l : List E). AllMove K.Step said 0 (front ++ s ∷ lanes) l (front ++ t ∷ lanes)) (told_tick k s)
-      (event_moves 0 k (front ++ s ∷ lanes) (K.tick s) (front ++ t ∷ lanes) (one_steps 0 k front s lanes (K.tick s) t (λ i. silent.tick_gives i s) place step))
+      (event_moves 0 k (front ++ s ∷ lanes) (K.tick s) (front ++ t ∷ lanes) (one_steps K 0 k front s lanes (K.tick s) t (λ i. silent.tick_gives i s) place step))
   tick_moves false k front s lanes t place same =
       subst (λ (x : S). AllMove K.Step said 0 (front ++ s ∷ lanes) [] (front ++ x ∷ lanes)) (sym same) (none_move K.Step said 0 (front ++ s ∷ lanes))
 
@@ -127,9 +158,6 @@ module _ {S V E : Type 0} (K : LaneKind S V) (N : Entries V E) (said : ℕ → E
       (tick_moves (gets_tick K s had) k front s lanes t place ticks.0)
       (subst (λ (l : List S). AllMove K.Step said 0 l (tick_entries K N (k + 1) lanes marks) (front ++ t ∷ behind)) (append_assoc front (t ∷ []) lanes)
       (subst (AllMove K.Step said 0 ((front ++ t ∷ []) ++ lanes) (tick_entries K N (k + 1) lanes marks)) (append_assoc front (t ∷ []) behind) rest))
-    where
-      one_more : (k n m : ℕ) → k ≡ 0 + n → m ≡ n + 1 → k + 1 ≡ 0 + m
-      one_more k n m place long = omega (arith, place, long)
   ticks_move k front _ _ _ place ticks = absurd ticks
 
   -- NAMES say nothing

@@ -1,6 +1,7 @@
 -- Lanes of two kinds beside each other: in each round those of the one and behind them those of the other, over one
 -- journal. Lanes of three kinds are those of one beside those of two.
-use Rattle.std.specs.Prelude.{◌≡◌, ℕ, ◌+◌, ◌≤◌, ◌&&◌, ◌||◌, List, ◌++◌}
+use Rattle.std.specs.Prelude.{◌≡◌, ◌⊎◌, ℕ, ◌+◌, ◌≤◌, ◌&&◌, ◌||◌, List, ◌++◌}
+use Rattle.lane_kinds.specs.Fronts.{Fronts}
 use Rattle.lane_kinds.specs.Rounds.{Rounds}
 
 pub record Two (A B : Type 0) : Type 0 where
@@ -63,3 +64,39 @@ pub record BothHold {W V : Type 0} (P : W → Type 0) (Q : V → Type 0) (w : Tw
 pub record BothStep {W V E : Type 0} (Step : W → E → W → Type 0) (Other : V → E → V → Type 0) (w : Two W V) (entry : E) (v : Two W V) : Type 0 where
   pub of_first : Step w.first entry v.first
   pub of_second : Other w.second entry v.second
+
+-- A FRONT of both: one of the first kind's, and nothing of the second; or all of the first, and a front of the second's
+pub record FrontOfFirst {W V E : Type 0} (Of : W → List E → W → Type 0) (w : Two W V) (part : List E) (v : Two W V) : Type 0 where
+  pub front : Of w.first part v.first
+  pub other : w.second ≡ v.second
+
+pub record FrontBehind {W V E : Type 0} (All : W → List E → W → Type 0) (Of : V → List E → V → Type 0) (w : Two W V) (part : List E) (v : Two W V) : Type 0 where
+  pub before : List E
+  pub all : All w.first before v.first
+  pub later : List E
+  pub front : Of w.second later v.second
+  pub is : part ≡ before ++ later
+
+pub record AllRound {W M R E : Type 0} (K : Rounds W M R E) (w : W) (part : List E) (v : W) : Type 0 where
+  pub steps : R
+  pub made : K.Makes w steps v
+  pub is : part ≡ K.leaves steps
+
+pub record AllTicks {W M R E : Type 0} (K : Rounds W M R E) (marks : M) (w : W) (part : List E) (v : W) : Type 0 where
+  pub ticks : K.Ticks w marks v
+  pub is : part ≡ K.ticks_leave w marks
+
+abbrev pub both_fronts : {W V M N R E : Type 0} → Rounds W M R E → Fronts W M E → Fronts V N E → Fronts (Two W V) (Two M N) E
+both_fronts K F G = record {
+  OfRound = λ w part v. FrontOfFirst F.OfRound w part v ⊎ FrontBehind (AllRound K) G.OfRound w part v;
+  OfTicks = λ w m part v. FrontOfFirst (λ x. F.OfTicks x m.first) w part v ⊎ FrontBehind (AllTicks K m.first) (λ x. G.OfTicks x m.second) w part v;
+}
+
+-- and fronts of another kind lead nowhere, or count for nothing
+pub record SkipsFronts {V N E W : Type 0} (G : Fronts V N E) (To : W → List E → W → Type 0) : Type 0 where
+  pub round : (v : V) (part : List E) (u : V) → G.OfRound v part u → (w : W) → To w part w
+  pub ticks : (v : V) (n : N) (part : List E) (u : V) → G.OfTicks v n part u → (w : W) → To w part w
+
+pub record IgnoresFronts {V N E : Type 0} (G : Fronts V N E) (count : List E → ℕ) : Type 0 where
+  pub round : (v : V) (part : List E) (u : V) → G.OfRound v part u → count part ≤ 0
+  pub ticks : (v : V) (n : N) (part : List E) (u : V) → G.OfTicks v n part u → count part ≤ 0

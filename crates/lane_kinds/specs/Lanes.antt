@@ -114,10 +114,13 @@ abbrev pub EachOf : {S : Type 0} → (S → Type 0) → List S → Type 0
 EachOf P [] = ⊤
 EachOf P (s ∷ lanes) = P s × EachOf P lanes
 
--- at most eight, each of which is clean
-pub record AreClean {S : Type 0} (Clean : S → Type 0) (lanes : List S) : Type 0 where
-  pub few : length lanes ≤ 8
+-- so few, each of which is clean; and at most eight
+pub record AreCleanWhere {S : Type 0} (Few : ℕ → Type 0) (Clean : S → Type 0) (lanes : List S) : Type 0 where
+  pub few : Few (length lanes)
   pub clean : EachOf Clean lanes
+
+abbrev pub AreClean : {S : Type 0} → (S → Type 0) → List S → Type 0
+AreClean Clean = AreCleanWhere (λ n. n ≤ 8) Clean
 
 -- THE LANES, as a settle sees them
 abbrev pub lanes_of : {S V E : Type 0} → LaneKind S V → Entries V E → Rounds (List S) (List Bool) (List (List V)) E
@@ -135,7 +138,22 @@ lanes_of K N = record {
   pending = sum_of K.pending;
 }
 
--- A LANE makes its turn alone, and it is calm
+-- A LANE makes its turn alone, and so does each of them
+pub record OwnTurn {S V : Type 0} (K : LaneKind S V) (s : S) (events : List V) (t : S) : Type 0 where
+  pub of_turn : K.IsTurn events
+  pub run : Run K.Step s events t
+
+abbrev pub OwnTurns : {S V : Type 0} → LaneKind S V → List S → List (List V) → List S → Type 0
+OwnTurns K [] [] [] = ⊤
+OwnTurns K (s ∷ lanes) (r ∷ turns) (t ∷ behind) = OwnTurn K s r t × OwnTurns K lanes turns behind
+OwnTurns K _ _ _ = ⊥
+
+-- no event gives anything to another lane, nor says anything of it
+pub record GivesNothing {S V : Type 0} (K : LaneKind S V) : Type 0 where
+  pub gives : (k : ℕ) (event : V) → K.gets k event ≡ []
+  pub sees : (lanes : List S) (k : ℕ) (event : V) → K.Sees lanes k event
+
+-- it is calm
 pub record CalmTurn {S V : Type 0} (K : LaneKind S V) (s : S) (events : List V) (t : S) : Type 0 where
   pub of_turn : K.IsTurn events
   pub run : Run K.Step s events t
@@ -169,7 +187,7 @@ pub record LaneFalls {S V : Type 0} (K : LaneKind S V) (Clean : S → Type 0) (r
 pub record LaneRests {S V : Type 0} (K : LaneKind S V) (Reached Unforged Lossless : S → Type 0) : Type 0 where
   pub turn_steps : (events : List V) → K.IsTurn events → EachStep K events
   pub reached : (s : S) (event : V) (t : S) → Reached s → K.Step s event t → Reached t
-  pub was_unforged : (s : S) (event : V) (t : S) → K.Step s event t → Unforged t → Unforged s
+  pub was_unforged : (s : S) (event : V) (t : S) → K.Step s event t → K.IsStep event → Unforged t → Unforged s
   pub lossless : (s : S) (event : V) (t : S) → K.Step s event t → K.IsStep event → Lossless s → Lossless t
   pub given_lossless : (k : ℕ) (event : V) (s t : S) → Run K.Step s (K.gets k event) t → Lossless s → Lossless t
   pub calm_gives : (k : ℕ) (event : V) → K.is_calm event ≡ true → K.gets k event ≡ []

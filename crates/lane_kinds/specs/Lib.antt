@@ -5,4 +5,7 @@ pub mod Stuck
 pub mod Both
 pub mod Lanes
 pub mod LaneCounts
+pub mod LaneFronts
+pub mod RoundsMade
+pub mod LanesMade
 pub mod Laws

@@ -4,7 +4,7 @@ use Rattle.world_laws.specs.Settle.{SettleEntry}
 use Rattle.world_laws.specs.Lines.{Line}
 use Rattle.world_parts.specs.WorldEvents.{world_event}
 use Rattle.ldom_entries.specs.declared.entry.Entry.{Entry}
-use Rattle.world_laws.proofs.Places.{map_both}
+use Rattle.lane_kinds.proofs.Places.{map_both}
 use Rattle.world_parts.specs.Parts.{Adds}
 
 pub none_adds : (line : Line) (old new : List Entry) → new ≡ old → Adds line old new []

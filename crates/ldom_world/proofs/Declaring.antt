@@ -5,7 +5,7 @@ use Rattle.disk_model.specs.LaneState.{IsShape, LaneState, Shape, fresh}
 use Rattle.domain_script.specs.Declarations.{IsDisk}
 use Rattle.domain_script.specs.declared.event.DiskDecl.{DiskDecl}
 use Rattle.world_laws.specs.Rounds.{Each}
-use Rattle.world_laws.proofs.Places.{after_one, map_both, take_one}
+use Rattle.lane_kinds.proofs.Places.{after_one, map_both, take_one}
 use Rattle.world_parts.specs.Declared.{LiesWithin, blocks_of, bytes_needed, shape_of, shapes_of}
 
 -- a declared disk has the shape of a lane

@@ -3,7 +3,7 @@ use Rattle.std.proofs.Common.{◌≡◌, ℕ, Bool, true, false, ◌||◌, Some,
 use Rattle.std.specs.Prelude.{◌&&◌}
 use Rattle.disk_model.specs.DiskEvent.{Asks, DiskEvent, Off, OnWire, Switches}
 use Rattle.channel_model.specs.WireEvent as wire
-use Rattle.world_laws.specs.Rounds.{is_calm}
+use Rattle.world_laws.specs.DiskKind.{is_calm}
 use Rattle.world_laws.specs.Settle.{OfLane, SettleEntry, entry_of}
 use Rattle.world_laws.specs.Lines.{Line}
 use Rattle.ldom_entries.specs.JournalState.{JournalState, PutsEntry}

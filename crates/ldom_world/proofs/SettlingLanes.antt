@@ -6,8 +6,9 @@ use Rattle.disk_model.specs.DiskEvent.{CalmTick, Calms}
 use Rattle.disk_model.specs.LaneState.{LaneState}
 use Rattle.domain_script.specs.LaneKinds.{disk_lane, disk_of}
 use Rattle.world_laws.specs.Settle.{OfLane, SettleEntry, Unsettled}
-use Rattle.world_laws.specs.Ticks.{gets_tick, tick, waits_on}
-use Rattle.world_laws.specs.Lines.{AnswersCall, Calls, Line, OneEntry, Settles, Ticks}
+use Rattle.world_laws.specs.DiskKind.{tick, waits_on}
+use Rattle.world_laws.specs.Ticks.{gets_tick}
+use Rattle.world_laws.specs.Lines.{AnswersCall, Calls, Line, OneEntry, Settles, Ticks, OfDisk}
 use Rattle.world_laws.specs.World.{OneMoves, WorldState, WorldStep}
 use Rattle.ldom_report.specs.LaneEvents.{ChangesNothing, Meaning, NoRoomFor, Refuses, meaning}
 use Rattle.world_parts.specs.WorldEvents.{at_disk, calm_event, if_so, meant, world_event}
@@ -16,7 +17,7 @@ use Rattle.ldom_entries.specs.declared.entry.Entry.{Entry}
 use Rattle.ldom_entries.specs.declared.entry.Entry.TheVariants as entry
 use Rattle.ldom_entries.specs.declared.entry.Who.{Who}
 use Rattle.ldom_entries.specs.declared.entry.Who.TheVariants.{Lane as OfWhole, End as OfEnd}
-use Rattle.world_laws.proofs.Places.{after_one, set_same, take_set_one}
+use Rattle.lane_kinds.proofs.Places.{after_one, set_same, take_set_one}
 use Rattle.world_laws.proofs.TicksOn.{lane_gets_none, lane_gets_tick}
 use Rattle.world_laws.specs.Names.{name_of}
 use Rattle.world_laws.specs.RoundMade.{all_true}
@@ -67,22 +68,22 @@ calm_at : (k : ℕ) (o : Option ℕ) → at_disk k o (Calms CalmTick) ≡ Some (
 calm_at k None is = cc is
 calm_at k (Some j) is = calm_no_tick (k == j) j k is
 
-tick_of_calm : (k : ℕ) (who : Who) → calm_event (Calls k Ticks) who ≡ Some (OfLane k tick) → ⊥
+tick_of_calm : (k : ℕ) (who : Who) → calm_event (Calls (OfDisk k) Ticks) who ≡ Some (OfLane k tick) → ⊥
 tick_of_calm k (OfWhole lane) is = calm_at k (disk_of lane) is
 tick_of_calm k (OfEnd name) is = cc is
 
-tick_meant : (k : ℕ) (x : Meaning) → meant (Calls k Ticks) x ≡ Some (OfLane k tick)
+tick_meant : (k : ℕ) (x : Meaning) → meant (Calls (OfDisk k) Ticks) x ≡ Some (OfLane k tick)
     → meant Settles x ≡ Some (OfLane k tick)
 tick_meant k (NoRoomFor who) is = absurd (cc is)
 tick_meant k (Refuses who why) is = absurd (cc is)
 tick_meant k (ChangesNothing who) is = absurd (tick_of_calm k who is)
 tick_meant k x is = is
 
-tick_said : (k : ℕ) (part : List Entry) → PartSays (Calls k Ticks) part (OfLane k tick ∷ [])
+tick_said : (k : ℕ) (part : List Entry) → PartSays (Calls (OfDisk k) Ticks) part (OfLane k tick ∷ [])
     → PartSays Settles part (OfLane k tick ∷ [])
 tick_said k [] says = absurd (cc says)
 tick_said k (e ∷ []) says =
-    let one : world_event (Calls k Ticks) e ≡ Some (OfLane k tick) = cc says in
+    let one : world_event (Calls (OfDisk k) Ticks) e ≡ Some (OfLane k tick) = cc says in
     ap (λ (o : Option SettleEntry). o ∷ []) (tick_meant k (meaning e) one)
 tick_said k (e ∷ f ∷ part) says = absurd (cc says)
 
@@ -94,7 +95,7 @@ run_of_one w v x entries is run =
     subst (λ (u : WorldState). WorldStep w x u) one.2 one.1
 
 pub tick_grew : (k : ℕ) (w v : WorldState) (old new : List Entry) (lane : LaneState) (had : Bool)
-    → slice_get w.lanes k ≡ Some lane → gets_tick lane had ≡ true → Fits w (Calls k Ticks) old new v
+    → slice_get w.lanes k ≡ Some lane → gets_tick lane had ≡ true → Fits w (Calls (OfDisk k) Ticks) old new v
     → Grew (λ es. LaneTicked k had true w es v) old new
 tick_grew k w v old new lane had there gets fits =
     let one : OneEntry k (AnswersCall Ticks) fits.entries = fits.moves.part_of in
@@ -108,7 +109,7 @@ tick_grew k w v old new lane had there gets fits =
         part = fits.adds.part;
         grew = fits.adds.grew;
         says = tick_said k fits.adds.part
-            (subst (λ (l : List SettleEntry). PartSays (Calls k Ticks) fits.adds.part l) is fits.adds.says);
+            (subst (λ (l : List SettleEntry). PartSays (Calls (OfDisk k) Ticks) fits.adds.part l) is fits.adds.says);
       };
       holds = subst (λ (l : List SettleEntry). LaneTicked k had true w l v) ticked.ticked.1 ticked;
     }
@@ -139,10 +140,10 @@ none_begun w v line old new entries none adds run =
       journal_stays = adds.grew ∙ ap (λ (l : List Entry). old ++ l) empty ∙ append-nil old;
     }
 
-pub tick_wants : (k : ℕ) (w v : WorldState) (old new : List Entry) → FitsSoFar w (Calls k Ticks) old new v
+pub tick_wants : (k : ℕ) (w v : WorldState) (old new : List Entry) → FitsSoFar w (Calls (OfDisk k) Ticks) old new v
     → Unchanged w old new v
 tick_wants k w v old new so_far =
-    none_begun w v (Calls k Ticks) old new so_far.entries so_far.begins.begins so_far.adds so_far.begins.run
+    none_begun w v (Calls (OfDisk k) Ticks) old new so_far.entries so_far.begins.begins so_far.adds so_far.begins.run
 
 -- THE TICKS GO ON by a lane that gets one, and by one that gets none
 or_true : (b : Bool) → (b || true) ≡ true
@@ -155,7 +156,7 @@ or_false false = refl
 
 pub ticked_goes_on : (k : ℕ) (w v : WorldState) (old new : List Entry) (have marks : List Bool) (lane : LaneState)
     (mark : Bool) → slice_get w.lanes k ≡ Some lane → slice_get have k ≡ Some mark → k < length have
-    → gets_tick lane mark ≡ true → marks ≡ slice_set have k true → Fits w (Calls k Ticks) old new v
+    → gets_tick lane mark ≡ true → marks ≡ slice_set have k true → Fits w (Calls (OfDisk k) Ticks) old new v
     → TicksGoOn k w have old true v marks new
 ticked_goes_on k w v old new have marks lane mark there at less gets is fits =
     ticks_go_by k w v old new have marks mark true at (tick_grew k w v old new lane mark there gets fits) less

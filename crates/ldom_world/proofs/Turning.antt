@@ -4,7 +4,7 @@ use Rattle.std.proofs.Common.{◌≡◌, ℕ, zero, suc, ◌+◌, ◌-◌, ◌<�
 use Rattle.std.specs.Prelude.{OnErr}
 use Rattle.runs.specs.Run.{run_append}
 use Rattle.world_laws.specs.Settle.{OfLane, SettleEntry}
-use Rattle.world_laws.specs.Lines.{AreSteps, Rounds, Steps, EndTurn, round_turns, turn, turns_of}
+use Rattle.world_laws.specs.Lines.{AreSteps, Rounds, Steps, EndTurn, round_turns, turn, turns_of, OfDisk}
 use Rattle.world_laws.specs.World.{WorldState, WorldStep}
 use Rattle.ldc_queue.specs.declared.end.End.{End}
 use Rattle.ldc_queue.specs.declared.end.End.TheVariants.{A, B}
@@ -24,9 +24,8 @@ both_steps : (first second : List EndTurn) (one two : List SettleEntry) → AreS
 both_steps [] second [] two steps more = more
 both_steps [] second (x ∷ one) two steps more = absurd steps
 both_steps (next ∷ first) second [] two steps more = absurd steps
-both_steps (next ∷ first) second (OfLane k event ∷ one) two steps more =
-    (steps.0, steps.1, both_steps first second one two steps.2 more)
-both_steps (next ∷ first) second (x ∷ one) two steps more = absurd steps
+both_steps (next ∷ first) second (entry ∷ one) two steps more =
+    (steps.0, both_steps first second one two steps.1 more)
 
 pub none_turned : (w v : WorldState) (old new : List Entry) → v ≡ w → new ≡ old → TurnsMade [] w old new v
 none_turned w v old new same none = record {
@@ -40,11 +39,11 @@ pub nothing_turned : (w : WorldState) (old : List Entry) → TurnsMade [] w old 
 nothing_turned w old = none_turned w w old old refl refl
 
 one_turned : (k : ℕ) (e : End) (w v : WorldState) (old new : List Entry) → MakesStep k e w old new v
-    → TurnsMade (turn k e ∷ []) w old new v
+    → TurnsMade (turn (OfDisk k) e ∷ []) w old new v
 one_turned k e w v old new made = record {
   entries = OfLane k made.event ∷ [];
   adds = made.adds;
-  steps = (refl, made.of_end, tt);
+  steps = ((refl, made.of_end), tt);
   run = (v, made.moves, refl);
 }
 
@@ -96,16 +95,16 @@ as_begun turns others w v old new is begun = subst (λ (l : List EndTurn). Turns
 
 -- THE TWO STEPS of a lane
 pub both_ends : (k : ℕ) (w m v : WorldState) (old mid new : List Entry) → MakesStep k A w old mid m
-    → MakesStep k B m mid new v → TurnsMade (turn k A ∷ turn k B ∷ []) w old new v
+    → MakesStep k B m mid new v → TurnsMade (turn (OfDisk k) A ∷ turn (OfDisk k) B ∷ []) w old new v
 both_ends k w m v old mid new client server =
-    both_turned (turn k A ∷ []) (turn k B ∷ []) w m v old mid new (one_turned k A w m old mid client)
+    both_turned (turn (OfDisk k) A ∷ []) (turn (OfDisk k) B ∷ []) w m v old mid new (one_turned k A w m old mid client)
     (one_turned k B m v mid new server)
 
 pub client_alone : (k : ℕ) (w m v : WorldState) (old mid new : List Entry) → MakesStep k A w old mid m → v ≡ m
-    → new ≡ mid → TurnsBegun (turn k A ∷ turn k B ∷ []) w old new v
+    → new ≡ mid → TurnsBegun (turn (OfDisk k) A ∷ turn (OfDisk k) B ∷ []) w old new v
 client_alone k w m v old mid new client same none =
-    begun_behind (turn k A ∷ []) (turn k B ∷ []) w m v old mid new (one_turned k A w m old mid client)
-    (none_begun (turn k B ∷ []) m v mid new same none)
+    begun_behind (turn (OfDisk k) A ∷ []) (turn (OfDisk k) B ∷ []) w m v old mid new (one_turned k A w m old mid client)
+    (none_begun (turn (OfDisk k) B ∷ []) m v mid new same none)
 
 -- A ROUND, lane by lane
 round_both : (k n more : ℕ) → round_turns k (n + more) ≡ round_turns k n ++ round_turns (k + n) more
@@ -114,33 +113,33 @@ round_both k zero more =
     ∙ ap (λ (i : ℕ). round_turns i more) (let is : k ≡ k + 0 = omega (arith) in is)
 round_both k (suc n) more =
     ap (λ (i : ℕ). round_turns k i) (let is : suc n + more ≡ suc (n + more) = omega (arith) in is)
-    ∙ ap (λ (l : List EndTurn). turn k A ∷ turn k B ∷ l)
+    ∙ ap (λ (l : List EndTurn). turn (OfDisk k) A ∷ turn (OfDisk k) B ∷ l)
     (round_both (k + 1) n more
     ∙ ap (λ (i : ℕ). round_turns (k + 1) n ++ round_turns i more)
     (let is : (k + 1) + n ≡ k + suc n = omega (arith) in is))
 
-round_more : (k : ℕ) → round_turns 0 k ++ turn k A ∷ turn k B ∷ [] ≡ round_turns 0 (k + 1)
+round_more : (k : ℕ) → round_turns 0 k ++ turn (OfDisk k) A ∷ turn (OfDisk k) B ∷ [] ≡ round_turns 0 (k + 1)
 round_more k =
     sym (round_both 0 k 1
     ∙ ap (λ (i : ℕ). round_turns 0 k ++ round_turns i 1) (let is : 0 + k ≡ k = omega (arith) in is))
 
 module _ (k : ℕ) (w m v : WorldState) (first old new : List Entry) where
-  pub round_turned : TurnsMade (round_turns 0 k) w first old m → TurnsMade (turn k A ∷ turn k B ∷ []) m old new v
+  pub round_turned : TurnsMade (round_turns 0 k) w first old m → TurnsMade (turn (OfDisk k) A ∷ turn (OfDisk k) B ∷ []) m old new v
       → TurnsMade (round_turns 0 (k + 1)) w first new v
   round_turned before both =
-      as_turns (round_turns 0 k ++ turn k A ∷ turn k B ∷ []) (round_turns 0 (k + 1)) w v first new (round_more k)
-      (both_turned (round_turns 0 k) (turn k A ∷ turn k B ∷ []) w m v first old new before both)
+      as_turns (round_turns 0 k ++ turn (OfDisk k) A ∷ turn (OfDisk k) B ∷ []) (round_turns 0 (k + 1)) w v first new (round_more k)
+      (both_turned (round_turns 0 k) (turn (OfDisk k) A ∷ turn (OfDisk k) B ∷ []) w m v first old new before both)
 
   pub round_wants : (many : ℕ) → k < many → TurnsMade (round_turns 0 k) w first old m
-      → TurnsBegun (turn k A ∷ turn k B ∷ []) m old new v → TurnsBegun (round_turns 0 many) w first new v
+      → TurnsBegun (turn (OfDisk k) A ∷ turn (OfDisk k) B ∷ []) m old new v → TurnsBegun (round_turns 0 many) w first new v
   round_wants many less before begun =
       let rest = many - (k + 1) in
       let all : (k + 1) + rest ≡ many = omega (arith, less) in
       as_begun (round_turns 0 (k + 1) ++ round_turns (0 + (k + 1)) rest) (round_turns 0 many) w v first new
       (sym (round_both 0 (k + 1) rest) ∙ ap (λ (i : ℕ). round_turns 0 i) all)
       (begun_before (round_turns 0 (k + 1)) (round_turns (0 + (k + 1)) rest) w v first new
-      (as_begun (round_turns 0 k ++ turn k A ∷ turn k B ∷ []) (round_turns 0 (k + 1)) w v first new (round_more k)
-      (begun_behind (round_turns 0 k) (turn k A ∷ turn k B ∷ []) w m v first old new before begun)))
+      (as_begun (round_turns 0 k ++ turn (OfDisk k) A ∷ turn (OfDisk k) B ∷ []) (round_turns 0 (k + 1)) w v first new (round_more k)
+      (begun_behind (round_turns 0 k) (turn (OfDisk k) A ∷ turn (OfDisk k) B ∷ []) w m v first old new before begun)))
 
 pub round_of_all : (n many : ℕ) (w v : WorldState) (old new : List Entry) → n ≡ many
     → TurnsMade (round_turns 0 n) w old new v → TurnsMade (round_turns 0 many) w old new v
@@ -209,30 +208,30 @@ same_both (suc n) more next =
     ∙ ap (λ (l : List EndTurn). next ∷ l) (same_both n more next)
 
 module _ (k : ℕ) (e : End) (n : ℕ) (w m v : WorldState) (first old new : List Entry) where
-  pub one_more_step : TurnsMade (replicate n (turn k e)) w first old m → MakesStep k e m old new v
-      → TurnsMade (replicate (n + 1) (turn k e)) w first new v
+  pub one_more_step : TurnsMade (replicate n (turn (OfDisk k) e)) w first old m → MakesStep k e m old new v
+      → TurnsMade (replicate (n + 1) (turn (OfDisk k) e)) w first new v
   one_more_step before made =
-      as_turns (replicate n (turn k e) ++ turn k e ∷ []) (replicate (n + 1) (turn k e)) w v first new
-      (sym (same_both n 1 (turn k e)))
-      (both_turned (replicate n (turn k e)) (turn k e ∷ []) w m v first old new before
+      as_turns (replicate n (turn (OfDisk k) e) ++ turn (OfDisk k) e ∷ []) (replicate (n + 1) (turn (OfDisk k) e)) w v first new
+      (sym (same_both n 1 (turn (OfDisk k) e)))
+      (both_turned (replicate n (turn (OfDisk k) e)) (turn (OfDisk k) e ∷ []) w m v first old new before
       (one_turned k e m v old new made))
 
-  pub steps_want : (count : ℕ) → n < count → TurnsMade (replicate n (turn k e)) w first old m → v ≡ m → new ≡ old
-      → FitsSoFar w (Steps k e count) first new v
+  pub steps_want : (count : ℕ) → n < count → TurnsMade (replicate n (turn (OfDisk k) e)) w first old m → v ≡ m → new ≡ old
+      → FitsSoFar w (Steps (OfDisk k) e count) first new v
   steps_want count less before same none =
       let rest = count - n in
       let all : n + rest ≡ count = omega (arith, less) in
       let turned =
-      both_turned (replicate n (turn k e)) [] w m v first old new before (none_turned m v old new same none) in
+      both_turned (replicate n (turn (OfDisk k) e)) [] w m v first old new before (none_turned m v old new same none) in
       record {
         entries = turned.entries;
-        adds = turned.adds (Steps k e count);
+        adds = turned.adds (Steps (OfDisk k) e count);
         begins = record {
           begins = record {
-            made = replicate n (turn k e) ++ [];
-            left = replicate rest (turn k e);
-            turns_are = sym (ap (λ (i : ℕ). replicate i (turn k e)) all) ∙ same_both n rest (turn k e)
-                ∙ ap (λ (l : List EndTurn). l ++ replicate rest (turn k e)) (sym (append-nil (replicate n (turn k e))));
+            made = replicate n (turn (OfDisk k) e) ++ [];
+            left = replicate rest (turn (OfDisk k) e);
+            turns_are = sym (ap (λ (i : ℕ). replicate i (turn (OfDisk k) e)) all) ∙ same_both n rest (turn (OfDisk k) e)
+                ∙ ap (λ (l : List EndTurn). l ++ replicate rest (turn (OfDisk k) e)) (sym (append-nil (replicate n (turn (OfDisk k) e))));
             steps = turned.steps;
           };
           run = turned.run;
@@ -240,11 +239,11 @@ module _ (k : ℕ) (e : End) (n : ℕ) (w m v : WorldState) (first old new : Lis
       }
 
 pub steps_fit : (k : ℕ) (e : End) (n count : ℕ) (w v : WorldState) (old new : List Entry) → n ≡ count
-    → TurnsMade (replicate n (turn k e)) w old new v → Fits w (Steps k e count) old new v
+    → TurnsMade (replicate n (turn (OfDisk k) e)) w old new v → Fits w (Steps (OfDisk k) e count) old new v
 steps_fit k e n count w v old new all turned =
-    subst (λ (i : ℕ). Fits w (Steps k e i) old new v) all (record {
+    subst (λ (i : ℕ). Fits w (Steps (OfDisk k) e i) old new v) all (record {
       entries = turned.entries;
-      adds = turned.adds (Steps k e n);
+      adds = turned.adds (Steps (OfDisk k) e n);
       moves = record { part_of = turned.steps; run = turned.run };
     })
 

@@ -5,7 +5,7 @@ use Rattle.disk_law.specs.ListState.{ImageState}
 use Rattle.disk_model.specs.DiskEvent.{DiskEvent}
 use Rattle.disk_model.specs.LaneState.{LaneState}
 use Rattle.world_laws.specs.CalmEnds.{IsStep}
-use Rattle.world_laws.specs.Rounds.{is_calm}
+use Rattle.world_laws.specs.DiskKind.{is_calm}
 use Rattle.world_laws.specs.Settle.{OfLane}
 use Rattle.world_laws.specs.Lines.{Line}
 use Rattle.world_laws.specs.World.{LaneMoves, OneMoves, WorldState}

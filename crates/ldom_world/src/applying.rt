@@ -7,7 +7,7 @@ ghost use Rattle.ldom_report.specs.Report.{accepted_count};
 ghost use Rattle.ldom_world.specs.Called.{call_of};
 ghost use Rattle.world_laws.specs.Issued.{issued_on};
 ghost use Rattle.world_laws.specs.Lines.{Calls, Steps};
-ghost use Rattle.world_parts.specs.Lines.{IsDiskOf, IsForDisks, line_of};
+ghost use Rattle.world_parts.specs.Lines.{IsDiskOf, IsForDisks, lane_named, line_of};
 ghost use Rattle.world_parts.specs.Parts.{Fits, FitsSoFar};
 
 use crate::calls::LaneCall;
@@ -51,9 +51,9 @@ impl<D: Store> World<D> {
         requires lane { IsDiskOf (length self.old.lanes) end.lane }
         requires count { AreTurns count }
         requires agrees { accepted_count journal.old.entries ≡ issued_on self.old.lanes }
-        ensures fits { OnOk result (Fits self.old (Steps end.lane.number (end_of end.side) count)
+        ensures fits { OnOk result (Fits self.old (Steps (lane_named end.lane) (end_of end.side) count)
             journal.old.entries journal.new.entries self.new) }
-        ensures so_far { OnErr result (FitsSoFar self.old (Steps end.lane.number (end_of end.side) count)
+        ensures so_far { OnErr result (FitsSoFar self.old (Steps (lane_named end.lane) (end_of end.side) count)
             journal.old.entries journal.new.entries self.new) }
         ensures agrees { accepted_count journal.new.entries ≡ issued_on self.new.lanes }
     {
@@ -66,9 +66,9 @@ impl<D: Store> World<D> {
     fn call_on(&mut self, lane: Lane, call: LaneCall, journal: &mut Journal) -> Result<(), NoMemory>
         requires lane { IsDiskOf (length self.old.lanes) lane }
         requires agrees { accepted_count journal.old.entries ≡ issued_on self.old.lanes }
-        ensures fits { OnOk result (Fits self.old (Calls lane.number (call_of call)) journal.old.entries
+        ensures fits { OnOk result (Fits self.old (Calls (lane_named lane) (call_of call)) journal.old.entries
             journal.new.entries self.new) }
-        ensures so_far { OnErr result (FitsSoFar self.old (Calls lane.number (call_of call)) journal.old.entries
+        ensures so_far { OnErr result (FitsSoFar self.old (Calls (lane_named lane) (call_of call)) journal.old.entries
             journal.new.entries self.new) }
         ensures agrees { accepted_count journal.new.entries ≡ issued_on self.new.lanes }
     {

@@ -8,7 +8,7 @@ ghost use Rattle.ldom_entries.specs.declared.entry.Entry.TheVariants as the_entr
 ghost use Rattle.ldom_entries.specs.declared.entry.Who.TheVariants as the_who;
 ghost use Rattle.ldom_world.specs.Called.{call_of};
 ghost use Rattle.ldom_world.specs.OneLane.{LaneAnswers};
-ghost use Rattle.world_laws.specs.Lines.{AnswersCall, Calls, Loses, Resets, Restarts, Starts, Stops, Ticks};
+ghost use Rattle.world_laws.specs.Lines.{AnswersCall, Calls, Loses, Resets, Restarts, Starts, Stops, Ticks, OfDisk};
 ghost use Rattle.world_laws.specs.Issued.{issued_on};
 ghost use Rattle.world_parts.specs.Parts.{Fits, FitsSoFar};
 
@@ -53,9 +53,9 @@ impl<D: Store> World<D> {
     ) -> Result<(), NoMemory>
         requires disk { disk < length self.old.lanes }
         requires agrees { accepted_count journal.old.entries ≡ issued_on self.old.lanes }
-        ensures fits { OnOk result (Fits self.old (Calls disk (call_of call)) journal.old.entries
+        ensures fits { OnOk result (Fits self.old (Calls (OfDisk disk) (call_of call)) journal.old.entries
             journal.new.entries self.new) }
-        ensures so_far { OnErr result (FitsSoFar self.old (Calls disk (call_of call)) journal.old.entries
+        ensures so_far { OnErr result (FitsSoFar self.old (Calls (OfDisk disk) (call_of call)) journal.old.entries
             journal.new.entries self.new) }
         ensures agrees { accepted_count journal.new.entries ≡ issued_on self.new.lanes }
     {
@@ -68,7 +68,7 @@ impl<D: Store> World<D> {
 
 /// Calls a lane, and gives the entry of what came of it.
 fn call_lane(lane: &mut DiskLane, disk: u32, call: LaneCall) -> Entry
-    ensures answers { LaneAnswers (Calls disk (call_of call)) disk (AnswersCall (call_of call)) lane.old result
+    ensures answers { LaneAnswers (Calls (OfDisk disk) (call_of call)) disk (AnswersCall (call_of call)) lane.old result
         lane.new }
     ensures shape { lane.new.shape ≡ lane.old.shape }
 {
@@ -83,7 +83,7 @@ fn call_lane(lane: &mut DiskLane, disk: u32, call: LaneCall) -> Entry
 }
 
 fn reset_end(lane: &mut DiskLane, disk: u32, side: Side) -> Entry
-    ensures answers { LaneAnswers (Calls disk (Resets (end_of side))) disk (AnswersCall (Resets (end_of side)))
+    ensures answers { LaneAnswers (Calls (OfDisk disk) (Resets (end_of side))) disk (AnswersCall (Resets (end_of side)))
         lane.old result lane.new }
     ensures shape { lane.new.shape ≡ lane.old.shape }
 {
@@ -96,7 +96,7 @@ fn reset_end(lane: &mut DiskLane, disk: u32, side: Side) -> Entry
 }
 
 fn restart_server(lane: &mut DiskLane, disk: u32) -> Entry
-    ensures answers { LaneAnswers (Calls disk Restarts) disk (AnswersCall Restarts) lane.old result lane.new }
+    ensures answers { LaneAnswers (Calls (OfDisk disk) Restarts) disk (AnswersCall Restarts) lane.old result lane.new }
     ensures shape { lane.new.shape ≡ lane.old.shape }
 {
     let end = server_of(disk);
@@ -108,7 +108,7 @@ fn restart_server(lane: &mut DiskLane, disk: u32) -> Entry
 }
 
 fn stop_server(lane: &mut DiskLane, disk: u32) -> Entry
-    ensures answers { LaneAnswers (Calls disk Stops) disk (AnswersCall Stops) lane.old result lane.new }
+    ensures answers { LaneAnswers (Calls (OfDisk disk) Stops) disk (AnswersCall Stops) lane.old result lane.new }
     ensures shape { lane.new.shape ≡ lane.old.shape }
 {
     if lane.stop() {
@@ -119,7 +119,7 @@ fn stop_server(lane: &mut DiskLane, disk: u32) -> Entry
 }
 
 fn start_server(lane: &mut DiskLane, disk: u32) -> Entry
-    ensures answers { LaneAnswers (Calls disk Starts) disk (AnswersCall Starts) lane.old result lane.new }
+    ensures answers { LaneAnswers (Calls (OfDisk disk) Starts) disk (AnswersCall Starts) lane.old result lane.new }
     ensures shape { lane.new.shape ≡ lane.old.shape }
 {
     if lane.start() {
@@ -130,7 +130,7 @@ fn start_server(lane: &mut DiskLane, disk: u32) -> Entry
 }
 
 fn lose_packet(lane: &mut DiskLane, disk: u32, side: Side) -> Entry
-    ensures answers { LaneAnswers (Calls disk (Loses (end_of side))) disk (AnswersCall (Loses (end_of side)))
+    ensures answers { LaneAnswers (Calls (OfDisk disk) (Loses (end_of side))) disk (AnswersCall (Loses (end_of side)))
         lane.old result lane.new }
     ensures shape { lane.new.shape ≡ lane.old.shape }
 {
@@ -143,7 +143,7 @@ fn lose_packet(lane: &mut DiskLane, disk: u32, side: Side) -> Entry
 
 /// Ticks a client, and gives the entry: it is reset where it isn't finished.
 fn tick_client(lane: &mut DiskLane, disk: u32) -> Entry
-    ensures answers { LaneAnswers (Calls disk Ticks) disk (AnswersCall Ticks) lane.old result lane.new }
+    ensures answers { LaneAnswers (Calls (OfDisk disk) Ticks) disk (AnswersCall Ticks) lane.old result lane.new }
     ensures shape { lane.new.shape ≡ lane.old.shape }
 {
     if lane.tick() {

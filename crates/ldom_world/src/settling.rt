@@ -3,7 +3,8 @@
 ghost use Rattle.std.specs.Prelude.{◌≡◌, ◌&&◌, ◌*◌, ◌<◌, ◌≤◌, ◌^◌, length, not, slice_get, slice_set, take, Some, IfOk, OnErr, OnOk};
 ghost use Rattle.disk_model.specs.LaneState.{LaneState};
 ghost use Rattle.world_laws.specs.Settle.{most_rounds, pending_on};
-ghost use Rattle.world_laws.specs.Ticks.{gets_tick, waits_on};
+ghost use Rattle.world_laws.specs.DiskKind.{waits_on};
+ghost use Rattle.world_laws.specs.Ticks.{gets_tick};
 ghost use Rattle.world_laws.specs.Lines.{Settles};
 ghost use Rattle.ldom_report.specs.Report.{accepted_count};
 ghost use Rattle.ldom_world.specs.SettleParts.{NamesAdd, NamesAddFront, NamesGoOn, RoundAdds, RoundAddsFront};

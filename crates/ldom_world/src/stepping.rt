@@ -2,7 +2,7 @@
 
 ghost use Rattle.std.specs.Prelude.{◌≡◌, ◌*◌, ◌+◌, ◌<◌, ◌≤◌, [], ◌∷◌, length, replicate, IfOk, OnErr, OnOk};
 ghost use Rattle.disk_law.specs.ListState.{ImageState};
-ghost use Rattle.world_laws.specs.Lines.{Rounds, Steps, round_turns, turn};
+ghost use Rattle.world_laws.specs.Lines.{OfDisk, Rounds, Steps, both_ends, round_turns};
 ghost use Rattle.ldc_queue.specs.declared.end.End.TheVariants.{A, B};
 ghost use Rattle.ldom_report.specs.LaneEvents.{end_of};
 ghost use Rattle.ldom_report.specs.Report.{accepted_count};
@@ -34,9 +34,9 @@ impl<D: Store> World<D> {
     ) -> Result<(), NoMemory>
         requires disk { disk < length self.old.lanes }
         requires agrees { accepted_count journal.old.entries ≡ issued_on self.old.lanes }
-        ensures fits { OnOk result (Fits self.old (Steps disk (end_of side) count) journal.old.entries
+        ensures fits { OnOk result (Fits self.old (Steps (OfDisk disk) (end_of side) count) journal.old.entries
             journal.new.entries self.new) }
-        ensures so_far { OnErr result (FitsSoFar self.old (Steps disk (end_of side) count) journal.old.entries
+        ensures so_far { OnErr result (FitsSoFar self.old (Steps (OfDisk disk) (end_of side) count) journal.old.entries
             journal.new.entries self.new) }
         ensures agrees { accepted_count journal.new.entries ≡ issued_on self.new.lanes }
     {
@@ -82,9 +82,9 @@ impl<D: Store> World<D> {
     fn step_both(&mut self, disk: u32, journal: &mut Journal) -> Result<(), NoMemory>
         requires disk { disk < length self.old.lanes }
         requires agrees { accepted_count journal.old.entries ≡ issued_on self.old.lanes }
-        ensures made { OnOk result (TurnsMade (turn disk A ∷ turn disk B ∷ []) self.old journal.old.entries
+        ensures made { OnOk result (TurnsMade (both_ends (OfDisk disk ∷ [])) self.old journal.old.entries
             journal.new.entries self.new) }
-        ensures begun { OnErr result (TurnsBegun (turn disk A ∷ turn disk B ∷ []) self.old journal.old.entries
+        ensures begun { OnErr result (TurnsBegun (both_ends (OfDisk disk ∷ [])) self.old journal.old.entries
             journal.new.entries self.new) }
         ensures many { length self.new.lanes ≡ length self.old.lanes }
         ensures agrees { accepted_count journal.new.entries ≡ issued_on self.new.lanes }

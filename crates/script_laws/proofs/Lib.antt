@@ -17,8 +17,6 @@ pub mod Hearing
 pub mod Moments
 pub mod Places
 pub mod SettleEntries
-pub mod SettleTicks
-pub mod FrontStuck
 pub mod LineEntries
 pub mod CleanLanes
 pub mod Settling

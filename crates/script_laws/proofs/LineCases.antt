@@ -48,12 +48,11 @@ silent s e =
 no_steps : (turns : List EndTurn) → AreFirstSteps turns []
 no_steps turns = record { made = []; left = turns; turns_are = refl; steps = tt }
 
-no_round : (k : ℕ) (lanes : List LaneState) → RoundFront k lanes [] lanes
-no_round k [] = record { is = refl; lanes_stay = refl }
-no_round k (s ∷ lanes) = inl (record { is = refl; lanes_stay = refl })
+no_round : (lanes : List LaneState) → RoundFront lanes [] lanes
+no_round lanes = record { turns = []; between = lanes; made = refl; within = omega arith; begun = []; run = refl; next = inl refl; is = refl }
 
 no_settle : (lanes : List LaneState) → SettleFront lanes [] lanes
-no_settle lanes = record { rounds = []; now = begin lanes; run = refl; later = []; front = inl (omega arith, inl (no_round 0 lanes)); is = refl }
+no_settle lanes = record { rounds = []; now = begin lanes; run = refl; later = []; front = inl (omega arith, inl (no_round lanes)); is = refl }
 
 -- of each line no step may have been made
 pub none_begun : (e : Event) (lanes : List LaneState) → BeginsPart (line_of e) lanes [] lanes

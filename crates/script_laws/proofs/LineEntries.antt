@@ -4,18 +4,16 @@ use Rattle.disk_model.specs.DiskEvent.{DiskEvent}
 use Rattle.disk_model.specs.LaneState.{LaneState}
 use Rattle.world_laws.proofs.Falling.{ends_settled, rounds_few}
 use Rattle.world_laws.proofs.LineEntries.{EachEntry, each_as, each_both, each_in, one_each, steps_each}
-use Rattle.world_laws.proofs.Stuck.{part_never}
-use Rattle.world_laws.proofs.TicksOnce.{part_ticks}
+use Rattle.world_laws.proofs.Stuck.{front_never, part_never}
+use Rattle.world_laws.proofs.TicksOnce.{front_ticks, part_ticks}
 use Rattle.world_laws.specs.Begun.{SettleFront}
 use Rattle.world_laws.specs.Settle.{SettleEntry, SettlePart, Settled, Settles}
-use Rattle.world_laws.specs.Lines.{AnswersCall, AnswersRequest, AreSteps, Asked, BeginsPart, Calls, Line}
+use Rattle.world_laws.specs.Lines.{AnswersCall, AnswersRequest, AreSteps, Asked, BeginsPart, Calls, Line, OfDisk}
 use Rattle.world_laws.specs.Lines.{Nothing, OneEntry, PartOf, Rounds, Steps, EndTurn, turn, turns_of}
 use Rattle.world_laws.specs.Lines as world
 use Rattle.script_laws.proofs.CleanLanes.{AreClean}
 use Rattle.script_laws.proofs.Entries.{IsOfLane, LeavesNone, lanes_leave}
-use Rattle.script_laws.proofs.FrontStuck.{front_never}
 use Rattle.script_laws.proofs.SettleEntries.{AreOfLanes, SettledLast, settle_front, settled_last}
-use Rattle.script_laws.proofs.SettleTicks.{front_ticks}
 use Rattle.script_laws.specs.Settled.{EndsSettled, KeepsRules}
 
 -- STEPS, and what comes of a request or a call
@@ -36,7 +34,7 @@ part_is (Asked k request) lanes part behind is = inr (one k (AnswersRequest requ
 part_is (Steps k e count) lanes part behind is = inr (steps (replicate count (turn k e)) part is)
 part_is (Rounds count) lanes part behind is = inr (steps (turns_of count (length lanes)) part is)
 part_is world.Settles lanes part behind is = inl is
-part_is (Calls k call) lanes part behind is = inr (one k (AnswersCall call) part is)
+part_is (Calls (OfDisk k) call) lanes part behind is = inr (one k (AnswersCall call) part is)
 
 -- A SETTLE over clean lanes
 pub clean_settles : (lanes : List LaneState) (part : List SettleEntry) (behind : List LaneState) → AreClean lanes

@@ -11,7 +11,7 @@ use Rattle.domain_script.specs.declared.event.DiskDecl.{DiskDecl}
 use Rattle.domain_script.specs.declared.event.Event.{Event}
 use Rattle.world_laws.proofs.Along.{lanes_run, lines_run}
 use Rattle.world_laws.specs.Settle.{OfLane, SettleEntry, Settled}
-use Rattle.world_laws.specs.Lines.{AreSteps, Asked, Calls, Line, Nothing, OneEntry, PartOf, Rounds, Steps, EndTurn, entries_of_lines, turn, turns_of}
+use Rattle.world_laws.specs.Lines.{AreSteps, Asked, Calls, Line, Nothing, OneEntry, PartOf, Rounds, Steps, EndTurn, entries_of_lines, turn, turns_of, OfDisk}
 use Rattle.world_laws.specs.Lines as world
 use Rattle.world_laws.specs.World.{WorldState}
 use Rattle.world_parts.specs.WorldEvents.{world_event}
@@ -80,10 +80,9 @@ IsDelimited None part = SettledLast part
 
 as_turns : (turns : List EndTurn) (part : List SettleEntry) → AreSteps turns part → length part ≡ length turns
 as_turns [] [] are = refl
-as_turns (next ∷ turns) (OfLane k event ∷ part) are = let rest = as_turns turns part are.2 in omega (arith, rest)
+as_turns (next ∷ turns) (entry ∷ part) are = let rest = as_turns turns part are.1 in omega (arith, rest)
 as_turns [] (entry ∷ part) are = absurd are
 as_turns (next ∷ turns) [] are = absurd are
-as_turns (next ∷ turns) (x ∷ part) are = absurd are
 
 one_long : (k : ℕ) (Answers : DiskEvent → Type 0) (part : List SettleEntry) → OneEntry k Answers part → length part ≡ 1
 one_long k Answers part one = ap (λ (l : List SettleEntry). length l) one.is
@@ -96,7 +95,7 @@ delimited (Steps k e count) lanes part behind clean is = as_turns (replicate cou
 delimited (Rounds count) lanes part behind clean is = as_turns (turns_of count (length lanes)) part is
 delimited world.Settles lanes part behind clean is =
     settled_last lanes part behind (clean_settles lanes part behind clean is)
-delimited (Calls k call) lanes part behind clean is = one_long k _ part is
+delimited (Calls (OfDisk k) call) lanes part behind clean is = one_long k _ part is
 
 -- ITS ENTRIES are as many, and the answer stands last among them
 abbrev is_answer : Option SettleEntry → Bool

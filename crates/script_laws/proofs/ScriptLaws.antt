@@ -16,7 +16,7 @@ use Rattle.domain_script.specs.declared.event.DiskDecl.{DiskDecl}
 use Rattle.domain_script.specs.declared.event.Event.{Event}
 use Rattle.world_laws.specs.Along.{happened}
 use Rattle.world_laws.proofs.Along.{fresh_reached}
-use Rattle.world_laws.proofs.LaneLists.{is_there}
+use Rattle.lane_kinds.proofs.Places.{get_within}
 use Rattle.world_laws.specs.World.{IsWorld, WorldState, WorldStep}
 use Rattle.world_laws.specs.Failures.{in_entry, is_flush, is_store, is_store_that}
 use Rattle.world_laws.proofs.ImageFaults.{few_counted, run_calls, run_flushes}
@@ -94,7 +94,7 @@ module _ (disks : List DiskDecl) (image : ImageState) (entries : ℕ) (parts : S
   one_completes : (x : ℕ) → CompletesOnceInOrder (requests_of (happened x (means_of tells.tellings)))
   one_completes x = elim (cases_lt x (length disks)) [
     | inl below ↦
-        let disk = is_there disks x below in
+        let disk = get_within disks x below in
         let at = shape_there 0 disks x disk.0 disk.1 in
         disk_completes (shapes_of 0 disks) image (means_of tells.tellings) v x (shape_of at.0 disk.0)
         (are_shapes 0 disks are) tells.run at.1

@@ -6,7 +6,10 @@ use Rattle.lane_laws.specs.DiskLog.{after, nothing_yet}
 use Rattle.disk_model.specs.DiskEvent.{DiskEvent}
 use Rattle.disk_model.specs.LaneState.{IsShape, LaneState, Shape, fresh}
 use Rattle.disk_model.specs.LaneStep.{LaneStep}
-use Rattle.world_laws.proofs.Moving.{happened_both, round_moves_lanes, rounds_move_lanes}
+use Rattle.lane_kinds.proofs.Lanes.{own_turns}
+use Rattle.world_laws.proofs.DiskLaws.{gives_nothing}
+use Rattle.world_laws.specs.DiskKind.{disk_kind}
+use Rattle.world_laws.proofs.Moving.{happened_both, leads, rounds_move_lanes}
 use Rattle.world_laws.specs.Along.{happened}
 use Rattle.world_laws.specs.Settle.{SettleEntry, Settled, Settles, begin, entries_of_rounds, round_entries}
 use Rattle.world_laws.proofs.LaneLists.{lane_moved}
@@ -38,10 +41,11 @@ settled_still start part behind at so_far is x s there shape events sound run =
     let m : MovedTo x rounds s at.now.lanes =
     moved_to start rounds at.now.lanes x s (rounds_move_lanes (begin start) at.rounds at.now at.run) there in
     let q : QuietAt x m.lane behind =
-    quiet_at at.now.lanes at.steps behind x m.lane at.last.made at.last.quiet m.there in
+    quiet_at at.now.lanes at.steps behind x m.lane
+    (own_turns disk_kind gives_nothing at.now.lanes at.steps behind at.last.made) at.last.quiet m.there in
     let moved : Run LaneStep m.lane (happened x last) q.lane =
     lane_moved 0 x x at.now.lanes last behind m.lane q.lane (own x)
-    (round_moves_lanes 0 at.now.lanes at.steps behind at.last.made) m.there q.there in
+    (leads.round at.now.lanes at.steps behind at.last.made) m.there q.there in
     let still = still_by shape (events ++ happened x rounds) m.lane q.round q.lane x last sound
     (run_append LaneStep (fresh shape) s m.lane events (happened x rounds) run m.run) q.made q.quiet
     (calm_round 0 at.steps at.last.quiet) moved in

@@ -20,8 +20,10 @@ use Rattle.lane_kinds.proofs.Sums.{and_left, and_right}
 use Rattle.world_laws.proofs.LaneRounds.{quiet_still}
 use Rattle.world_laws.proofs.LineEntries.{EachEntry, each_both, entry_each}
 use Rattle.world_laws.specs.Along.{event_at, happened}
-use Rattle.world_laws.specs.Rounds.{LaneRound, MakesRound, are_quiet, is_calm, is_quiet}
-use Rattle.world_laws.specs.Settle.{OfLane, SettleEntry, entry_of, round_entries}
+use Rattle.lane_kinds.specs.Lanes.{turn_entries}
+use Rattle.world_laws.specs.DiskKind.{disk_kind, is_calm}
+use Rattle.world_laws.specs.Rounds.{LaneRound, MakesRound, are_quiet, is_quiet}
+use Rattle.world_laws.specs.Settle.{OfLane, SettleEntry, disk_entries, entry_of, round_entries}
 use Rattle.ldc_queue.specs.Wire.{peer_of, waiting_for}
 use Rattle.ldc_queue.specs.declared.end.End.{End}
 use Rattle.ldc_queue.specs.declared.end.End.TheVariants.{A, B}
@@ -87,16 +89,27 @@ IsCalmEntry _ = ⊤
 calm_entry : (k : ℕ) (event : DiskEvent) → is_calm event ≡ true → EachEntry IsCalmEntry (entry_of k event)
 calm_entry k event calm = entry_each IsCalmEntry k event calm
 
+calm_turn : (k : ℕ) (events : LaneRound) → is_quiet events ≡ true
+    → EachEntry IsCalmEntry (turn_entries disk_kind disk_entries k events)
+calm_turn k [] quiet = tt
+calm_turn k (event ∷ events) quiet =
+    each_both IsCalmEntry (entry_of k event) (turn_entries disk_kind disk_entries k events)
+    (calm_entry k event (and_left (is_calm event) (is_quiet events) quiet))
+    (calm_turn k events (and_right (is_calm event) (is_quiet events) quiet))
+
 pub calm_round : (k : ℕ) (rounds : List LaneRound) → are_quiet rounds ≡ true
     → EachEntry IsCalmEntry (round_entries k rounds)
 calm_round k [] quiet = tt
 calm_round k (r ∷ rounds) quiet =
-    let own : is_quiet r ≡ true = and_left (is_quiet r) (are_quiet rounds) quiet in
-    each_both IsCalmEntry (entry_of k r.client ++ entry_of k r.server) (round_entries (k + 1) rounds)
-    (each_both IsCalmEntry (entry_of k r.client) (entry_of k r.server)
-    (calm_entry k r.client (and_left (is_calm r.client) (is_calm r.server) own))
-    (calm_entry k r.server (and_right (is_calm r.client) (is_calm r.server) own)))
+    each_both IsCalmEntry (turn_entries disk_kind disk_entries k r) (round_entries (k + 1) rounds)
+    (calm_turn k r (and_left (is_quiet r) (are_quiet rounds) quiet))
     (calm_round (k + 1) rounds (and_right (is_quiet r) (are_quiet rounds) quiet))
+
+calm_events : (l : DiskLog) (events : LaneRound) → is_quiet events ≡ true → (log_of after l events).work ≡ l.work
+calm_events l [] quiet = refl
+calm_events l (event ∷ events) quiet =
+    calm_events (after l event) events (and_right (is_calm event) (is_quiet events) quiet)
+    ∙ calm_work l event (and_left (is_calm event) (is_quiet events) quiet)
 
 calm_at : (c : Bool) (l : DiskLog) (event : DiskEvent) → is_calm event ≡ true
     → (log_of after l (if c then event ∷ [] else [])).work ≡ l.work
@@ -120,13 +133,9 @@ still_by shape events s r t x part sound run made quiet calm moved =
     let first : DiskLog = log_of after (nothing_yet shape) events in
     let whole : Run LaneStep (fresh shape) (events ++ happened x part) t =
     run_append LaneStep (fresh shape) s t events (happened x part) run moved in
-    let client = and_left (is_calm r.client) (is_calm r.server) quiet in
-    let server = and_right (is_calm r.client) (is_calm r.server) quiet in
-    let steps : (after (after first r.client) r.server).work ≡ first.work =
-    calm_work (after first r.client) r.server server ∙ calm_work first r.client client in
     let entries : (log_of after (nothing_yet shape) (events ++ happened x part)).work ≡ first.work =
     ap (λ (m : DiskLog). m.work) (log_append after (nothing_yet shape) events (happened x part))
     ∙ calm_log x first part calm in
-    both_still t (after (after first r.client) r.server)
-    (log_of after (nothing_yet shape) (events ++ happened x part)) (steps ∙ sym entries)
+    both_still t (log_of after first r)
+    (log_of after (nothing_yet shape) (events ++ happened x part)) (calm_events first r quiet ∙ sym entries)
     (run_agrees shape (events ++ happened x part) t sound whole) (quiet_still s r t made quiet shape events sound run)

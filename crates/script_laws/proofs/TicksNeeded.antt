@@ -14,7 +14,7 @@ use Rattle.domain_script.specs.declared.event.Event.{Event}
 use Rattle.domain_script.specs.declared.event.Event.TheVariants.{Settle}
 use Rattle.lane_laws.proofs.AgreementRuns.{run_agrees}
 use Rattle.channel_model.specs.WireLog.{WireLog}
-use Rattle.world_laws.proofs.Falling.{rounds_few}
+use Rattle.world_laws.proofs.Falling.{are_clean, rounds_few}
 use Rattle.world_laws.proofs.Moving.{happened_both}
 use Rattle.world_laws.specs.Along.{happened}
 use Rattle.world_laws.specs.Begun.{SettleFront}
@@ -39,10 +39,10 @@ use Rattle.world_parts.specs.Lines.{EventStep}
 part_stand : (lanes : List LaneState) (part : List SettleEntry) (behind : List LaneState) → AreClean lanes
     → SettlePart lanes part behind ⊎ SettleFront lanes part behind → TicksStand lanes part
 part_stand lanes part behind clean (inl settle) =
-    settles_stand lanes part behind (record { reached = clean.reached; unforged = clean.unforged })
+    settles_stand lanes part behind (are_clean lanes clean.reached clean.unforged)
     (clean_settles lanes part behind clean settle)
 part_stand lanes part behind clean (inr at) =
-    begun_stand lanes part behind (record { reached = clean.reached; unforged = clean.unforged }) at
+    begun_stand lanes part behind (are_clean lanes clean.reached clean.unforged) at
     (rounds_few lanes at.rounds at.now clean.reached clean.unforged clean.few at.run)
 
 module _ (disks : List DiskDecl) (image : ImageState) (are : AreDisks disks) (few : length disks ≤ 8) (x : ℕ)

@@ -2,37 +2,53 @@
 -- queues were last emptied, and both ends are still.
 use Rattle.std.proofs.Common.{◌≡◌, ◌⊎◌, inl, inr, ℕ, zero, suc, ◌+◌, ◌<◌, ◌≤◌, Bool, true, false, List, [], ◌∷◌, ◌++◌, length, slice_get, Some, refl, sym, ap, ◌∙◌, subst, arith, append_assoc, append-nil}
 use Rattle.std.proofs.lemmas.Option.{slice_get_within}
+use Rattle.std.specs.Prelude.{if◌then◌else◌, ⊤}
+use Rattle.ldc_queue.specs.declared.end.End.{End}
+use Rattle.vio_tag.specs.declared.cause.Cause.TheVariants as the_cause
+use Rattle.channel_model.specs.WireEvent.{Reset}
+use Rattle.lane_laws.specs.CalmEnds.{IsStep}
 use Rattle.runs.specs.Lawful.{log_of}
 use Rattle.runs.specs.Run.{Run, run_append}
 use Rattle.lane_laws.specs.DiskLog.{after, nothing_yet}
 use Rattle.disk_model.specs.ClientState.{is_finished}
-use Rattle.disk_model.specs.DiskEvent.{DiskEvent}
+use Rattle.disk_model.specs.DiskEvent.{DiskEvent, OnWire}
 use Rattle.disk_model.specs.LaneState.{IsShape, LaneState, Shape, fresh}
 use Rattle.disk_model.specs.LaneStep.{LaneStep}
 use Rattle.disk_model.specs.Reached.{IsReached}
 use Rattle.world_laws.proofs.Falling.{AreClean, keeps}
-use Rattle.world_laws.proofs.FrontMoving.{front_moves, ticked_moves}
+use Rattle.lane_kinds.proofs.Lanes.{own_turns}
+use Rattle.lane_kinds.proofs.Moving.{none_both}
+use Rattle.lane_kinds.specs.Lanes.{OwnTurns}
 use Rattle.lane_kinds.proofs.Leading.{few_stand, settles_lead}
 use Rattle.lane_kinds.proofs.Sums.{and_left, and_right}
 use Rattle.lane_kinds.specs.Laws.{FrontsLeadWhere, LeadsWhere}
 use Rattle.world_laws.proofs.LineEntries.{EachEntry, begun_each, each_in, round_each}
 use Rattle.world_laws.proofs.LaneRounds.{quiet_finished, quiet_same, round_keeps}
-use Rattle.world_laws.proofs.LaneTicks.{either, waits_where}
-use Rattle.world_laws.proofs.Moving.{both_none, happened_both, moves_on, round_moves_lanes, settled_moves, stay, tick_below}
-use Rattle.world_laws.proofs.RoundCounts.{tick_entry}
-use Rattle.world_laws.proofs.Together.{gets_where}
-use Rattle.world_laws.specs.Along.{LanesMove, happened}
+use Rattle.world_laws.proofs.LaneTicks.{either, gets_where, waits_where}
+use Rattle.world_laws.proofs.DiskLaws.{IsClean, gives_nothing}
+use Rattle.world_laws.proofs.Moving.{fronts_move, happened_both, leads, moves_on, settled_moves, stay}
+use Rattle.world_laws.specs.Along.{LanesMove, event_at, happened}
 use Rattle.world_laws.specs.Begun.{NoMore, SettleFront, TickFront, fronts}
 use Rattle.world_laws.specs.Moves.{is_tick}
 use Rattle.world_laws.specs.Rounds.{Each, LaneRound, MakeRound, MakesRound, are_quiet, is_quiet}
 use Rattle.world_laws.specs.Settle.{OfLane, SettleEntry, Settled, Settles, disks, most_rounds, round_entries, tick_entries}
 use Rattle.world_laws.specs.Sums.{IsUnforged}
-use Rattle.world_laws.specs.Ticks.{TickLanes, gets_tick, tick, waits_on}
-use Rattle.world_laws.proofs.LaneLists.{each_there, is_there, lane_moved, many_moved}
+use Rattle.world_laws.specs.DiskKind.{disk_kind, tick, waits_on}
+use Rattle.world_laws.specs.Ticks.{TickLanes, gets_tick}
+use Rattle.lane_kinds.proofs.Places.{get_within}
+use Rattle.world_laws.proofs.LaneLists.{each_there, other_event, lane_moved, many_moved}
 use Rattle.script_laws.proofs.Places.{InEither, no_place, place_in}
-use Rattle.script_laws.proofs.SettleTicks.{NoTick, step_none}
 use Rattle.script_laws.proofs.Stillness.{calm_round, still_by}
 use Rattle.script_laws.specs.Still.{AreStillBy}
+
+-- NO STEP is a tick
+abbrev pub NoTick : SettleEntry → Type 0
+NoTick (OfLane k event) = is_tick event ≡ false
+NoTick _ = ⊤
+
+pub step_none : (k : ℕ) (e : End) (event : DiskEvent) → IsStep e event → NoTick (OfLane k event)
+step_none k e (OnWire (Reset d the_cause.Tick packet lost)) own = absurd (cc own.1)
+step_none k e _ own = refl
 
 -- A TICK of this lane after so much of the part
 pub record TickAt (x : ℕ) (so_far : List SettleEntry) (start : LaneState) : Type 0 where
@@ -64,7 +80,7 @@ pub moved_to : (start : List LaneState) (part : List SettleEntry) (behind : List
     → LanesMove 0 start part behind → slice_get start x ≡ Some s → MovedTo x part s behind
 moved_to start part behind x s moves there =
     let many = many_moved 0 start part behind moves in
-    let lane = is_there behind x (omega (arith, slice_get_within start x s there, many)) in
+    let lane = get_within behind x (omega (arith, slice_get_within start x s there, many)) in
     record { lane = lane.0; there = lane.1; run = lane_moved 0 x x start part behind s lane.0 (own x) moves there lane.1 }
   where
     own : (x : ℕ) → x ≡ 0 + x
@@ -108,6 +124,13 @@ record FirstTick (j x : ℕ) (lanes : List LaneState) (so_far : List SettleEntry
   waits : waits_on lane ≡ true
   none : happened x so_far ≡ []
 
+abbrev tick_entry : ℕ → Bool → List SettleEntry
+tick_entry j get = if get then OfLane j tick ∷ [] else []
+
+tick_below : (j : ℕ) (get : Bool) (x : ℕ) → j + 1 ≤ x → happened x (tick_entry j get) ≡ []
+tick_below j true x less = other_event x j tick (λ same. omega (arith, less, same))
+tick_below j false x less = refl
+
 later_tick : (j x : ℕ) (s : LaneState) (lanes : List LaneState) (so_far : List SettleEntry) (get : Bool)
     → FirstTick (j + 1) x lanes so_far → FirstTick j x (s ∷ lanes) (tick_entry j get ++ so_far)
 later_tick j x s lanes so_far get at = record {
@@ -116,7 +139,7 @@ later_tick j x s lanes so_far get at = record {
   lane = at.lane;
   there = at.there;
   waits = at.waits;
-  none = both_none x (tick_entry j get) so_far (tick_below j get x (above at.index at.is)) at.none;
+  none = none_both LaneStep event_at x (tick_entry j get) so_far (tick_below j get x (above at.index at.is)) at.none;
 }
   where
     further : (i : ℕ) → x ≡ (j + 1) + i → x ≡ j + suc i
@@ -226,14 +249,14 @@ waits_lost s r t at clean made quiet waits =
     let both = waits_where (is_finished t.client) t.stopped waits in
     lossy_where s r t at clean made quiet (sym (round_keeps s r t made).stopped ∙ both.1) both.0 (either s.wire.lossy)
 
-quiet_lost : (lanes : List LaneState) (rounds : List LaneRound) (behind : List LaneState) → Each IsReached lanes
-    → Each IsUnforged lanes → MakeRound lanes rounds behind → are_quiet rounds ≡ true → Each WaitsLost behind
-quiet_lost [] [] [] reached clean made quiet = tt
-quiet_lost (s ∷ lanes) (r ∷ rounds) (t ∷ behind) reached clean made quiet = (
-  waits_lost s r t reached.0 clean.0 made.0 (and_left (is_quiet r) (are_quiet rounds) quiet),
-  quiet_lost lanes rounds behind reached.1 clean.1 made.1 (and_right (is_quiet r) (are_quiet rounds) quiet),
+quiet_lost : (lanes : List LaneState) (rounds : List LaneRound) (behind : List LaneState) → Each IsClean lanes
+    → OwnTurns disk_kind lanes rounds behind → are_quiet rounds ≡ true → Each WaitsLost behind
+quiet_lost [] [] [] clean made quiet = tt
+quiet_lost (s ∷ lanes) (r ∷ rounds) (t ∷ behind) clean made quiet = (
+  waits_lost s r t clean.0.reached clean.0.unforged made.0 (and_left (is_quiet r) (are_quiet rounds) quiet),
+  quiet_lost lanes rounds behind clean.1 made.1 (and_right (is_quiet r) (are_quiet rounds) quiet),
 )
-quiet_lost _ _ _ reached clean made quiet = absurd made
+quiet_lost _ _ _ clean made quiet = absurd made
 
 pub record QuietAt (x : ℕ) (s : LaneState) (behind : List LaneState) : Type 0 where
   pub round : LaneRound
@@ -243,7 +266,7 @@ pub record QuietAt (x : ℕ) (s : LaneState) (behind : List LaneState) : Type 0 
   pub quiet : is_quiet round ≡ true
 
 pub quiet_at : (lanes : List LaneState) (rounds : List LaneRound) (behind : List LaneState) (x : ℕ) (s : LaneState)
-    → MakeRound lanes rounds behind → are_quiet rounds ≡ true → slice_get lanes x ≡ Some s → QuietAt x s behind
+    → OwnTurns disk_kind lanes rounds behind → are_quiet rounds ≡ true → slice_get lanes x ≡ Some s → QuietAt x s behind
 quiet_at [] [] [] x s made quiet there = absurd (cc there)
 quiet_at (y ∷ lanes) (r ∷ rounds) (t ∷ behind) zero s made quiet there =
     let same : y ≡ s = cc there in
@@ -263,13 +286,16 @@ quiet_at _ _ _ x s made quiet there = absurd made
 module _ (lanes : List LaneState) (marks : List Bool) (steps : List LaneRound) (between : List LaneState)
     (later : List SettleEntry) (behind : List LaneState) (clean : AreClean lanes) (made : MakeRound lanes steps between)
     (quiet : are_quiet steps ≡ true) (front : TickFront 0 between marks later behind) where
+  turns : OwnTurns disk_kind lanes steps between
+  turns = own_turns disk_kind gives_nothing lanes steps between made
+
   -- a tick after all entries of the round
   behind_round : (x : ℕ) (past : List SettleEntry) (s : LaneState) (at : QuietAt x s between) → LostAt x past at.lane
       → slice_get lanes x ≡ Some s → TickAt x (round_entries 0 steps ++ past) s
   behind_round x past s at lost there =
       let round : List SettleEntry = round_entries 0 steps in
       let moved : Run LaneStep s (happened x round) at.lane =
-      lane_moved 0 x x lanes round between s at.lane (own x) (round_moves_lanes 0 lanes steps between made) there
+      lane_moved 0 x x lanes round between s at.lane (own x) (leads.round lanes steps between made) there
       at.there in
       let same : happened x (round ++ past) ≡ happened x round =
       happened_both x round past ∙ ap (λ (l : List DiskEvent). happened x round ++ l) lost.none
@@ -292,11 +318,11 @@ module _ (lanes : List LaneState) (marks : List Bool) (steps : List LaneRound) (
       → slice_get lanes x ≡ Some s → InEither (round_entries 0 steps) later so_far (OfLane x event) rest
       → TickAt x so_far s
   quiet_tick x event so_far rest s is there (inl at) =
-      none_stand lanes (round_entries 0 steps) (round_each NoTick step_none 0 lanes steps between made) x event so_far at.rest s is at.is
+      none_stand lanes (round_entries 0 steps) (round_each NoTick step_none lanes steps between made) x event so_far at.rest s is at.is
       there
   quiet_tick x event so_far rest s is there (inr at) =
-      let found : QuietAt x s between = quiet_at lanes steps between x s made quiet there in
-      let all_lost = quiet_lost lanes steps between clean.reached clean.unforged made quiet in
+      let found : QuietAt x s between = quiet_at lanes steps between x s turns quiet there in
+      let all_lost = quiet_lost lanes steps between clean.clean turns quiet in
       let lost : LostAt x at.later found.lane =
       front_lost between marks later behind all_lost front x event at.later rest found.lane at.is found.there in
       subst (λ (l : List SettleEntry). TickAt x l s) (sym at.before_is) (behind_round x at.later s found lost there)
@@ -319,8 +345,8 @@ quiet_stretch : (lanes : List LaneState) (marks : List Bool) (steps : List LaneR
     → are_quiet steps ≡ true → TickFront 0 between marks later behind
     → Stretch lanes (round_entries 0 steps ++ later) behind
 quiet_stretch lanes marks steps between later behind clean made quiet front = record {
-  moves = moves_on 0 lanes between behind (round_entries 0 steps) later (round_moves_lanes 0 lanes steps between made)
-      (ticked_moves 0 between marks later behind front);
+  moves = moves_on 0 lanes between behind (round_entries 0 steps) later (leads.round lanes steps between made)
+      (fronts_move.ticks between marks later behind front);
   stand = quiet_front lanes marks steps between later behind clean made quiet front;
 }
 
@@ -333,8 +359,8 @@ stretches = record {
     stand = two_stand w one m two first.moves first.stand second.stand;
   };
   round = λ w m r v clean made. record {
-    moves = round_moves_lanes 0 w r v made;
-    stand = none_stand w (round_entries 0 r) (round_each NoTick step_none 0 w r v made);
+    moves = leads.round w r v made;
+    stand = none_stand w (round_entries 0 r) (round_each NoTick step_none w r v made);
   };
   ticks = λ w m r v u clean made quiet ticks.
       quiet_stretch w m r v (tick_entries 0 v m) u clean made quiet (all_ticks 0 v m u ticks);
@@ -342,7 +368,7 @@ stretches = record {
 
 -- A SETTLE, and a front of one that made fewer than the most rounds
 answered : (w : List LaneState) → Stretch w (Settled ∷ []) w
-answered w = record { moves = settled_moves 0 w; stand = none_stand w (Settled ∷ []) (tt, tt) }
+answered w = record { moves = settled_moves w; stand = none_stand w (Settled ∷ []) (tt, tt) }
 
 pub settles_stand : (start : List LaneState) (part : List SettleEntry) (behind : List LaneState) → AreClean start
     → Settles start part behind → TicksStand start part
@@ -352,8 +378,8 @@ settles_stand start part behind clean at =
 front_stretches : FrontsLeadWhere disks fronts Clean Stretch
 front_stretches = record {
   round = λ w m part v clean front. record {
-    moves = front_moves 0 w part v front;
-    stand = none_stand w part (begun_each NoTick step_none 0 w part v front);
+    moves = fronts_move.round w part v front;
+    stand = none_stand w part (begun_each NoTick step_none w part v front);
   };
   ticks = λ w m r v part u clean made quiet front. quiet_stretch w m r v part u clean made quiet front;
 }

@@ -3,11 +3,13 @@ use Rattle.std.proofs.Common.{◌≡◌, ℕ, ◌+◌, ◌*◌, ◌<◌, Bool, t
 use Rattle.std.specs.Prelude.{◌||◌}
 use Rattle.ldc_queue.specs.declared.end.End.TheVariants.{A, B}
 use Rattle.channel_model.specs.WireEvent.{Idle}
-use Rattle.disk_model.specs.DiskEvent.{Off, OnWire, Switches}
+use Rattle.disk_model.specs.DiskEvent.{DiskEvent, Off, OnWire, Switches}
 use Rattle.disk_model.specs.LaneState.{LaneState}
 use Rattle.disk_model.specs.LaneStep.{LaneStep}
+use Rattle.lane_laws.specs.CalmEnds.{IsStep}
+use Rattle.world_laws.specs.Rounds.{MakeRound}
 use Rattle.world_laws.specs.Settle.{Settled, Settles, begin}
-use Rattle.world_laws.specs.Ticks.{waits_on}
+use Rattle.world_laws.specs.DiskKind.{waits_on}
 
 few : (n : ℕ) → 0 < 4096 + n
 few n = omega (arith)
@@ -23,8 +25,18 @@ no_lanes = record {
   run = refl;
   few = few (64 * 0);
   steps = [];
-  last = record { made = tt; quiet = refl; no_tick = refl };
+  last = record { made = record { turns_made = refl; many = refl }; quiet = refl; no_tick = refl };
   is = refl;
+}
+
+-- one lane's two steps, each of which leaves it as it is
+one_lane : (s : LaneState) (client server : DiskEvent) → IsStep A client → IsStep B server → LaneStep s client s → LaneStep s server s → MakeRound (s ∷ []) ((client ∷ server ∷ []) ∷ []) (s ∷ [])
+one_lane s client server of_client of_server first second = record {
+  turns_made = (s ∷ [], record {
+    of_turn = (of_client, of_server);
+    run = (s ∷ [], record { sees = tt; step = ((s, first, refl), tt) }, (s ∷ [], record { sees = tt; step = ((s, second, refl), tt) }, refl));
+  }, refl);
+  many = refl;
 }
 
 pub at_rest : (s : LaneState) → LaneStep s (OnWire (Idle A)) s → LaneStep s (OnWire (Idle B)) s → waits_on s ≡ false → Settles (s ∷ []) (Settled ∷ []) (s ∷ [])
@@ -33,12 +45,8 @@ at_rest s client server rests = record {
   now = begin (s ∷ []);
   run = refl;
   few = few _;
-  steps = record { client = OnWire (Idle A); server = OnWire (Idle B) } ∷ [];
-  last = record {
-    made = (record { between = s; first = client; of_client = refl; second = server; of_server = refl }, tt);
-    quiet = refl;
-    no_tick = either_false (waits_on s) rests;
-  };
+  steps = (OnWire (Idle A) ∷ OnWire (Idle B) ∷ []) ∷ [];
+  last = record { made = one_lane s (OnWire (Idle A)) (OnWire (Idle B)) refl refl client server; quiet = refl; no_tick = either_false (waits_on s) rests };
   is = refl;
 }
 
@@ -48,11 +56,7 @@ server_off s client server rests = record {
   now = begin (s ∷ []);
   run = refl;
   few = few _;
-  steps = record { client = OnWire (Idle A); server = Switches Off } ∷ [];
-  last = record {
-    made = (record { between = s; first = client; of_client = refl; second = server; of_server = tt }, tt);
-    quiet = refl;
-    no_tick = either_false (waits_on s) rests;
-  };
+  steps = (OnWire (Idle A) ∷ Switches Off ∷ []) ∷ [];
+  last = record { made = one_lane s (OnWire (Idle A)) (Switches Off) refl tt client server; quiet = refl; no_tick = either_false (waits_on s) rests };
   is = refl;
 }

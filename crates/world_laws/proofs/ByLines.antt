@@ -15,7 +15,7 @@ use Rattle.world_laws.specs.Settle.{OfLane, SettleEntry}
 use Rattle.world_laws.specs.Sums.{IsUnforged}
 use Rattle.world_laws.proofs.Along.{lane_step}
 use Rattle.world_laws.proofs.LaneLists.{each_set, each_there}
-use Rattle.world_laws.specs.Lines.{AnswersCall, AnswersRequest, Call, Calls, Line, LineBegins, LineMoves, LineStep, Loses, Resets, Restarts, Starts, Stops, Ticks}
+use Rattle.world_laws.specs.Lines.{AnswersCall, AnswersRequest, Call, Calls, Line, LineBegins, LineMoves, LineStep, Loses, Resets, Restarts, Starts, Stops, Ticks, OfDisk}
 use Rattle.world_laws.specs.World.{WorldState, WorldStep, fresh_world}
 use Rattle.world_laws.proofs.RequestKeeping.{IsHonest, IsOnWireHonest, KeepsOn, stays_running, stays_unforged}
 use Rattle.world_laws.proofs.LineEntries.{EachEntry, OnEvent, begins_each, line_each}
@@ -90,7 +90,7 @@ call_honest call (Works event) answers = tt
 call_honest call (Switches event) answers = tt
 call_honest call (Calms event) answers = tt
 
-call_on : (k : ℕ) (call : Call) (event : DiskEvent) → LeavesRunning (Calls k call) → AnswersCall call event → KeepsOn event
+call_on : (k : ℕ) (call : Call) (event : DiskEvent) → LeavesRunning (Calls (OfDisk k) call) → AnswersCall call event → KeepsOn event
 call_on k call (OnWire event) leaves answers = tt
 call_on k call (Asks event) leaves answers = tt
 call_on k call (Works event) leaves answers = tt

@@ -16,7 +16,7 @@ use Rattle.lane_laws.proofs.LaneRuns.{failed_before}
 use Rattle.world_laws.specs.Along.{happened}
 use Rattle.world_laws.specs.Settle.{OfLane, SettleEntry}
 use Rattle.world_laws.proofs.Along.{lane_step}
-use Rattle.world_laws.proofs.LaneLists.{get_set_same}
+use Rattle.lane_kinds.proofs.Places.{get_set}
 use Rattle.world_laws.specs.World.{IsWorld, WorldState, WorldStep, fresh_world}
 use Rattle.world_laws.specs.OwnImage.{OwnImage}
 use Rattle.world_laws.proofs.ImageKeeping.{some_is}
@@ -42,7 +42,7 @@ module _ (shapes : List Shape) (image : ImageState) (first : List ℕ) (k : ℕ)
       → CompletionShows (region_of shape first) (log_of after (nothing_yet shape) (happened k past)) status bytes
   own_completion past w id operation status bytes v t run one now unforged well =
       let event : DiskEvent = Works (Done id operation status bytes) in
-      let is : t ≡ one.after = some_is t one.after (sym now ∙ ap (λ (xs : List LaneState). slice_get xs k) one.lanes ∙ get_set_same w.lanes k one.lane one.after one.there) in
+      let is : t ≡ one.after = some_is t one.after (sym now ∙ ap (λ (xs : List LaneState). slice_get xs k) one.lanes ∙ get_set w.lanes k one.lane one.after one.there) in
       let at : LaneAt shapes past w k event v one = lane_at shapes image past w k event v world run one in
       let same : at.shape ≡ shape = some_is at.shape shape (sym at.there ∙ there) in
       let lane_run : Run LaneStep (fresh shape) (happened k past) one.lane = subst (λ (x : Shape). Run LaneStep (fresh x) (happened k past) one.lane) same at.run in

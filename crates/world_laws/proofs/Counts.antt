@@ -14,9 +14,6 @@ abbrev pub blocked : ℕ → End → SettleEntry → ℕ
 blocked k e (OfLane j (OnWire (Blocked d))) = if (j == k) && is_end d e then 1 else 0
 blocked k e _ = 0
 
-abbrev pub blocked_in : ℕ → End → List SettleEntry → ℕ
-blocked_in k e part = sum_over (blocked k e) part
-
 counted : (c : Bool) (n : ℕ) → (if c then n + 1 else n) ≤ n + (if c then 1 else 0)
 counted true n = omega (arith)
 counted false n = omega (arith)
@@ -29,13 +26,3 @@ stuck_most k e n _ = omega (arith)
 pub still_or_none : (k : ℕ) (e : End) (x : SettleEntry) → (moves x ≡ 0) ⊎ ((n : ℕ) → stuck k e n x ≡ 0)
 still_or_none k e (OfLane j (OnWire (Blocked d))) = inl refl
 still_or_none k e _ = inr (λ n. refl)
-
--- ONE LIST BEHIND ANOTHER
-pub blocked_both : (k : ℕ) (e : End) (before behind : List SettleEntry) → blocked_in k e (before ++ behind) ≡ blocked_in k e before + blocked_in k e behind
-blocked_both k e before behind = sum_both (blocked k e) before behind
-
-pub moves_both : (before behind : List SettleEntry) → moves_in (before ++ behind) ≡ moves_in before + moves_in behind
-moves_both before behind = sum_both moves before behind
-
-pub ticks_both : (k : ℕ) (before behind : List SettleEntry) → ticks_in k (before ++ behind) ≡ ticks_in k before + ticks_in k behind
-ticks_both k before behind = sum_both (ticks k) before behind

@@ -1,45 +1,59 @@
 -- Each round of a settle that isn't the last lowers what remains on all lanes, where nobody forged one: so few are made.
-use Rattle.std.proofs.Common.{ℕ, ◌+◌, ◌*◌, ◌≤◌, ◌<◌, List, length, arith}
+use Rattle.std.proofs.Common.{◌≡◌, ℕ, ◌+◌, ◌*◌, ◌≤◌, ◌<◌, List, [], ◌∷◌, length, arith}
+use Rattle.std.specs.Prelude.{⊤}
 use Rattle.runs.specs.Run.{Run}
 use Rattle.disk_model.specs.LaneState.{LaneState}
 use Rattle.disk_model.specs.Reached.{IsReached}
 use Rattle.lane_kinds.proofs.Falling as kind
+use Rattle.lane_kinds.proofs.Lanes.{all_fall}
 use Rattle.lane_kinds.proofs.Standing.{rounds_stand}
+use Rattle.lane_kinds.specs.Lanes.{AreCleanWhere}
 use Rattle.lane_kinds.specs.Laws.{Falls, Keeps}
-use Rattle.world_laws.proofs.Together.{remains_on_most, rounds_clean, rounds_fall, rounds_reached, ticked_lanes, ticks_clean, ticks_reached}
+use Rattle.lane_laws.proofs.LaneBound.{remains_most}
+use Rattle.lane_laws.specs.Remaining.{remaining}
+use Rattle.world_laws.proofs.DiskLaws.{IsClean, disk_falls}
+use Rattle.world_laws.specs.DiskKind.{disk_kind}
 use Rattle.world_laws.specs.Rounds.{Each}
-use Rattle.world_laws.specs.Settle.{GoesOn, RunsOut, SettleEntry, SettlePart, SettleRound, Settles, Settling, begin, disks, most_rounds, pending_on}
+use Rattle.world_laws.specs.Settle.{GoesOn, RunsOut, SettleEntry, SettlePart, SettleRound, Settles, Settling, begin, disk_entries, disks, most_rounds, pending_on}
 use Rattle.world_laws.specs.Sums.{IsUnforged, remaining_on}
 
--- lanes that were reached, and that nobody forged
-pub record AreClean (lanes : List LaneState) : Type 0 where
-  pub reached : Each IsReached lanes
-  pub unforged : Each IsUnforged lanes
+-- LANES that were reached, and that nobody forged, however many there are
+abbrev pub AreClean : List LaneState → Type 0
+AreClean = AreCleanWhere (λ n. ⊤) IsClean
 
-pub keeps : Keeps disks (λ lanes marks. AreClean lanes)
-keeps = record {
-  round = λ w m r v clean made. record {
-    reached = rounds_reached w r v clean.reached made;
-    unforged = rounds_clean w r v clean.unforged made;
-  };
-  ticks = λ w m r v u clean made quiet ticks. record {
-    reached = ticks_reached v m u (rounds_reached w r v clean.reached made) ticks;
-    unforged = ticks_clean v m u (rounds_reached w r v clean.reached made) (rounds_clean w r v clean.unforged made) ticks;
-  };
-}
+each_clean : (lanes : List LaneState) → Each IsReached lanes → Each IsUnforged lanes → Each IsClean lanes
+each_clean [] reached unforged = tt
+each_clean (s ∷ lanes) reached unforged = (record { reached = reached.0; unforged = unforged.0 }, each_clean lanes reached.1 unforged.1)
+
+pub are_clean : (lanes : List LaneState) → Each IsReached lanes → Each IsUnforged lanes → AreClean lanes
+are_clean lanes reached unforged = record { few = tt; clean = each_clean lanes reached unforged }
 
 falls : Falls disks AreClean remaining_on
-falls = record {
-  keeps = keeps;
-  round = λ w r v clean made. rounds_fall w r v clean.reached clean.unforged made;
-  ticks = λ w m r v u clean made quiet ticks. ticked_lanes w r v m u clean.reached clean.unforged made quiet ticks;
-}
+falls = all_fall disk_kind IsClean remaining disk_falls disk_entries
+
+pub keeps : Keeps disks (λ lanes marks. AreClean lanes)
+keeps = falls.keeps
+
+-- THE BOUND
+lane_sum : (a b n p q : ℕ) → a ≤ 69 + 32 * p → b ≤ 69 * n + 32 * q → a + b ≤ 69 * (n + 1) + 32 * (p + q)
+lane_sum a b n p q one more = omega (arith, one, more)
+
+one_more : (b n m q : ℕ) → m ≡ n + 1 → b ≤ 69 * (n + 1) + 32 * q → b ≤ 69 * m + 32 * q
+one_more b n m q is most = omega (arith, is, most)
+
+remains_on_most : (lanes : List LaneState) → Each IsClean lanes → remaining_on lanes ≤ 69 * length lanes + 32 * pending_on lanes
+remains_on_most [] all = omega (arith)
+remains_on_most (s ∷ lanes) all =
+    let at = all.0.reached in
+    one_more (remaining s + remaining_on lanes) (length lanes) (length (s ∷ lanes)) (length s.client.pending + pending_on lanes) (omega (arith))
+    (lane_sum (remaining s) (remaining_on lanes) (length lanes) (length s.client.pending) (pending_on lanes) (remains_most at.shape at.events s at.sound at.run all.0.unforged)
+    (remains_on_most lanes all.1))
 
 within : (all lanes pending : ℕ) → all ≤ 69 * lanes + 32 * pending → lanes ≤ 8 → all < 4096 + 64 * pending
 within all lanes pending most few = omega (arith, most, few)
 
 few_remain : (start : List LaneState) → AreClean start → length start ≤ 8 → remaining_on start < most_rounds start
-few_remain start clean few = within (remaining_on start) (length start) (pending_on start) (remains_on_most start clean.reached clean.unforged) few
+few_remain start clean few = within (remaining_on start) (length start) (pending_on start) (remains_on_most start clean.clean) few
 
 pub clean_behind : (w : Settling) (rounds : List SettleRound) (v : Settling) → AreClean w.lanes → Run GoesOn w rounds v → AreClean v.lanes
 clean_behind w rounds v clean run = rounds_stand disks (λ lanes marks. AreClean lanes) keeps w rounds v run clean
@@ -48,21 +62,21 @@ clean_behind w rounds v clean run = rounds_stand disks (λ lanes marks. AreClean
 pub rounds_lower : (start : List LaneState) (rounds : List SettleRound) (now : Settling) → Each IsReached start → Each IsUnforged start → Run GoesOn (begin start) rounds now
     → length rounds + remaining_on now.lanes ≤ remaining_on start
 rounds_lower start rounds now reached unforged run =
-    kind.rounds_lower disks AreClean remaining_on falls (begin start) rounds now (record { reached = reached; unforged = unforged }) run
+    kind.rounds_lower disks AreClean remaining_on falls (begin start) rounds now (are_clean start reached unforged) run
 
 pub rounds_few : (start : List LaneState) (rounds : List SettleRound) (now : Settling) → Each IsReached start → Each IsUnforged start → length start ≤ 8 → Run GoesOn (begin start) rounds now
     → length rounds < most_rounds start
 rounds_few start rounds now reached unforged few run =
-    let clean : AreClean start = record { reached = reached; unforged = unforged } in
+    let clean : AreClean start = are_clean start reached unforged in
     kind.rounds_few disks AreClean remaining_on falls start rounds now clean (few_remain start clean few) run
 
 pub never_out : (start : List LaneState) (part : List SettleEntry) (behind : List LaneState) → Each IsReached start → Each IsUnforged start → length start ≤ 8 → RunsOut start part behind → ⊥
 never_out start part behind reached unforged few out =
-    let clean : AreClean start = record { reached = reached; unforged = unforged } in
+    let clean : AreClean start = are_clean start reached unforged in
     kind.never_out disks AreClean remaining_on falls start part behind clean (few_remain start clean few) out
 
 pub ends_settled : (start : List LaneState) (part : List SettleEntry) (behind : List LaneState) → Each IsReached start → Each IsUnforged start → length start ≤ 8 → SettlePart start part behind
     → Settles start part behind
 ends_settled start part behind reached unforged few settle =
-    let clean : AreClean start = record { reached = reached; unforged = unforged } in
+    let clean : AreClean start = are_clean start reached unforged in
     kind.ends_settled disks AreClean remaining_on falls start part behind clean (few_remain start clean few) settle

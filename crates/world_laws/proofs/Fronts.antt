@@ -13,7 +13,7 @@ use Rattle.lane_laws.specs.ImageStep.{region_of}
 use Rattle.world_laws.specs.Along.{happened}
 use Rattle.world_laws.specs.Settle.{OfLane, SettleEntry}
 use Rattle.world_laws.proofs.Along.{lane_runs, lanes_run}
-use Rattle.world_laws.proofs.LaneLists.{get_set_same}
+use Rattle.lane_kinds.proofs.Places.{get_set}
 use Rattle.world_laws.specs.World.{IsWorld, OneMoves, WorldState, WorldStep, fresh_world}
 use Rattle.world_laws.proofs.Contents.{own_completion}
 use Rattle.world_laws.proofs.NamedRuns.{forged_before}
@@ -43,7 +43,7 @@ module _ (shapes : List Shape) (image : ImageState) (first : List ℕ) (k : ℕ)
       let past : Run WorldStep (fresh_world shapes image) before at = parts.1 in
       let next : WorldState = parts.2.0 in
       let one : OneMoves at k (Works (Done id operation status bytes)) next = parts.2.1 in
-      let here : slice_get next.lanes k ≡ Some one.after = ap (λ (xs : List LaneState). slice_get xs k) one.lanes ∙ get_set_same at.lanes k one.lane one.after one.there in
+      let here : slice_get next.lanes k ≡ Some one.after = ap (λ (xs : List LaneState). slice_get xs k) one.lanes ∙ get_set at.lanes k one.lane one.after one.there in
       let through : Run WorldStep (fresh_world shapes image) (before ++ entry ∷ []) next = run_push WorldStep (fresh_world shapes image) at next before entry past one in
       let reached : Run LaneStep (fresh shape) (happened k (before ++ entry ∷ [])) one.after =
       (lanes_run shapes image (before ++ entry ∷ []) next through).each k shape one.after there here in

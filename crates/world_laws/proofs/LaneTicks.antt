@@ -14,7 +14,7 @@ use Rattle.lane_laws.specs.CalmEnds.{HaveFinished, StepKeeps}
 use Rattle.world_laws.proofs.LaneRounds.{quiet_finished, quiet_same, quiet_up, round_keeps, round_reached}
 use Rattle.world_laws.specs.Rounds.{LaneRound, MakesRound, is_quiet}
 use Rattle.world_laws.specs.Sums.{IsUnforged}
-use Rattle.world_laws.specs.Ticks.{tick, waits_on}
+use Rattle.world_laws.specs.DiskKind.{tick, waits_on}
 
 pub either : (b : Bool) → (b ≡ true) ⊎ (b ≡ false)
 either true = inl refl
@@ -24,6 +24,10 @@ pub waits_where : (finished stopped : Bool) → (if finished then false else if 
 waits_where true stopped waits = absurd (cc waits)
 waits_where false true waits = absurd (cc waits)
 waits_where false false waits = (refl, refl)
+
+pub gets_where : (had waits : Bool) → (if had then false else waits) ≡ true → (had ≡ false) × (waits ≡ true)
+gets_where true waits gets = absurd (cc gets)
+gets_where false waits gets = (refl, gets)
 
 pub rests_where : (finished stopped : Bool) → (if finished then false else if stopped then false else true) ≡ false → stopped ≡ false → finished ≡ true
 rests_where true stopped rests runs = refl

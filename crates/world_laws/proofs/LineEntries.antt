@@ -8,23 +8,25 @@ use Rattle.vdisk_msg.specs.declared.request.Request.{Request}
 use Rattle.channel_model.specs.WireEvent.{Idle}
 use Rattle.disk_model.specs.DiskEvent.{DiskEvent, Off, OnWire, Switches}
 use Rattle.disk_model.specs.LaneState.{LaneState}
+use Rattle.lane_kinds.proofs.LaneFronts.{front_each, lanes_each, left_each, of_both, ticked_each, ticks_each}
 use Rattle.lane_kinds.proofs.Leading.{few_lead, front_leads, part_leads, steps_lead}
+use Rattle.lane_kinds.specs.Lanes.{EachOf}
 use Rattle.lane_kinds.specs.Laws.{Ends, FrontsLead, Leads}
 use Rattle.lane_laws.specs.CalmEnds.{IsStep}
-use Rattle.world_laws.proofs.FrontMoving.{front_moves, ticked_moves}
+use Rattle.world_laws.proofs.DiskLaws.{turn_steps}
 use Rattle.world_laws.proofs.LaneLists.{many_moved}
-use Rattle.world_laws.proofs.Moving.{round_moves_lanes, ticks_move_lanes}
+use Rattle.world_laws.proofs.Moving as moving
+use Rattle.world_laws.proofs.Moving.{fronts_move}
 use Rattle.world_laws.specs.Along.{LanesMove}
-use Rattle.world_laws.specs.Begun.{NoMore, RoundFront, SettleFront, TickFront, fronts}
-use Rattle.world_laws.specs.Rounds.{LaneRound, MakeRound, MakesRound, is_quiet}
-use Rattle.world_laws.specs.Settle.{OfLane, SettleEntry, Settled, Settles, Unsettled, disks, entries_of_rounds, entry_of, left_over, most_rounds, round_entries, tick_entries}
-use Rattle.world_laws.specs.Ticks.{gets_tick, tick, waits_on}
-use Rattle.world_laws.specs.Lines.{AnswersCall, AnswersRequest, AreSteps, Asked, BeginsPart, Call, Calls, Line, Nothing, OneEntry, PartOf, Rounds, Steps, EndTurn, turn, turns_of}
+use Rattle.world_laws.specs.Begun.{RoundFront, SettleFront, fronts}
+use Rattle.world_laws.specs.Rounds.{LaneRound, MakeRound}
+use Rattle.world_laws.specs.Settle.{OfLane, SettleEntry, Settled, Settles, Unsettled, disk_entries, disks, entries_of_rounds, entry_of, left_over, most_rounds, round_entries, tick_entries}
+use Rattle.world_laws.specs.DiskKind.{disk_kind, tick}
+use Rattle.world_laws.specs.Lines.{AnswersCall, AnswersRequest, AreSteps, Asked, BeginsPart, Call, Calls, Line, Nothing, OneEntry, PartOf, Rounds, Steps, EndTurn, turn, turns_of, LaneName, OfDisk, IsStepOf}
 use Rattle.world_laws.specs.Lines as script
 
 abbrev pub EachEntry : (SettleEntry → Type 0) → List SettleEntry → Type 0
-EachEntry P [] = ⊤
-EachEntry P (entry ∷ part) = P entry × EachEntry P part
+EachEntry = EachOf
 
 -- a condition on events of lanes alone
 abbrev pub OnEvent : (DiskEvent → Type 0) → SettleEntry → Type 0
@@ -33,8 +35,7 @@ OnEvent P _ = ⊤
 
 module _ (P : SettleEntry → Type 0) where
   pub each_both : (one two : List SettleEntry) → EachEntry P one → EachEntry P two → EachEntry P (one ++ two)
-  each_both [] two first second = second
-  each_both (entry ∷ one) two first second = (first.0, each_both one two first.1 second)
+  each_both one two first second = of_both P one two first second
 
   each_front : (one two : List SettleEntry) → EachEntry P (one ++ two) → EachEntry P one
   each_front [] two each = tt
@@ -51,9 +52,6 @@ module _ (P : SettleEntry → Type 0) where
   pub each_in : (part before : List SettleEntry) (entry : SettleEntry) (behind : List SettleEntry) → part ≡ before ++ entry ∷ behind → EachEntry P part → P entry
   each_in part before entry behind is each = each_at before entry behind (each_as (before ++ entry ∷ behind) part (sym is) each)
 
-  each_none : (lanes : List LaneState) (part : List SettleEntry) (behind : List LaneState) → NoMore lanes part behind → EachEntry P part
-  each_none lanes part behind none = each_as part [] none.is tt
-
   pub one_each : (k : ℕ) (Answers : DiskEvent → Type 0) (part : List SettleEntry) → ((event : DiskEvent) → Answers event → P (OfLane k event)) → OneEntry k Answers part → EachEntry P part
   one_each k Answers part each one = each_as part (OfLane k one.event ∷ []) one.is (each one.event one.answers, tt)
 
@@ -64,50 +62,24 @@ module _ (P : SettleEntry → Type 0) where
 
   -- STEPS
   module _ (steps : (k : ℕ) (e : End) (event : DiskEvent) → IsStep e event → P (OfLane k event)) where
+    of_step : (lane : LaneName) (side : End) (entry : SettleEntry) → IsStepOf lane side entry → P entry
+    of_step (OfDisk k) side (OfLane j event) is = steps j side event is.1
+    of_step (OfDisk k) side _ is = absurd is
+
     pub steps_each : (turns : List EndTurn) (part : List SettleEntry) → AreSteps turns part → EachEntry P part
     steps_each [] [] are = tt
-    steps_each (next ∷ turns) (OfLane k event ∷ part) are = (steps k next.side event are.1, steps_each turns part are.2)
+    steps_each (next ∷ turns) (entry ∷ part) are = (of_step next.lane next.side entry are.0, steps_each turns part are.1)
     steps_each [] (entry ∷ part) are = absurd are
-    steps_each (next ∷ turns) _ are = absurd are
+    steps_each (next ∷ turns) [] are = absurd are
 
-    lane_each : (k : ℕ) (s : LaneState) (r : LaneRound) (t : LaneState) → MakesRound s r t → EachEntry P (entry_of k r.client ++ entry_of k r.server)
-    lane_each k s r t made = each_both (entry_of k r.client) (entry_of k r.server) (entry_each k r.client (steps k A r.client made.of_client)) (entry_each k r.server (steps k B r.server made.of_server))
+    pub round_each : (lanes : List LaneState) (rounds : List LaneRound) (behind : List LaneState) → MakeRound lanes rounds behind → EachEntry P (round_entries 0 rounds)
+    round_each lanes rounds behind made = lanes_each P disk_kind disk_entries turn_steps (λ k event own. steps k own.0 event own.1) lanes rounds behind made
 
-    pub round_each : (k : ℕ) (lanes : List LaneState) (rounds : List LaneRound) (behind : List LaneState) → MakeRound lanes rounds behind → EachEntry P (round_entries k rounds)
-    round_each k [] [] [] made = tt
-    round_each k (s ∷ lanes) (r ∷ rounds) (t ∷ behind) made =
-        each_both (entry_of k r.client ++ entry_of k r.server) (round_entries (k + 1) rounds) (lane_each k s r t made.0) (round_each (k + 1) lanes rounds behind made.1)
-    round_each k _ _ _ made = absurd made
-
-    pub begun_each : (k : ℕ) (lanes : List LaneState) (part : List SettleEntry) (behind : List LaneState) → RoundFront k lanes part behind → EachEntry P part
-    begun_each k [] part behind none = each_none [] part behind none
-    begun_each k (s ∷ lanes) part behind (inl none) = each_none (s ∷ lanes) part behind none
-    begun_each k (s ∷ lanes) part behind (inr (inl client)) = each_as part (entry_of k client.event) client.is (entry_each k client.event (steps k A client.event client.of_client))
-    begun_each k (s ∷ lanes) part behind (inr (inr both)) =
-        let r = both.round in
-        each_as part (entry_of k r.client ++ entry_of k r.server ++ both.later) both.is
-        (each_both (entry_of k r.client ++ entry_of k r.server) both.later (lane_each k s r both.after both.made) (begun_each (k + 1) lanes both.later both.others both.more))
+    pub begun_each : (lanes : List LaneState) (part : List SettleEntry) (behind : List LaneState) → RoundFront lanes part behind → EachEntry P part
+    begun_each lanes part behind front = front_each P disk_kind disk_entries turn_steps (λ k event own. steps k own.0 event own.1) lanes part behind front
 
     -- AND TICKS
     module _ (ticks : (k : ℕ) → P (OfLane k tick)) where
-      tick_each : (get : Bool) (k : ℕ) → EachEntry P (if get then OfLane k tick ∷ [] else [])
-      tick_each true k = (ticks k, tt)
-      tick_each false k = tt
-
-      ticks_each : (k : ℕ) (lanes : List LaneState) (marks : List Bool) → EachEntry P (tick_entries k lanes marks)
-      ticks_each k [] marks = tt
-      ticks_each k (s ∷ lanes) [] = tt
-      ticks_each k (s ∷ lanes) (had ∷ marks) =
-          each_both (if gets_tick s had then OfLane k tick ∷ [] else []) (tick_entries (k + 1) lanes marks) (tick_each (gets_tick s had) k) (ticks_each (k + 1) lanes marks)
-
-      ticked_each : (k : ℕ) (lanes : List LaneState) (marks : List Bool) (part : List SettleEntry) (behind : List LaneState) → TickFront k lanes marks part behind → EachEntry P part
-      ticked_each k [] marks part behind none = each_none [] part behind none
-      ticked_each k (s ∷ lanes) [] part behind none = each_none (s ∷ lanes) part behind none
-      ticked_each k (s ∷ lanes) (had ∷ marks) part behind (inl none) = each_none (s ∷ lanes) part behind none
-      ticked_each k (s ∷ lanes) (had ∷ marks) part behind (inr made) =
-          each_as part ((if gets_tick s had then OfLane k tick ∷ [] else []) ++ made.later) made.is
-          (each_both (if gets_tick s had then OfLane k tick ∷ [] else []) made.later (tick_each (gets_tick s had) k) (ticked_each (k + 1) lanes marks made.later made.others made.more))
-
       -- A SETTLE, which leaves the lanes as many
       abbrev Over : ℕ → List LaneState → List SettleEntry → List LaneState → Type 0
       Over n lanes part behind = length lanes ≡ n → EachEntry P part × (length behind ≡ n)
@@ -122,14 +94,14 @@ module _ (P : SettleEntry → Type 0) where
       leads n = record {
         none = λ w long. (tt, long);
         both = both_over n;
-        round = λ w r v made. as_many n w (round_entries 0 r) v (round_each 0 w r v made) (round_moves_lanes 0 w r v made);
-        ticks = λ w m v made. as_many n w (tick_entries 0 w m) v (ticks_each 0 w m) (ticks_move_lanes 0 w m v made);
+        round = λ w r v made. as_many n w (round_entries 0 r) v (round_each w r v made) (moving.leads.round w r v made);
+        ticks = λ w m v made. as_many n w (tick_entries 0 w m) v (ticks_each P disk_kind disk_entries (λ k s. ticks k) 0 w m) (moving.leads.ticks w m v made);
       }
 
       fronts_lead : (n : ℕ) → FrontsLead disks fronts (Over n)
       fronts_lead n = record {
-        round = λ w part v front. as_many n w part v (begun_each 0 w part v front) (front_moves 0 w part v front);
-        ticks = λ w m part v front. as_many n w part v (ticked_each 0 w m part v front) (ticked_moves 0 w m part v front);
+        round = λ w part v front. as_many n w part v (begun_each w part v front) (fronts_move.round w part v front);
+        ticks = λ w m part v front. as_many n w part v (ticked_each P disk_kind disk_entries (λ k s. ticks k) 0 w m part v front) (fronts_move.ticks w m part v front);
       }
 
       -- before its answer, and a front that didn't run out of rounds
@@ -141,19 +113,8 @@ module _ (P : SettleEntry → Type 0) where
 
       -- with its answer, and with names of these lanes
       module _ (n : ℕ) (names : (k : ℕ) → k < n → P (Unsettled k)) (answer : P Settled) where
-        name_each : (c : Bool) (k : ℕ) → k < n → EachEntry P (if c then [] else Unsettled k ∷ [])
-        name_each true k less = tt
-        name_each false k less = (names k less, tt)
-
-        left_each : (k : ℕ) (rounds : List LaneRound) (lanes : List LaneState) → k + length lanes ≤ n → EachEntry P (left_over k rounds lanes)
-        left_each k [] lanes few = tt
-        left_each k (r ∷ rounds) [] few = tt
-        left_each k (r ∷ rounds) (s ∷ lanes) few =
-            each_both (if is_quiet r && (if waits_on s then false else true) then [] else Unsettled k ∷ []) (left_over (k + 1) rounds lanes)
-            (name_each (is_quiet r && (if waits_on s then false else true)) k (omega (arith, few))) (left_each (k + 1) rounds lanes (omega (arith, few)))
-
         all_left : (rounds : List LaneRound) (lanes : List LaneState) → length lanes ≡ n → EachEntry P (left_over 0 rounds lanes)
-        all_left rounds lanes long = left_each 0 rounds lanes (omega (arith, long))
+        all_left rounds lanes long = left_each P disk_kind disk_entries n names 0 rounds lanes (omega (arith, long))
 
         ends : Ends disks (Over n)
         ends = record {
@@ -163,14 +124,14 @@ module _ (P : SettleEntry → Type 0) where
 
         -- A LINE, by what may come of a request, and of the calls of these lines
         pub line_each : ((k : ℕ) (request : Request) (event : DiskEvent) → AnswersRequest request event → P (OfLane k event)) → (line : Line)
-            → ((k : ℕ) (call : Call) (event : DiskEvent) → line ≡ Calls k call → AnswersCall call event → P (OfLane k event)) → (lanes : List LaneState) (part : List SettleEntry) (behind : List LaneState)
+            → ((k : ℕ) (call : Call) (event : DiskEvent) → line ≡ Calls (OfDisk k) call → AnswersCall call event → P (OfLane k event)) → (lanes : List LaneState) (part : List SettleEntry) (behind : List LaneState)
             → length lanes ≡ n → PartOf line lanes part behind → EachEntry P part
         line_each asked Nothing called lanes part behind long is = each_as part [] is tt
         line_each asked (Asked k request) called lanes part behind long one = one_each k (AnswersRequest request) part (asked k request) one
         line_each asked (Steps k e count) called lanes part behind long are = steps_each (replicate count (turn k e)) part are
         line_each asked (Rounds count) called lanes part behind long are = steps_each (turns_of count (length lanes)) part are
         line_each asked script.Settles called lanes part behind long settle = (part_leads disks (Over n) (leads n) ends lanes part behind settle long).0
-        line_each asked (Calls k call) called lanes part behind long one = one_each k (AnswersCall call) part (λ event answers. called k call event refl answers) one
+        line_each asked (Calls (OfDisk k) call) called lanes part behind long one = one_each k (AnswersCall call) part (λ event answers. called k call event refl answers) one
 
         pub begins_each : (line : Line) (lanes : List LaneState) (part : List SettleEntry) (behind : List LaneState) → length lanes ≡ n → BeginsPart line lanes part behind → EachEntry P part
         begins_each Nothing lanes part behind long is = each_as part [] is tt

@@ -27,7 +27,6 @@ use Rattle.channel_model.specs.Seeing.{seen}
 use Rattle.lane_laws.proofs.Requesting.{held_kept, sent_kept}
 use Rattle.lane_laws.proofs.RingPages.{same_pages}
 use Rattle.lane_laws.proofs.Ruling.{client_may}
-pub use Rattle.world_laws.proofs.Places.{get_other, get_set}
 use Rattle.world_laws.specs.Issued.{issued_on, next_behind}
 
 -- THE SHAPE stays

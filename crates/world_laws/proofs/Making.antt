@@ -11,7 +11,7 @@ use Rattle.ldc_queue.specs.declared.end.End.{End}
 use Rattle.world_laws.specs.Settle.{OfLane, SettleEntry, entry_of}
 use Rattle.world_laws.proofs.Along.{lane_step}
 use Rattle.world_laws.specs.World.{OneMoves, WorldState, WorldStep}
-use Rattle.world_laws.proofs.Places.{set_same}
+use Rattle.lane_kinds.proofs.Places.{set_same}
 use Rattle.world_laws.specs.RoundMade.{LaneMade}
 
 -- A WORLD is its lanes and its image

@@ -17,7 +17,7 @@ use Rattle.world_laws.proofs.Moving.{happened_both}
 use Rattle.world_laws.specs.Along.{happened}
 use Rattle.world_laws.specs.Settle.{OfLane, SettleEntry}
 use Rattle.world_laws.proofs.Along.{fresh_there, lane_step}
-use Rattle.world_laws.proofs.LaneLists.{get_set_other, get_set_same}
+use Rattle.lane_kinds.proofs.Places.{get_other, get_set}
 use Rattle.world_laws.specs.World.{IsWorld, LaneMoves, OneMoves, WorldState, WorldStep, blocks_in, fresh_world}
 use Rattle.world_laws.specs.OwnImage.{OwnImage}
 use Rattle.world_laws.specs.Stays.{StaysAround}
@@ -106,7 +106,7 @@ module _ (shapes : List Shape) (image : ImageState) (first : List ℕ) (k : ℕ)
       → LaneAt shapes past w j event v one → HasImage past w → (j ≡ k → ⊥) → (s : LaneState) → slice_get v.lanes k ≡ Some s → s.wire.forged ≡ false → s.failed ≡ false
       → OwnImage shape first (happened k past) s v.image.told
   other_own past w j event v run one at has other s now unforged well =
-      let before_there : slice_get w.lanes k ≡ Some s = sym (get_set_other w.lanes j k one.after other) ∙ ap (λ (xs : List LaneState). slice_get xs k) (sym one.lanes) ∙ now in
+      let before_there : slice_get w.lanes k ≡ Some s = sym (get_other w.lanes j k one.after other) ∙ ap (λ (xs : List LaneState). slice_get xs k) (sym one.lanes) ∙ now in
       let before : OwnImage shape first (happened k past) s w.image.told = has s before_there unforged well in
       let room = still_holds shapes image first before.now past w world told run before.told_is in
       let around : StaysAround at.shape before.now v.image.told = step_around shapes image past w j event v before.now world run one before.told_is room at in
@@ -117,7 +117,7 @@ module _ (shapes : List Shape) (image : ImageState) (first : List ℕ) (k : ℕ)
   own_here : (past : List SettleEntry) (w : WorldState) (event : DiskEvent) (v : WorldState) → Run WorldStep (fresh_world shapes image) past w → OneMoves w k event v → HasImage past w
       → HasImage (past ++ OfLane k event ∷ []) v
   own_here past w event v run one has = λ s now unforged well.
-      let is : s ≡ one.after = some_is s one.after (sym now ∙ ap (λ (xs : List LaneState). slice_get xs k) one.lanes ∙ get_set_same w.lanes k one.lane one.after one.there) in
+      let is : s ≡ one.after = some_is s one.after (sym now ∙ ap (λ (xs : List LaneState). slice_get xs k) one.lanes ∙ get_set w.lanes k one.lane one.after one.there) in
       let same : happened k (past ++ OfLane k event ∷ []) ≡ happened k past ++ event ∷ [] =
       happened_both k past (OfLane k event ∷ []) ∙ ap (λ (l : List DiskEvent). happened k past ++ l) (own_event k event) in
       subst (λ (l : List DiskEvent). OwnImage shape first l s v.image.told) (sym same)

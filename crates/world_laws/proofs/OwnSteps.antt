@@ -7,14 +7,18 @@ use Rattle.disk_model.specs.DiskEvent.{DiskEvent}
 use Rattle.disk_model.specs.LaneState.{LaneState}
 use Rattle.disk_model.specs.Reached.{IsReached}
 use Rattle.lane_laws.specs.CalmEnds.{IsStep, StepKeeps}
+use Rattle.lane_kinds.proofs.Lanes.{own_turns}
 use Rattle.lane_kinds.proofs.Leading.{before_answer}
 use Rattle.lane_kinds.proofs.Sums.{and_left}
+use Rattle.lane_kinds.specs.Lanes.{OwnTurns}
 use Rattle.lane_kinds.specs.Laws.{LeadsWhere}
+use Rattle.world_laws.proofs.DiskLaws.{gives_nothing}
 use Rattle.world_laws.proofs.LaneRounds.{quiet_finished, round_keeps, round_reached}
 use Rattle.world_laws.proofs.LineEntries.{EachEntry, each_both, entry_each}
 use Rattle.world_laws.specs.Rounds.{LaneRound, MakeRound, MakesRound, are_quiet, is_quiet}
 use Rattle.world_laws.specs.Settle.{OfLane, SettleEntry, Settled, Settles, disks, entries_of_rounds, entry_of, round_entries, tick_entries}
-use Rattle.world_laws.specs.Ticks.{TickLanes, TicksWhere, marked, tick, waits_on}
+use Rattle.world_laws.specs.DiskKind.{disk_kind, tick, waits_on}
+use Rattle.world_laws.specs.Ticks.{TickLanes, TicksWhere, marked}
 
 -- ENTRIES of steps of the ends of lane 0
 pub record OwnEvent (k : ℕ) (event : DiskEvent) : Type 0 where
@@ -33,9 +37,12 @@ own_entry : (e : End) (event : DiskEvent) → IsStep e event → AreOwn (entry_o
 own_entry e event own = entry_each IsOwn 0 event (record { number = refl; side = e; own = own })
 
 round_own : (s : LaneState) (r : LaneRound) (t : LaneState) → MakesRound s r t → AreOwn (round_entries 0 (r ∷ []))
-round_own s r t made =
-    each_both IsOwn (entry_of 0 r.client ++ entry_of 0 r.server) []
-    (each_both IsOwn (entry_of 0 r.client) (entry_of 0 r.server) (own_entry A r.client made.of_client) (own_entry B r.server made.of_server)) tt
+round_own s (client ∷ server ∷ []) t made =
+    each_both IsOwn (entry_of 0 client ++ (entry_of 0 server ++ [])) []
+    (each_both IsOwn (entry_of 0 client) (entry_of 0 server ++ []) (own_entry A client made.of_turn.0) (each_both IsOwn (entry_of 0 server) [] (own_entry B server made.of_turn.1) tt)) tt
+round_own s [] t made = absurd made.of_turn
+round_own s (client ∷ []) t made = absurd made.of_turn
+round_own s (client ∷ server ∷ other ∷ events) t made = absurd made.of_turn
 
 -- A LANE that was reached, that nobody forged, that lost nothing, and whose server runs
 pub record IsWhole (s : LaneState) : Type 0 where
@@ -80,8 +87,8 @@ record RoundOn (marks : List Bool) (steps : List LaneRound) (behind : List LaneS
   own : AreOwn (round_entries 0 steps)
   ticks : (u : List LaneState) → are_quiet steps ≡ true → TickLanes behind marks u → NoTick behind marks u
 
-round_on : (lanes : List LaneState) (marks : List Bool) (steps : List LaneRound) (behind : List LaneState) → Alone lanes marks → MakeRound lanes steps behind → RoundOn marks steps behind
-round_on (s ∷ []) (false ∷ []) (r ∷ []) (t ∷ []) at made =
+round_by : (lanes : List LaneState) (marks : List Bool) (steps : List LaneRound) (behind : List LaneState) → Alone lanes marks → OwnTurns disk_kind lanes steps behind → RoundOn marks steps behind
+round_by (s ∷ []) (false ∷ []) (r ∷ []) (t ∷ []) at made =
     let whole : IsWhole t = whole_behind s r t at made.0 in
     record {
       alone = whole;
@@ -90,11 +97,14 @@ round_on (s ∷ []) (false ∷ []) (r ∷ []) (t ∷ []) at made =
           (ap (λ (b : Bool). if b then false else if t.stopped then false else true)
           (quiet_finished s r t at.reached at.unforged at.whole at.runs made.0 (and_left (is_quiet r) true quiet)).finished) ticks;
     }
-round_on (s ∷ []) (false ∷ []) [] behind at made = absurd made
-round_on (s ∷ []) (false ∷ []) (r ∷ steps) [] at made = absurd made
-round_on (s ∷ []) (false ∷ []) (r ∷ []) (t ∷ more ∷ behind) at made = absurd made.1
-round_on (s ∷ []) (false ∷ []) (r ∷ next ∷ steps) (t ∷ behind) at made = absurd made.1
-round_on _ _ steps behind at made = absurd at
+round_by (s ∷ []) (false ∷ []) [] behind at made = absurd made
+round_by (s ∷ []) (false ∷ []) (r ∷ steps) [] at made = absurd made
+round_by (s ∷ []) (false ∷ []) (r ∷ []) (t ∷ more ∷ behind) at made = absurd made.1
+round_by (s ∷ []) (false ∷ []) (r ∷ next ∷ steps) (t ∷ behind) at made = absurd made.1
+round_by _ _ steps behind at made = absurd at
+
+round_on : (lanes : List LaneState) (marks : List Bool) (steps : List LaneRound) (behind : List LaneState) → Alone lanes marks → MakeRound lanes steps behind → RoundOn marks steps behind
+round_on lanes marks steps behind at made = round_by lanes marks steps behind at (own_turns disk_kind gives_nothing lanes steps behind made)
 
 abbrev Own : List LaneState → List SettleEntry → List LaneState → Type 0
 Own lanes part behind = AreOwn part

@@ -18,7 +18,8 @@ use Rattle.world_laws.specs.Rounds.{Each}
 use Rattle.world_laws.specs.Settle.{OfLane, SettleEntry}
 use Rattle.world_laws.specs.Sums.{IsUnforged}
 use Rattle.world_laws.proofs.Along.{lane_step, lanes_run, many_stay}
-use Rattle.world_laws.proofs.LaneLists.{each_set, each_there, is_there}
+use Rattle.lane_kinds.proofs.Places.{get_within}
+use Rattle.world_laws.proofs.LaneLists.{each_set, each_there}
 use Rattle.world_laws.specs.World.{AreShapes, WorldState, WorldStep, fresh_world}
 use Rattle.world_laws.proofs.Counted.{count_behind, count_more, lane_counted}
 use Rattle.world_laws.proofs.EntryCounts.{all_counts, counts_le, lane_le, run_of}
@@ -48,8 +49,8 @@ lane_in : (shapes : List Shape) (image : ImageState) (entries : List SettleEntry
     → LaneIn shapes entries w k
 lane_in shapes image entries w k are run below =
     let runs = lanes_run shapes image entries w run in
-    let shape = is_there shapes k below in
-    let lane = is_there w.lanes k (omega (arith, below, runs.many)) in
+    let shape = get_within shapes k below in
+    let lane = get_within w.lanes k (omega (arith, below, runs.many)) in
     record {
       shape = shape.0;
       shape_is = shape.1;

@@ -10,7 +10,7 @@ use Rattle.disk_model.specs.LaneStep.{LaneStep}
 use Rattle.world_laws.specs.Along.{happened}
 use Rattle.world_laws.specs.Settle.{SettleEntry}
 use Rattle.world_laws.proofs.Along.{lanes_run}
-use Rattle.world_laws.proofs.LaneLists.{is_there}
+use Rattle.lane_kinds.proofs.Places.{get_within}
 use Rattle.world_laws.specs.World.{IsWorld, OneMoves, WorldState, WorldStep, blocks_in, fresh_world}
 use Rattle.world_laws.specs.Stays.{StaysAround}
 use Rattle.world_laws.proofs.LaneStores.{moves_around}
@@ -44,7 +44,7 @@ lane_at shapes image past w k event v world run one =
     let lanes = lanes_run shapes image past w run in
     let within = slice_get_within w.lanes k one.lane one.there in
     let many = lanes.many in
-    let found = is_there shapes k (omega (arith, within, many)) in
+    let found = get_within shapes k (omega (arith, within, many)) in
     let at : ShapeAt 0 shapes found.0 = shape_at 0 shapes k found.0 world.shapes_are found.1 in
     let ends = at.ends in
     record { shape = found.0; there = found.1; sound = at.sound; ends = omega (arith, ends); run = lanes.each k found.0 one.lane found.1 one.there }

@@ -22,7 +22,7 @@ use Rattle.lane_laws.proofs.EveryRun.{every_run}
 use Rattle.world_laws.specs.Along.{happened}
 use Rattle.world_laws.specs.Settle.{OfLane, SettleEntry, Unsettled}
 use Rattle.world_laws.proofs.Along.{lane_at, lane_step, lanes_run, shape_at}
-use Rattle.world_laws.proofs.LaneLists.{is_there}
+use Rattle.lane_kinds.proofs.Places.{get_within}
 use Rattle.world_laws.specs.Lines.{Line, LineBegins, LineStep, entries_of_lines}
 use Rattle.world_laws.specs.World.{AreShapes, WorldState, WorldStep, fresh_world}
 use Rattle.world_laws.proofs.EventWords.{event_words}
@@ -41,7 +41,7 @@ lane_in : (shapes : List Shape) (image : ImageState) (entries : List SettleEntry
 lane_in shapes image entries w k s run there =
     let runs = lanes_run shapes image entries w run in
     let within : k < length shapes = omega (arith, slice_get_within w.lanes k s there, runs.many) in
-    let shape = is_there shapes k within in
+    let shape = get_within shapes k within in
     record {
       shape = shape.0;
       within = within;

@@ -34,7 +34,7 @@ LanesEnd j part (t ∷ behind) = EndsIn j part t × LanesEnd (j + 1) part behind
 abbrev pub IsStillBehind : LaneState → LaneRound → LaneState → Type 0
 IsStillBehind s r t =
     (shape : Shape) (events : List DiskEvent) → IsShape shape → Run LaneStep (fresh shape) events s
-    → AreStill t (after (after (log_of after (nothing_yet shape) events) r.client) r.server)
+    → AreStill t (log_of after (log_of after (nothing_yet shape) events) r)
 
 abbrev pub AllStill : List LaneState → List LaneRound → List LaneState → Type 0
 AllStill [] [] [] = ⊤

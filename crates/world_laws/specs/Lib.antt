@@ -1,3 +1,4 @@
+pub mod DiskKind
 pub mod Rounds
 pub mod Ticks
 pub mod Settle
@@ -26,7 +27,6 @@ pub mod TicksMade
 pub mod Going
 pub mod Names
 pub mod Issued
-pub mod Added
 pub use Rattle.channel_model.specs.WireEvent
 pub use Rattle.disk_model.specs.DiskEvent
 pub use Rattle.disk_model.specs.LaneState

@@ -11,7 +11,11 @@ use Rattle.disk_model.specs.LaneState.{LaneState}
 use Rattle.lane_laws.specs.CalmEnds.{IsStep}
 use Rattle.world_laws.specs.Begun.{SettleFront}
 use Rattle.world_laws.specs.Settle.{OfLane, SettleEntry, SettlePart}
-use Rattle.world_laws.specs.World.{WorldState, WorldStep}
+use Rattle.world_laws.specs.World.{PartMade, WorldState, WorldStep}
+
+-- A LANE of a world, by its kind and its number
+pub data LaneName : Type 0 where
+  OfDisk : (number : ℕ) → LaneName
 
 -- what a script may do to a lane, beside asking and stepping it
 pub data Call : Type 0 where
@@ -28,10 +32,10 @@ pub data Line : Type 0 where
   -- a guest asks the disk with this number
   Asked : (lane : ℕ) (request : Request) → Line
   -- so many steps of an end of a lane, and so many rounds over all lanes
-  Steps : (lane : ℕ) (e : End) (count : ℕ) → Line
+  Steps : (lane : LaneName) (e : End) (count : ℕ) → Line
   Rounds : (count : ℕ) → Line
   Settles : Line
-  Calls : (lane : ℕ) (call : Call) → Line
+  Calls : (lane : LaneName) (call : Call) → Line
 
 -- WHAT MAY COME of a request, and of a call
 abbrev pub AnswersRequest : Request → DiskEvent → Type 0
@@ -61,27 +65,44 @@ pub record OneEntry (k : ℕ) (Answers : DiskEvent → Type 0) (part : List Sett
   pub answers : Answers event
   pub is : part ≡ OfLane k event ∷ []
 
--- STEPS, by whose turn it is: a lane's number and its end
+-- what comes of a call, by the kind of its lane
+abbrev pub AnswersOn : LaneName → Call → List SettleEntry → Type 0
+AnswersOn (OfDisk k) call part = OneEntry k (AnswersCall call) part
+
+-- STEPS, by whose turn it is: a lane and its end
 pub record EndTurn : Type 0 where
-  pub lane : ℕ
+  pub lane : LaneName
   pub side : End
 
-abbrev pub turn : ℕ → End → EndTurn
-turn k e = record { lane = k; side = e }
+abbrev pub turn : LaneName → End → EndTurn
+turn lane e = record { lane = lane; side = e }
 
--- those of a round over so many lanes, from this number on: the client's turn, and then the server's
+-- the lanes of disks, so many from this number on
+abbrev pub disk_lanes : ℕ → ℕ → List LaneName
+disk_lanes k zero = []
+disk_lanes k (suc many) = OfDisk k ∷ disk_lanes (k + 1) many
+
+-- a turn of each end of these lanes in order: the client's, and then the server's
+abbrev pub both_ends : List LaneName → List EndTurn
+both_ends [] = []
+both_ends (lane ∷ lanes) = turn lane A ∷ turn lane B ∷ both_ends lanes
+
+-- those of a round: over the lanes of disks, and then over those of each further kind
 abbrev pub round_turns : ℕ → ℕ → List EndTurn
-round_turns k zero = []
-round_turns k (suc many) = turn k A ∷ turn k B ∷ round_turns (k + 1) many
+round_turns k many = both_ends (disk_lanes k many)
 
 abbrev pub turns_of : ℕ → ℕ → List EndTurn
 turns_of zero many = []
 turns_of (suc count) many = round_turns 0 many ++ turns_of count many
 
--- each turn gave the entry of a step, in their order
+-- each turn gave the entry of a step, by the kind of its lane, in their order
+abbrev pub IsStepOf : LaneName → End → SettleEntry → Type 0
+IsStepOf (OfDisk k) side (OfLane j event) = (j ≡ k) × IsStep side event
+IsStepOf lane side _ = ⊥
+
 abbrev pub AreSteps : List EndTurn → List SettleEntry → Type 0
 AreSteps [] [] = ⊤
-AreSteps (next ∷ turns) (OfLane k event ∷ part) = (k ≡ next.lane) × IsStep next.side event × AreSteps turns part
+AreSteps (next ∷ turns) (entry ∷ part) = IsStepOf next.lane next.side entry × AreSteps turns part
 AreSteps _ _ = ⊥
 
 -- and so far a front of them
@@ -98,7 +119,7 @@ PartOf (Asked k request) lanes part behind = OneEntry k (AnswersRequest request)
 PartOf (Steps k e count) lanes part behind = AreSteps (replicate count (turn k e)) part
 PartOf (Rounds count) lanes part behind = AreSteps (turns_of count (length lanes)) part
 PartOf Settles lanes part behind = SettlePart lanes part behind
-PartOf (Calls k call) lanes part behind = OneEntry k (AnswersCall call) part
+PartOf (Calls k call) lanes part behind = AnswersOn k call part
 
 -- A FRONT OF IT, where memory was wanted
 abbrev pub BeginsPart : Line → List LaneState → List SettleEntry → List LaneState → Type 0
@@ -109,12 +130,10 @@ BeginsPart (Rounds count) lanes part behind = AreFirstSteps (turns_of count (len
 BeginsPart Settles lanes part behind = SettleFront lanes part behind
 BeginsPart (Calls k call) lanes part behind = part ≡ []
 
--- A LINE with its part leads the world from one state to another
-pub record LineMoves (w : WorldState) (line : Line) (part : List SettleEntry) (v : WorldState) : Type 0 where
-  pub part_of : PartOf line w.lanes part v.lanes
-  pub run : Run WorldStep w part v
+-- A LINE with its part leads the world from one state to another, and so does a front of it
+abbrev pub LineMoves : WorldState → Line → List SettleEntry → WorldState → Type 0
+LineMoves w line part v = PartMade (PartOf line) w part v
 
--- and a front of it
 pub record LineBegins (w : WorldState) (line : Line) (part : List SettleEntry) (v : WorldState) : Type 0 where
   pub begins : BeginsPart line w.lanes part v.lanes
   pub run : Run WorldStep w part v

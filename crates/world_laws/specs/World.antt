@@ -1,5 +1,6 @@
 -- A WORLD: the lanes of disks, by their numbers, and the one image that all of them are served from; and what each entry of its journal does.
 use Rattle.std.specs.Prelude.{◌≡◌, ℕ, ◌+◌, ◌*◌, ◌≤◌, ◌==◌, if◌then◌else◌, Bool, true, false, List, [], ◌∷◌, length, map, Some, slice_get, slice_set, IfSome, ⊤}
+use Rattle.runs.specs.Run.{Run}
 use Rattle.vio_io.specs.Causes.{next_count}
 use Rattle.disk_law.specs.ListState.{ImageState}
 use Rattle.disk_model.specs.DiskEvent.{DiskEvent, Stored, Works}
@@ -41,6 +42,11 @@ pub record OneMoves (w : WorldState) (k : ℕ) (event : DiskEvent) (v : WorldSta
 abbrev pub WorldStep : WorldState → SettleEntry → WorldState → Type 0
 WorldStep w (OfLane k event) v = OneMoves w k event v
 WorldStep w _ v = v ≡ w
+
+-- A PART of the journal was made so over the lanes, and runs the world
+pub record PartMade (Made : List LaneState → List SettleEntry → List LaneState → Type 0) (w : WorldState) (part : List SettleEntry) (v : WorldState) : Type 0 where
+  pub part_of : Made w.lanes part v.lanes
+  pub run : Run WorldStep w part v
 
 -- the disks of a world stand in its image one after another, from this block on
 abbrev pub AreShapes : ℕ → List Shape → Type 0

@@ -26,10 +26,10 @@ pub fn a_round_is_made_lane_by_lane()
         → LaneMade k B m two still v → k < length quiet → marks ≡ slice_set quiet k (calm && still)
         → RoundUpTo (k + 1) start (entries ++ (one ++ two)) marks v }
     ensures made { (start now : WorldState) (entries : List SettleEntry) (quiet : List Bool)
-        (up : RoundUpTo (length start.lanes) start entries quiet now) → MakeRound start.lanes up.steps now.lanes }
+        (up : RoundUpTo (length start.lanes) start entries quiet now) → MakeRound start.lanes up.part_of.steps now.lanes }
     ensures quiet { (k : ℕ) (start now : WorldState) (entries : List SettleEntry) (quiet : List Bool)
         (up : RoundUpTo k start entries quiet now) (all : Bool) → all_true (take k quiet) ≡ all
-        → are_quiet up.steps ≡ all }
+        → are_quiet up.part_of.steps ≡ all }
 {}
 
 /// The ticks begin with no lane, go on by the next lane, which gets its tick or gets none, and are told by their marks.

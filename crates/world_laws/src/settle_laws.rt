@@ -16,7 +16,7 @@ ghost use Rattle.world_laws.specs.Moves.{moves_in, NeverThree, ticks_in};
 ghost use Rattle.world_laws.specs.Rounds.{are_quiet, Each, EachMarked, LaneRound, MakeRound};
 ghost use Rattle.world_laws.specs.Settle.{begin, GoesOn, IsLast, left_over, most_rounds, RunsOut};
 ghost use Rattle.world_laws.specs.Settle.{SettleEntry, Settled, SettlePart, SettleRound, Settles, Settling};
-ghost use Rattle.world_laws.specs.Ticks.{waits_on};
+ghost use Rattle.world_laws.specs.DiskKind.{waits_on};
 ghost use Rattle.world_laws.specs.Sums.{IsUnforged, remaining_on};
 
 /// Where nobody forged any of at most eight lanes, whatever was lost, reset, stopped or restarted, a settle ends

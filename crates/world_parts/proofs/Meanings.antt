@@ -7,7 +7,7 @@ use Rattle.world_laws.specs.WireEvent.{Declined, Declines, NothingLost, WireEven
 use Rattle.world_laws.specs.DiskEvent.{Asks, Calm, CalmReset, CalmRestart, CalmStart, CalmStop, CalmTick, DiskEvent, Full, OnWire, Refused, Calms}
 use Rattle.ldc_queue.specs.declared.end.End.TheVariants.{B}
 use Rattle.world_laws.specs.Settle.{OfLane, SettleEntry, Settled, Unsettled}
-use Rattle.world_laws.specs.Lines.{Asked, Call, Calls, Line, Loses, Resets, Restarts, Starts, Stops, Ticks}
+use Rattle.world_laws.specs.Lines.{Asked, Call, Calls, Line, Loses, Resets, Restarts, Starts, Stops, Ticks, OfDisk}
 use Rattle.domain_script.specs.declared.event.Lane.{Lane}
 use Rattle.domain_script.specs.LaneKinds.{disk_lane, disk_of}
 use Rattle.domain_script.proofs.LaneKinds.{of_disks}
@@ -133,7 +133,7 @@ meant_has P (Asked j request) (NoRoomFor (OfWhole lane)) holds =
     at_has P j (disk_of lane) (Asks (Full request)) (holds request)
 meant_has P (Asked j request) (Refuses (OfWhole lane) why) holds =
     at_has P j (disk_of lane) (Asks (Refused (defect_of why) request)) (holds request)
-meant_has P (Calls j call) (ChangesNothing who) holds = called_has P j call who holds
+meant_has P (Calls (OfDisk j) call) (ChangesNothing who) holds = called_has P j call who holds
 meant_has P asked (LeavesOver who) holds = holds
 meant_has P asked LeavesNothing holds = holds
 meant_has P asked x holds = tt

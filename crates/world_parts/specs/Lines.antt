@@ -7,15 +7,24 @@ use Rattle.domain_script.specs.declared.event.Event.{Event}
 use Rattle.domain_script.specs.declared.event.Event.TheVariants as event
 use Rattle.domain_script.specs.declared.event.Lane.{Lane}
 use Rattle.domain_script.specs.declared.event.Side.TheVariants.{Server}
+use Rattle.domain_script.specs.declared.fields.LaneKind.{LaneKind}
+use Rattle.domain_script.specs.declared.fields.LaneKind.TheVariants as kinds
 use Rattle.domain_script.specs.LaneKinds.{disk_of}
 use Rattle.domain_script.specs.Limits.{AreTurns}
 use Rattle.world_laws.specs.Settle.{SettleEntry}
-use Rattle.world_laws.specs.Lines.{Asked, Calls, Line, LineBegins, LineMoves, Loses, Nothing, Resets, Restarts, Rounds, Settles, Starts, Steps, Stops, Ticks}
+use Rattle.world_laws.specs.Lines.{Asked, Calls, Line, LineBegins, LineMoves, Loses, Nothing, Resets, Restarts, Rounds, Settles, Starts, Steps, Stops, Ticks, LaneName, OfDisk}
 use Rattle.world_laws.specs.World.{WorldState}
 use Rattle.ldom_report.specs.DiskEvents.{happened_to}
 use Rattle.ldom_report.specs.LaneEvents.{end_of}
 use Rattle.ldom_entries.specs.declared.entry.Entry.{Entry}
 use Rattle.world_parts.specs.Parts.{PartSays}
+
+-- a lane of a script is this one of the world, by its kind
+abbrev pub of_kind : LaneKind → ℕ → LaneName
+of_kind kinds.Disk k = OfDisk k
+
+abbrev pub lane_named : Lane → LaneName
+lane_named lane = of_kind lane.kind lane.number
 
 -- what an event asks of a world
 abbrev pub line_of : Event → Line
@@ -23,14 +32,14 @@ line_of event.Blank = Nothing
 line_of (event.Disk disk) = Nothing
 line_of (event.Issue disk request) = Asked disk request
 line_of event.Settle = Settles
-line_of (event.Step end count) = Steps end.lane.number (end_of end.side) count
+line_of (event.Step end count) = Steps (lane_named end.lane) (end_of end.side) count
 line_of (event.Round count) = Rounds count
-line_of (event.Reset end) = Calls end.lane.number (Resets (end_of end.side))
-line_of (event.Restart end) = Calls end.lane.number Restarts
-line_of (event.Stop disk) = Calls disk Stops
-line_of (event.Start disk) = Calls disk Starts
-line_of (event.Lose end) = Calls end.lane.number (Loses (end_of end.side))
-line_of (event.Tick lane) = Calls lane.number Ticks
+line_of (event.Reset end) = Calls (lane_named end.lane) (Resets (end_of end.side))
+line_of (event.Restart end) = Calls (lane_named end.lane) Restarts
+line_of (event.Stop disk) = Calls (OfDisk disk) Stops
+line_of (event.Start disk) = Calls (OfDisk disk) Starts
+line_of (event.Lose end) = Calls (lane_named end.lane) (Loses (end_of end.side))
+line_of (event.Tick lane) = Calls (lane_named lane) Ticks
 
 -- the lane is that of one of so many disks
 abbrev pub IsDiskOf : ℕ → Lane → Type 0

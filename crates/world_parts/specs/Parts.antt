@@ -5,7 +5,7 @@ use Rattle.world_laws.specs.DiskEvent.{DiskEvent}
 use Rattle.world_parts.specs.WorldEvents.{world_event}
 use Rattle.ldom_entries.specs.declared.entry.Entry.{Entry}
 use Rattle.world_laws.specs.CalmEnds.{IsStep}
-use Rattle.world_laws.specs.Rounds.{is_calm}
+use Rattle.world_laws.specs.DiskKind.{is_calm}
 use Rattle.world_laws.specs.Settle.{OfLane, SettleEntry, entry_of}
 use Rattle.world_laws.specs.Lines.{Line, LineBegins, LineMoves}
 use Rattle.world_laws.specs.World.{OneMoves, WorldState}

@@ -6,7 +6,7 @@ use Rattle.world_laws.specs.WireEvent.{WireEvent, Declines, NothingLost}
 use Rattle.world_laws.specs.DiskEvent.{DiskEvent, OnWire, Asks, Calms, CalmTick, CalmStop, CalmStart, CalmReset, CalmRestart}
 use Rattle.world_laws.specs.DiskEvent as disk
 use Rattle.world_laws.specs.Settle.{SettleEntry, OfLane}
-use Rattle.world_laws.specs.Lines.{Asked, Call, Calls, Line, Loses, Resets, Restarts, Starts, Stops, Ticks}
+use Rattle.world_laws.specs.Lines.{Asked, Call, Calls, Line, Loses, Resets, Restarts, Starts, Stops, Ticks, OfDisk}
 use Rattle.world_laws.specs.Settle as settle
 use Rattle.domain_script.specs.declared.event.EndName.{EndName}
 use Rattle.domain_script.specs.declared.event.Lane.{Lane}
@@ -84,7 +84,7 @@ called_event j (Loses e) (OfEnd name) = if_so (is_end j e name) (OfLane j (OnWir
 called_event j _ _ = None
 
 abbrev pub calm_event : Line → Who → Option SettleEntry
-calm_event (Calls j call) who = called_event j call who
+calm_event (Calls (OfDisk j) call) who = called_event j call who
 calm_event _ who = None
 
 abbrev pub unsettled_event : Who → Option SettleEntry

@@ -1,5 +1,4 @@
-use Rattle.world_laws.proofs.FrontMoving.{begun_moves, moved_reached}
-use Rattle.world_laws.proofs.Moving.{part_moves}
+use Rattle.world_laws.proofs.Moving.{begun_moves, moved_reached, part_moves}
 use Rattle.world_laws.proofs.TicksOnce.{part_ticks}
 use Rattle.world_laws.proofs.settle_laws.a_settle_moves_each_lane_by_its_part.Goals as goal
 

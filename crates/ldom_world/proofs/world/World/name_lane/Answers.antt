@@ -1,5 +1,5 @@
 use Rattle.std.proofs.Common.{rules}
-use Rattle.world_laws.proofs.Places.{get_within}
+use Rattle.lane_kinds.proofs.Places.{get_within}
 use Rattle.ldom_world.proofs.SettlingLanes.{named_goes_on, unnamed_goes_on}
 use Rattle.ldom_world.proofs.world.World.name_lane.Goals as goal
 

@@ -1,5 +1,5 @@
 use Rattle.std.proofs.Common.{[], ◌∷◌}
-use Rattle.world_laws.specs.Lines.{turn}
+use Rattle.world_laws.specs.Lines.{turn, OfDisk}
 use Rattle.ldc_queue.specs.declared.end.End.TheVariants.{A, B}
 use Rattle.ldom_world.proofs.Turning.{at_error, both_ends, client_alone, none_begun}
 use Rattle.ldom_world.proofs.world.World.step_both.Goals as goal
@@ -7,7 +7,7 @@ use Rattle.ldom_world.proofs.world.World.step_both.Goals as goal
 pub returns-in_err-step-clause-begun : goal.returns-in_err-step-clause-begun
 returns-in_err-step-clause-begun g c =
     at_error c.from_residual.result _
-    (none_begun (turn c.args.disk A ∷ turn c.args.disk B ∷ []) c.args.self.now c.step.new.self
+    (none_begun (turn (OfDisk c.args.disk) A ∷ turn (OfDisk c.args.disk) B ∷ []) c.args.self.now c.step.new.self
     c.args.journal.now.entries c.step.new.journal.entries
     c.in_err-step.ensures.same.0 c.in_err-step.ensures.same.1)
 

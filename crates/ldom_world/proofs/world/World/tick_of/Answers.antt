@@ -1,6 +1,6 @@
 use Rattle.std.proofs.Common.{rules, ◌∙◌, sym, false}
 use Rattle.std.proofs.lemmas.Option.{slice_get-get_or}
-use Rattle.world_laws.proofs.Places.{get_within}
+use Rattle.lane_kinds.proofs.Places.{get_within}
 use Rattle.ldom_world.proofs.SettlingLanes.{ticked_goes_on, unticked_goes_on}
 use Rattle.ldom_world.proofs.world.World.tick_of.Goals as goal
 

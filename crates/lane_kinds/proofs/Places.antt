@@ -17,27 +17,17 @@ get_other (z ∷ xs) zero (suc j) y other = refl
 get_other (z ∷ xs) (suc k) zero y other = refl
 get_other (z ∷ xs) (suc k) (suc j) y other = get_other xs k j y (λ same. other (ap suc same))
 
--- set to what is there already, or twice
+-- set to what is there already
 pub set_same : {X : Type 0} (xs : List X) (k : ℕ) (x : X) → slice_get xs k ≡ Some x → slice_set xs k x ≡ xs
 set_same [] k x there = absurd (cc there)
 set_same {X} (z ∷ xs) zero x there = let same : x ≡ z = cc there in ap (λ (y : X). y ∷ xs) same
 set_same {X} (z ∷ xs) (suc k) x there = ap (λ (l : List X). z ∷ l) (set_same xs k x there)
-
-pub set_twice : {X : Type 0} (xs : List X) (k : ℕ) (x y : X) → slice_set (slice_set xs k x) k y ≡ slice_set xs k y
-set_twice [] k x y = refl
-set_twice (z ∷ xs) zero x y = refl
-set_twice {X} (z ∷ xs) (suc k) x y = ap (λ (l : List X). z ∷ l) (set_twice xs k x y)
 
 -- THE FRONT AND THE REST
 pub take_one : {X : Type 0} (xs : List X) (k : ℕ) (x : X) → slice_get xs k ≡ Some x → take (suc k) xs ≡ take k xs ++ x ∷ []
 take_one [] k x there = absurd (cc there)
 take_one {X} (z ∷ xs) zero x there = let same : z ≡ x = cc there in ap (λ (y : X). y ∷ []) same
 take_one {X} (z ∷ xs) (suc k) x there = ap (λ (l : List X). z ∷ l) (take_one xs k x there)
-
-pub drop_one : {X : Type 0} (xs : List X) (k : ℕ) (x : X) → slice_get xs k ≡ Some x → drop k xs ≡ x ∷ drop (suc k) xs
-drop_one [] k x there = absurd (cc there)
-drop_one {X} (z ∷ xs) zero x there = let same : z ≡ x = cc there in ap (λ (y : X). y ∷ xs) same
-drop_one (z ∷ xs) (suc k) x there = drop_one xs k x there
 
 pub take_set : {X : Type 0} (xs : List X) (k : ℕ) (x : X) → take k (slice_set xs k x) ≡ take k xs
 take_set [] k x = refl

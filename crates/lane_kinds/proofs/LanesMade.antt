@@ -1,0 +1,428 @@
+-- A round, its ticks and names up to a lane: they begin, go on by the next lane, and are those of all lanes after the
+-- last. Rounds of a settle so far: none yet, one more, and how it ends. Where memory is wanted, what was made is a front.
+use Rattle.std.proofs.Common.{◌≡◌, ℕ, zero, suc, ◌+◌, ◌<◌, ◌≤◌, Bool, true, false, inl, inr, List, [], ◌∷◌, ◌++◌, length, map, take, drop, replicate, slice_get, slice_set, Some, refl, sym, ap, ap₂, ◌∙◌, subst, arith, append_assoc, append-nil, length-append, take-append-drop}
+use Rattle.std.specs.Prelude.{◌&&◌, ◌||◌, if◌then◌else◌}
+use Rattle.runs.specs.Run.{Run}
+use Rattle.lane_kinds.proofs.LaneCounts.{turns_many}
+use Rattle.lane_kinds.proofs.Places.{after_one, drop_set, drop_whole, get_set, map_both, same_first, same_next, take_length, take_most, take_one, take_set, take_set_one, take_whole, take_within}
+use Rattle.lane_kinds.proofs.RoundsMade as rounds
+use Rattle.lane_kinds.specs.Fronts.{SettleFront}
+use Rattle.lane_kinds.specs.LaneFronts.{BeginsTurn, RoundFront, TickFront, fronts_of}
+use Rattle.lane_kinds.specs.Lanes.{Entries, LaneKind, MakeRound, MakeTurns, MakesTurn, StepOf, TickAll, TicksIf, all_calm, are_still, gets_tick, lanes_of, left_names, marked, round_entries, some_tick, tick_entries, turn_entries, unmarked}
+use Rattle.lane_kinds.specs.LanesMade.{GoneOn, RoundUpTo, TicksUpTo, all_true, name_of, names}
+use Rattle.lane_kinds.specs.RoundsMade as made
+use Rattle.lane_kinds.specs.Settles.{SettlePart, most_rounds}
+
+or_false : (b : Bool) → (b || false) ≡ b
+or_false true = refl
+or_false false = refl
+
+or_assoc : (a b c : Bool) → (a || (b || c)) ≡ ((a || b) || c)
+or_assoc true b c = refl
+or_assoc false b c = refl
+
+or_parts : (a b : Bool) → (a || b) ≡ false → (a ≡ false) × (b ≡ false)
+or_parts true b is = absurd (cc is)
+or_parts false b is = (refl, is)
+
+-- MARKS of no lane
+pub fresh_marks : {S : Type 0} (most : ℕ) (lanes : List S) → length lanes ≤ most → take (length lanes) (replicate most false) ≡ unmarked lanes
+fresh_marks most [] few = refl
+fresh_marks zero (s ∷ lanes) few = absurd (omega (arith, few))
+fresh_marks (suc most) (s ∷ lanes) few = ap (λ (l : List Bool). false ∷ l) (fresh_marks most lanes (omega (arith, few)))
+
+-- ONE LANE IS SET after the first ones, of lanes whose rest is as it was
+record SetAt {S : Type 0} (k : ℕ) (start lanes behind : List S) (s t : S) : Type 0 where
+  front : take (k + 1) start ≡ take k start ++ s ∷ []
+  now : take (k + 1) behind ≡ take k lanes ++ t ∷ []
+  others : drop (k + 1) behind ≡ drop (k + 1) start
+  long : length (take k start) ≡ k
+
+set_at : {S : Type 0} (k : ℕ) (start lanes behind : List S) (s t : S) → drop k lanes ≡ drop k start → slice_get lanes k ≡ Some s → behind ≡ slice_set lanes k t → SetAt k start lanes behind s t
+set_at {S} k start lanes behind s t same there is =
+    let first : slice_get start k ≡ Some s = sym (same_first start lanes k same) ∙ there in
+    record {
+      front = ap (λ (n : ℕ). take n start) (after_one k) ∙ take_one start k s first;
+      now = ap (λ (n : ℕ). take n behind) (after_one k) ∙ ap (λ (l : List S). take (suc k) l) is ∙ take_one (slice_set lanes k t) k t (get_set lanes k s t there)
+          ∙ ap (λ (l : List S). l ++ t ∷ []) (take_set lanes k t);
+      others = ap (λ (n : ℕ). drop n behind) (after_one k) ∙ ap (λ (l : List S). drop (suc k) l) is ∙ drop_set lanes k t ∙ same_next start lanes k same
+          ∙ sym (ap (λ (n : ℕ). drop n start) (after_one k));
+      long = take_length start k s first;
+    }
+
+module _ {S V E : Type 0} (K : LaneKind S V) (N : Entries V E) where
+  -- A ROUND begins, and goes on by the next lane's turn
+  pub round_begins : (lanes : List S) (quiet : List Bool) → RoundUpTo K N 0 quiet lanes [] lanes
+  round_begins lanes quiet = record { steps = []; made = refl; many = refl; within = omega (arith); leaves = refl; marks = refl }
+
+  turns_more : (k n : ℕ) (lanes : List S) (turns : List (List V)) (m : List S) (r : List V) (behind : List S) → n ≡ k + length turns → MakeTurns K k lanes turns m → MakesTurn K n m r behind
+      → MakeTurns K k lanes (turns ++ r ∷ []) behind
+  turns_more k n lanes [] m r behind place made one =
+      let same : n ≡ k = omega (arith, place) in
+      (behind, subst (λ (l : List S). MakesTurn K k l r behind) (sym made) (subst (λ (i : ℕ). MakesTurn K i m r behind) same one), refl)
+  turns_more k n lanes (q ∷ turns) m r behind place made one = (made.0, made.1, turns_more (k + 1) n made.0 turns m r behind (omega (arith, place)) made.2 one)
+
+  turn_alone : (j n : ℕ) (r : List V) → n ≡ j + 0 → round_entries K N j (r ∷ []) ≡ turn_entries K N n r
+  turn_alone j n r place = let same : j ≡ n = omega (arith, place) in append-nil (turn_entries K N j r) ∙ ap (λ (i : ℕ). turn_entries K N i r) same
+
+  entries_more : (j n : ℕ) (turns : List (List V)) (r : List V) → n ≡ j + length turns → round_entries K N j (turns ++ r ∷ []) ≡ round_entries K N j turns ++ turn_entries K N n r
+  entries_more j n [] r place = turn_alone j n r place
+  entries_more j n (q ∷ turns) r place =
+      ap (λ (l : List E). turn_entries K N j q ++ l) (entries_more (j + 1) n turns r (omega (arith, place)))
+      ∙ sym (append_assoc (turn_entries K N j q) (round_entries K N (j + 1) turns) (turn_entries K N n r))
+
+  one_longer : (k n m : ℕ) → n ≡ m + 1 → m ≡ k → n ≡ k + 1
+  one_longer k n m one two = omega (arith, one, two)
+
+  place_is : (k n : ℕ) → n ≡ k → k ≡ 0 + n
+  place_is k n is = omega (arith, is)
+
+  next_within : (k n m : ℕ) → k < n → n ≡ m → k + 1 ≤ m
+  next_within k n m less same = omega (arith, less, same)
+
+  pub round_goes_on : (k : ℕ) (quiet : List Bool) (start : List S) (entries : List E) (w : List S) (r : List V) (one : List E) (calm : Bool) (v : List S) → RoundUpTo K N k quiet start entries w
+      → MakesTurn K k w r v → k < length w → one ≡ turn_entries K N k r → calm ≡ all_calm K r → k < length quiet → RoundUpTo K N (k + 1) (slice_set quiet k calm) start (entries ++ one) v
+  round_goes_on k quiet start entries w r one calm v up turn there leaves calm_is less = record {
+    steps = up.steps ++ r ∷ [];
+    made = turns_more 0 k start up.steps w r v (place_is k (length up.steps) up.many) up.made turn;
+    many = one_longer k (length (up.steps ++ r ∷ [])) (length up.steps) (length-append up.steps (r ∷ [])) up.many;
+    within = next_within k (length w) (length start) there (turns_many K N 0 start up.steps w up.made);
+    leaves = ap₂ (λ (x y : List E). x ++ y) up.leaves leaves ∙ sym (entries_more 0 k up.steps r (place_is k (length up.steps) up.many));
+    marks = ap (λ (n : ℕ). take n (slice_set quiet k calm)) (after_one k) ∙ take_set_one quiet k calm less ∙ ap (λ (l : List Bool). l ++ calm ∷ []) up.marks
+        ∙ ap (λ (x : Bool). map (all_calm K) up.steps ++ x ∷ []) calm_is ∙ sym (map_both (all_calm K) up.steps (r ∷ []));
+  }
+
+  -- it is a round after the last lane
+  pub round_made : (quiet : List Bool) (start : List S) (entries : List E) (now : List S) (up : RoundUpTo K N (length start) quiet start entries now) → MakeRound K start up.steps now
+  round_made quiet start entries now up = record { turns_made = up.made; many = up.many }
+
+  marks_say : (steps : List (List V)) → are_still K steps ≡ all_true (map (all_calm K) steps)
+  marks_say [] = refl
+  marks_say (r ∷ steps) = ap (λ (b : Bool). all_calm K r && b) (marks_say steps)
+
+  pub round_quiet : (k : ℕ) (quiet : List Bool) (start : List S) (entries : List E) (now : List S) (up : RoundUpTo K N k quiet start entries now) (all : Bool) → all_true (take k quiet) ≡ all
+      → are_still K up.steps ≡ all
+  round_quiet k quiet start entries now up all is = marks_say up.steps ∙ ap all_true (sym up.marks) ∙ is
+
+  pub round_many : (k : ℕ) (quiet : List Bool) (start : List S) (entries : List E) (now : List S) → RoundUpTo K N k quiet start entries now → length now ≡ length start
+  round_many k quiet start entries now up = turns_many K N 0 start up.steps now up.made
+
+  -- where memory is wanted, before the next lane's turn or within it
+  same_within : (n k m : ℕ) → n ≡ k → k ≤ m → n ≤ m
+  same_within n k m is few = omega (arith, is, few)
+
+  pub round_wants : (k : ℕ) (quiet : List Bool) (start : List S) (entries : List E) (now : List S) → RoundUpTo K N k quiet start entries now → RoundFront K N start entries now
+  round_wants k quiet start entries now up = record {
+    turns = up.steps;
+    between = now;
+    made = up.made;
+    within = same_within (length up.steps) k (length start) up.many up.within;
+    begun = [];
+    run = refl;
+    next = inl refl;
+    is = up.leaves ∙ sym (append-nil (round_entries K N 0 up.steps));
+  }
+
+  still_within : (n k m l : ℕ) → n ≡ k → k < m → m ≡ l → n < l
+  still_within n k m l is less same = omega (arith, is, less, same)
+
+  pub turn_wants : (k : ℕ) (quiet : List Bool) (start : List S) (entries : List E) (w : List S) (begun : List V) (one : List E) (v : List S) → RoundUpTo K N k quiet start entries w
+      → Run (StepOf K k) w begun v → k < length w → BeginsTurn K begun → one ≡ turn_entries K N k begun → RoundFront K N start (entries ++ one) v
+  turn_wants k quiet start entries w begun one v up run there begins is = record {
+    turns = up.steps;
+    between = w;
+    made = up.made;
+    within = same_within (length up.steps) k (length start) up.many up.within;
+    begun = begun;
+    run = subst (λ (n : ℕ). Run (StepOf K n) w begun v) (sym up.many) run;
+    next = inr (still_within (length up.steps) k (length w) (length start) up.many there (turns_many K N 0 start up.steps w up.made), begins);
+    is = ap₂ (λ (x y : List E). x ++ y) up.leaves (is ∙ ap (λ (n : ℕ). turn_entries K N n begun) (sym up.many));
+  }
+
+  -- THE TICKS begin, and go on by the next lane's
+  pub ticks_begin : (lanes : List S) (had : List Bool) → TicksUpTo K N 0 had false had lanes [] lanes
+  ticks_begin lanes had = record { ticks = tt; others = refl; leaves = refl; any = refl; marks = refl; same_marks = refl }
+
+  ticks_both : (lanes : List S) (marks : List Bool) (behind : List S) (s : S) (had : Bool) (t : S) → TickAll K lanes marks behind → TicksIf K (gets_tick K s had) s t
+      → TickAll K (lanes ++ s ∷ []) (marks ++ had ∷ []) (behind ++ t ∷ [])
+  ticks_both [] [] [] s had t ticks one = (one, tt)
+  ticks_both (x ∷ lanes) (mark ∷ marks) (y ∷ behind) s had t ticks one = (ticks.0, ticks_both lanes marks behind s had t ticks.1 one)
+  ticks_both _ _ _ s had t ticks one = absurd ticks
+
+  abbrev pub tick_entry : ℕ → Bool → S → List E
+  tick_entry j get s = if get then N.of_lane j (K.tick s) ∷ [] else []
+
+  ticks_leave_both : (j n : ℕ) (lanes : List S) (marks : List Bool) (behind : List S) (s : S) (had : Bool) → TickAll K lanes marks behind → n ≡ j + length lanes
+      → tick_entries K N j (lanes ++ s ∷ []) (marks ++ had ∷ []) ≡ tick_entries K N j lanes marks ++ tick_entry n (gets_tick K s had) s
+  ticks_leave_both j n [] [] [] s had ticks is =
+      let same : j ≡ n = omega (arith, is) in
+      append-nil (tick_entry j (gets_tick K s had) s) ∙ ap (λ (i : ℕ). tick_entry i (gets_tick K s had) s) same
+  ticks_leave_both j n (x ∷ lanes) (mark ∷ marks) (y ∷ behind) s had ticks is =
+      ap (λ (l : List E). tick_entry j (gets_tick K x mark) x ++ l) (ticks_leave_both (j + 1) n lanes marks behind s had ticks.1 (omega (arith, is)))
+      ∙ sym (append_assoc (tick_entry j (gets_tick K x mark) x) (tick_entries K N (j + 1) lanes marks) (tick_entry n (gets_tick K s had) s))
+  ticks_leave_both _ _ _ _ _ s had ticks is = absurd ticks
+
+  some_both : (lanes : List S) (marks : List Bool) (behind : List S) (s : S) (had : Bool) → TickAll K lanes marks behind
+      → some_tick K (lanes ++ s ∷ []) (marks ++ had ∷ []) ≡ (some_tick K lanes marks || gets_tick K s had)
+  some_both [] [] [] s had ticks = or_false (gets_tick K s had)
+  some_both (x ∷ lanes) (mark ∷ marks) (y ∷ behind) s had ticks =
+      ap (λ (b : Bool). gets_tick K x mark || b) (some_both lanes marks behind s had ticks.1) ∙ or_assoc (gets_tick K x mark) (some_tick K lanes marks) (gets_tick K s had)
+  some_both _ _ _ s had ticks = absurd ticks
+
+  marked_both : (lanes : List S) (marks : List Bool) (behind : List S) (s : S) (had : Bool) → TickAll K lanes marks behind
+      → marked K (lanes ++ s ∷ []) (marks ++ had ∷ []) ≡ marked K lanes marks ++ (had || gets_tick K s had) ∷ []
+  marked_both [] [] [] s had ticks = refl
+  marked_both (x ∷ lanes) (mark ∷ marks) (y ∷ behind) s had ticks = ap (λ (l : List Bool). (mark || gets_tick K x mark) ∷ l) (marked_both lanes marks behind s had ticks.1)
+  marked_both _ _ _ s had ticks = absurd ticks
+
+  lane_more : (k : ℕ) (had have : List Bool) (some mark get : Bool) (start : List S) (entries one : List E) (w v : List S) (s t : S) → TicksUpTo K N k had some have start entries w
+      → slice_get had k ≡ Some mark → slice_get w k ≡ Some s → v ≡ slice_set w k t → TicksIf K (gets_tick K s mark) s t → get ≡ gets_tick K s mark → one ≡ tick_entry k (gets_tick K s mark) s
+      → k < length have → TicksUpTo K N (k + 1) had (some || get) (slice_set have k (mark || get)) start (entries ++ one) v
+  lane_more k had have some mark get start entries one w v s t up before there is ticks gets leaves less =
+      let at : SetAt k start w v s t = set_at k start w v s t up.others there is in
+      let marks : take (k + 1) had ≡ take k had ++ mark ∷ [] = ap (λ (n : ℕ). take n had) (after_one k) ∙ take_one had k mark before in
+      record {
+        ticks = subst (λ (l : List S). TickAll K l (take (k + 1) had) (take (k + 1) v)) (sym at.front)
+            (subst (λ (l : List Bool). TickAll K (take k start ++ s ∷ []) l (take (k + 1) v)) (sym marks)
+            (subst (λ (l : List S). TickAll K (take k start ++ s ∷ []) (take k had ++ mark ∷ []) l) (sym at.now)
+            (ticks_both (take k start) (take k had) (take k w) s mark t up.ticks ticks)));
+        others = at.others;
+        leaves = ap₂ (λ (x y : List E). x ++ y) up.leaves leaves
+            ∙ sym (ticks_leave_both 0 k (take k start) (take k had) (take k w) s mark up.ticks (place_is k (length (take k start)) at.long))
+            ∙ ap₂ (λ (l : List S) (m : List Bool). tick_entries K N 0 l m) (sym at.front) (sym marks);
+        any = ap₂ (λ (x y : Bool). x || y) up.any gets ∙ sym (some_both (take k start) (take k had) (take k w) s mark up.ticks)
+            ∙ ap₂ (λ (l : List S) (m : List Bool). some_tick K l m) (sym at.front) (sym marks);
+        marks = ap (λ (n : ℕ). take n (slice_set have k (mark || get))) (after_one k) ∙ take_set_one have k (mark || get) less
+            ∙ ap₂ (λ (l : List Bool) (b : Bool). l ++ (mark || b) ∷ []) up.marks gets ∙ sym (marked_both (take k start) (take k had) (take k w) s mark up.ticks)
+            ∙ ap₂ (λ (l : List S) (m : List Bool). marked K l m) (sym at.front) (sym marks);
+        same_marks = ap (λ (n : ℕ). drop n (slice_set have k (mark || get))) (after_one k) ∙ drop_set have k (mark || get) ∙ same_next had have k up.same_marks
+            ∙ sym (ap (λ (n : ℕ). drop n had) (after_one k));
+      }
+
+  pub ticks_go_on : (k : ℕ) (had have : List Bool) (some mark get : Bool) (start : List S) (entries one : List E) (w v : List S) (s t : S) → TicksUpTo K N k had some have start entries w
+      → slice_get have k ≡ Some mark → slice_get w k ≡ Some s → v ≡ slice_set w k t → TicksIf K (gets_tick K s mark) s t → get ≡ gets_tick K s mark → one ≡ tick_entry k (gets_tick K s mark) s
+      → k < length have → TicksUpTo K N (k + 1) had (some || get) (slice_set have k (mark || get)) start (entries ++ one) v
+  ticks_go_on k had have some mark get start entries one w v s t up now there is ticks gets leaves less =
+      lane_more k had have some mark get start entries one w v s t up (sym (same_first had have k up.same_marks) ∙ now) there is ticks gets leaves less
+
+  -- they are all after the last lane
+  pub record AllTicked (had : List Bool) (some : Bool) (have : List Bool) (start : List S) (entries : List E) (now : List S) : Type 0 where
+    pub ticks : TickAll K start (take (length start) had) now
+    pub leaves : entries ≡ tick_entries K N 0 start (take (length start) had)
+    pub any : some ≡ some_tick K start (take (length start) had)
+    pub marks : take (length start) have ≡ marked K start (take (length start) had)
+    pub many : length now ≡ length start
+
+  ticked_many : (lanes : List S) (marks : List Bool) (behind : List S) → TickAll K lanes marks behind → length behind ≡ length lanes
+  ticked_many [] [] [] ticks = refl
+  ticked_many (s ∷ lanes) (mark ∷ marks) (t ∷ behind) ticks = ap suc (ticked_many lanes marks behind ticks.1)
+  ticked_many _ _ _ ticks = absurd ticks
+
+  all_ticked : (had : List Bool) (some : Bool) (have : List Bool) (start : List S) (entries : List E) (now : List S) → TicksUpTo K N (length start) had some have start entries now
+      → AllTicked had some have start entries now
+  all_ticked had some have start entries now up =
+      let n = length start in
+      let before : take n start ≡ start = take_whole start in
+      let behind : take n now ≡ now = take_most now n (up.others ∙ drop_whole start) in
+      let ticks : TickAll K start (take n had) now = subst (λ (l : List S). TickAll K l (take n had) now) before (subst (λ (l : List S). TickAll K (take n start) (take n had) l) behind up.ticks) in
+      record {
+        ticks = ticks;
+        leaves = up.leaves ∙ ap (λ (l : List S). tick_entries K N 0 l (take n had)) before;
+        any = up.any ∙ ap (λ (l : List S). some_tick K l (take n had)) before;
+        marks = up.marks ∙ ap (λ (l : List S). marked K l (take n had)) before;
+        many = ticked_many start (take n had) now ticks;
+      }
+
+  none_left : (j : ℕ) (get : Bool) (s : S) → get ≡ false → tick_entry j get s ≡ []
+  none_left j true s is = absurd (cc is)
+  none_left j false s is = refl
+
+  -- none of them got one, and nothing was left
+  pub no_entries : (j : ℕ) (lanes : List S) (marks : List Bool) → some_tick K lanes marks ≡ false → tick_entries K N j lanes marks ≡ []
+  no_entries j [] marks is = refl
+  no_entries j (s ∷ lanes) [] is = refl
+  no_entries j (s ∷ lanes) (had ∷ marks) is =
+      let parts = or_parts (gets_tick K s had) (some_tick K lanes marks) is in
+      ap₂ (λ (x y : List E). x ++ y) (none_left j (gets_tick K s had) s parts.0) (no_entries (j + 1) lanes marks parts.1)
+
+  -- where memory is wanted
+  none_more : (j : ℕ) (lanes : List S) (marks : List Bool) → TickFront K N j lanes marks [] lanes
+  none_more j [] marks = record { is = refl; lanes_stay = refl }
+  none_more j (s ∷ lanes) [] = record { is = refl; lanes_stay = refl }
+  none_more j (s ∷ lanes) (had ∷ marks) = inl (record { is = refl; lanes_stay = refl })
+
+  front_more : (j : ℕ) (lanes : List S) (marks : List Bool) (behind rest : List S) (more : List Bool) → TickAll K lanes marks behind
+      → TickFront K N j (lanes ++ rest) (marks ++ more) (tick_entries K N j lanes marks) (behind ++ rest)
+  front_more j [] [] [] rest more ticks = none_more j rest more
+  front_more j (s ∷ lanes) (had ∷ marks) (t ∷ behind) rest more ticks =
+      inr (record {
+        after = t;
+        ticks = ticks.0;
+        later = tick_entries K N (j + 1) lanes marks;
+        others = behind ++ rest;
+        more = front_more (j + 1) lanes marks behind rest more ticks.1;
+        is = refl;
+        rest = refl;
+      })
+  front_more _ _ _ _ rest more ticks = absurd ticks
+
+  pub ticks_want : (k : ℕ) (had : List Bool) (some : Bool) (have : List Bool) (start : List S) (entries : List E) (now : List S) → TicksUpTo K N k had some have start entries now → k ≤ length start
+      → TickFront K N 0 start (take (length start) had) entries now
+  ticks_want k had some have start entries now up within =
+      let n = length start in
+      let more = drop k (take n had) in
+      let marks : take k had ++ more ≡ take n had = ap (λ (l : List Bool). l ++ more) (sym (take_within k n had within)) ∙ take-append-drop k (take n had) in
+      let lanes : take k now ++ drop k start ≡ now = ap (λ (l : List S). take k now ++ l) (sym up.others) ∙ take-append-drop k now in
+      subst (λ (l : List S). TickFront K N 0 l (take n had) entries now) (take-append-drop k start)
+      (subst (λ (l : List Bool). TickFront K N 0 (take k start ++ drop k start) l entries now) marks
+      (subst (λ (l : List E). TickFront K N 0 (take k start ++ drop k start) (take k had ++ more) l now) (sym up.leaves)
+      (subst (λ (l : List S). TickFront K N 0 (take k start ++ drop k start) (take k had ++ more) (tick_entries K N 0 (take k start) (take k had)) l) lanes
+      (front_more 0 (take k start) (take k had) (take k now) (drop k start) more up.ticks))))
+
+  -- NAMES by the marks of a round are those that are left over
+  pub left_named : (k : ℕ) (steps : List (List V)) (lanes : List S) → names K N k (map (all_calm K) steps) lanes ≡ left_names K N k steps lanes
+  left_named k [] lanes = refl
+  left_named k (r ∷ steps) [] = refl
+  left_named k (r ∷ steps) (s ∷ lanes) = ap (λ (l : List E). name_of K N k (all_calm K r) s ++ l) (left_named (k + 1) steps lanes)
+
+  no_lanes : (k : ℕ) (marks : List Bool) → names K N k marks [] ≡ []
+  no_lanes k [] = refl
+  no_lanes k (quiet ∷ marks) = refl
+
+  first_zero : (j n : ℕ) → n ≡ j + 0 → n ≡ j
+  first_zero j n is = omega (arith, is)
+
+  names_split : (k j n : ℕ) (marks : List Bool) (lanes : List S) → n ≡ j + k → names K N j (take k marks) (take k lanes) ++ names K N n (drop k marks) (drop k lanes) ≡ names K N j marks lanes
+  names_split zero j n marks lanes is = ap (λ (i : ℕ). names K N i marks lanes) (first_zero j n is)
+  names_split (suc k) j n [] lanes is = refl
+  names_split (suc k) j n (quiet ∷ marks) [] is = no_lanes n (drop k marks)
+  names_split (suc k) j n (quiet ∷ marks) (s ∷ lanes) is =
+      append_assoc (name_of K N j quiet s) (names K N (j + 1) (take k marks) (take k lanes)) (names K N n (drop k marks) (drop k lanes))
+      ∙ ap (λ (l : List E). name_of K N j quiet s ++ l) (names_split k (j + 1) n marks lanes (omega (arith, is)))
+
+  names_both : (j n : ℕ) (marks more : List Bool) (lanes others : List S) → length marks ≡ length lanes → n ≡ j + length lanes
+      → names K N j (marks ++ more) (lanes ++ others) ≡ names K N j marks lanes ++ names K N n more others
+  names_both j n [] more [] others long is = ap (λ (i : ℕ). names K N i more others) (sym (first_zero j n is))
+  names_both j n (quiet ∷ marks) more (s ∷ lanes) others long is =
+      ap (λ (l : List E). name_of K N j quiet s ++ l) (names_both (j + 1) n marks more lanes others (omega (arith, long)) (omega (arith, is)))
+      ∙ sym (append_assoc (name_of K N j quiet s) (names K N (j + 1) marks lanes) (names K N n more others))
+  names_both j n [] more (s ∷ lanes) others long is = absurd (omega (arith, long))
+  names_both j n (quiet ∷ marks) more [] others long is = absurd (omega (arith, long))
+
+  pub names_go_on : (k : ℕ) (lanes : List S) (quiet : List Bool) (entries one : List E) (calm : Bool) (lane : S) → entries ≡ names K N 0 (take k quiet) (take k lanes) → slice_get lanes k ≡ Some lane
+      → slice_get quiet k ≡ Some calm → one ≡ name_of K N k calm lane → entries ++ one ≡ names K N 0 (take (k + 1) quiet) (take (k + 1) lanes)
+  names_go_on k lanes quiet entries one calm lane are there mark is =
+      let next : take (k + 1) lanes ≡ take k lanes ++ lane ∷ [] = ap (λ (n : ℕ). take n lanes) (after_one k) ∙ take_one lanes k lane there in
+      let marks : take (k + 1) quiet ≡ take k quiet ++ calm ∷ [] = ap (λ (n : ℕ). take n quiet) (after_one k) ∙ take_one quiet k calm mark in
+      let long : length (take k lanes) ≡ k = take_length lanes k lane there in
+      let same : length (take k quiet) ≡ length (take k lanes) = take_length quiet k calm mark ∙ sym long in
+      ap₂ (λ (x y : List E). x ++ y) are (is ∙ sym (append-nil (name_of K N k calm lane)))
+      ∙ sym (names_both 0 k (take k quiet) (calm ∷ []) (take k lanes) (lane ∷ []) same (place_is k (length (take k lanes)) long))
+      ∙ ap₂ (λ (m : List Bool) (l : List S). names K N 0 m l) (sym marks) (sym next)
+
+  -- THE ROUNDS OF A SETTLE: none yet
+  pub nothing_gone : (start : List S) (had quiet : List Bool) → take (length start) had ≡ unmarked start → GoneOn K N 0 had quiet start [] start
+  nothing_gone start had quiet fresh =
+      let Last = λ (steps : List (List V)). take (length start) quiet ≡ map (all_calm K) steps in
+      subst (λ (m : List Bool). made.GoneOn (lanes_of K N) 0 m Last start [] start) (sym fresh) (rounds.nothing_gone (lanes_of K N) start Last)
+
+  made_so : (marks : List Bool) (w : List S) (part : List E) (m : List S) (up : RoundUpTo K N (length w) marks w part m) → made.RoundMade (lanes_of K N) up.steps w part m
+  made_so marks w part m up = record { made = round_made marks w part m up; leaves = up.leaves }
+
+  -- marks of as many lanes
+  abbrev Gone : ℕ → List Bool → List Bool → List S → List E → List S → ℕ → Type 0
+  Gone count had quiet start entries now n = made.GoneOn (lanes_of K N) count (take n had) (λ steps. take n quiet ≡ map (all_calm K) steps) start entries now
+
+  module _ (count : ℕ) (had quiet : List Bool) (start : List S) (entries : List E) (w : List S) (gone : GoneOn K N count had quiet start entries w) where
+    abbrev Last : List (List V) → Type 0
+    Last steps = take (length w) quiet ≡ map (all_calm K) steps
+
+    -- one more, in which not all lanes were quiet
+    pub one_round : (marks : List Bool) (part : List E) (v : List S) → RoundUpTo K N (length w) marks w part v → all_true (take (length w) marks) ≡ false
+        → GoneOn K N (count + 1) had marks start (entries ++ part) v
+    one_round marks part v up loud =
+        subst (Gone (count + 1) had marks start (entries ++ part) v) (sym (round_many (length w) marks w part v up))
+        (rounds.one_round (lanes_of K N) count (take (length w) had) Last start entries w gone (λ steps. take (length w) marks ≡ map (all_calm K) steps) up.steps part v
+        (made_so marks w part v up) (round_quiet (length w) marks w part v up false loud) up.marks)
+
+    module _ (marks : List Bool) (part : List E) (m : List S) (up : RoundUpTo K N (length w) marks w part m) (calm : all_true (take (length w) marks) ≡ true) where
+      all_quiet : are_still K up.steps ≡ true
+      all_quiet = round_quiet (length w) marks w part m up true calm
+
+      had_are : take (length m) had ≡ take (length w) had
+      had_are = ap (λ (n : ℕ). take n had) (round_many (length w) marks w part m up)
+
+      record TicksHere (some : Bool) (have : List Bool) (later : List E) (v : List S) : Type 0 where
+        ticks : TickAll K m (take (length w) had) v
+        leaves : later ≡ tick_entries K N 0 m (take (length w) had)
+        any : some ≡ some_tick K m (take (length w) had)
+        marks_are : marked K m (take (length w) had) ≡ take (length w) have
+        many : length v ≡ length w
+
+      ticks_here : (some : Bool) (have : List Bool) (later : List E) (v : List S) → TicksUpTo K N (length m) had some have m later v → TicksHere some have later v
+      ticks_here some have later v ticks =
+          let all : AllTicked had some have m later v = all_ticked had some have m later v ticks in
+          let many : length m ≡ length w = round_many (length w) marks w part m up in
+          record {
+            ticks = subst (λ (l : List Bool). TickAll K m l v) had_are all.ticks;
+            leaves = all.leaves ∙ ap (λ (l : List Bool). tick_entries K N 0 m l) had_are;
+            any = all.any ∙ ap (λ (l : List Bool). some_tick K m l) had_are;
+            marks_are = ap (λ (l : List Bool). marked K m l) (sym had_are) ∙ sym all.marks ∙ ap (λ (n : ℕ). take n have) many;
+            many = all.many ∙ many;
+          }
+
+      -- all were, and some got a tick
+      pub one_round_ticked : (some : Bool) (have : List Bool) (later : List E) (v : List S) → TicksUpTo K N (length m) had some have m later v → some ≡ true
+          → GoneOn K N (count + 1) have marks start (entries ++ (part ++ later)) v
+      one_round_ticked some have later v ticks any =
+          let here : TicksHere some have later v = ticks_here some have later v ticks in
+          let Next = λ (steps : List (List V)). take (length w) marks ≡ map (all_calm K) steps in
+          subst (Gone (count + 1) have marks start (entries ++ (part ++ later)) v) (sym here.many)
+          (subst (λ (l : List Bool). made.GoneOn (lanes_of K N) (count + 1) l Next start (entries ++ (part ++ later)) v) here.marks_are
+          (rounds.one_round_ticked (lanes_of K N) count (take (length w) had) Last start entries w gone up.steps part m (made_so marks w part m up) all_quiet Next later v
+          (sym here.any ∙ any) here.ticks here.leaves up.marks))
+
+      -- or none did: nothing is left by the ticks, and it ends settled
+      pub no_ticks : (some : Bool) (have : List Bool) (later : List E) (v : List S) → TicksUpTo K N (length m) had some have m later v → some ≡ false → later ≡ []
+      no_ticks some have later v ticks any =
+          let here : TicksHere some have later v = ticks_here some have later v ticks in
+          here.leaves ∙ no_entries 0 m (take (length w) had) (sym here.any ∙ any)
+
+      pub settled : (some : Bool) (have : List Bool) (later : List E) (v : List S) → count < most_rounds (lanes_of K N) start → TicksUpTo K N (length m) had some have m later v → some ≡ false → m ≡ v
+          → SettlePart (lanes_of K N) start (entries ++ (part ++ (later ++ N.settled ∷ []))) v
+      settled some have later v few ticks any stays =
+          let here : TicksHere some have later v = ticks_here some have later v ticks in
+          subst (SettlePart (lanes_of K N) start (entries ++ (part ++ (later ++ N.settled ∷ [])))) stays
+          (subst (λ (l : List E). SettlePart (lanes_of K N) start (entries ++ (part ++ (l ++ N.settled ∷ []))) m) (sym (no_ticks some have later v ticks any))
+          (rounds.settled (lanes_of K N) count (take (length w) had) Last start entries w gone up.steps part m (made_so marks w part m up) all_quiet few (sym here.any ∙ any)))
+
+      -- memory is wanted among the ticks or for the answer
+      pub wants_in_ticks : (later : List E) (v : List S) → count < most_rounds (lanes_of K N) start → TickFront K N 0 m (take (length m) had) later v
+          → SettleFront (lanes_of K N) (fronts_of K N) start (entries ++ (part ++ later)) v
+      wants_in_ticks later v few front =
+          rounds.wants_in_ticks (lanes_of K N) count (take (length w) had) Last start entries w gone up.steps part m (made_so marks w part m up) all_quiet (fronts_of K N) later v few
+          (subst (λ (l : List Bool). TickFront K N 0 m l later v) had_are front)
+
+    -- in a round
+    pub wants_in_round : (later : List E) (v : List S) → count < most_rounds (lanes_of K N) start → RoundFront K N w later v → SettleFront (lanes_of K N) (fronts_of K N) start (entries ++ later) v
+    wants_in_round later v few front = rounds.wants_in_round (lanes_of K N) count (take (length w) had) Last start entries w gone (fronts_of K N) later v few front
+
+    -- THE ROUNDS RAN OUT, and the names stand after them
+    all_named : (steps : List (List V)) → Last steps → names K N 0 (take (length w) quiet) w ≡ left_names K N 0 steps w
+    all_named steps last = ap (λ (m : List Bool). names K N 0 m w) last ∙ left_named 0 steps w
+
+    pub run_out : (part : List E) → count ≡ most_rounds (lanes_of K N) start → part ≡ names K N 0 (take (length w) quiet) (take (length w) w)
+        → SettlePart (lanes_of K N) start (entries ++ part) w
+    run_out part most named =
+        rounds.run_out (lanes_of K N) count (take (length w) had) Last start entries w gone part most
+        (λ steps last. named ∙ ap (names K N 0 (take (length w) quiet)) (take_whole w) ∙ all_named steps last)
+
+    pub wants_in_names : (k : ℕ) (part : List E) → count ≡ most_rounds (lanes_of K N) start → k ≤ length w → part ≡ names K N 0 (take k quiet) (take k w)
+        → SettleFront (lanes_of K N) (fronts_of K N) start (entries ++ part) w
+    wants_in_names k part most within named =
+        let all = take (length w) quiet in
+        let unnamed = names K N k (drop k all) (drop k w) in
+        let first : part ++ unnamed ≡ names K N 0 all w =
+        ap (λ (l : List E). l ++ unnamed) (named ∙ ap (λ (m : List Bool). names K N 0 m (take k w)) (sym (take_within k (length w) quiet within)))
+        ∙ names_split k 0 k all w (place_is k k refl) in
+        rounds.wants_in_names (lanes_of K N) count (take (length w) had) Last start entries w gone (fronts_of K N) part unnamed most (λ steps last. first ∙ all_named steps last)
