@@ -6,7 +6,7 @@ use Rattle.ldc_link.specs.declared.phase.Role.{Role}
 use Rattle.ldc_link.specs.declared.phase.Role.TheVariants.{Initiator, Responder}
 use Rattle.port_model.specs.EndLog.{EndLog, SessionLog, said_in, said_kind}
 use Rattle.port_model.specs.NetEndState.{NetEndState, NetSession}
-use Rattle.port_model.specs.Spoken.{GroupsAck, GroupsInfo, Other, RangeAck, RangeInfo, Spoken, spoken}
+use Rattle.port_model.specs.Spoken.{GroupsInfo, Spoken, spoken}
 use Rattle.port_laws.specs.Counted.{AnswersRightly, Counts, EndCounts, GroupCounts, GuestCounts, GuestGroups, IsBehind, PeerCounts, RingCounts, SessionCounts, left_of, unsaid}
 
 -- AN OPEN SESSION, of the end and of its log
@@ -47,12 +47,6 @@ pub with_open : (role : Role) (slots : ℕ) (groups : List (List ℕ)) (publishe
     → session ≡ Some p → SessionCounts role slots groups published gone left begun p v → Counts role slots groups published gone left begun session (Some v)
 with_open role slots groups published gone left begun session p v is counts =
     subst (λ (x : Option NetSession). Counts role slots groups published gone left begun x (Some v)) (sym is) counts
-
-pub with_shut : (role : Role) (slots : ℕ) (groups : List (List ℕ)) (published gone : ℕ) (left : Option (List ℕ)) (begun : Bool) (session : Option NetSession) (log : Option SessionLog)
-    → session ≡ None → log ≡ None → published ≡ gone → Counts role slots groups published gone left begun session log
-with_shut role slots groups published gone left begun session log is none all =
-    subst (λ (x : Option NetSession). Counts role slots groups published gone left begun x log) (sym is)
-    (subst (λ (x : Option SessionLog). Counts role slots groups published gone left begun None x) (sym none) all)
 
 -- NOTHING OF THE SESSION IS HELD
 none_left : (own : Bool) → left_of own [] ≡ None
@@ -103,18 +97,12 @@ guest_same Initiator p q groups now v w counts same untold telling membership to
 
 -- WHAT IS SAID changes none of these
 pub said_published : (k : Spoken) (message : List ℕ) (v : SessionLog) → (said_kind k message v).published ≡ v.published
-said_published RangeInfo message v = refl
-said_published RangeAck message v = refl
 said_published GroupsInfo message v = refl
-said_published GroupsAck message v = refl
-said_published Other message v = refl
+said_published _ message v = refl
 
 pub said_seen : (k : Spoken) (message : List ℕ) (v : SessionLog) → (said_kind k message v).seen ≡ v.seen
-said_seen RangeInfo message v = refl
-said_seen RangeAck message v = refl
 said_seen GroupsInfo message v = refl
-said_seen GroupsAck message v = refl
-said_seen Other message v = refl
+said_seen _ message v = refl
 
 pub left_published : (left : Option (List ℕ)) (v : SessionLog) → (said_in left v).published ≡ v.published
 left_published None v = refl

@@ -17,7 +17,7 @@ use Rattle.vio_handshake.specs.declared.handshake.Handshake.{Handshake}
 use Rattle.vio_tag.specs.declared.cause.Cause.{Cause}
 use Rattle.vio_tag.specs.declared.message.Message.{Message}
 use Rattle.vio_tag.specs.declared.message.MsgBody.{MsgBody}
-use Rattle.vio_tag.specs.declared.message.MsgBody.TheVariants.{Attr, DringData, DringReg, DringUnreg, Mcast, Plain, Rdx, Ver}
+use Rattle.vio_tag.specs.declared.message.MsgBody.TheVariants.{Mcast}
 use Rattle.vio_tag.specs.declared.message.TagFault.{TagFault}
 use Rattle.vio_tag.specs.Decoding.{Decodes}
 use Rattle.vio_tag.specs.Spelling.{SpellsBody, addresses_at, canonical}
@@ -25,11 +25,11 @@ use Rattle.channel_model.specs.EndPuts.{ending, handshake_behind, kind_in, put_k
 use Rattle.channel_model.specs.Seeing.{Seen}
 use Rattle.cookie_copy.specs.Reach.{Reach}
 use Rattle.channel_laws.specs.EndCore.{Begins, EndMove, Fails, Hears, Says as SaysPacket, Stays, Waits, holds}
-use Rattle.channel_laws.specs.EndStep.{EndBegins, EndFails, EndHears, EndSays, EndStays, EndStep, EndWaits, HearsWhole, Holding, Holds, HoldsOn, HoldsOwed, HoldsOwn, IsOfSession, KeepsOwn, LinkFails, MayTake, WholeFails, opened_by, risen_at}
-use Rattle.port_model.specs.Fetching.{Fetched, IsFrame, NotReady, Refuses, fetched}
+use Rattle.channel_laws.specs.EndStep.{EndBegins, EndFails, EndHears, EndSays, EndStays, EndStep, EndWaits, HearsWhole, Holding, Holds, HoldsOn, HoldsOwed, HoldsOwn, IsOfSession, LinkFails, MayTake, WholeFails, opened_by, risen_at}
+use Rattle.port_model.specs.Fetching.{Fetched, NotReady, fetched}
 use Rattle.port_model.specs.Groups.{membership}
 use Rattle.port_model.specs.NetEndPutting.{announcement, answer, answers, groups_answer, holding, holding_own, net_holds, net_kind, net_opens, net_put, opened_by_put}
-use Rattle.port_model.specs.NetEndRule.{Announces, Fetches, Idles, Joins, NetRule, Publishes, Puts, Replies, Says, Takes, Tells, port_rule}
+use Rattle.port_model.specs.NetEndRule.{Announces, Fetches, NetRule, Publishes, Puts, Replies, Says, Takes, Tells, port_rule}
 use Rattle.port_model.specs.NetEndState.{Activity, GroupsReply, NetEndState, NetSession, joined_net_end}
 use Rattle.port_model.specs.NetEndStep.{Blocked, Frame, Idle, Joined, NetAnswer, NetEndStep, NetFails, NetLeft, NetSends, Published, Reset, Sent, Took, published, taken}
 use Rattle.port_model.specs.NetEndTaking as take
@@ -40,13 +40,10 @@ use Rattle.port_laws.specs.NetCore.{more_in, more_of, net_core, one_if}
 use Rattle.port_laws.specs.NetFits.{AreShort, GroupsFit, NetFits, ReplyFits, SessionFits, SomeFits}
 use Rattle.port_laws.proofs.ShortMessages.{announcement_short, answer_short, membership_short, read_long, read_short, reply_short}
 use Rattle.port_laws.proofs.Taking.{BodyFits, TakeGoes, message_goes}
-use Rattle.port_model.proofs.Refuting.{false_true, none_some, true_false}
-
-of_some : {X : Type 0} (P : X → Type 0) (x y : X) → Some x ≡ Some y → P x → P y
-of_some {X} P x y same holds = let is : x ≡ y = cc in subst P is holds
+use Rattle.port_model.proofs.Refuting.{false_true, none_some, of_some, true_false}
 
 -- HOW MANY MORE messages
-one_most : (b : Bool) → one_if b ≤ 1
+pub one_most : (b : Bool) → one_if b ≤ 1
 one_most true = omega arith
 one_most false = omega arith
 
@@ -83,7 +80,7 @@ pub record HeldCore (role : Role) (s held : NetEndState) : Type 0 where
 held_to : (role : Role) (s one held : NetEndState) (what : Holding) → Some one ≡ Some held → Holds (net_core role s) what (net_core role one) → HeldCore role s held
 held_to role s one held what same holds = of_some (HeldCore role s) one held same (record { what = what; holds = holds })
 
-reply_of : (s : NetEndState) (p : NetSession) (reply : GroupsReply) → SessionFits s.session → s.session ≡ Some p → p.reply ≡ Some reply → ReplyFits reply
+pub reply_of : (s : NetEndState) (p : NetSession) (reply : GroupsReply) → SessionFits s.session → s.session ≡ Some p → p.reply ≡ Some reply → ReplyFits reply
 reply_of s p reply fits session is = subst SomeFits is (subst SessionFits session fits)
 
 slot_held : (role : Role) (s : NetEndState) (at : Seen) (p : NetSession) (activity : Activity) (last : Option ℕ) (found : Fetched) (held : NetEndState) → IsFreeIn s at p
@@ -92,9 +89,7 @@ slot_held role s at p activity (Some last) (NotReady state) held free is same =
     let one : one_if (is_some p.active) ≡ 1 = ap (λ (x : Option Activity). one_if (is_some x)) is in
     held_to role s (holding_own (answer s activity last) (record p { active = None }) s) held (HoldsOwn (answer s activity last)) same
     (own_held role s at (answer s activity last) p (record p { active = None }) free tt refl (answer_short s activity last) (omega (arith, one)))
-slot_held role s at p activity (Some last) (IsFrame frame new) held free is same = none_some held same
-slot_held role s at p activity (Some last) (Refuses why) held free is same = none_some held same
-slot_held role s at p activity None found held free is same = none_some held same
+slot_held role s at p activity _ _ held free is same = none_some held same
 
 pub held_core : (role : Role) (s : NetEndState) (at : Seen) (reach : Reach) (rule : NetRule) (held : NetEndState) → NetFits role s → port_rule role s at ≡ rule
     → net_holds rule s reach ≡ Some held → HeldCore role s held
@@ -133,10 +128,7 @@ held_core role s at reach (Announces p) held fits is same =
     let one : one_if (not p.asking) ≡ 1 = ap (λ (b : Bool). one_if (not b)) says.2 in
     held_to role s (holding_own (announcement s p) (record p { infos = p.infos + 1; asking = true }) s) held (HoldsOwn (announcement s p)) same
     (own_held role s at (announcement s p) p (record p { infos = p.infos + 1; asking = true }) says.0.in_session tt refl (announcement_short s p) (omega (arith, one)))
-held_core role s at reach Joins held fits is same = none_some held same
-held_core role s at reach (Takes packet) held fits is same = none_some held same
-held_core role s at reach (Publishes p frame) held fits is same = none_some held same
-held_core role s at reach Idles held fits is same = none_some held same
+held_core role s at reach _ held fits is same = none_some held same
 
 -- IT PUTS. The handshake changes where its message ends, and then the link holds nothing.
 empty_of : (xs : List ℕ) → length xs ≡ 0 → is_empty xs ≡ true
@@ -161,11 +153,6 @@ phase_keeps _ k own h is held left = refl
 
 pub link_keeps : (k : LinkState) (own : Bool) (h : Handshake) → holds k ≡ true → holds (behind_put k) ≡ true → handshake_behind (put_kind k own) h ≡ h
 link_keeps k own h held left = phase_keeps k.phase k own h refl held left
-
-put_keeps : (role : Role) (opens : Bool) (s : NetEndState) → KeepsOwn (net_core role s) (net_core role (opened_by_put role opens s))
-put_keeps Initiator true s held left = refl
-put_keeps Initiator false s held left = refl
-put_keeps Responder opens s held left = refl
 
 pub record PutCore (role : Role) (opens : Bool) (s t : NetEndState) : Type 0 where
   pub link : t.link ≡ s.link
@@ -233,13 +220,7 @@ fits_of : (bytes : List ℕ) (b : MsgBody) → SpellsBody bytes b → BodyFits b
 fits_of bytes (Mcast set count addresses) spells =
     let is : addresses ≡ addresses_at 10 7 bytes = spells.2 in
     (subst (λ (x : List (List ℕ)). length x ≤ 7) (sym is) (omega (arith, read_long 7 10 bytes)), subst AreShort (sym is) (read_short 7 10 bytes))
-fits_of bytes (Ver major minor class) spells = tt
-fits_of bytes (Attr attr) spells = tt
-fits_of bytes (DringReg ident slots slot_size options count cookies) spells = tt
-fits_of bytes (DringUnreg ident) spells = tt
-fits_of bytes Rdx spells = tt
-fits_of bytes (DringData seq ident start end state) spells = tt
-fits_of bytes (Plain envelope) spells = tt
+fits_of bytes _ spells = tt
 
 -- WHAT COMES OF A MESSAGE that became whole, if one did
 pub record GoesWhole (role : Role) (s : NetEndState) (whole : Option (List ℕ)) (t : NetEndState) (opens : Bool) : Type 0 where
@@ -354,14 +335,7 @@ fails_core role s at memory reach (Takes bytes) cause packet fits is fails =
     packet_fails role s at memory bytes packet cause fits (says_of role s at (Takes bytes) is).0 fails.0 fails.1
 fails_core role s at memory reach (Fetches p activity) cause packet fits is fails =
     slot_fails role s p packet cause fails.0 (says_of role s at (Fetches p activity) is).0.session
-fails_core role s at memory reach Joins cause packet fits is fails = absurd fails
-fails_core role s at memory reach Puts cause packet fits is fails = absurd fails
-fails_core role s at memory reach (Says message) cause packet fits is fails = absurd fails
-fails_core role s at memory reach (Replies p reply) cause packet fits is fails = absurd fails
-fails_core role s at memory reach (Tells p) cause packet fits is fails = absurd fails
-fails_core role s at memory reach (Publishes p frame) cause packet fits is fails = absurd fails
-fails_core role s at memory reach (Announces p) cause packet fits is fails = absurd fails
-fails_core role s at memory reach Idles cause packet fits is fails = absurd fails
+fails_core role s at memory reach _ cause packet fits is fails = absurd fails
 
 -- IT STAYS
 pub stays_with : (role : Role) (s t : NetEndState) → t.link ≡ s.link → t.handshake ≡ s.handshake → t.address ≡ s.address → t.slots ≡ s.slots → is_some t.session ≡ is_some s.session

@@ -9,22 +9,19 @@ use Rattle.ldc_queue.specs.declared.end.End.TheVariants.{A, B}
 use Rattle.channel_model.specs.EndPuts.{handshake_behind}
 use Rattle.channel_model.specs.Seeing.{Seen}
 use Rattle.cookie_copy.specs.Reach.{Reach}
-use Rattle.port_model.specs.Fetching.{Fetched, IsFrame, NotReady, Refuses, fetched}
+use Rattle.port_model.specs.Fetching.{Fetched, NotReady, fetched}
 use Rattle.port_model.specs.NetEndPutting.{answers, net_holds, net_kind, net_opens, net_put, opened_by_put}
-use Rattle.port_model.specs.NetEndRule.{Announces, Fetches, Idles, Joins, NetRule, Publishes, Puts, Replies, Says, Takes, Tells, port_rule}
+use Rattle.port_model.specs.NetEndRule.{Announces, Fetches, NetRule, Publishes, Puts, Replies, Says, Tells, port_rule}
 use Rattle.port_model.specs.NetEndState.{Activity, NetEndState, NetSession, joined_net_end}
 use Rattle.port_model.specs.NetEndStep.{Already, BadLength, Blocked, Frame, Full, Given, GroupsFull, Idle, Joined, Joining, Member, NetAnswer, NetEndStep, NetGives, NetJoins, NetLeft, Published, Queued, Reset, Sent, Took, untold}
 use Rattle.port_model.specs.NetEndTaking.{GoesOn}
-use Rattle.port_model.specs.NetEvent.{Asked, CalmTick, Declines, Gives, Injects, Joins as JoinsGroup, Loses, NetEvent, Pokes, Steps, Ticked}
+use Rattle.port_model.specs.NetEvent.{Asked, Gives, Injects, Joins as JoinsGroup, NetEvent, Pokes, Steps, Ticked}
 use Rattle.port_model.specs.NetLaneState.{NetLaneState}
 use Rattle.port_model.specs.NetLaneStep.{NetLaneStep, Resets}
 use Rattle.port_model.proofs.Ruling.{says_of}
 use Rattle.port_laws.specs.NetFits.{AreShort, GroupsFit, NetFits, SessionFits, SomeFits}
 use Rattle.port_laws.proofs.EndMoves.{packet_goes}
-use Rattle.port_model.proofs.Refuting.{none_some}
-
-of_some : {X : Type 0} (P : X → Type 0) (x y : X) → Some x ≡ Some y → P x → P y
-of_some {X} P x y same holds = let is : x ≡ y = cc in subst P is holds
+use Rattle.port_model.proofs.Refuting.{none_some, of_some}
 
 -- the end with another session whose answer to groups is the same
 session_fits : (role : Role) (s t : NetEndState) (p q : NetSession) → NetFits role s → s.session ≡ Some p → t.groups ≡ s.groups → t.session ≡ Some q → q.reply ≡ p.reply → NetFits role t
@@ -47,9 +44,7 @@ slot_fits : (role : Role) (s : NetEndState) (p : NetSession) (activity : Activit
     → answers s p activity last found ≡ Some held → NetFits role held
 slot_fits role s p activity (Some last) (NotReady state) held fits is same =
     of_some (NetFits role) _ held same (session_fits role s _ p (record p { active = None }) fits is refl refl refl)
-slot_fits role s p activity (Some last) (IsFrame frame new) held fits is same = none_some held same
-slot_fits role s p activity (Some last) (Refuses why) held fits is same = none_some held same
-slot_fits role s p activity None found held fits is same = none_some held same
+slot_fits role s p activity _ _ held fits is same = none_some held same
 
 held_fits : (role : Role) (s : NetEndState) (at : Seen) (reach : Reach) (rule : NetRule) (held : NetEndState) → NetFits role s → port_rule role s at ≡ rule
     → net_holds rule s reach ≡ Some held → NetFits role held
@@ -64,10 +59,7 @@ held_fits role s at reach (Tells p) held fits is same =
 held_fits role s at reach (Announces p) held fits is same =
     of_some (NetFits role) _ held same
     (session_fits role s _ p (record p { infos = p.infos + 1; asking = true }) fits (says_of role s at (Announces p) is).0.in_session.session refl refl refl)
-held_fits role s at reach Joins held fits is same = none_some held same
-held_fits role s at reach (Takes packet) held fits is same = none_some held same
-held_fits role s at reach (Publishes p frame) held fits is same = none_some held same
-held_fits role s at reach Idles held fits is same = none_some held same
+held_fits role s at reach _ held fits is same = none_some held same
 
 opened_fits : (role : Role) (opens : Bool) (s : NetEndState) → NetFits role s → NetFits role (opened_by_put role opens s)
 opened_fits Initiator true s fits = record { groups = fits.groups; session = tt }
@@ -131,12 +123,9 @@ event_fits s (Steps A answer) t step fits = subst BothFit (sym step.is) (step_fi
 event_fits s (Steps B answer) t step fits = subst BothFit (sym step.is) (fits.0, step_fits Responder s.hub _ s.hub_memory _ answer step.left fits.1 step.step)
 event_fits s (Asked e lost) t step fits = resets_fit e (Asked e lost) s lost t fits step
 event_fits s (Ticked queued lost) t step fits = resets_fit A (Ticked queued lost) s lost t fits step.1
-event_fits s (CalmTick queued) t step fits = subst BothFit (sym step.1) fits
 event_fits s (Gives A given) t step fits = subst BothFit (sym step.1) (gives_fits Initiator s.guest given t.guest fits.0 step.0, fits.1)
 event_fits s (Gives B given) t step fits = subst BothFit (sym step.1) (fits.0, gives_fits Responder s.hub given t.hub fits.1 step.0)
 event_fits s (JoinsGroup joining) t step fits = subst BothFit (sym step.1) (joins_fits s.guest joining t.guest fits.0 step.0, fits.1)
-event_fits s (Loses e packet) t step fits = subst BothFit (sym step.1) fits
 event_fits s (Injects e packet) t step fits = subst BothFit (sym step.2) fits
 event_fits s (Pokes A at bytes) t step fits = subst BothFit (sym step.1) fits
-event_fits s (Pokes B at bytes) t step fits = subst BothFit (sym step.1) fits
-event_fits s (Declines d) t step fits = subst BothFit (sym step.1) fits
+event_fits s _ t step fits = subst BothFit (sym step.1) fits

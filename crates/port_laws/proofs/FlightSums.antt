@@ -1,6 +1,6 @@
 -- How many packets wait on a channel that nobody forged, and are still to be put: both ends begin with 24 of their own, and each session with
 -- at most two more, for what it asks. An answer takes the place of the packet that it answers. What happens to the channel keeps it so.
-use Rattle.std.proofs.Common.{◌≡◌, ℕ, ◌+◌, ◌*◌, ◌≤◌, Bool, true, false, List, [], ◌∷◌, ◌++◌, length, drop, refl, sym, subst, ap, ◌∙◌, arith, length-append, length-drop, Option, Some, None}
+use Rattle.std.proofs.Common.{◌≡◌, ℕ, ◌+◌, ◌*◌, ◌≤◌, Bool, true, false, List, [], ◌∷◌, ◌++◌, length, drop, refl, sym, subst, ap, ◌∙◌, arith, length-append, length-drop, Option, Some}
 use Rattle.std.specs.Prelude.{slice_get, ⊤}
 use Rattle.ldc_link.specs.declared.phase.Role.{Role}
 use Rattle.ldc_link.specs.declared.phase.Role.TheVariants.{Initiator, Responder}
@@ -11,16 +11,16 @@ use Rattle.ldc_queue.specs.Transcript.{Turn}
 use Rattle.ldc_queue.specs.Wire.{peer_behind, queue_behind, upset}
 use Rattle.vio_tag.specs.declared.cause.Cause.{Cause}
 use Rattle.channel_model.specs.TranscriptLog.{TranscriptLog}
-use Rattle.channel_model.specs.WireEvent.{Blocked, ByRestart, ByScript, ByStep, ByTick, Declines, Giver, Idle, Injected, Joined, Lost, Poked, Reset, Sent, Took, giver}
+use Rattle.channel_model.specs.WireEvent.{Blocked, ByStep, Giver, Injected, Joined, Lost, Poked, Reset, Sent, Took, giver}
 use Rattle.channel_model.specs.WireLog.{WireLog, lossy_behind, wire_moved}
 use Rattle.channel_laws.proofs.EndStanding.{held_stands}
-use Rattle.channel_laws.proofs.Lifting.{EndsAll, begins_anew, renews_anew, resets_anew}
+use Rattle.channel_laws.proofs.Lifting.{EndsAll, begins_anew, resets_anew}
 use Rattle.channel_laws.proofs.PacketsLeft.{anew_packets, answering_shut, says_left, says_packets, stays_packets, waits_left}
 use Rattle.channel_laws.specs.EndCore.{EndCore}
 use Rattle.channel_laws.specs.EndStep.{EndAnew, EndSays, EndStays, EndStep, EndWaits, Holding, Holds, HoldsOn, HoldsOwed, HoldsOwn}
-use Rattle.channel_laws.specs.LaneCore.{Beside, Closes, CoreEvent, CoreStep, LaneCore, OnChannel, reset_move, wire_after}
+use Rattle.channel_laws.specs.LaneCore.{Closes, CoreEvent, CoreStep, LaneCore, OnChannel, reset_move, wire_after}
 use Rattle.channel_laws.specs.PacketsLeft.{first_packets, own_in, packets_left}
-use Rattle.channel_laws.specs.Standing.{EndStands, HandshakeStands, is_open_in}
+use Rattle.channel_laws.specs.Standing.{EndStands, HandshakeStands}
 use Rattle.port_model.proofs.Refuting.{true_false}
 use Rattle.port_laws.specs.NetCore.{one_if}
 use Rattle.port_laws.proofs.RemainingEnds.{kind_shut}
@@ -53,9 +53,8 @@ few_rests f g Down y w lossy n k p r m q less same few = few
 few_rests f g Resetting y w lossy n k p r m q less same few = few
 
 upset_first : (y : ChannelState) (g m : ℕ) → live_count (upset y) g m ≡ g
-upset_first Up g m = refl
-upset_first Down g m = refl
 upset_first Resetting g m = refl
+upset_first _ g m = refl
 
 few_begins : (f g : ℕ) (x y : ChannelState) (a b : List (List ℕ)) (lossy : Bool) (n k p r m q : ℕ) → k ≡ f → Few f g x y (length a + length b) lossy n p m q
     → Few f g Up (peer_behind x y) (length (queue_behind x a) + length (queue_behind x b)) (lossy_behind x lossy) k r m q
@@ -125,9 +124,7 @@ anew_spent Responder c t stands both none begins =
 
 resets_none : (g : Giver) (role : Role) (c t : EndCore) (cause : Cause) (packet : Option (List ℕ)) → EndStep role c (reset_move g cause packet) t → t.more ≡ 0
 resets_none ByStep role c t cause packet step = step.1.more
-resets_none ByScript role c t cause packet step = step.more
-resets_none ByRestart role c t cause packet step = step.more
-resets_none ByTick role c t cause packet step = step.more
+resets_none _ role c t cause packet step = step.more
 
 -- BOTH ENDS
 abbrev pub FewFly : WireLog → EndCore → EndCore → Type 0
@@ -242,8 +239,6 @@ event_few s t (OnChannel (Blocked A)) known step spends clean few =
 event_few s t (OnChannel (Blocked B)) known step spends clean few =
     b_acts s.wire (length s.wire.wire.to_a + length s.wire.wire.to_b) t.a s.b t.b step.stands.0 (omega (arith, waits_spent Responder s.b t.b known.transcript.server known.ends.b step.b))
     (a_rests s.wire s.a t.a s.b step.a few)
-event_few s t (OnChannel (Idle e)) known step spends clean few = b_rests s.wire t.a s.b t.b step.b (a_rests s.wire s.a t.a s.b step.a few)
-event_few s t (OnChannel (Declines d)) known step spends clean few = b_rests s.wire t.a s.b t.b step.b (a_rests s.wire s.a t.a s.b step.a few)
 event_few s t (OnChannel (Lost A packet)) known step spends clean few =
     few_loses 11 13 s.wire.wire.end_a s.wire.wire.end_b (length s.wire.wire.to_a + length s.wire.wire.to_b) (length (drop 1 s.wire.wire.to_a) + length s.wire.wire.to_b) s.wire.lossy
     (spent t.a) (one_if t.a.is_open) (spent t.b) (one_if t.b.is_open) (omega (arith, first_gone packet s.wire.wire.to_a step.stands))
@@ -257,15 +252,13 @@ event_few s t (OnChannel (Poked e at bytes)) known step spends clean few = true_
 event_few s t (Closes A) known step spends clean few = few_shuts 11 13 s.wire.wire.end_b (spent t.a) (one_if t.a.is_open) (spent t.b) (one_if t.b.is_open)
 event_few s t (Closes B) known step spends clean few =
     to_a (wire_after s.wire (Closes B)) t.a t.b (few_shuts 13 11 s.wire.wire.end_a (spent t.b) (one_if t.b.is_open) (spent t.a) (one_if t.a.is_open))
-event_few s t Beside known step spends clean few = b_rests s.wire t.a s.b t.b step.b (a_rests s.wire s.a t.a s.b step.a few)
+event_few s t _ known step spends clean few = b_rests s.wire t.a s.b t.b step.b (a_rests s.wire s.a t.a s.b step.a few)
 
 -- nobody had forged before
 was_clean : (w : WireLog) (event : CoreEvent) → (wire_after w event).forged ≡ false → w.forged ≡ false
 was_clean w (OnChannel (Injected e packet)) clean = true_false clean
 was_clean w (OnChannel (Poked e at bytes)) clean = true_false clean
-was_clean w (OnChannel event) clean = clean
-was_clean w (Closes e) clean = clean
-was_clean w Beside clean = clean
+was_clean w _ clean = clean
 
 pub step_few : (s t : LaneCore) (event : CoreEvent) → Known s → CoreStep s event t → (s.wire.forged ≡ false → Spends s event t) → (s.wire.forged ≡ false → FewFly s.wire s.a s.b)
     → t.wire.forged ≡ false → FewFly t.wire t.a t.b

@@ -22,13 +22,13 @@ use Rattle.channel_laws.proofs.EndResting.{held_handshake}
 use Rattle.channel_laws.proofs.EndStanding.{stands_step}
 use Rattle.channel_laws.specs.EndCore.{Waits}
 use Rattle.channel_laws.specs.Standing.{EndStands}
-use Rattle.port_model.proofs.Refuting.{none_some, true_false}
+use Rattle.port_model.proofs.Refuting.{none_some, of_some, true_false}
 use Rattle.port_model.proofs.Ruling.{says_of}
 use Rattle.port_model.specs.EndLog.{EndLog}
-use Rattle.port_model.specs.Fetching.{Fetched, IsFrame, NotReady, Refuses, fetched}
+use Rattle.port_model.specs.Fetching.{Fetched, NotReady, fetched}
 use Rattle.port_model.specs.Groups.{membership}
 use Rattle.port_model.specs.NetEndPutting.{announcement, answer, answers, groups_answer, holding_own, net_holds, net_opens, net_put}
-use Rattle.port_model.specs.NetEndRule.{Announces, Fetches, Idles, Joins, NetRule, Publishes, Puts, Replies, Says, Takes, Tells, port_rule}
+use Rattle.port_model.specs.NetEndRule.{Announces, Fetches, NetRule, Puts, Replies, Says, Tells, port_rule}
 use Rattle.port_model.specs.NetEndState.{Activity, GroupsReply, NetEndState, NetSession}
 use Rattle.port_model.specs.NetEndStep.{NetLeft, NetSends}
 use Rattle.port_model.specs.RuleFacts.{IsFreeIn}
@@ -58,9 +58,6 @@ pub data Formed (role : Role) (sid : ℕ) (s : NetEndState) (p : NetSession) (he
   Told : (m : List ℕ) (q : NetSession) → FormsIt s held m q → role ≡ Initiator → m ≡ canonical (membership s.handshake.draft.sid s.groups) → p.telling ≡ false → q.telling ≡ true → q.reply ≡ p.reply
       → Formed role sid s p held
 
-of_some : {X : Type 0} (P : X → Type 0) (x y : X) → Some x ≡ Some y → P x → P y
-of_some {X} P x y same holds = let is : x ≡ y = cc in subst P is holds
-
 -- an end that may form one
 pub record MayForm (role : Role) (sid : ℕ) (s : NetEndState) (p : NetSession) : Type 0 where
   pub session : s.session ≡ Some p
@@ -83,9 +80,7 @@ slot_formed role sid s at p activity (Some last) (NotReady state) held agreed sm
     of_some (Formed role sid s p) (holding_own (answer s activity last) (record p { active = None }) s) held same
     (Ranged (canonical (answer s activity last)) (record p { active = None }) (forms_it s at p (record p { active = None }) (answer s activity last) free empty)
     (says_range role sid Ack s.handshake.draft.sid activity.seq s.handshake.draft.ident_peer activity.start last 2 (inr refl) agreed.peer small) refl refl)
-slot_formed role sid s at p activity (Some last) (IsFrame frame new) held agreed small empty free same = none_some held same
-slot_formed role sid s at p activity (Some last) (Refuses why) held agreed small empty free same = none_some held same
-slot_formed role sid s at p activity None found held agreed small empty free same = none_some held same
+slot_formed role sid s at p activity _ _ held agreed small empty free same = none_some held same
 
 same_session : {X : Type 0} (o : Option X) (p q : X) → o ≡ Some p → o ≡ Some q → q ≡ p
 same_session {X} o p q one two = let both : Some q ≡ Some p = sym two ∙ one in cc both
@@ -116,10 +111,7 @@ formed_by role sid s at reach (Announces q) held p may is same =
     (of_some (Formed role sid s q) (holding_own (announcement s q) (record q { infos = q.infos + 1; asking = true }) s) held same
     (Ranged (canonical (announcement s q)) (record q { infos = q.infos + 1; asking = true }) (forms_it s at q (record q { infos = q.infos + 1; asking = true }) (announcement s q) says.0.in_session may.empty)
     (says_range role sid Info s.handshake.draft.sid (wrapped (q.infos + 1)) s.handshake.draft.ident_own (q.seen % s.slots) 0xffffffff 1 (inl refl) may.agreed.own may.small) refl refl))
-formed_by role sid s at reach Joins held p may is same = none_some held same
-formed_by role sid s at reach (Takes packet) held p may is same = none_some held same
-formed_by role sid s at reach (Publishes q frame) held p may is same = none_some held same
-formed_by role sid s at reach Idles held p may is same = none_some held same
+formed_by role sid s at reach _ held p may is same = none_some held same
 
 -- IT PUTS the message that it holds, whole in one packet
 pub record PutsIt (held t : NetEndState) (turns : List Turn) (packet : List ℕ) : Type 0 where

@@ -1,5 +1,5 @@
 -- The groups of a guest are those that it joined.
-use Rattle.std.proofs.Common.{◌≡◌, ℕ, Bool, true, false, Option, Some, None, List, [], ◌∷◌, ◌++◌, length, refl, subst, ap, ◌∙◌}
+use Rattle.std.proofs.Common.{◌≡◌, ℕ, Bool, true, false, Option, Some, List, [], ◌∷◌, ◌++◌, length, refl, subst, ap, ◌∙◌}
 use Rattle.std.specs.Prelude.{◌<◌}
 use Rattle.ldc_link.specs.declared.phase.Role.TheVariants.{Initiator}
 use Rattle.ldc_queue.specs.declared.end.End.{End}
@@ -8,28 +8,26 @@ use Rattle.runs.specs.Lawful.{Lawful, run_lawful}
 use Rattle.runs.specs.Run.{Run}
 use Rattle.channel_model.specs.Seeing.{Seen}
 use Rattle.cookie_copy.specs.Reach.{Reach}
-use Rattle.port_model.specs.Fetching.{Fetched, IsFrame, NotReady, Refuses, fetched}
+use Rattle.port_model.proofs.Moving.{before_keeps}
+use Rattle.port_model.specs.Fetching.{Fetched, NotReady, fetched}
 use Rattle.port_model.specs.FrameLaws.{JoiningAt, MayJoin}
 use Rattle.port_model.specs.Groups.{is_in}
 use Rattle.port_model.specs.NetEndPutting.{answers, net_holds, net_opens, opened_by_put}
-use Rattle.port_model.specs.NetEndRule.{Announces, Fetches, Idles, Joins as JoinsRule, NetRule, Publishes, Puts, Replies, Says, Takes, Tells, port_rule}
+use Rattle.port_model.specs.NetEndRule.{Fetches, Idles, Joins as JoinsRule, NetRule, Publishes, Puts, Takes, port_rule}
 use Rattle.port_model.specs.NetEndState.{Activity, NetEndState, NetSession}
 use Rattle.port_model.specs.NetEndStep.{Already, BadLength, Blocked, Frame, Full, Given, GroupsFull, Idle, Joined, Joining, Member, NetAnswer, NetEndStep, NetGives, NetJoins, NetLeft, Published, Queued, Reset, Sent, Took}
 use Rattle.port_model.specs.NetEndTaking.{GoesOn}
-use Rattle.port_model.specs.NetEvent.{Asked, CalmTick, Declines, Gives, Injects, Joins, Loses, NetEvent, Pokes, Steps, Ticked}
+use Rattle.port_model.specs.NetEvent.{Asked, Gives, Injects, Joins, NetEvent, Pokes, Steps, Ticked}
 use Rattle.port_model.specs.NetLaneState.{NetLaneState, NetShape}
 use Rattle.port_model.specs.NetLaneStep.{NetLaneStep, Resets}
 use Rattle.port_model.specs.PortLog.{PortLog, after, members_after, no_events}
-use Rattle.port_model.specs.PortState.{OnLane, PortEvent, PortState, PortStep, Receives, before, fresh_port, moves_first, takes_more}
-use Rattle.port_model.proofs.Refuting.{none_some}
+use Rattle.port_model.specs.PortState.{OnLane, PortEvent, PortState, PortStep, Receives, before, fresh_port}
+use Rattle.port_model.proofs.Refuting.{none_some, of_some}
 use Rattle.port_laws.specs.NetFits.{NetFits}
 use Rattle.port_laws.proofs.EndMoves.{packet_goes}
 use Rattle.port_laws.proofs.Fitting.{BothFit}
 use Rattle.port_laws.proofs.LaneMoves.{fresh_fits}
 use Rattle.port_laws.proofs.PortRuns.{PortFits, before_fits, port_fits}
-
-of_some : {X : Type 0} (P : X → Type 0) (x y : X) → Some x ≡ Some y → P x → P y
-of_some {X} P x y same holds = let is : x ≡ y = cc in subst P is holds
 
 -- A STEP of a guest leaves them
 abbrev Same : NetEndState → NetEndState → Type 0
@@ -37,21 +35,16 @@ Same s t = t.groups ≡ s.groups
 
 slot_same : (s : NetEndState) (p : NetSession) (activity : Activity) (last : Option ℕ) (found : Fetched) (held : NetEndState) → answers s p activity last found ≡ Some held → Same s held
 slot_same s p activity (Some last) (NotReady state) held same = of_some (Same s) _ held same refl
-slot_same s p activity (Some last) (IsFrame frame new) held same = none_some held same
-slot_same s p activity (Some last) (Refuses why) held same = none_some held same
-slot_same s p activity None found held same = none_some held same
+slot_same s p activity _ _ held same = none_some held same
 
 held_same : (s : NetEndState) (reach : Reach) (rule : NetRule) (held : NetEndState) → net_holds rule s reach ≡ Some held → Same s held
 held_same s reach Puts held same = of_some (Same s) s held same refl
-held_same s reach (Says message) held same = of_some (Same s) _ held same refl
-held_same s reach (Replies p reply) held same = of_some (Same s) _ held same refl
 held_same s reach (Fetches p activity) held same = slot_same s p activity activity.last (fetched s reach p.place) held same
-held_same s reach (Tells p) held same = of_some (Same s) _ held same refl
-held_same s reach (Announces p) held same = of_some (Same s) _ held same refl
 held_same s reach JoinsRule held same = none_some held same
 held_same s reach (Takes packet) held same = none_some held same
 held_same s reach (Publishes p frame) held same = none_some held same
 held_same s reach Idles held same = none_some held same
+held_same s reach _ held same = of_some (Same s) _ held same refl
 
 opened_same : (opens : Bool) (s : NetEndState) → Same s (opened_by_put Initiator opens s)
 opened_same true s = refl
@@ -87,18 +80,14 @@ event_groups s (Steps A answer) t members fits step are =
 event_groups s (Steps B answer) t members fits step are = ap (λ (x : NetLaneState). x.guest.groups) step.is ∙ are
 event_groups s (Asked e lost) t members fits step are = resets_same e (Asked e lost) s lost t step ∙ are
 event_groups s (Ticked queued lost) t members fits step are = resets_same A (Ticked queued lost) s lost t step.1 ∙ are
-event_groups s (CalmTick queued) t members fits step are = ap (λ (x : NetLaneState). x.guest.groups) step.1 ∙ are
 event_groups s (Gives A given) t members fits step are = gives_same s.guest given t.guest step.0 ∙ are
-event_groups s (Gives B given) t members fits step are = ap (λ (x : NetLaneState). x.guest.groups) step.1 ∙ are
 event_groups s (Joins (Member address)) t members fits step are =
     ap (λ (x : NetEndState). x.groups) step.0.3 ∙ ap (λ (groups : List (List ℕ)). groups ++ address ∷ []) are
 event_groups s (Joins (Already address)) t members fits step are = ap (λ (x : NetEndState). x.groups) step.0.1 ∙ are
 event_groups s (Joins (GroupsFull address)) t members fits step are = ap (λ (x : NetEndState). x.groups) step.0.2 ∙ are
-event_groups s (Loses e packet) t members fits step are = ap (λ (x : NetLaneState). x.guest.groups) step.1 ∙ are
 event_groups s (Injects e packet) t members fits step are = ap (λ (x : NetLaneState). x.guest.groups) step.2 ∙ are
 event_groups s (Pokes A at bytes) t members fits step are = ap (λ (x : NetLaneState). x.guest.groups) step.1 ∙ are
-event_groups s (Pokes B at bytes) t members fits step are = ap (λ (x : NetLaneState). x.guest.groups) step.1 ∙ are
-event_groups s (Declines d) t members fits step are = ap (λ (x : NetLaneState). x.guest.groups) step.1 ∙ are
+event_groups s _ t members fits step are = ap (λ (x : NetLaneState). x.guest.groups) step.1 ∙ are
 
 -- A JOIN stands by them
 may_join : (members : List (List ℕ)) (s t : NetEndState) (joining : Joining) → s.groups ≡ members → NetJoins s joining t → MayJoin members joining
@@ -113,35 +102,12 @@ record Agrees (s : PortState) (l : PortLog) : Type 0 where
   fits : PortFits s
   groups : GroupsAre s.lane l.members
 
-moves_groups : (b : Bool) (queue : List (List ℕ)) (s : PortState) → (moves_first b queue s).lane.guest ≡ s.lane.guest
-moves_groups true [] s = refl
-moves_groups true (frame ∷ frames) s = refl
-moves_groups false queue s = refl
-
 before_groups : (event : NetEvent) (s : PortState) → (before event s).lane.guest ≡ s.lane.guest
-before_groups (Steps B answer) s = moves_groups (takes_more s.lane.hub) s.queue s
-before_groups (Steps A answer) s = refl
-before_groups (Asked e lost) s = refl
-before_groups (Ticked queued lost) s = refl
-before_groups (CalmTick queued) s = refl
-before_groups (Gives e given) s = refl
-before_groups (Joins joining) s = refl
-before_groups (Loses e packet) s = refl
-before_groups (Injects e packet) s = refl
-before_groups (Pokes e at bytes) s = refl
-before_groups (Declines d) s = refl
+before_groups event s = before_keeps (λ (x : PortState). x.lane.guest ≡ s.lane.guest) event s (λ frame frames. refl) refl
 
 joins_at : (s : PortState) (l : PortLog) (event : NetEvent) (t : PortState) → GroupsAre s.lane l.members → NetLaneStep (before event s).lane event t.lane → JoiningAt l (OnLane event)
 joins_at s l (Joins joining) t are step = may_join l.members s.lane.guest t.lane.guest joining are step.0
-joins_at s l (Steps e answer) t are step = tt
-joins_at s l (Asked e lost) t are step = tt
-joins_at s l (Ticked queued lost) t are step = tt
-joins_at s l (CalmTick queued) t are step = tt
-joins_at s l (Gives e given) t are step = tt
-joins_at s l (Loses e packet) t are step = tt
-joins_at s l (Injects e packet) t are step = tt
-joins_at s l (Pokes e at bytes) t are step = tt
-joins_at s l (Declines d) t are step = tt
+joins_at s l _ t are step = tt
 
 port_joins_step : (s : PortState) (l : PortLog) (event : PortEvent) (t : PortState) → Agrees s l → PortStep s event t → JoiningAt l event × Agrees t (after l event)
 port_joins_step s l (OnLane event) t agrees step = (

@@ -6,7 +6,7 @@ use Rattle.ldc_link.specs.declared.phase.Role.TheVariants.{Initiator, Responder}
 use Rattle.ldc_link.specs.LinkState.{LinkState, cleared, is_up}
 use Rattle.ldc_link.specs.Taking.{Heard as HeardBy, LinkTake, TakesBytes, Unheard}
 use Rattle.ldc_packet.specs.declared.packet.Subtype.{Subtype}
-use Rattle.ldc_packet.specs.declared.packet.Subtype.TheVariants.{Ack, Info, Nack}
+use Rattle.ldc_packet.specs.declared.packet.Subtype.TheVariants.{Info}
 use Rattle.ldc_packet.specs.Spelling.{subtype_code}
 use Rattle.ldc_queue.specs.declared.end.ChannelState.TheVariants.{Up}
 use Rattle.ldc_queue.specs.Transcript.{Heard, Turn}
@@ -116,14 +116,12 @@ record Tagged (s : Subtype) (body : MsgBody) (m : List ℕ) : Type 0 where
 range_tagged : (s : Subtype) (n seq ident start end state : ℕ) → Tagged s (DringData seq ident start end state) (range_bytes s n seq ident start end state)
 unfolding canonical
 range_tagged Info n seq ident start end state = record { kind = refl; subtype = refl; envelope = refl }
-range_tagged Ack n seq ident start end state = record { kind = refl; subtype = refl; envelope = refl }
-range_tagged Nack n seq ident start end state = record { kind = refl; subtype = refl; envelope = refl }
+range_tagged _ n seq ident start end state = record { kind = refl; subtype = refl; envelope = refl }
 
 groups_tagged : (s : Subtype) (n set count : ℕ) (addresses : List (List ℕ)) → Tagged s (Mcast set count addresses) (groups_bytes s n set count addresses)
 unfolding canonical
 groups_tagged Info n set count addresses = record { kind = refl; subtype = refl; envelope = refl }
-groups_tagged Ack n set count addresses = record { kind = refl; subtype = refl; envelope = refl }
-groups_tagged Nack n set count addresses = record { kind = refl; subtype = refl; envelope = refl }
+groups_tagged _ n set count addresses = record { kind = refl; subtype = refl; envelope = refl }
 
 pub record OwnRead (bytes : List ℕ) (sid : ℕ) : Type 0 where
   pub message : Message

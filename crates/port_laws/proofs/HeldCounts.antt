@@ -14,21 +14,22 @@ use Rattle.vio_tag.specs.Spelling.{canonical}
 use Rattle.channel_model.specs.Ranges.{wrapped}
 use Rattle.channel_model.specs.Seeing.{Seen}
 use Rattle.cookie_copy.specs.Reach.{Reach}
-use Rattle.port_model.proofs.Refuting.{false_true, none_some, true_false}
+use Rattle.port_model.proofs.Refuting.{false_true, none_some, of_some, true_false}
 use Rattle.port_model.proofs.Ruling.{says_of}
 use Rattle.port_model.specs.EndLog.{EndLog, SessionLog, said_kind}
-use Rattle.port_model.specs.Fetching.{Fetched, IsFrame, NotReady, Refuses, fetched}
+use Rattle.port_model.specs.Fetching.{Fetched, NotReady, fetched}
 use Rattle.port_model.specs.Groups.{membership, seven}
 use Rattle.port_model.specs.NetEndPutting.{announcement, answer, answers, groups_answer, holding as holding_shake, holding_own, net_holds}
-use Rattle.port_model.specs.NetEndRule.{Announces as AnnouncesRule, Fetches, Idles, Joins, NetRule, Publishes, Puts, Replies, Says, Takes, Tells, port_rule}
+use Rattle.port_model.specs.NetEndRule.{Announces as AnnouncesRule, Fetches, NetRule, Puts, Replies, Says, Tells, port_rule}
 use Rattle.port_model.specs.NetEndState.{Activity, GroupsReply, NetEndState, NetSession}
 use Rattle.port_model.specs.RuleFacts.{IsFreeIn}
 use Rattle.port_model.specs.Spoken.{GroupsInfo, RangeAck, RangeInfo, Spoken, groups_spoken, spoken}
 use Rattle.port_laws.specs.Counted.{ActiveCounts, AnswersRightly, Counts, EndCounts, GuestCounts, GuestGroups, IsAnswer, LastCounts, PeerCounts, RingCounts, SaysRightly, SessionCounts, left_of, unsaid}
-use Rattle.port_laws.specs.NetFits.{AreShort, NetFits, ReplyFits, SessionFits, SomeFits}
+use Rattle.port_laws.specs.NetFits.{AreShort, NetFits, ReplyFits}
 use Rattle.port_laws.proofs.EndCounting.{OpenCounts, empty_unsaid, guest_same, open_counts}
 use Rattle.port_laws.proofs.OwnBytes.{end_is, groups_spoken_as, membership_reads, range_spoken_as, seq_is, start_is, state_is}
 use Rattle.port_laws.proofs.ShortMessages.{announcement_short, answer_short, membership_short, reply_short}
+use Rattle.port_laws.proofs.EndMoves.{reply_of}
 
 -- a ring has 1 to 64 slots
 pub record SlotsFit (slots : ℕ) : Type 0 where
@@ -40,9 +41,6 @@ small_slot n slots fit =
     let some : zero < slots = omega (arith, fit.some) in
     let below : n % slots < slots = mod-lt n some in
     omega (arith, below, fit.most)
-
-of_some : {X : Type 0} (P : X → Type 0) (x y : X) → Some x ≡ Some y → P x → P y
-of_some {X} P x y same holds = let is : x ≡ y = cc in subst P is holds
 
 -- bytes of its own that the link holds
 pub some_left : (own : Bool) (bytes : List ℕ) → own ≡ true → 1 ≤ length bytes → left_of own bytes ≡ Some bytes
@@ -230,9 +228,6 @@ opened_here role slots queue s l at p holding free =
     subst (λ (x : Option (List ℕ)). OpenCounts role slots s.groups l.published l.gone x s.link.begun p l.session) (empty_unsaid s (holding.empty free.free.quiet))
     (open_counts role slots queue s l p holding.counts free.session)
 
-reply_fits : (s : NetEndState) (p : NetSession) (reply : GroupsReply) → SessionFits s.session → s.session ≡ Some p → p.reply ≡ Some reply → ReplyFits reply
-reply_fits s p reply fits session is = subst SomeFits is (subst SessionFits session fits)
-
 slot_counts : (role : Role) (slots : ℕ) (queue : List (List ℕ)) (s : NetEndState) (l : EndLog) (at : Seen) (p : NetSession) (activity : Activity) (last : Option ℕ) (found : Fetched) (held : NetEndState)
     → Holding role slots queue s l → IsFreeIn s at p → p.active ≡ Some activity → activity.last ≡ last → answers s p activity last found ≡ Some held → EndCounts role slots queue held l
 slot_counts role slots queue s l at p activity (Some last) (NotReady state) held holding free active is same =
@@ -241,9 +236,7 @@ slot_counts role slots queue s l at p activity (Some last) (NotReady state) held
     (formed role slots queue s l p (record p { active = None }) here.of_log (answer s activity last) RangeAck holding.counts here.is
     (answers_forms role slots s p here.of_log l.published l.gone activity last s.link.begun free.free.owed holding.counts.slots_is holding.slots_fit
     (subst (ActiveCounts slots here.of_log) active here.counts.peer.active) is here.counts))
-slot_counts role slots queue s l at p activity (Some last) (IsFrame frame new) held holding free active is same = none_some held same
-slot_counts role slots queue s l at p activity (Some last) (Refuses why) held holding free active is same = none_some held same
-slot_counts role slots queue s l at p activity None found held holding free active is same = none_some held same
+slot_counts role slots queue s l at p activity _ _ held holding free active is same = none_some held same
 
 tells_counts : (role : Role) (slots : ℕ) (queue : List (List ℕ)) (s : NetEndState) (l : EndLog) (at : Seen) (p : NetSession) → Holding role slots queue s l → IsFreeIn s at p → role ≡ Initiator → p.untold ≡ true
     → EndCounts role slots queue (holding_own (membership s.handshake.draft.sid s.groups) (record p { untold = false; telling = true }) s) l
@@ -266,7 +259,7 @@ held_counts role slots queue s l at reach (Replies p reply) held holding is same
     let here = opened_here role slots queue s l at p holding says.0 in
     of_some (λ (x : NetEndState). EndCounts role slots queue x l) _ held same
     (formed role slots queue s l p (record p { reply = None }) here.of_log (groups_answer s reply) (groups_spoken (subtype_code reply.subtype)) holding.counts here.is
-    (replies_forms role slots s p here.of_log l.published l.gone reply s.link.begun says.0.free.owed (reply_fits s p reply holding.fits.session says.0.session says.1)
+    (replies_forms role slots s p here.of_log l.published l.gone reply s.link.begun says.0.free.owed (reply_of s p reply holding.fits.session says.0.session says.1)
     (subst AnswersRightly says.1 here.counts.reply) here.counts))
 held_counts role slots queue s l at reach (Fetches p activity) held holding is same =
     let says = says_of role s at (Fetches p activity) is in
@@ -280,7 +273,4 @@ held_counts role slots queue s l at reach (AnnouncesRule p) held holding is same
     of_some (λ (x : NetEndState). EndCounts role slots queue x l) _ held same
     (formed role slots queue s l p (record p { infos = p.infos + 1; asking = true }) here.of_log (announcement s p) RangeInfo holding.counts here.is
     (announces_forms role slots s p here.of_log l.published l.gone s.link.begun says.0.in_session.free.owed holding.counts.slots_is holding.slots_fit says.1 says.2 here.counts))
-held_counts role slots queue s l at reach Joins held holding is same = none_some held same
-held_counts role slots queue s l at reach (Takes packet) held holding is same = none_some held same
-held_counts role slots queue s l at reach (Publishes p frame) held holding is same = none_some held same
-held_counts role slots queue s l at reach Idles held holding is same = none_some held same
+held_counts role slots queue s l at reach _ held holding is same = none_some held same

@@ -15,7 +15,7 @@ use Rattle.vio_tag.specs.declared.cause.Cause.{Cause}
 use Rattle.channel_model.specs.Seeing.{Seen}
 use Rattle.cookie_copy.specs.Reach.{Reach}
 use Rattle.channel_model.specs.WireAt.{DeclinesAt, IsUp, MayCarry, MayReset}
-use Rattle.channel_model.specs.WireEvent.{ByStep, Declined, Giver, InjectedFull, NotInjected, NothingLost, PokeRefused, WireEvent, giver}
+use Rattle.channel_model.specs.WireEvent.{ByStep, Declined, Giver, PokeRefused, WireEvent, giver}
 use Rattle.channel_model.specs.WireLog.{WireLog}
 use Rattle.channel_laws.specs.EndCore.{EndMove, Fails, Stays}
 use Rattle.channel_laws.specs.EndStep.{EndBegins, EndStays, EndStep}
@@ -52,17 +52,14 @@ not_up Up is = true_false is
 not_up Down is = λ up. false_true (ap is_up up)
 not_up Resetting is = λ up. false_true (ap is_up up)
 
-holds_up : (role : Role) (s : NetEndState) (at : Seen) (reach : Reach) (rule : NetRule) (held : NetEndState) → port_rule role s at ≡ rule → net_holds rule s reach ≡ Some held → is_up at.state ≡ true
+pub holds_up : (role : Role) (s : NetEndState) (at : Seen) (reach : Reach) (rule : NetRule) (held : NetEndState) → port_rule role s at ≡ rule → net_holds rule s reach ≡ Some held → is_up at.state ≡ true
 holds_up role s at reach Puts held is same = (says_of role s at Puts is).0
 holds_up role s at reach (Says message) held is same = (says_of role s at (Says message) is).0
 holds_up role s at reach (Replies p reply) held is same = (says_of role s at (Replies p reply) is).0.free.up
 holds_up role s at reach (Fetches p activity) held is same = (says_of role s at (Fetches p activity) is).0.free.up
 holds_up role s at reach (Tells p) held is same = (says_of role s at (Tells p) is).0.in_session.free.up
 holds_up role s at reach (Announces p) held is same = (says_of role s at (Announces p) is).0.in_session.free.up
-holds_up role s at reach Joins held is same = none_some held same
-holds_up role s at reach (Takes packet) held is same = none_some held same
-holds_up role s at reach (Publishes p frame) held is same = none_some held same
-holds_up role s at reach Idles held is same = none_some held same
+holds_up role s at reach _ held is same = none_some held same
 
 carries_none : (e : End) (w : Wire) (packet : Option (List ℕ)) → packet ≡ None → MayCarry packet e w
 carries_none e w packet is = subst (λ (x : Option (List ℕ)). MayCarry x e w) (sym is) tt
@@ -78,14 +75,7 @@ fails_stand e s (Takes bytes) cause packet is fails =
 fails_stand e s (Fetches p activity) cause packet is fails =
     let says = says_of (role_at e) (net_end e s) (seen_at e s) (Fetches p activity) is in
     (up_of (state_of e s.wire.wire) says.0.free.up, carries_none e s.wire.wire packet fails.0)
-fails_stand e s Joins cause packet is fails = absurd fails
-fails_stand e s Puts cause packet is fails = absurd fails
-fails_stand e s (Says message) cause packet is fails = absurd fails
-fails_stand e s (Replies p reply) cause packet is fails = absurd fails
-fails_stand e s (Tells p) cause packet is fails = absurd fails
-fails_stand e s (Publishes p frame) cause packet is fails = absurd fails
-fails_stand e s (Announces p) cause packet is fails = absurd fails
-fails_stand e s Idles cause packet is fails = absurd fails
+fails_stand e s _ cause packet is fails = absurd fails
 
 answer_stands : (e : End) (s : NetLaneState) (answer : NetAnswer) (left : NetLeft)
     → NetEndStep (role_at e) (net_end e s) (seen_at e s) (memory_of e s) (reach_of e s) answer left
@@ -124,40 +114,15 @@ moves_own A s (Reset cause packet lost) left step =
     reset_is cause packet (net_resets_own Initiator (port_rule Initiator s.guest (seen_at A s)) s.guest s.guest_memory (reach_of A s) cause packet step.0)
 moves_own B s (Reset cause packet lost) left step =
     reset_is cause packet (net_resets_own Responder (port_rule Responder s.hub (seen_at B s)) s.hub s.hub_memory (reach_of B s) cause packet step.0)
-moves_own A s (Joined lost) left step = refl
-moves_own A s (Took packet opens) left step = refl
-moves_own A s (Sent packet opens) left step = refl
-moves_own A s Blocked left step = refl
-moves_own A s Idle left step = refl
-moves_own A s (Published id) left step = refl
-moves_own A s (Frame frame) left step = refl
-moves_own B s (Joined lost) left step = refl
-moves_own B s (Took packet opens) left step = refl
-moves_own B s (Sent packet opens) left step = refl
-moves_own B s Blocked left step = refl
-moves_own B s Idle left step = refl
-moves_own B s (Published id) left step = refl
-moves_own B s (Frame frame) left step = refl
+moves_own _ s _ left step = refl
 
 moves_b : (answer : NetAnswer) → move_of B (core_event (Steps A answer)) ≡ Stays
-moves_b (Joined lost) = refl
-moves_b (Took packet opens) = refl
-moves_b (Sent packet opens) = refl
-moves_b Blocked = refl
-moves_b Idle = refl
-moves_b (Published id) = refl
-moves_b (Frame frame) = refl
 moves_b (Reset cause packet lost) = refl
+moves_b _ = refl
 
 moves_a : (answer : NetAnswer) → move_of A (core_event (Steps B answer)) ≡ Stays
-moves_a (Joined lost) = refl
-moves_a (Took packet opens) = refl
-moves_a (Sent packet opens) = refl
-moves_a Blocked = refl
-moves_a Idle = refl
-moves_a (Published id) = refl
-moves_a (Frame frame) = refl
 moves_a (Reset cause packet lost) = refl
+moves_a _ = refl
 
 -- an end that stays, whatever was its channel end's state
 pub stays_at : (role : Role) (begun now : Bool) (s t : NetEndState) → now ≡ begun → EndStays (net_core role s) (net_core role t)
@@ -198,11 +163,8 @@ joined_moves role begun now s t is =
     subst (λ (x : NetEndState). EndBegins (net_core_at role begun s) (net_core_at role now x)) (sym is) (begins role begun now s)
 
 peer_begun : (x y : ChannelState) → is_begun (peer_behind x y) ≡ is_begun y
-peer_begun Up Up = refl
-peer_begun Up Down = refl
 peer_begun Up Resetting = refl
-peer_begun Down y = refl
-peer_begun Resetting y = refl
+peer_begun _ _ = refl
 
 abbrev Embeds : NetLaneState → NetEvent → NetLaneState → Type 0
 Embeds s event t = CoreStep (lane_core s) (core_event event) (lane_core t)
@@ -282,22 +244,12 @@ hub_moves s (Reset cause packet lost) left fits step =
 hub_begun : (s : NetLaneState) (answer : NetAnswer) → is_begun (net_wire (Steps A answer) s).wire.end_b ≡ is_begun s.wire.wire.end_b
 hub_begun s (Joined lost) = peer_begun s.wire.wire.end_a s.wire.wire.end_b
 hub_begun s (Reset cause packet lost) = peer_begun s.wire.wire.end_a s.wire.wire.end_b
-hub_begun s (Took packet opens) = refl
-hub_begun s (Sent packet opens) = refl
-hub_begun s Blocked = refl
-hub_begun s Idle = refl
-hub_begun s (Published id) = refl
-hub_begun s (Frame frame) = refl
+hub_begun s _ = refl
 
 guest_begun : (s : NetLaneState) (answer : NetAnswer) → is_begun (net_wire (Steps B answer) s).wire.end_a ≡ is_begun s.wire.wire.end_a
 guest_begun s (Joined lost) = peer_begun s.wire.wire.end_b s.wire.wire.end_a
 guest_begun s (Reset cause packet lost) = peer_begun s.wire.wire.end_b s.wire.wire.end_a
-guest_begun s (Took packet opens) = refl
-guest_begun s (Sent packet opens) = refl
-guest_begun s Blocked = refl
-guest_begun s Idle = refl
-guest_begun s (Published id) = refl
-guest_begun s (Frame frame) = refl
+guest_begun s _ = refl
 
 -- A RESET that no step gave, of either end
 asked_core : (e : End) (s : NetLaneState) (lost : ℕ) (t : NetLaneState) → Resets e (Asked e lost) s lost t → Embeds s (Asked e lost) t
@@ -358,10 +310,8 @@ joins_stays s (Member address) t joins =
 
 -- WHAT CAME TO NOTHING
 declined_stands : (d : Declined) (s : NetLaneState) → DeclinesAt (sizes_of (declined_at d) s) s.wire d → AnswerStands s.shape.entries s.wire d
-declined_stands (NothingLost e) s stands = stands
-declined_stands (NotInjected e packet) s stands = stands
-declined_stands (InjectedFull e packet) s stands = stands
 declined_stands (PokeRefused e at count) s stands = tt
+declined_stands _ s stands = stands
 
 -- AN EVENT
 abbrev guest_up : NetLaneState → Bool

@@ -10,7 +10,7 @@ use Rattle.vio_handshake.specs.declared.handshake.Handshake.{Handshake}
 use Rattle.vio_handshake.specs.Rules.{Faults, Goes, GoesOpen, HandshakeTake, handshake_take, is_declined}
 use Rattle.vio_tag.specs.declared.message.Message.{Message}
 use Rattle.vio_tag.specs.declared.message.MsgBody.{MsgBody}
-use Rattle.vio_tag.specs.declared.message.MsgBody.TheVariants.{Attr, DringData, DringReg, DringUnreg, Mcast, Plain, Rdx, Ver}
+use Rattle.vio_tag.specs.declared.message.MsgBody.TheVariants.{DringData, DringUnreg, Plain}
 use Rattle.vio_tag.specs.Form.{HasForm, IsWellFormed}
 use Rattle.vio_tag.specs.Spelling.{SpellsBody, SpellsMessage, envelope_code, subtype_at}
 use Rattle.vio_bytes.specs.Place.{number_at}
@@ -34,22 +34,13 @@ body_acks slots bytes Ack (DringData seq ident start end state) form spells =
     let starts : start ≡ number_at 4 24 bytes = spells.2 in
     let ends : end ≡ number_at 4 28 bytes = spells.3 in
     sym (ap (λ (n : ℕ). range_length slots n end) starts ∙ ap (λ (n : ℕ). range_length slots (number_at 4 24 bytes) n) ends)
-body_acks slots bytes Info (DringData seq ident start end state) form spells = refl
-body_acks slots bytes Nack (DringData seq ident start end state) form spells = refl
-body_acks slots bytes Info (Mcast set count addresses) form spells = refl
-body_acks slots bytes Ack (Mcast set count addresses) form spells = refl
-body_acks slots bytes Nack (Mcast set count addresses) form spells = refl
 body_acks slots bytes Info (Plain envelope) (inl is) spells = ap (λ (n : ℕ). acked_by slots (spoken_by n 1) bytes) is
 body_acks slots bytes Info (Plain envelope) (inr is) spells = ap (λ (n : ℕ). acked_by slots (spoken_by n 1) bytes) is
 body_acks slots bytes Ack (Plain envelope) (inl is) spells = ap (λ (n : ℕ). acked_by slots (spoken_by n 2) bytes) is
 body_acks slots bytes Ack (Plain envelope) (inr is) spells = ap (λ (n : ℕ). acked_by slots (spoken_by n 2) bytes) is
 body_acks slots bytes Nack (Plain envelope) (inl is) spells = ap (λ (n : ℕ). acked_by slots (spoken_by n 4) bytes) is
 body_acks slots bytes Nack (Plain envelope) (inr is) spells = ap (λ (n : ℕ). acked_by slots (spoken_by n 4) bytes) is
-body_acks slots bytes subtype (Ver major minor class) form spells = refl
-body_acks slots bytes subtype (Attr attr) form spells = refl
-body_acks slots bytes subtype (DringReg ident ring size options count cookies) form spells = refl
-body_acks slots bytes subtype (DringUnreg ident) form spells = refl
-body_acks slots bytes subtype Rdx form spells = refl
+body_acks slots bytes _ _ form spells = refl
 
 pub message_acks : (slots : ℕ) (bytes : List ℕ) (message : Message) → IsWellFormed message → SpellsMessage bytes message
     → acked_by slots (spoken bytes) bytes ≡ acks slots message.body message.subtype

@@ -13,12 +13,12 @@ use Rattle.channel_model.specs.TranscriptLog.{transcript_of}
 use Rattle.port_model.specs.EndLog.{EndLog, OpenedLog, SessionLog, change, ends_log, gives_log, heard_in, heard_kind, more_published, more_taken, opens_log, published_in, said_in, said_kind}
 use Rattle.port_model.specs.NetEndStep.{BadLength, Blocked, Frame, Full, Given, Idle, Joined, NetAnswer, NetGives, Published, Queued, Reset, Sent, Took}
 use Rattle.port_model.specs.NetEndState.{NetEndState}
-use Rattle.port_model.specs.NetEvent.{Asked, CalmTick, Declines, Gives, Injects, Joins, Loses, NetEvent, Pokes, Steps, Ticked}
+use Rattle.port_model.specs.NetEvent.{Asked, Gives, Injects, NetEvent, Pokes, Steps, Ticked}
 use Rattle.port_model.specs.NetLaneState.{NetLaneState, NetShape, fresh_table}
 use Rattle.port_model.specs.NetLaneStep.{NetLaneStep}
-use Rattle.port_model.specs.PortLog.{PortLog, after, after_answer, after_given}
+use Rattle.port_model.specs.PortLog.{PortLog, after, after_answer, after_given, no_events}
 use Rattle.port_model.specs.PortState.{OnLane, Receives}
-use Rattle.port_model.specs.Spoken.{GroupsAck, GroupsInfo, Other, RangeAck, RangeInfo, Spoken, spoken}
+use Rattle.port_model.specs.Spoken.{GroupsInfo, Spoken, spoken}
 use Rattle.port_laws.proofs.RingMoves.{get_front}
 use Rattle.port_laws.proofs.SessionsHeard.{get_last, get_more}
 
@@ -50,22 +50,16 @@ head_change f (Some v) [] published same head = head
 head_change f (Some v) (one ∷ rest) published same head = (head.0 ∙ sym (same.sid v), head.1 ∙ sym (same.published v), head.2)
 
 kind_sid : (k : Spoken) (slots : ℕ) (message : List ℕ) (v : SessionLog) → ((heard_kind slots k message v).sid ≡ v.sid) × ((heard_kind slots k message v).published ≡ v.published)
-kind_sid RangeInfo slots message v = (refl, refl)
-kind_sid RangeAck slots message v = (refl, refl)
 kind_sid GroupsInfo slots message v = (refl, refl)
-kind_sid GroupsAck slots message v = (refl, refl)
-kind_sid Other slots message v = (refl, refl)
+kind_sid _ slots message v = (refl, refl)
 
 heard_same : (slots : ℕ) (ended : Option (List ℕ)) → SameHead (heard_in slots ended)
 heard_same slots None = record { sid = λ v. refl; published = λ v. refl }
 heard_same slots (Some message) = record { sid = λ v. (kind_sid (spoken message) slots message v).0; published = λ v. (kind_sid (spoken message) slots message v).1 }
 
 saying_sid : (k : Spoken) (message : List ℕ) (v : SessionLog) → ((said_kind k message v).sid ≡ v.sid) × ((said_kind k message v).published ≡ v.published)
-saying_sid RangeInfo message v = (refl, refl)
-saying_sid RangeAck message v = (refl, refl)
 saying_sid GroupsInfo message v = (refl, refl)
-saying_sid GroupsAck message v = (refl, refl)
-saying_sid Other message v = (refl, refl)
+saying_sid _ message v = (refl, refl)
 
 said_same : (ended : Option (List ℕ)) → SameHead (said_in ended)
 said_same None = record { sid = λ v. refl; published = λ v. refl }
@@ -132,14 +126,9 @@ logs_event u l (Steps B answer) t step stands = record { guest = stands.guest; h
 logs_event u l (Asked A lost) t step stands = record { guest = ends_stands lost l.guest stands.guest; hub = stands.hub }
 logs_event u l (Asked B lost) t step stands = record { guest = stands.guest; hub = ends_stands lost l.hub stands.hub }
 logs_event u l (Ticked queued lost) t step stands = record { guest = ends_stands lost l.guest stands.guest; hub = stands.hub }
-logs_event u l (CalmTick queued) t step stands = record { guest = stands.guest; hub = stands.hub }
 logs_event u l (Gives A given) t step stands = record { guest = given_log u.guest given t.guest l.guest step.0 stands.guest; hub = stands.hub }
 logs_event u l (Gives B given) t step stands = record { guest = stands.guest; hub = given_log u.hub given t.hub l.hub step.0 stands.hub }
-logs_event u l (Joins joining) t step stands = record { guest = stands.guest; hub = stands.hub }
-logs_event u l (Loses e packet) t step stands = record { guest = stands.guest; hub = stands.hub }
-logs_event u l (Injects e packet) t step stands = record { guest = stands.guest; hub = stands.hub }
-logs_event u l (Pokes e at bytes) t step stands = record { guest = stands.guest; hub = stands.hub }
-logs_event u l (Declines d) t step stands = record { guest = stands.guest; hub = stands.hub }
+logs_event u l _ t step stands = record { guest = stands.guest; hub = stands.hub }
 
 pub logs_received : (l : PortLog) (frame : List ℕ) → IsFrame frame → LogsStand l → LogsStand (after l (Receives frame))
 logs_received l frame is stands = record { guest = stands.guest; hub = gives_stands frame l.hub stands.hub is }
@@ -166,14 +155,11 @@ pub tables_event : (shape : NetShape) (u : NetLaneState) (event : NetEvent) (t :
 tables_event shape u (Steps A answer) t step = tables_as shape u t (ap (λ (x : NetLaneState). x.guest_table) step.is) (ap (λ (x : NetLaneState). x.hub_table) step.is)
 tables_event shape u (Steps B answer) t step = tables_as shape u t (ap (λ (x : NetLaneState). x.guest_table) step.is) (ap (λ (x : NetLaneState). x.hub_table) step.is)
 tables_event shape u (Asked A lost) t step = tables_as shape u t (ap (λ (x : NetLaneState). x.guest_table) step.1) (ap (λ (x : NetLaneState). x.hub_table) step.1)
-tables_event shape u (Asked B lost) t step = tables_as shape u t (ap (λ (x : NetLaneState). x.guest_table) step.1) (ap (λ (x : NetLaneState). x.hub_table) step.1)
 tables_event shape u (Ticked queued lost) t step = tables_as shape u t (ap (λ (x : NetLaneState). x.guest_table) step.1.1) (ap (λ (x : NetLaneState). x.hub_table) step.1.1)
-tables_event shape u (CalmTick queued) t step = tables_as shape u t (ap (λ (x : NetLaneState). x.guest_table) step.1) (ap (λ (x : NetLaneState). x.hub_table) step.1)
 tables_event shape u (Gives A given) t step = tables_as shape u t (ap (λ (x : NetLaneState). x.guest_table) step.1) (ap (λ (x : NetLaneState). x.hub_table) step.1)
-tables_event shape u (Gives B given) t step = tables_as shape u t (ap (λ (x : NetLaneState). x.guest_table) step.1) (ap (λ (x : NetLaneState). x.hub_table) step.1)
-tables_event shape u (Joins joining) t step = tables_as shape u t (ap (λ (x : NetLaneState). x.guest_table) step.1) (ap (λ (x : NetLaneState). x.hub_table) step.1)
-tables_event shape u (Loses e packet) t step = tables_as shape u t (ap (λ (x : NetLaneState). x.guest_table) step.1) (ap (λ (x : NetLaneState). x.hub_table) step.1)
 tables_event shape u (Injects e packet) t step = tables_as shape u t (ap (λ (x : NetLaneState). x.guest_table) step.2) (ap (λ (x : NetLaneState). x.hub_table) step.2)
 tables_event shape u (Pokes A at bytes) t step = tables_as shape u t (ap (λ (x : NetLaneState). x.guest_table) step.1) (ap (λ (x : NetLaneState). x.hub_table) step.1)
-tables_event shape u (Pokes B at bytes) t step = tables_as shape u t (ap (λ (x : NetLaneState). x.guest_table) step.1) (ap (λ (x : NetLaneState). x.hub_table) step.1)
-tables_event shape u (Declines d) t step = tables_as shape u t (ap (λ (x : NetLaneState). x.guest_table) step.1) (ap (λ (x : NetLaneState). x.hub_table) step.1)
+tables_event shape u _ t step = tables_as shape u t (ap (λ (x : NetLaneState). x.guest_table) step.1) (ap (λ (x : NetLaneState). x.hub_table) step.1)
+
+pub fresh_logs : (shape : NetShape) → LogsStand (no_events shape)
+fresh_logs shape = record { guest = record { head = tt; given = λ n frame get. absurd (cc get) }; hub = record { head = tt; given = λ n frame get. absurd (cc get) } }

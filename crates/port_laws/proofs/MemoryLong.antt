@@ -1,6 +1,6 @@
 -- Each event of a port leaves both memories as long as they were, also where somebody forges packets and memory.
-use Rattle.std.proofs.Common.{◌≡◌, ℕ, zero, suc, ◌+◌, ◌≤◌, ◌<◌, Bool, true, false, Option, Some, None, List, [], ◌∷◌, length, inl, refl, sym, ap, ◌∙◌, subst, arith}
-use Rattle.std.specs.Prelude.{Result, Ok, Err, ◌%◌, ◌*◌, map, slice_get, ⊤}
+use Rattle.std.proofs.Common.{◌≡◌, ℕ, zero, suc, ◌+◌, ◌≤◌, ◌<◌, Bool, true, false, Some, List, [], ◌∷◌, length, inl, refl, sym, ap, ◌∙◌, subst, arith}
+use Rattle.std.specs.Prelude.{◌%◌, ◌*◌, map, slice_get, ⊤}
 use Rattle.std.proofs.lemmas.List.{length-replicate}
 use Rattle.std.proofs.lemmas.Nat.{mod_below}
 use Rattle.cookie_copy.proofs.Steps.{length-write_spots}
@@ -11,8 +11,6 @@ use Rattle.dring.proofs.Turning.{length-free_slots}
 use Rattle.dring.specs.Slots.{free_slots, free_state, range_length}
 use Rattle.ldc_link.specs.declared.phase.Role.{Role}
 use Rattle.ldc_link.specs.declared.phase.Role.TheVariants.{Initiator, Responder}
-use Rattle.ldc_link.specs.LinkState.{LinkState, cleared}
-use Rattle.ldc_link.specs.Taking.{Heard, LinkTake, Unheard}
 use Rattle.ldc_packet.specs.declared.packet.Subtype.{Subtype}
 use Rattle.ldc_queue.specs.declared.end.End.{End}
 use Rattle.ldc_queue.specs.declared.end.End.TheVariants.{A, B}
@@ -22,40 +20,34 @@ use Rattle.runs.specs.Lawful.{log_of, run_lawful}
 use Rattle.runs.specs.Run.{Run}
 use Rattle.vio_bytes.proofs.Putting.{length-put_at}
 use Rattle.vio_bytes.specs.Place.{put_at}
-use Rattle.vio_handshake.specs.declared.handshake.Handshake.{Handshake}
-use Rattle.vio_handshake.specs.Rules.{Faults, Goes, GoesOpen, HandshakeTake, handshake_take}
-use Rattle.vio_tag.specs.declared.message.Message.{Message}
 use Rattle.vio_tag.specs.declared.message.MsgBody.{MsgBody}
-use Rattle.vio_tag.specs.declared.message.TagFault.{TagFault}
 use Rattle.vnet_msg.proofs.FrameSlots.{long}
 use Rattle.vnet_msg.specs.Descriptor.{canonical, net_desc_of}
 use Rattle.vnet_msg.specs.Frames.{IsFrame, buffer_place, frame_buffer, frame_desc, header, memory_pages}
 use Rattle.channel_model.specs.Seeing.{Seen}
 use Rattle.channel_model.specs.TranscriptLog.{transcript_of}
-use Rattle.channel_laws.specs.Standing.{EndStands, is_open_in}
+use Rattle.port_model.proofs.Moving.{before_keeps}
 use Rattle.port_model.proofs.Ruling.{says_of}
 use Rattle.port_model.specs.Fetching.{slots_cookies}
 use Rattle.port_model.specs.NetEndPutting.{cleared_by_put, cleared_ring, net_opens}
 use Rattle.port_model.specs.NetEndRule.{Publishes, Takes}
 use Rattle.port_model.specs.NetEndState.{NetEndState, NetSession, unseen_in}
-use Rattle.port_model.specs.NetEndStep.{Blocked, Frame, Idle, Joined, NetAnswer, NetEndStep, NetLeft, Published, Reset, Sent, Took, published_memory}
-use Rattle.port_model.specs.NetEndTaking.{GoesOn, HearsLink, HearsWhole, NetTake, NetTakes, Resets, by_handshake, freed, hears_message, opens_by_take, reads, risen}
-use Rattle.port_model.specs.NetEvent.{Asked, CalmTick, Declines, Gives, Injects, Joins, Loses, NetEvent, Pokes, Steps, Ticked}
+use Rattle.port_model.specs.NetEndStep.{Frame, Idle, NetAnswer, NetEndStep, NetLeft, Published, Sent, Took, published_memory}
+use Rattle.port_model.specs.NetEndTaking.{GoesOn, NetTake, Resets, freed}
+use Rattle.port_model.specs.NetEvent.{Asked, CalmTick, Declines, Gives, Injects, NetEvent, Pokes, Steps, Ticked}
 use Rattle.port_model.specs.NetLaneState.{IsNetShape, NetLaneState, NetShape, memory_of, net_end, reach_of, role_at, seen_at}
 use Rattle.port_model.specs.NetLaneStep.{NetLaneStep}
 use Rattle.port_model.specs.PortLog.{PortLog, after, no_events}
-use Rattle.port_model.specs.PortState.{OnLane, PortEvent, PortState, PortStep, Receives, before, fresh_port, moves_first, takes_more}
-use Rattle.port_laws.specs.NetCore.{net_core}
-use Rattle.port_laws.proofs.LogsStand.{LogsStand, held_given}
-use Rattle.port_laws.proofs.MemoryRoom.{HasRoom, before_room, room_behind}
-use Rattle.port_laws.proofs.MessageDoes.{Acks, Asks, Declines as DeclinesMessage, MessageDoes, Names, TakeDoes, Told, message_does}
-use Rattle.port_laws.proofs.PortCounts.{Ready, ready_before}
+use Rattle.port_model.specs.PortState.{OnLane, PortEvent, PortState, PortStep, Receives, before, fresh_port}
+use Rattle.port_laws.proofs.LogsStand.{LogsStand, fresh_logs, held_given, logs_event, logs_received}
+use Rattle.port_laws.proofs.MemoryRoom.{HasRoom, power_room}
+use Rattle.port_laws.proofs.MessageDoes.{Acks, Asks, Declines as DeclinesMessage, MessageDoes, Names, Told}
+use Rattle.port_laws.proofs.PortCounts.{PortCounts, Ready, counts_step, port_counts, ready_before}
 use Rattle.port_laws.proofs.RingFetches.{found_frame}
 use Rattle.port_laws.proofs.RingMoves.{Fits, desc_long, frame_small, place_end}
-use Rattle.port_laws.proofs.RingRuns.{Kept, fresh_kept, kept_step}
 use Rattle.port_laws.proofs.RingSteps.{Owns}
 use Rattle.port_laws.proofs.RuleFrames.{end_acts}
-use Rattle.port_laws.proofs.TookCounts.{risen_up, session_open, session_up}
+use Rattle.port_laws.proofs.TookWhat.{Fails, Opens, Reads, Stays, TookWhat, took_what}
 
 -- WHAT AN END WRITES as it takes a packet: nothing, or its ring is cleared, or slots of it become FREE
 data Written (slots : ℕ) (memory new : List ℕ) : Type 0 where
@@ -75,45 +67,12 @@ does_written role s p memory subtype b t new (Names set count addresses groups r
 does_written role s p memory subtype b t new (Told set count addresses guest kind body telling stays is) = Same stays
 does_written role s p memory subtype b t new (DeclinesMessage h declined stays is) = Same stays
 
-take_written : (role : Role) (s : NetEndState) (p : NetSession) (memory : List ℕ) (subtype : Subtype) (b : MsgBody) (take : NetTake) → TakeDoes role s p memory subtype b take → WrittenBy s.slots memory take
-take_written role s p memory subtype b (GoesOn t opens new) does = does_written role s p memory subtype b t new does.does
-take_written role s p memory subtype b (Resets cause) does = tt
-
-opens_written : (role : Role) (s : NetEndState) (memory : List ℕ) → WrittenBy s.slots memory (opens_by_take role s memory)
-opens_written Initiator s memory = Same refl
-opens_written Responder s memory = Cleared refl
-
-handshake_written : (role : Role) (s : NetEndState) (memory : List ℕ) (take : HandshakeTake) → WrittenBy s.slots memory (by_handshake role s memory take)
-handshake_written role s memory (Goes h) = Same refl
-handshake_written role s memory (GoesOpen h) = opens_written role (record s { handshake = h }) memory
-handshake_written role s memory (Faults cause) = tt
-
-took_written : (role : Role) (memory packet : List ℕ) (s t : NetEndState) (turns : List Turn) (opens : Bool) (new : List ℕ) → EndStands role (net_core role s) turns
-    → NetTakes role s memory packet (GoesOn t opens new) → Written s.slots memory new
-took_written role memory packet s t turns opens new ends takes = by_link takes.link takes.hears
-  where
-    seen : LinkState → NetEndState
-    seen k = record s { link = cleared k; handshake = risen role s.link k s.handshake }
-
-    by_session : (k : LinkState) (m : Message) (session : Option NetSession) → s.session ≡ session → WrittenBy s.slots memory (hears_message role (seen k) memory session m)
-    by_session k m None closed = handshake_written role (seen k) memory (handshake_take (seen k).handshake m)
-    by_session k m (Some p) session =
-        let stays : risen role s.link k s.handshake ≡ s.handshake = risen_up role s.link k s.handshake (session_up role s turns p ends session) in
-        let opened : is_open_in (seen k).handshake.phase ≡ true = ap (λ (h : Handshake). is_open_in h.phase) stays ∙ session_open role s turns p ends session in
-        take_written role (seen k) p memory m.subtype m.body (hears_message role (seen k) memory (Some p) m) (message_does role (seen k) p memory m opened)
-
-    by_decoded : (k : LinkState) (d : Result Message TagFault) → WrittenBy s.slots memory (reads role (seen k) memory d)
-    by_decoded k (Ok m) = by_session k m s.session refl
-    by_decoded k (Err fault) = tt
-
-    by_whole : (k : LinkState) (whole : Option (List ℕ)) → HearsWhole role (record s { link = k; handshake = risen role s.link k s.handshake }) memory whole (GoesOn t opens new)
-        → WrittenBy s.slots memory (GoesOn t opens new)
-    by_whole k None is = subst (WrittenBy s.slots memory) (sym is) (Same refl)
-    by_whole k (Some bytes) hears = subst (WrittenBy s.slots memory) (sym hears.2) (by_decoded k hears.0)
-
-    by_link : (link : LinkTake) → HearsLink role s memory link (GoesOn t opens new) → WrittenBy s.slots memory (GoesOn t opens new)
-    by_link (Heard k) hears = by_whole k k.whole hears
-    by_link (Unheard cause) hears = absurd (cc hears)
+take_written : (role : Role) (s : NetEndState) (memory : List ℕ) (take : NetTake) → TookWhat role s memory take → WrittenBy s.slots memory take
+take_written role s memory take (Stays k h is) = subst (WrittenBy s.slots memory) (sym is) (Same refl)
+take_written role s memory take (Opens k h role_is none is) = subst (WrittenBy s.slots memory) (sym is) (Cleared refl)
+take_written role s memory take (Fails cause is) = subst (WrittenBy s.slots memory) (sym is) tt
+take_written role s memory (GoesOn t opens new) (Reads k h p m session does) = does_written role (record s { link = k; handshake = h }) p memory m.subtype m.body t new does.does
+take_written role s memory (Resets cause) (Reads k h p m session does) = tt
 
 -- AS LONG AS BEFORE
 freed_long : (slots number count : ℕ) (memory : List ℕ) → 1 ≤ slots → 64 * slots ≤ length memory → length (freed slots number count memory) ≡ length memory
@@ -155,19 +114,17 @@ SameLong own peer left = (length left.own ≡ length own) × (length left.peer �
 
 step_long : (role : Role) (s : NetEndState) (turns : List Turn) (at : Seen) (memory : List ℕ) (reach : Reach) (answer : NetAnswer) (left : NetLeft) → 1 ≤ s.slots → Fits s.slots memory
     → (is_up at.state ≡ true → Owns role s turns memory) → NetEndStep role s at memory reach answer left → SameLong memory reach.memory left
-step_long role s turns at memory reach (Joined lost) left some fits owns step = subst (SameLong memory reach.memory) (sym step.2) (refl, refl)
 step_long role s turns at memory reach (Took packet opens) left some fits owns step =
     let few = fits.few in
     let room = fits.room in
     let ends = (owns (says_of role s at (Takes packet) step.0).0.up).ends in (
-      written_long s.slots memory left.own some (omega (arith, few, room)) (took_written role memory packet s left.end turns opens left.own ends step.1),
+      written_long s.slots memory left.own some (omega (arith, few, room)) (take_written role s memory (GoesOn left.end opens left.own) (took_what role s turns memory packet (GoesOn left.end opens left.own) ends step.1)),
       ap length step.2,
     )
 step_long role s turns at memory reach (Sent packet opens) left some fits owns step =
     let few = fits.few in
     let room = fits.room in
     subst (SameLong memory reach.memory) (sym step.is) (put_long role (net_opens step.held) s.slots memory (omega (arith, few, room)), refl)
-step_long role s turns at memory reach Blocked left some fits owns step = subst (SameLong memory reach.memory) (sym step.2) (refl, refl)
 step_long role s turns at memory reach Idle left some fits owns step = subst (SameLong memory reach.memory) (sym step.1) (refl, refl)
 step_long role s turns at memory reach (Published id) left some fits owns step =
     let says = says_of role s at (Publishes step.session step.frame) step.rule in
@@ -181,7 +138,7 @@ step_long role s turns at memory reach (Frame frame) left some fits owns step =
       ap length found.new_is
           ∙ moved_long reach (slots_cookies s) (64 * step.session.place) (header 4 (net_desc_of (moved_in reach.table reach.memory (slots_cookies s) (64 * step.session.place) 64)).ack),
     )
-step_long role s turns at memory reach (Reset cause packet lost) left some fits owns step = subst (SameLong memory reach.memory) (sym step.2) (refl, refl)
+step_long role s turns at memory reach _ left some fits owns step = subst (SameLong memory reach.memory) (sym step.2) (refl, refl)
 
 -- A LANE
 pub record LongMemory (slots : ℕ) (s : NetLaneState) : Type 0 where
@@ -219,51 +176,43 @@ event_long shape u l (Steps B answer) t ready room logs step long_ =
     (owns_of shape B u l ready room logs) step.step in
     subst (LongMemory shape.slots) (sym step.is) (record { guest = same.1 ∙ long_.guest; hub = same.0 ∙ long_.hub })
 event_long shape u l (Asked A lost) t ready room logs step long_ = subst (LongMemory shape.slots) (sym step.1) (record { guest = long_.guest; hub = long_.hub })
-event_long shape u l (Asked B lost) t ready room logs step long_ = subst (LongMemory shape.slots) (sym step.1) (record { guest = long_.guest; hub = long_.hub })
 event_long shape u l (Ticked queued lost) t ready room logs step long_ = subst (LongMemory shape.slots) (sym step.1.1) (record { guest = long_.guest; hub = long_.hub })
 event_long shape u l (CalmTick queued) t ready room logs step long_ = subst (LongMemory shape.slots) (sym step.1) long_
 event_long shape u l (Gives A given) t ready room logs step long_ = subst (LongMemory shape.slots) (sym step.1) (record { guest = long_.guest; hub = long_.hub })
-event_long shape u l (Gives B given) t ready room logs step long_ = subst (LongMemory shape.slots) (sym step.1) (record { guest = long_.guest; hub = long_.hub })
-event_long shape u l (Joins joining) t ready room logs step long_ = subst (LongMemory shape.slots) (sym step.1) (record { guest = long_.guest; hub = long_.hub })
-event_long shape u l (Loses e packet) t ready room logs step long_ = subst (LongMemory shape.slots) (sym step.1) (record { guest = long_.guest; hub = long_.hub })
 event_long shape u l (Injects e packet) t ready room logs step long_ = subst (LongMemory shape.slots) (sym step.2) (record { guest = long_.guest; hub = long_.hub })
 event_long shape u l (Pokes A at bytes) t ready room logs step long_ =
     subst (LongMemory shape.slots) (sym step.1) (record { guest = length-put_at at bytes u.lane.guest_memory step.0 ∙ long_.guest; hub = long_.hub })
 event_long shape u l (Pokes B at bytes) t ready room logs step long_ =
     subst (LongMemory shape.slots) (sym step.1) (record { guest = long_.guest; hub = length-put_at at bytes u.lane.hub_memory step.0 ∙ long_.hub })
 event_long shape u l (Declines d) t ready room logs step long_ = subst (LongMemory shape.slots) (sym step.1) long_
+event_long shape u l _ t ready room logs step long_ = subst (LongMemory shape.slots) (sym step.1) (record { guest = long_.guest; hub = long_.hub })
 
 -- A RUN
-moves_long : (b : Bool) (queue : List (List ℕ)) (slots : ℕ) (s : PortState) → LongMemory slots s.lane → LongMemory slots (moves_first b queue s).lane
-moves_long true [] slots s long_ = long_
-moves_long true (frame ∷ frames) slots s long_ = record { guest = long_.guest; hub = long_.hub }
-moves_long false queue slots s long_ = long_
-
 before_long : (slots : ℕ) (event : NetEvent) (s : PortState) → LongMemory slots s.lane → LongMemory slots (before event s).lane
-before_long slots (Steps B answer) s long_ = moves_long (takes_more s.lane.hub) s.queue slots s long_
-before_long slots (Steps A answer) s long_ = long_
-before_long slots (Asked e lost) s long_ = long_
-before_long slots (Ticked queued lost) s long_ = long_
-before_long slots (CalmTick queued) s long_ = long_
-before_long slots (Gives e given) s long_ = long_
-before_long slots (Joins joining) s long_ = long_
-before_long slots (Loses e packet) s long_ = long_
-before_long slots (Injects e packet) s long_ = long_
-before_long slots (Pokes e at bytes) s long_ = long_
-before_long slots (Declines d) s long_ = long_
+before_long slots event s long_ = before_keeps (λ (x : PortState). LongMemory slots x.lane) event s (λ frame frames. record { guest = long_.guest; hub = long_.hub }) long_
 
 pub record KeptLong (shape : NetShape) (s : PortState) (l : PortLog) : Type 0 where
-  pub kept : Kept shape s l
+  pub counts : PortCounts shape s l
+  pub logs : LogsStand l
   pub memory : LongMemory shape.slots s.lane
 
+-- so there is room for the rings
+long_room : (shape : NetShape) (s : NetLaneState) → IsNetShape shape → LongMemory shape.slots s → HasRoom shape.slots s
+long_room shape s is memory =
+    let enough = power_room is.slots.0 shape.slots is.slots.1 is.some_slots is.most_slots in
+    record { guest = omega (arith, enough, memory.guest); hub = omega (arith, enough, memory.hub) }
+
 long_step : (shape : NetShape) → IsNetShape shape → (s : PortState) (l : PortLog) (event : PortEvent) (t : PortState) → KeptLong shape s l → PortStep s event t → KeptLong shape t (after l event)
-long_step shape is s l (OnLane event) t had step = record {
-  kept = kept_step shape is s l (OnLane event) t had.kept step;
-  memory = event_long shape (before event s) l event t.lane (ready_before shape s l event is had.kept.counts)
-      (before_room shape.slots event s (room_behind shape had.kept.counts.events s is had.kept.counts.run)) had.kept.logs step.1 (before_long shape.slots event s had.memory);
-}
+long_step shape is s l (OnLane event) t had step =
+    let memory = before_long shape.slots event s had.memory in
+    record {
+      counts = counts_step shape is s l (OnLane event) t had.counts step;
+      logs = logs_event (before event s).lane l event t.lane step.1 had.logs;
+      memory = event_long shape (before event s) l event t.lane (ready_before shape s l event is had.counts) (long_room shape (before event s).lane is memory) had.logs step.1 memory;
+    }
 long_step shape is s l (Receives frame) t had step = record {
-  kept = kept_step shape is s l (Receives frame) t had.kept step;
+  counts = counts_step shape is s l (Receives frame) t had.counts step;
+  logs = logs_received l frame step.0 had.logs;
   memory = subst (λ (x : PortState). LongMemory shape.slots x.lane) (sym step.2) (record { guest = had.memory.guest; hub = had.memory.hub });
 }
 
@@ -271,4 +220,11 @@ pub port_long : (shape : NetShape) (events : List PortEvent) (s : PortState) →
 port_long shape events s is run =
     (run_lawful PortStep (λ (l : PortLog) (e : PortEvent). ⊤) after (KeptLong shape) (λ (x : PortState) (l : PortLog) (e : PortEvent) (y : PortState) had step. (tt, long_step shape is x l e y had step))
     (fresh_port shape) s (no_events shape) events
-    (record { kept = fresh_kept shape is; memory = record { guest = length-replicate {A = ℕ} (8192 * memory_pages shape.slots) 0; hub = length-replicate {A = ℕ} (8192 * memory_pages shape.slots) 0 } }) run).1
+    (record {
+      counts = port_counts shape [] (fresh_port shape) is refl;
+      logs = fresh_logs shape;
+      memory = record { guest = length-replicate {A = ℕ} (8192 * memory_pages shape.slots) 0; hub = length-replicate {A = ℕ} (8192 * memory_pages shape.slots) 0 };
+    }) run).1
+
+pub room_behind : (shape : NetShape) (events : List PortEvent) (s : PortState) → IsNetShape shape → Run PortStep (fresh_port shape) events s → HasRoom shape.slots s.lane
+room_behind shape events s is run = long_room shape s.lane is (port_long shape events s is run).memory

@@ -15,7 +15,7 @@ use Rattle.vio_tag.specs.declared.cause.Cause.{Cause}
 use Rattle.vio_tag.specs.declared.cause.Cause.TheVariants as the_cause
 use Rattle.vio_tag.specs.declared.message.Message.{Message}
 use Rattle.vio_tag.specs.declared.message.MsgBody.{MsgBody}
-use Rattle.vio_tag.specs.declared.message.MsgBody.TheVariants.{Attr, DringData, DringReg, DringUnreg, Mcast, Plain, Rdx, Ver}
+use Rattle.vio_tag.specs.declared.message.MsgBody.TheVariants.{DringData, DringReg, Mcast}
 use Rattle.channel_model.specs.Ranges.{is_other}
 use Rattle.dring.specs.Slots.{range_length}
 use Rattle.channel_laws.specs.Standing.{is_open_in}
@@ -108,22 +108,8 @@ refused_does s p memory set count addresses =
 
 -- AN OPEN HANDSHAKE takes what it declines alone
 open_row : (role : Role) (h : Handshake) (subtype : Subtype) (sid : ℕ) (b : MsgBody) → row role Open h subtype sid b ≡ Faults the_cause.Order
-open_row Initiator h subtype sid (Ver major minor class) = refl
-open_row Responder h subtype sid (Ver major minor class) = refl
-open_row Initiator h subtype sid (Attr attr) = refl
-open_row Responder h subtype sid (Attr attr) = refl
 open_row Initiator h subtype sid (DringReg ident slots slot_size options count cookies) = refl
-open_row Responder h subtype sid (DringReg ident slots slot_size options count cookies) = refl
-open_row Initiator h subtype sid (DringUnreg ident) = refl
-open_row Responder h subtype sid (DringUnreg ident) = refl
-open_row Initiator h subtype sid Rdx = refl
-open_row Responder h subtype sid Rdx = refl
-open_row Initiator h subtype sid (DringData seq ident start end state) = refl
-open_row Responder h subtype sid (DringData seq ident start end state) = refl
-open_row Initiator h subtype sid (Mcast set count addresses) = refl
-open_row Responder h subtype sid (Mcast set count addresses) = refl
-open_row Initiator h subtype sid (Plain envelope) = refl
-open_row Responder h subtype sid (Plain envelope) = refl
+open_row _ h subtype sid _ = refl
 
 pub is_open_phase : (ph : Phase) → is_open_in ph ≡ true → ph ≡ Open
 is_open_phase Open is = refl

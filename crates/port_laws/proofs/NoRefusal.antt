@@ -19,7 +19,7 @@ use Rattle.channel_model.specs.Ranges.{wrapped}
 use Rattle.channel_model.specs.Sayings.{heard, said}
 use Rattle.channel_model.specs.TranscriptLog.{TranscriptLog, transcript_of}
 use Rattle.channel_model.specs.WireAt.{IsOwnReset, IsUp, UnforgedReset, WireUnforgedAt}
-use Rattle.channel_model.specs.WireEvent.{ByRestart, ByScript, ByStep, ByTick, Giver, giver}
+use Rattle.channel_model.specs.WireEvent.{ByStep, Giver, giver}
 use Rattle.channel_model.specs.WireLog.{WireLog}
 use Rattle.channel_laws.proofs.ConversingRuns.{hears_next}
 use Rattle.channel_laws.proofs.LinkRefuses.{link_refuses}
@@ -32,11 +32,11 @@ use Rattle.port_model.proofs.OwnResets.{net_resets_own}
 use Rattle.port_model.proofs.Refuting.{true_false}
 use Rattle.port_model.proofs.Ruling.{says_of}
 use Rattle.port_model.specs.EndLog.{SessionLog, range_of}
-use Rattle.port_model.specs.NetEndRule.{Announces, Fetches, Idles, Joins as JoinsRule, NetRule, Publishes, Puts, Replies, Says, Takes, Tells, port_rule}
+use Rattle.port_model.specs.NetEndRule.{Fetches, NetRule, Takes, port_rule}
 use Rattle.port_model.specs.NetEndState.{NetEndState, NetSession}
-use Rattle.port_model.specs.NetEndStep.{Blocked, Frame, Idle, Joined, NetEndStep, NetFails, Published, Reset, Sent, Took}
+use Rattle.port_model.specs.NetEndStep.{NetEndStep, NetFails, Reset}
 use Rattle.port_model.specs.NetEndTaking.{NetTakes, Resets, first_undone}
-use Rattle.port_model.specs.NetEvent.{Asked, CalmTick, Declines, Gives, Injects, Joins, Loses, NetEvent, Pokes, Steps, Ticked}
+use Rattle.port_model.specs.NetEvent.{NetEvent, Steps}
 use Rattle.port_model.specs.NetLaneState.{IsNetShape, NetLaneState, NetShape, memory_of, net_end, reach_of, role_at, seen_at}
 use Rattle.port_model.specs.NetLaneStep.{NetLaneStep}
 use Rattle.port_model.specs.PortLog.{PortLog, after, log_of_end, no_events}
@@ -315,14 +315,7 @@ takes_it : (e : End) (u : NetLaneState) (cause : Cause) (packet : List ℕ) (rul
 takes_it e u cause packet (Takes bytes) is fails =
     let same : bytes ≡ packet = cc fails.0 in (is ∙ ap (λ (xs : List ℕ). Takes xs) same, subst (λ (xs : List ℕ). NetTakes (role_at e) (net_end e u) (memory_of e u) xs (Resets cause)) same fails.1)
 takes_it e u cause packet (Fetches p activity) is fails = absurd (cc fails.0)
-takes_it e u cause packet Puts is fails = absurd fails
-takes_it e u cause packet (Says message) is fails = absurd fails
-takes_it e u cause packet (Replies p reply) is fails = absurd fails
-takes_it e u cause packet (Tells p) is fails = absurd fails
-takes_it e u cause packet (Announces p) is fails = absurd fails
-takes_it e u cause packet (Publishes p frame) is fails = absurd fails
-takes_it e u cause packet JoinsRule is fails = absurd fails
-takes_it e u cause packet Idles is fails = absurd fails
+takes_it e u cause packet _ is fails = absurd fails
 
 own_gap : (w : WireLog) (lossy : Bool) (cause : Cause) → w.lossy ≡ lossy → IsGapBehindLoss lossy cause → IsOwnReset w cause
 own_gap w lossy cause is gap = record { expected = gap.expected; found = gap.found; gap = gap.gap; lossy = is ∙ gap.lossy_is }
@@ -397,29 +390,12 @@ step_resets shape s t l e cause packet lost is had clean step = by_packet packet
 -- ALONG EVERY RUN
 by_giver : (by : Giver) (w : WireLog) (cause : Cause) → (w.forged ≡ false → IsOwnReset w cause) → UnforgedReset by w cause
 by_giver ByStep w cause own = own
-by_giver ByScript w cause own = tt
-by_giver ByRestart w cause own = tt
-by_giver ByTick w cause own = tt
+by_giver _ w cause own = tt
 
 unforged_event : (shape : NetShape) (s t : PortState) (l : PortLog) (event : NetEvent) → IsNetShape shape → KeptTalk shape s l → NetLaneStep (before event s).lane event t.lane
     → OfWire (WireUnforgedAt l.wire) (OnLane event)
 unforged_event shape s t l (Steps e (Reset cause packet lost)) is had step = by_giver (giver cause) l.wire cause (λ clean. step_resets shape s t l e cause packet lost is had clean step)
-unforged_event shape s t l (Steps e (Joined lost)) is had step = tt
-unforged_event shape s t l (Steps e (Took packet opens)) is had step = tt
-unforged_event shape s t l (Steps e (Sent packet opens)) is had step = tt
-unforged_event shape s t l (Steps e Blocked) is had step = tt
-unforged_event shape s t l (Steps e Idle) is had step = tt
-unforged_event shape s t l (Steps e (Published id)) is had step = tt
-unforged_event shape s t l (Steps e (Frame frame)) is had step = tt
-unforged_event shape s t l (Asked e lost) is had step = tt
-unforged_event shape s t l (Ticked queued lost) is had step = tt
-unforged_event shape s t l (CalmTick queued) is had step = tt
-unforged_event shape s t l (Gives e given) is had step = tt
-unforged_event shape s t l (Joins joining) is had step = tt
-unforged_event shape s t l (Loses e packet) is had step = tt
-unforged_event shape s t l (Injects e packet) is had step = tt
-unforged_event shape s t l (Pokes e at bytes) is had step = tt
-unforged_event shape s t l (Declines d) is had step = tt
+unforged_event shape s t l _ is had step = tt
 
 pub port_unforged_wire : (shape : NetShape) (events : List PortEvent) (s : PortState) → IsNetShape shape → Run PortStep (fresh_port shape) events s
     → Lawful (λ (l : PortLog) (event : PortEvent). OfWire (WireUnforgedAt l.wire) event) after (no_events shape) events

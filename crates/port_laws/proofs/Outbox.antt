@@ -8,7 +8,7 @@ use Rattle.std.proofs.lemmas.List.{drop-append-le}
 use Rattle.ldc_link.specs.declared.phase.Role.{Role}
 use Rattle.ldc_link.specs.declared.phase.Role.TheVariants.{Initiator, Responder}
 use Rattle.ldc_packet.specs.declared.packet.Subtype.{Subtype}
-use Rattle.ldc_packet.specs.declared.packet.Subtype.TheVariants.{Ack, Info, Nack}
+use Rattle.ldc_packet.specs.declared.packet.Subtype.TheVariants.{Ack, Info}
 use Rattle.ldc_packet.specs.Spelling.{subtype_code}
 use Rattle.ldc_queue.specs.OneStream.{IsFront}
 use Rattle.ldc_queue.specs.Transcript.{Turn}
@@ -148,8 +148,7 @@ range_envelope s n seq ident start end state = refl
 range_subtype : (s : Subtype) (n seq ident start end state : ℕ) → subtype_at (range_bytes s n seq ident start end state) ≡ subtype_code s
 unfolding canonical
 range_subtype Info n seq ident start end state = refl
-range_subtype Ack n seq ident start end state = refl
-range_subtype Nack n seq ident start end state = refl
+range_subtype _ n seq ident start end state = refl
 
 range_long : (s : Subtype) (n seq ident start end state : ℕ) → length (range_bytes s n seq ident start end state) ≡ 56
 unfolding canonical
@@ -189,8 +188,7 @@ groups_envelope s n set count addresses = refl
 groups_subtype : (s : Subtype) (n set count : ℕ) (addresses : List (List ℕ)) → subtype_at (groups_bytes s n set count addresses) ≡ subtype_code s
 unfolding canonical
 groups_subtype Info n set count addresses = refl
-groups_subtype Ack n set count addresses = refl
-groups_subtype Nack n set count addresses = refl
+groups_subtype _ n set count addresses = refl
 
 pub record SaysGroups (role : Role) (sid : ℕ) (m : List ℕ) : Type 0 where
   pub fits : MessageFits role sid m

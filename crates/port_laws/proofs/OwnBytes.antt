@@ -2,7 +2,7 @@
 use Rattle.std.proofs.Common.{◌≡◌, ℕ, zero, suc, ◌^◌, ◌<◌, ◌≤◌, List, [], ◌∷◌, length, take, refl, sym, ap, ◌∙◌, arith}
 use Rattle.std.specs.List.{AllByRecursion}
 use Rattle.ldc_packet.specs.declared.packet.Subtype.{Subtype}
-use Rattle.ldc_packet.specs.declared.packet.Subtype.TheVariants.{Ack, Info, Nack}
+use Rattle.ldc_packet.specs.declared.packet.Subtype.TheVariants.{Info}
 use Rattle.ldc_packet.specs.Spelling.{subtype_code}
 use Rattle.vio_tag.proofs.Canonical.{canonical_spells}
 use Rattle.vio_tag.specs.declared.message.Message.{Message}
@@ -21,8 +21,7 @@ range_bytes s n seq ident start end state = canonical (record { subtype = s; sid
 pub range_spoken_as : (s : Subtype) (n seq ident start end state : ℕ) → spoken (range_bytes s n seq ident start end state) ≡ range_spoken (subtype_code s)
 unfolding canonical
 range_spoken_as Info n seq ident start end state = refl
-range_spoken_as Ack n seq ident start end state = refl
-range_spoken_as Nack n seq ident start end state = refl
+range_spoken_as _ n seq ident start end state = refl
 
 -- its fields are read back, whatever the sid and the ident are
 simple : Subtype → ℕ → ℕ → ℕ → ℕ → Message
@@ -73,8 +72,7 @@ groups_bytes s n set count addresses = canonical (record { subtype = s; sid = n;
 pub groups_spoken_as : (s : Subtype) (n set count : ℕ) (addresses : List (List ℕ)) → spoken (groups_bytes s n set count addresses) ≡ groups_spoken (subtype_code s)
 unfolding canonical
 groups_spoken_as Info n set count addresses = refl
-groups_spoken_as Ack n set count addresses = refl
-groups_spoken_as Nack n set count addresses = refl
+groups_spoken_as _ n set count addresses = refl
 
 same_count : (n count : ℕ) (addresses : List (List ℕ)) → count_of (groups_bytes Info n 1 count addresses) ≡ count_of (groups_bytes Info 0 1 count addresses)
 unfolding canonical

@@ -9,7 +9,7 @@ use Rattle.ldc_queue.specs.declared.end.ChannelState.TheVariants.{Down, Resettin
 use Rattle.ldc_queue.specs.Transcript.{Turn}
 use Rattle.vio_handshake.specs.declared.handshake.Handshake.{Handshake}
 use Rattle.vio_handshake.specs.declared.session.Offer.{Offer}
-use Rattle.vio_handshake.proofs.Places.{AllSaid, AttributesAnswered, AttributesSaid, Deal, PeerReadyAnswered, PeerReadySaid, PeerRingAnswered, PeerRingSaid, Place, ReadyAnswered, ReadySaid, RingAnswered, RingSaid, VersionAnswered, VersionSaid}
+use Rattle.vio_handshake.proofs.Places.{AllSaid, Deal, Place, VersionSaid}
 use Rattle.channel_model.specs.Sayings.{heard, said}
 use Rattle.channel_laws.proofs.ConversingRuns.{HeardFrom, hears_now}
 use Rattle.channel_laws.proofs.EndStanding.{open_up}
@@ -28,30 +28,10 @@ most Responder = 6
 few_said : (d : Deal) (r : Role) (n : Place) → n ≢ AllSaid → length (said_at true d r n) ≤ most r
 unfolding most
 few_said d Initiator VersionSaid far = omega arith
-few_said d Initiator VersionAnswered far = omega arith
-few_said d Initiator AttributesSaid far = omega arith
-few_said d Initiator AttributesAnswered far = omega arith
-few_said d Initiator RingSaid far = omega arith
-few_said d Initiator RingAnswered far = omega arith
-few_said d Initiator PeerRingSaid far = omega arith
-few_said d Initiator PeerRingAnswered far = omega arith
-few_said d Initiator ReadySaid far = omega arith
-few_said d Initiator ReadyAnswered far = omega arith
-few_said d Initiator PeerReadySaid far = omega arith
-few_said d Initiator PeerReadyAnswered far = omega arith
 few_said d Responder VersionSaid far = omega arith
-few_said d Responder VersionAnswered far = omega arith
-few_said d Responder AttributesSaid far = omega arith
-few_said d Responder AttributesAnswered far = omega arith
-few_said d Responder RingSaid far = omega arith
-few_said d Responder RingAnswered far = omega arith
-few_said d Responder PeerRingSaid far = omega arith
-few_said d Responder PeerRingAnswered far = omega arith
-few_said d Responder ReadySaid far = omega arith
-few_said d Responder ReadyAnswered far = omega arith
-few_said d Responder PeerReadySaid far = omega arith
-few_said d Responder PeerReadyAnswered far = omega arith
 few_said d r AllSaid far = absurd (far refl)
+few_said d Initiator _ far = omega arith
+few_said d Responder _ far = omega arith
 
 pub six_said : (d : Deal) (r : Role) (n : Place) → n ≡ AllSaid → length (said_at true d r n) ≡ 6
 six_said d r n last = ap (λ (m : Place). length (said_at true d r m)) last ∙ six r

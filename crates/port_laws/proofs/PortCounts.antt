@@ -16,13 +16,14 @@ use Rattle.runs.specs.Run.{Run, run_push}
 use Rattle.channel_model.specs.WireLog.{WireLog}
 use Rattle.channel_laws.proofs.Lifting.{EndsAll}
 use Rattle.channel_laws.specs.LaneCore.{LaneCore, transcript_behind}
+use Rattle.port_model.proofs.Moving.{before_keeps}
 use Rattle.port_model.proofs.FramesKept.{BothStand, event_stands, queued_stands}
 use Rattle.port_model.proofs.Refuting.{false_true, true_false}
 use Rattle.port_model.specs.EndLog.{EndLog, SessionLog, gives_log, said_in}
 use Rattle.port_model.specs.FramesStand.{FramesStand}
 use Rattle.port_model.specs.NetEndState.{NetEndState, NetSession, with_frame}
 use Rattle.port_model.specs.NetEndStep.{Already, BadLength, Full, Given, GroupsFull, Joining, Member, NetAnswer, NetGives, NetJoins, Queued, untold}
-use Rattle.port_model.specs.NetEvent.{Asked, CalmTick, Declines, Gives, Injects, Joins, Loses, NetEvent, Pokes, Steps, Ticked, on_wire}
+use Rattle.port_model.specs.NetEvent.{Asked, Gives, Injects, Joins, NetEvent, Pokes, Steps, Ticked, on_wire}
 use Rattle.port_model.specs.NetLaneState.{IsNetShape, NetLaneState, NetShape, seen_at}
 use Rattle.port_model.specs.NetLaneStep.{NetLaneStep, moved_on}
 use Rattle.port_model.specs.Offers.{port_offer}
@@ -116,66 +117,21 @@ moves_ready false queue slots s l takes is counts stands = record { counts = cou
 
 pub hub_ready : (slots : ℕ) (event : NetEvent) (s : PortState) (l : EndLog) → EndCounts Responder slots s.queue s.lane.hub l → FramesStand s.lane.hub → HubReady slots (before event s) l
 hub_ready slots (Steps B answer) s l counts stands = moves_ready (takes_more s.lane.hub) s.queue slots s l refl refl counts stands
-hub_ready slots (Steps A answer) s l counts stands = record { counts = counts; stands = stands }
-hub_ready slots (Asked e lost) s l counts stands = record { counts = counts; stands = stands }
-hub_ready slots (Ticked queued lost) s l counts stands = record { counts = counts; stands = stands }
-hub_ready slots (CalmTick queued) s l counts stands = record { counts = counts; stands = stands }
-hub_ready slots (Gives e given) s l counts stands = record { counts = counts; stands = stands }
-hub_ready slots (Joins joining) s l counts stands = record { counts = counts; stands = stands }
-hub_ready slots (Loses e packet) s l counts stands = record { counts = counts; stands = stands }
-hub_ready slots (Injects e packet) s l counts stands = record { counts = counts; stands = stands }
-hub_ready slots (Pokes e at bytes) s l counts stands = record { counts = counts; stands = stands }
-hub_ready slots (Declines d) s l counts stands = record { counts = counts; stands = stands }
-
-moves_guest : (b : Bool) (queue : List (List ℕ)) (s : PortState) → (moves_first b queue s).lane.guest ≡ s.lane.guest
-moves_guest true [] s = refl
-moves_guest true (frame ∷ frames) s = refl
-moves_guest false queue s = refl
+hub_ready slots _ s l counts stands = record { counts = counts; stands = stands }
 
 pub before_guest : (event : NetEvent) (s : PortState) → (before event s).lane.guest ≡ s.lane.guest
-before_guest (Steps B answer) s = moves_guest (takes_more s.lane.hub) s.queue s
-before_guest (Steps A answer) s = refl
-before_guest (Asked e lost) s = refl
-before_guest (Ticked queued lost) s = refl
-before_guest (CalmTick queued) s = refl
-before_guest (Gives e given) s = refl
-before_guest (Joins joining) s = refl
-before_guest (Loses e packet) s = refl
-before_guest (Injects e packet) s = refl
-before_guest (Pokes e at bytes) s = refl
-before_guest (Declines d) s = refl
-
-moves_wire : (b : Bool) (queue : List (List ℕ)) (s : PortState) → (moves_first b queue s).lane.wire ≡ s.lane.wire
-moves_wire true [] s = refl
-moves_wire true (frame ∷ frames) s = refl
-moves_wire false queue s = refl
+before_guest event s = before_keeps (λ (x : PortState). x.lane.guest ≡ s.lane.guest) event s (λ frame frames. refl) refl
 
 pub before_wire : (event : NetEvent) (s : PortState) → (before event s).lane.wire ≡ s.lane.wire
-before_wire (Steps B answer) s = moves_wire (takes_more s.lane.hub) s.queue s
-before_wire (Steps A answer) s = refl
-before_wire (Asked e lost) s = refl
-before_wire (Ticked queued lost) s = refl
-before_wire (CalmTick queued) s = refl
-before_wire (Gives e given) s = refl
-before_wire (Joins joining) s = refl
-before_wire (Loses e packet) s = refl
-before_wire (Injects e packet) s = refl
-before_wire (Pokes e at bytes) s = refl
-before_wire (Declines d) s = refl
+before_wire event s = before_keeps (λ (x : PortState). x.lane.wire ≡ s.lane.wire) event s (λ frame frames. refl) refl
 
 -- the wire after an event
 pub wire_event : (u : NetLaneState) (event : NetEvent) (t : NetLaneState) → NetLaneStep u event t → t.wire ≡ moved_on u.wire (on_wire event)
 wire_event u (Steps e answer) t step = ap (λ (x : NetLaneState). x.wire) step.is
-wire_event u (Asked e lost) t step = ap (λ (x : NetLaneState). x.wire) step.1
 wire_event u (Ticked queued lost) t step = ap (λ (x : NetLaneState). x.wire) step.1.1
-wire_event u (CalmTick queued) t step = ap (λ (x : NetLaneState). x.wire) step.1
 wire_event u (Gives A given) t step = ap (λ (x : NetLaneState). x.wire) step.1
-wire_event u (Gives B given) t step = ap (λ (x : NetLaneState). x.wire) step.1
-wire_event u (Joins joining) t step = ap (λ (x : NetLaneState). x.wire) step.1
-wire_event u (Loses e packet) t step = ap (λ (x : NetLaneState). x.wire) step.1
 wire_event u (Injects e packet) t step = ap (λ (x : NetLaneState). x.wire) step.2
-wire_event u (Pokes e at bytes) t step = ap (λ (x : NetLaneState). x.wire) step.1
-wire_event u (Declines d) t step = ap (λ (x : NetLaneState). x.wire) step.1
+wire_event u _ t step = ap (λ (x : NetLaneState). x.wire) step.1
 
 -- WHAT IS KNOWN of an end that is up, before its step
 up_begun : (c : ChannelState) → is_up c ≡ true → is_begun c ≡ true
@@ -327,18 +283,13 @@ guest_event shape u l (Steps A answer) t ready step =
     (step_counts Initiator shape.slots [] u.lane.guest l.guest l.transcript.client (seen_at A u.lane) u.lane.guest_memory _ answer step.left ready.guest ready.stands.0 (guest_acts shape u l ready) step.step))
 guest_event shape u l (Steps B answer) t ready step = subst (GuestIs shape l.guest) (sym step.is) ready.guest
 guest_event shape u l (Asked A lost) t ready step = subst (GuestIs shape (end_after A l (Asked A lost))) (sym step.1) (begins_counts Initiator shape.slots [] u.lane.guest l.guest lost ready.guest ready.stands.0 step.0)
-guest_event shape u l (Asked B lost) t ready step = subst (GuestIs shape l.guest) (sym step.1) ready.guest
 guest_event shape u l (Ticked queued lost) t ready step =
     subst (GuestIs shape (end_after A l (Ticked queued lost))) (sym step.1.1) (begins_counts Initiator shape.slots [] u.lane.guest l.guest lost ready.guest ready.stands.0 step.1.0)
-guest_event shape u l (CalmTick queued) t ready step = subst (GuestIs shape l.guest) (sym step.1) ready.guest
 guest_event shape u l (Gives A given) t ready step = gives_counts Initiator shape.slots u.lane.guest given t.guest l.guest ready.guest step.0
-guest_event shape u l (Gives B given) t ready step = subst (GuestIs shape l.guest) (sym step.1) ready.guest
 guest_event shape u l (Joins joining) t ready step = joins_counts shape.slots u.lane.guest joining t.guest l.guest ready.guest step.0
-guest_event shape u l (Loses e packet) t ready step = subst (GuestIs shape l.guest) (sym step.1) ready.guest
 guest_event shape u l (Injects e packet) t ready step = subst (GuestIs shape l.guest) (sym step.2) ready.guest
 guest_event shape u l (Pokes A at bytes) t ready step = subst (GuestIs shape l.guest) (sym step.1) ready.guest
-guest_event shape u l (Pokes B at bytes) t ready step = subst (GuestIs shape l.guest) (sym step.1) ready.guest
-guest_event shape u l (Declines d) t ready step = subst (GuestIs shape l.guest) (sym step.1) ready.guest
+guest_event shape u l _ t ready step = subst (GuestIs shape l.guest) (sym step.1) ready.guest
 
 hub_event : (shape : NetShape) (u : PortState) (l : PortLog) (event : NetEvent) (t : NetLaneState) → OfQueue u event → Ready shape u l → NetLaneStep u.lane event t → HubIs shape u.queue (end_after B l event) t
 hub_event shape u l (Steps B answer) t of_queue ready step =
@@ -348,31 +299,16 @@ hub_event shape u l (Steps B answer) t of_queue ready step =
 hub_event shape u l (Steps A answer) t of_queue ready step = subst (HubIs shape u.queue l.hub) (sym step.is) ready.hub
 hub_event shape u l (Asked B lost) t of_queue ready step =
     subst (HubIs shape u.queue (end_after B l (Asked B lost))) (sym step.1) (begins_counts Responder shape.slots u.queue u.lane.hub l.hub lost ready.hub ready.stands.1 step.0)
-hub_event shape u l (Asked A lost) t of_queue ready step = subst (HubIs shape u.queue l.hub) (sym step.1) ready.hub
 hub_event shape u l (Ticked queued lost) t of_queue ready step = subst (HubIs shape u.queue l.hub) (sym step.1.1) ready.hub
-hub_event shape u l (CalmTick queued) t of_queue ready step = subst (HubIs shape u.queue l.hub) (sym step.1) ready.hub
-hub_event shape u l (Gives A given) t of_queue ready step = subst (HubIs shape u.queue l.hub) (sym step.1) ready.hub
 hub_event shape u l (Gives B given) t of_queue ready step = absurd of_queue
-hub_event shape u l (Joins joining) t of_queue ready step = subst (HubIs shape u.queue l.hub) (sym step.1) ready.hub
-hub_event shape u l (Loses e packet) t of_queue ready step = subst (HubIs shape u.queue l.hub) (sym step.1) ready.hub
 hub_event shape u l (Injects e packet) t of_queue ready step = subst (HubIs shape u.queue l.hub) (sym step.2) ready.hub
 hub_event shape u l (Pokes A at bytes) t of_queue ready step = subst (HubIs shape u.queue l.hub) (sym step.1) ready.hub
-hub_event shape u l (Pokes B at bytes) t of_queue ready step = subst (HubIs shape u.queue l.hub) (sym step.1) ready.hub
-hub_event shape u l (Declines d) t of_queue ready step = subst (HubIs shape u.queue l.hub) (sym step.1) ready.hub
+hub_event shape u l _ t of_queue ready step = subst (HubIs shape u.queue l.hub) (sym step.1) ready.hub
 
 -- what an event may be by the queue stays so behind the frame that moved
 pub before_queue : (event : NetEvent) (s : PortState) → OfQueue s event → OfQueue (before event s) event
 before_queue (Steps e answer) s is = tt
-before_queue (Asked e lost) s is = is
-before_queue (Ticked queued lost) s is = is
-before_queue (CalmTick queued) s is = is
-before_queue (Gives A given) s is = is
-before_queue (Gives B given) s is = is
-before_queue (Joins joining) s is = is
-before_queue (Loses e packet) s is = is
-before_queue (Injects e packet) s is = is
-before_queue (Pokes e at bytes) s is = is
-before_queue (Declines d) s is = is
+before_queue _ s is = is
 
 pub counts_step : (shape : NetShape) → IsNetShape shape → (s : PortState) (l : PortLog) (event : PortEvent) (t : PortState) → PortCounts shape s l → PortStep s event t → PortCounts shape t (after l event)
 counts_step shape is s l (OnLane event) t counts step =

@@ -35,9 +35,9 @@ use Rattle.port_model.specs.FrameLaws.{SlotCause}
 use Rattle.port_model.specs.Fetching.{fetched}
 use Rattle.port_model.specs.NetEndRule.{Fetches, NetRule, Takes, port_rule}
 use Rattle.port_model.specs.NetEndState.{NetEndState, NetSession}
-use Rattle.port_model.specs.NetEndStep.{Blocked, Frame, Idle, Joined, NetFails, Published, Reset, Sent, Took}
+use Rattle.port_model.specs.NetEndStep.{Frame, NetFails, Published, Reset}
 use Rattle.port_model.specs.NetEndTaking.{ends_outside, first_undone, slot_state}
-use Rattle.port_model.specs.NetEvent.{Asked, CalmTick, Declines, Gives, Injects, Joins, Loses, NetEvent, Pokes, Steps, Ticked, on_wire}
+use Rattle.port_model.specs.NetEvent.{CalmTick, Gives, Joins, NetEvent, Steps, on_wire}
 use Rattle.port_model.specs.NetLaneState.{IsNetShape, NetLaneState, NetShape, memory_of, net_end, reach_of, role_at, seen_at}
 use Rattle.port_model.specs.NetLaneStep.{NetLaneStep}
 use Rattle.port_model.specs.Offers.{port_offer}
@@ -177,22 +177,12 @@ event_says shape is events s (Steps e (Reset cause packet lost)) t run step =
     step_says shape is (port_events events) (before (Steps e (Reset cause packet lost)) s).lane t.lane
     (subst (Run CoreStep (fresh_net_core shape) (port_events events)) (sym (before_core (Steps e (Reset cause packet lost)) s)) (fresh_port_core shape events s run))
     (before_fits (Steps e (Reset cause packet lost)) s (port_fits_behind shape events s run)) e cause packet lost step
-event_says shape is events s (Steps e (Joined lost)) t run step = (tt, tt)
-event_says shape is events s (Steps e (Took packet opens)) t run step = (tt, tt)
-event_says shape is events s (Steps e (Sent packet opens)) t run step = (tt, tt)
-event_says shape is events s (Steps e Blocked) t run step = (tt, tt)
-event_says shape is events s (Steps e Idle) t run step = (tt, tt)
 event_says shape is events s (Steps e (Published id)) t run step = tt
 event_says shape is events s (Steps e (Frame frame)) t run step = tt
-event_says shape is events s (Asked e lost) t run step = (tt, tt)
-event_says shape is events s (Ticked queued lost) t run step = (tt, tt)
 event_says shape is events s (CalmTick queued) t run step = tt
 event_says shape is events s (Gives e given) t run step = tt
 event_says shape is events s (Joins joining) t run step = tt
-event_says shape is events s (Loses e packet) t run step = (tt, tt)
-event_says shape is events s (Injects e packet) t run step = (tt, tt)
-event_says shape is events s (Pokes e at bytes) t run step = (tt, tt)
-event_says shape is events s (Declines d) t run step = (tt, tt)
+event_says shape is events s _ t run step = (tt, tt)
 
 says_at : (shape : NetShape) (is : IsNetShape shape) (events : List PortEvent) (s : PortState) (event : PortEvent) (t : PortState) → Run PortStep (fresh_port shape) events s → PortStep s event t
     → OfWire (BothSay (log_of after (no_events shape) events).transcript) event

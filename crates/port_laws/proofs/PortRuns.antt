@@ -1,7 +1,6 @@
 -- Each run of a port with its out queue is one of two ends on a channel, in the same log.
-use Rattle.std.proofs.Common.{◌≡◌, ℕ, Bool, true, false, Option, Some, None, List, [], ◌∷◌, ◌++◌, refl, sym, subst, ap, ◌∙◌}
+use Rattle.std.proofs.Common.{◌≡◌, Option, Some, None, List, [], ◌∷◌, ◌++◌, refl, sym, subst, ap, ◌∙◌}
 use Rattle.ldc_link.specs.declared.phase.Role.TheVariants.{Initiator, Responder}
-use Rattle.ldc_queue.specs.declared.end.End.TheVariants.{A, B}
 use Rattle.runs.specs.Lawful.{Lawful, log_append, log_of, run_lawful}
 use Rattle.runs.specs.Run.{Run, run_keeps, run_push}
 use Rattle.channel_model.specs.TranscriptLog.{TranscriptLog}
@@ -9,54 +8,25 @@ use Rattle.channel_model.specs.WireEvent.{WireEvent}
 use Rattle.channel_model.specs.WireLog.{WireLog}
 use Rattle.channel_laws.specs.CoreLog as core
 use Rattle.channel_laws.specs.LaneCore.{Beside, CoreEvent, CoreStep, transcript_after, transcript_behind, wire_after}
-use Rattle.port_model.specs.NetEvent.{Asked, CalmTick, Declines, Gives, Injects, Joins, Loses, NetEvent, Pokes, Steps, Ticked, on_wire}
+use Rattle.port_model.proofs.Moving.{before_keeps}
+use Rattle.port_model.specs.NetEvent.{NetEvent, on_wire}
 use Rattle.port_model.specs.NetLaneState.{NetShape}
 use Rattle.port_model.specs.PortLog.{PortLog, after, no_events, spoken_on}
-use Rattle.port_model.specs.PortState.{OnLane, PortEvent, PortState, PortStep, Receives, before, fresh_port, moves_first, takes_more}
+use Rattle.port_model.specs.PortState.{OnLane, PortEvent, PortState, PortStep, Receives, before, fresh_port}
 use Rattle.port_laws.specs.NetCore.{core_event, event_core, fresh_net_core, is_begun, lane_core}
 use Rattle.port_laws.specs.PortCore.{port_core, port_event, port_events}
 use Rattle.port_laws.proofs.Fitting.{BothFit, event_fits}
 use Rattle.port_laws.proofs.LaneMoves.{event_core_step, fresh_fits, still, wire_same}
 
 -- A FRAME THAT MOVES from the queue to the switch's end is none of the channel's
-moves_core : (b : Bool) (queue : List (List ℕ)) (s : PortState) → lane_core (moves_first b queue s).lane ≡ lane_core s.lane
-moves_core true [] s = refl
-moves_core true (frame ∷ frames) s = refl
-moves_core false queue s = refl
-
-moves_fit : (b : Bool) (queue : List (List ℕ)) (s : PortState) → BothFit s.lane → BothFit (moves_first b queue s).lane
-moves_fit true [] s fits = fits
-moves_fit true (frame ∷ frames) s fits = (fits.0, record { groups = fits.1.groups; session = fits.1.session })
-moves_fit false queue s fits = fits
-
 pub before_core : (event : NetEvent) (s : PortState) → lane_core (before event s).lane ≡ lane_core s.lane
-before_core (Steps B answer) s = moves_core (takes_more s.lane.hub) s.queue s
-before_core (Steps A answer) s = refl
-before_core (Asked e lost) s = refl
-before_core (Ticked queued lost) s = refl
-before_core (CalmTick queued) s = refl
-before_core (Gives e given) s = refl
-before_core (Joins joining) s = refl
-before_core (Loses e packet) s = refl
-before_core (Injects e packet) s = refl
-before_core (Pokes e at bytes) s = refl
-before_core (Declines d) s = refl
-
-pub before_fits : (event : NetEvent) (s : PortState) → BothFit s.lane → BothFit (before event s).lane
-before_fits (Steps B answer) s fits = moves_fit (takes_more s.lane.hub) s.queue s fits
-before_fits (Steps A answer) s fits = fits
-before_fits (Asked e lost) s fits = fits
-before_fits (Ticked queued lost) s fits = fits
-before_fits (CalmTick queued) s fits = fits
-before_fits (Gives e given) s fits = fits
-before_fits (Joins joining) s fits = fits
-before_fits (Loses e packet) s fits = fits
-before_fits (Injects e packet) s fits = fits
-before_fits (Pokes e at bytes) s fits = fits
-before_fits (Declines d) s fits = fits
+before_core event s = before_keeps (λ (x : PortState). lane_core x.lane ≡ lane_core s.lane) event s (λ frame frames. refl) refl
 
 abbrev pub PortFits : PortState → Type 0
 PortFits s = BothFit s.lane
+
+pub before_fits : (event : NetEvent) (s : PortState) → BothFit s.lane → BothFit (before event s).lane
+before_fits event s fits = before_keeps PortFits event s (λ frame frames. (fits.0, record { groups = fits.1.groups; session = fits.1.session })) fits
 
 pub port_fits : (s : PortState) (event : PortEvent) (t : PortState) → PortStep s event t → PortFits s → PortFits t
 port_fits s (OnLane event) t step fits = event_fits (before event s).lane event t.lane step.1 (before_fits event s fits)

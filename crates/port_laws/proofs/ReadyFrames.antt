@@ -1,5 +1,5 @@
 -- No more slots of a ring that holds its frames are READY than frames are published and not taken.
-use Rattle.std.proofs.Common.{◌≡◌, ◌≢◌, ℕ, zero, suc, ◌+◌, ◌-◌, ◌%◌, ◌<◌, ◌≤◌, ◌⊎◌, inl, inr, Bool, true, false, Option, Some, List, length, refl, sym, subst, ap, ◌∙◌, arith}
+use Rattle.std.proofs.Common.{◌≡◌, ◌≢◌, ℕ, zero, suc, ◌+◌, ◌-◌, ◌%◌, ◌<◌, ◌≤◌, ◌⊎◌, inl, inr, Bool, true, false, List, refl, sym, ap, ◌∙◌, arith}
 use Rattle.std.specs.Prelude.{◌==◌, if◌then◌else◌}
 use Rattle.std.proofs.Math.Nat.{add-mod_right, mod-eq_of_lt}
 use Rattle.std.proofs.lemmas.Bool.{cases_lt, cases_order, eqb-true}
@@ -11,6 +11,7 @@ use Rattle.port_laws.specs.NetCore.{one_if}
 use Rattle.port_laws.specs.Remaining.{ready_slots}
 use Rattle.port_laws.specs.RingHolds.{RingHolds}
 use Rattle.port_laws.proofs.RingMoves.{held_state, some_frame}
+use Rattle.port_laws.proofs.EndMoves.{one_most}
 
 -- SO MANY of the first numbers are marked
 marked : ℕ → (ℕ → Bool) → ℕ
@@ -19,10 +20,6 @@ marked (suc n) f = marked n f + one_if (f n)
 
 abbrev without : ℕ → (ℕ → Bool) → ℕ → Bool
 without k f i = if i == k then false else f i
-
-one_most : (b : Bool) → one_if b ≤ 1
-one_most true = omega arith
-one_most false = omega arith
 
 apart : (i k : ℕ) → i ≢ k → (i == k) ≡ false
 apart i k other = grind (arith, nat_tests, other)

@@ -1,5 +1,5 @@
 -- What remains on a port that nobody forged is at most 117, and 8 for each frame; where a packet was lost, at most 189 and 8.
-use Rattle.std.proofs.Common.{◌≡◌, ℕ, ◌+◌, ◌-◌, ◌*◌, ◌≤◌, Bool, true, false, Option, Some, None, List, length, refl, sym, subst, ap, ◌∙◌, arith}
+use Rattle.std.proofs.Common.{◌≡◌, ℕ, ◌+◌, ◌-◌, ◌*◌, ◌≤◌, Bool, true, false, Option, Some, None, List, length, refl, sym, ap, ◌∙◌, arith}
 use Rattle.std.specs.Prelude.{is_some, ⊤}
 use Rattle.ldc_link.specs.declared.phase.Role.{Role}
 use Rattle.ldc_link.specs.declared.phase.Role.TheVariants.{Initiator, Responder}
@@ -16,18 +16,14 @@ use Rattle.channel_laws.specs.PacketsLeft.{packets_left}
 use Rattle.port_laws.specs.NetCore.{is_begun, more_of, net_core, net_core_at, one_if}
 use Rattle.port_laws.specs.PortCore.{port_core}
 use Rattle.port_laws.specs.Remaining.{absent, end_left, frames_held, life, put_weight, ready_slots, remaining, second_life, session_left, took_some}
-use Rattle.port_laws.specs.RingHolds.{RingHolds}
 use Rattle.port_laws.specs.RingStands.{RingIn, taken_by}
 use Rattle.port_laws.proofs.FlightRuns.{port_few}
 use Rattle.port_laws.proofs.FlightSums.{first_of, live_count, spent}
 use Rattle.port_laws.proofs.ReadyFrames.{ready_most}
 use Rattle.port_laws.proofs.RingRuns.{port_kept}
+use Rattle.port_laws.proofs.EndMoves.{one_most}
 
 -- the messages that an end may begin cover the answers that it owes
-one_most : (b : Bool) → one_if b ≤ 1
-one_most true = omega arith
-one_most false = omega arith
-
 took_one : (active : Option Activity) → one_if (took_some active) ≤ one_if (is_some active)
 took_one None = omega arith
 took_one (Some activity) = one_most (is_some activity.last)

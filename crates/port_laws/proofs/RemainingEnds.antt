@@ -14,7 +14,7 @@ use Rattle.vio_handshake.specs.declared.handshake.Phase.{Phase}
 use Rattle.vio_handshake.specs.declared.handshake.Phase.TheVariants.{PeerReadyTaken}
 use Rattle.vio_handshake.specs.Rules.{opens_by_put}
 use Rattle.vio_tag.specs.declared.message.Message.{Message}
-use Rattle.channel_model.specs.EndPuts.{ComesUp, EndsHandshake, EndsOwn, Goes, PutKind, handshake_behind, put_opens}
+use Rattle.channel_model.specs.EndPuts.{EndsHandshake, PutKind, handshake_behind, put_opens}
 use Rattle.channel_model.specs.Seeing.{Seen}
 use Rattle.cookie_copy.specs.Reach.{Reach}
 use Rattle.channel_laws.proofs.EndStanding.{held_stands}
@@ -22,22 +22,21 @@ use Rattle.channel_laws.proofs.PacketsLeft.{held_packets, loud_none, owing_none,
 use Rattle.channel_laws.specs.EndStep.{EndSays, Holding, Holds}
 use Rattle.channel_laws.specs.PacketsLeft.{own_in, packets_left}
 use Rattle.channel_laws.specs.Standing.{EndStands, is_open_in}
-use Rattle.port_model.proofs.Refuting.{false_true, none_some, true_false}
+use Rattle.port_model.proofs.Refuting.{false_true, none_some, of_some}
 use Rattle.port_model.proofs.Ruling.{says_of}
 use Rattle.port_model.specs.EndLog.{EndLog}
-use Rattle.port_model.specs.Fetching.{Fetched, IsFrame, NotReady, Refuses, fetched}
-use Rattle.port_model.specs.FramesStand.{CountsStand, FramesStand}
+use Rattle.port_model.specs.Fetching.{Fetched, NotReady, fetched}
 use Rattle.port_model.specs.NetEndPutting.{announcement, answer, answers, cleared_by_put, groups_answer, holding, holding_own, net_holds, net_kind, net_opens, net_put, opened_by_put}
 use Rattle.port_model.specs.Groups.{membership}
-use Rattle.port_model.specs.NetEndRule.{Announces, Fetches, Idles, Joins, NetRule, Publishes, Puts, Replies, Says, Takes, Tells, port_rule}
+use Rattle.port_model.specs.NetEndRule.{Announces, Fetches, NetRule, Publishes, Puts, Replies, Says, Tells, port_rule}
 use Rattle.port_model.specs.NetEndState.{Activity, GroupsReply, NetEndState, NetSession, unseen_in}
 use Rattle.port_model.specs.NetEndStep.{NetLeft, NetPublishes, NetSends, leaves, published, published_memory}
-use Rattle.port_model.specs.RuleFacts.{IfOpen}
 use Rattle.port_laws.specs.NetCore.{net_core, one_if}
 use Rattle.port_laws.specs.Remaining.{answers_left, end_left, frames_left, groups_left, put_weight, ready_slots, ready_weight, session_left, took_some}
 use Rattle.port_laws.proofs.EndMoves.{HeldCore, held_core, puts_behind, says_core}
 use Rattle.port_laws.proofs.RemainingReady.{cleared_none, published_more}
-use Rattle.port_laws.proofs.StepCounts.{Acting}
+use Rattle.port_laws.proofs.StepCounts.{Acting, counts_stand}
+use Rattle.port_laws.proofs.PutCounts.{not_some}
 
 -- AN END THAT IS UP, with so many frames more: what remains falls by so much, and it holds no more frames
 abbrev pub up_left : Role → ℕ → List ℕ → NetEndState → ℕ
@@ -62,9 +61,6 @@ asks_less : (role : Role) (fresh few many ready rest own : ℕ) → few + own �
     → fresh + put_weight role * few + ready + rest + put_weight role * own ≤ fresh + put_weight role * many + ready + rest
 asks_less Initiator fresh few many ready rest own less = omega (arith, less)
 asks_less Responder fresh few many ready rest own less = omega (arith, less)
-
-of_some : {X : Type 0} (P : X → Type 0) (x y : X) → Some x ≡ Some y → P x → P y
-of_some {X} P x y same holds = let is : x ≡ y = cc in subst P is holds
 
 -- with the session as it was
 in_session_less : (role : Role) (more : ℕ) (memory : List ℕ) (s : NetEndState) (message : Message) (p q : NetSession) (what : Holding) → s.session ≡ Some p
@@ -116,9 +112,7 @@ slot_less : (role : Role) (more : ℕ) (memory : List ℕ) (s : NetEndState) (p 
 slot_less role more memory s p activity (Some last) (NotReady state) held what is active some same =
     of_some (OwnLess role more memory s what) (holding_own (answer s activity last) (record p { active = None }) s) held same
     (in_session_less role more memory s (answer s activity last) p (record p { active = None }) what is (answer_less role more memory s p activity last what active some))
-slot_less role more memory s p activity (Some last) (IsFrame frame new) held what is active some same = none_some held same
-slot_less role more memory s p activity (Some last) (Refuses why) held what is active some same = none_some held same
-slot_less role more memory s p activity None found held what is active some same = none_some held same
+slot_less role more memory s p activity _ _ held what is active some same = none_some held same
 
 own_less : (role : Role) (more : ℕ) (memory : List ℕ) (s : NetEndState) (at : Seen) (reach : Reach) (rule : NetRule) (held : NetEndState) (what : Holding)
     → port_rule role s at ≡ rule → net_holds rule s reach ≡ Some held → Holds (net_core role s) what (net_core role held) → OwnLess role more memory s what held
@@ -145,10 +139,7 @@ own_less role more memory s at reach (Announces p) held what is same holds =
     let q : NetSession = record p { infos = p.infos + 1; asking = true } in
     of_some (OwnLess role more memory s what) (holding_own (announcement s p) q s) held same
     (in_session_less role more memory s (announcement s p) p q what says.0.in_session.session (announces_less role more memory s p what says.1 says.2))
-own_less role more memory s at reach Joins held what is same holds = none_some held same
-own_less role more memory s at reach (Takes packet) held what is same holds = none_some held same
-own_less role more memory s at reach (Publishes p frame) held what is same holds = none_some held same
-own_less role more memory s at reach Idles held what is same holds = none_some held same
+own_less role more memory s at reach _ held what is same holds = none_some held same
 
 sum_less : (role : Role) (few many own left less : ℕ) → few ≤ many + own → left + put_weight role * own ≤ less → put_weight role * few + left ≤ put_weight role * many + less
 sum_less Initiator few many own left less packets rest = omega (arith, packets, rest)
@@ -170,9 +161,7 @@ held_slots s reach (Fetches p activity) held same = slot_slots activity.last (fe
   where
     slot_slots : (last : Option ℕ) (found : Fetched) → answers s p activity last found ≡ Some held → held.slots ≡ s.slots
     slot_slots (Some last) (NotReady state) is = slots_some s held (holding_own (answer s activity last) (record p { active = None }) s) is refl
-    slot_slots (Some last) (IsFrame frame new) is = none_some held is
-    slot_slots (Some last) (Refuses why) is = none_some held is
-    slot_slots None found is = none_some held is
+    slot_slots _ _ is = none_some held is
 held_slots s reach Puts held same = slots_some s held s same refl
 held_slots s reach (Says message) held same = slots_some s held (holding message s) same refl
 held_slots s reach (Replies p reply) held same = slots_some s held (holding_own (groups_answer s reply) (record p { reply = None }) s) same refl
@@ -188,13 +177,7 @@ last_shut Responder _ opens = false_true opens
 
 pub kind_shut : (kind : PutKind) (h : Handshake) → put_opens kind h ≡ true → is_open_in h.phase ≡ false
 kind_shut EndsHandshake h opens = last_shut h.role h.phase opens
-kind_shut Goes h opens = false_true opens
-kind_shut ComesUp h opens = false_true opens
-kind_shut EndsOwn h opens = false_true opens
-
-pub shut_none : (session : Option NetSession) → is_some session ≡ false → session ≡ None
-shut_none None is = refl
-shut_none (Some p) is = true_false is
+kind_shut _ h opens = false_true opens
 
 opened_left : (role : Role) (opens : Bool) (more : ℕ) (memory : List ℕ) (s : NetEndState) → (opens ≡ true → s.session ≡ None)
     → own_left role more (cleared_by_put role opens s.slots memory) (opened_by_put role opens s) ≤ own_left role more memory s
@@ -217,7 +200,7 @@ put_left role more memory s at reach held packet turns ends core same puts =
     let now : NetEndState = record held { link = behind_put held.link; handshake = handshake_behind (net_kind held) held.handshake } in
     let held_so = held_stands role (net_core role s) (net_core role held) turns core.what ends core.holds in
     let shut : net_opens held ≡ true → held.session ≡ None =
-    λ opens. shut_none held.session (held_so.opened ∙ kind_shut (net_kind held) held.handshake opens) in
+    λ opens. not_some held.session (held_so.opened ∙ kind_shut (net_kind held) held.handshake opens) in
     let slots : held.slots ≡ s.slots = held_slots s reach (port_rule role s at) held same in
     let opened = opened_left role (net_opens held) more memory now shut in
     let cleared : own_left role more (cleared_by_put role (net_opens held) s.slots memory) (net_put role held) ≤ own_left role more memory held =
@@ -260,9 +243,6 @@ published_left role more memory new s p seen within ready =
     (length s.frames + more - unseen_in (published p)) (unseen_in p - one_if p.asking) (ready_slots s.slots memory) (answers_left role (Some p) + groups_left role (Some p))
     (omega (arith, seen, within)) (omega (arith, seen)) ready in
     omega (arith, less, groups_same role p (published p) refl)
-
-pub counts_stand : (s : NetEndState) (p : NetSession) → FramesStand s → s.session ≡ Some p → CountsStand s p
-counts_stand s p stands is = subst (λ (x : Option NetSession). IfOpen x (CountsStand s)) is stands.session
 
 pub publishes_lower : (role : Role) (slots : ℕ) (queue : List (List ℕ)) (s : NetEndState) (l : EndLog) (turns : List Turn) (at : Seen) (memory : List ℕ) (reach : Reach) (id : ℕ)
     (t : NetLeft) → Acting role slots queue s l turns → 8192 + 2048 * slots ≤ length memory → NetPublishes role s at memory reach id t → Lowers role 1 memory s t

@@ -109,10 +109,6 @@ frame_packets role s p activity frame is active =
     let same : more_in (taken s p activity) ≡ more_in p = omega (arith, one) in
     ap (λ (n : ℕ). packets_left (with_opened s role true n)) same ∙ sym (ap (λ (o : Option NetSession). packets_left (with_opened s role (is_some o) (more_of o))) is)
 
-one_most : (b : Bool) → one_if b ≤ 1
-one_most true = omega arith
-one_most false = omega arith
-
 answers_more : (role : Role) (frames few many groups : ℕ) → few ≤ many + 1 → frames + put_weight role * few + groups ≤ frames + put_weight role * many + groups + put_weight role
 answers_more Initiator frames few many groups less = omega (arith, less)
 answers_more Responder frames few many groups less = omega (arith, less)

@@ -1,5 +1,5 @@
 -- How many slots of an end's own ring are READY: a cleared ring has none, and a frame that is published makes it one more at most.
-use Rattle.std.proofs.Common.{◌≡◌, ◌≢◌, ℕ, zero, suc, ◌+◌, ◌*◌, ◌%◌, ◌<◌, ◌≤◌, ◌⊎◌, inl, inr, Bool, true, false, List, [], ◌∷◌, length, refl, sym, ap, ◌∙◌, arith, length-append}
+use Rattle.std.proofs.Common.{◌≡◌, ◌≢◌, ℕ, zero, suc, ◌+◌, ◌*◌, ◌%◌, ◌<◌, ◌≤◌, ◌⊎◌, inl, inr, List, [], ◌∷◌, length, refl, sym, ap, ◌∙◌, arith, length-append}
 use Rattle.std.specs.Prelude.{◌==◌, slice_index}
 use Rattle.std.proofs.lemmas.Bool.{cases_order}
 use Rattle.std.proofs.lemmas.Nat.{mod_below}
@@ -19,6 +19,8 @@ use Rattle.port_model.specs.NetEndTaking.{freed, slot_state}
 use Rattle.port_laws.specs.NetCore.{one_if}
 use Rattle.port_laws.specs.Remaining.{ready_slots}
 use Rattle.port_laws.proofs.MemoryRoom.{put_longer}
+use Rattle.port_laws.proofs.EndMoves.{one_most}
+use Rattle.port_laws.proofs.RingMoves.{free_byte}
 
 -- A CLEARED RING
 cleared_some : (slots n : ℕ) (memory : List ℕ) → n ≤ slots → ready_slots n (cleared_ring slots memory) ≡ 0
@@ -31,10 +33,6 @@ pub cleared_none : (slots : ℕ) (memory : List ℕ) → ready_slots slots (clea
 cleared_none slots memory = cleared_some slots slots memory (omega arith)
 
 -- ONE SLOT was changed
-one_most : (b : Bool) → one_if b ≤ 1
-one_most true = omega arith
-one_most false = omega arith
-
 pub below_same : (slots k n : ℕ) (memory new : List ℕ) → OneSlot 64 slots k memory new → n ≤ k → k < slots → ready_slots n new ≡ ready_slots n memory
 below_same slots k zero memory new one within below = refl
 below_same slots k (suc n) memory new one within below =
@@ -80,9 +78,6 @@ one_less slots k (suc n) memory new one free within =
     goes_on : ready_slots n new ≤ ready_slots n memory → (n < k) ⊎ (k < n) → ready_slots (suc n) new ≤ ready_slots (suc n) memory
     goes_on before (inl less) = next before (λ same. absurd (omega (arith, same, less)))
     goes_on before (inr past) = next before (λ same. absurd (omega (arith, same, past)))
-
-free_byte : (bytes : List ℕ) → slice_index (put_at 0 (free_state ∷ []) bytes) 0 ≡ free_state
-free_byte bytes = refl
 
 -- SLOTS THAT BECOME FREE
 pub freed_less : (slots number count : ℕ) (memory : List ℕ) → 1 ≤ slots → 64 * slots ≤ length memory → ready_slots slots (freed slots number count memory) ≤ ready_slots slots memory

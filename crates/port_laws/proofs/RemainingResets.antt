@@ -1,12 +1,12 @@
 -- What remains on a port behind a reset: as much as on one that begins with all its frames, but that one end is up.
-use Rattle.std.proofs.Common.{◌≡◌, ◌≢◌, ℕ, ◌+◌, ◌-◌, ◌*◌, ◌<◌, ◌≤◌, ◌⊎◌, inl, inr, Bool, true, false, Option, None, Some, List, length, refl, sym, subst, ap, ◌∙◌, arith, length-drop}
+use Rattle.std.proofs.Common.{◌≡◌, ◌≢◌, ℕ, ◌+◌, ◌-◌, ◌*◌, ◌<◌, ◌≤◌, ◌⊎◌, inl, inr, Bool, true, false, Option, None, Some, List, length, refl, sym, ap, ◌∙◌, arith, length-drop}
 use Rattle.ldc_link.specs.declared.phase.Role.{Role}
 use Rattle.ldc_link.specs.declared.phase.Role.TheVariants.{Initiator, Responder}
 use Rattle.ldc_queue.specs.declared.end.ChannelState.{ChannelState}
 use Rattle.ldc_queue.specs.declared.end.ChannelState.TheVariants.{Down, Resetting, Up}
 use Rattle.ldc_queue.specs.declared.end.End.{End}
 use Rattle.ldc_queue.specs.declared.end.End.TheVariants.{A, B}
-use Rattle.ldc_queue.specs.Wire.{Wire, state_of, upset}
+use Rattle.ldc_queue.specs.Wire.{state_of, upset}
 use Rattle.runs.specs.Lawful.{log_of}
 use Rattle.runs.specs.Run.{Run}
 use Rattle.vio_tag.specs.declared.cause.Cause.{Cause}
@@ -55,14 +55,12 @@ reset_before e s _ is = absurd is
 
 -- AN END THAT WAS UP: the queues are empty, and the other end isn't up
 away : (y : ChannelState) → absent (upset y) ≡ 1
-away Up = refl
-away Down = refl
 away Resetting = refl
+away _ = refl
 
 away_left : (y : ChannelState) (role : Role) (more : ℕ) (memory : List ℕ) (s : NetEndState) → end_left (upset y) role more memory s ≡ first_left role (length s.frames + more - unseen s.session)
-away_left Up role more memory s = refl
-away_left Down role more memory s = refl
 away_left Resetting role more memory s = refl
+away_left _ role more memory s = refl
 
 begins_a : (x : ChannelState) (g : NetEndState) (u : NetLaneState) (queued : ℕ) → x ≡ Up → up_left Initiator 0 u.guest_memory g ≡ first_left Initiator (length u.guest.frames + 0 - unseen u.guest.session)
     → remaining_of (joined_a x g u) queued ≡ 75 + 8 * kept_in u queued

@@ -18,7 +18,7 @@ use Rattle.channel_model.specs.TranscriptLog.{transcript_of}
 use Rattle.channel_model.specs.WireAt.{IsUp}
 use Rattle.channel_model.specs.WireEvent.{WireEvent}
 use Rattle.channel_model.specs.WireEvent as on_channel
-use Rattle.channel_model.specs.WireLog.{WireLog, lossy_behind, wire_moved}
+use Rattle.channel_model.specs.WireLog.{lossy_behind, wire_moved}
 use Rattle.channel_laws.specs.PacketsLeft.{all_of, left_in, messages_in, packets_left}
 use Rattle.channel_laws.specs.Standing.{EndStands}
 use Rattle.port_model.proofs.FramesKept.{held_in}
@@ -36,11 +36,14 @@ use Rattle.port_model.specs.PortState.{OnLane, PortEvent, PortState, PortStep, b
 use Rattle.port_laws.specs.NetCore.{is_begun, net_core, net_core_at}
 use Rattle.port_laws.specs.Remaining.{absent, end_left, first_left, put_weight, remaining, remaining_of, second_life, session_left}
 use Rattle.port_laws.specs.RemainingSteps.{IsCalm, TakesNothing}
-use Rattle.port_laws.proofs.MemoryRoom.{HasRoom, before_room, room_behind}
+use Rattle.port_laws.proofs.MemoryLong.{room_behind}
+use Rattle.port_laws.proofs.MemoryRoom.{HasRoom, before_room}
 use Rattle.port_laws.proofs.PortCounts.{Ready, port_counts, queue_of, ready_before}
 use Rattle.port_laws.proofs.RemainingEnds.{Lowers, blocks_lower, publishes_lower, sends_lower, up_left}
 use Rattle.port_laws.proofs.RuleFrames.{end_acts}
-use Rattle.port_laws.proofs.StepCounts.{holds_up}
+use Rattle.port_laws.proofs.LaneMoves.{holds_up}
+use Rattle.port_laws.proofs.RingEvents.{up_is}
+use Rattle.port_laws.proofs.RuleUnforged.{reach_memory}
 
 -- THE FRAME THAT MOVES from the queue counts as before
 moved_end : (x : ChannelState) (memory : List ℕ) (s : NetEndState) (frame : List ℕ) (more queued : ℕ) → length (s.frames ++ frame ∷ []) + more ≡ length s.frames + queued
@@ -172,11 +175,6 @@ away_falls A shape u l ready away = joins_a u.lane.wire.wire.end_a (joined_net_e
 away_falls B shape u l ready away = joins_b u.lane.wire.wire.end_b (joined_net_end Responder u.lane.hub) u.lane (length u.queue) away (begun_left B shape u l ready)
 
 -- A STEP, by its answer
-pub up_of : (x : ChannelState) → is_up x ≡ true → x ≡ Up
-up_of Up is = refl
-up_of Down is = false_true is
-up_of Resetting is = false_true is
-
 not_up : (x : ChannelState) → is_up x ≡ false → x ≢ Up
 not_up Up is = true_false is
 not_up Down is = λ up. false_true (ap is_up up)
@@ -187,16 +185,12 @@ room_at A slots u room = room.guest
 room_at B slots u room = room.hub
 
 pub seen_up : (e : End) (u : NetLaneState) → is_up (seen_at e u).state ≡ true → IsUp e u.wire.wire
-seen_up A u up = up_of u.wire.wire.end_a up
-seen_up B u up = up_of u.wire.wire.end_b up
+seen_up A u up = up_is u.wire.wire.end_a up
+seen_up B u up = up_is u.wire.wire.end_b up
 
 not_seen : (e : End) (u : NetLaneState) → is_up (seen_at e u).state ≡ false → state_of e u.wire.wire ≢ Up
 not_seen A u away = not_up u.wire.wire.end_a away
 not_seen B u away = not_up u.wire.wire.end_b away
-
-pub reach_memory : (e : End) (u : NetLaneState) → (reach_of e u).memory ≡ memory_of (peer_of e) u
-reach_memory A u = refl
-reach_memory B u = refl
 
 -- what remains with the wire as it was
 on_wire : (e : End) (left : NetLeft) (u : NetLaneState) (queued : ℕ) → remaining_of (record (with_left e left u) { wire = u.wire }) queued ≡ remaining_of (with_left e left u) queued

@@ -1,10 +1,9 @@
 -- What remains on a port that nobody forged falls by each packet that an end takes.
-use Rattle.std.proofs.Common.{◌≡◌, ℕ, ◌+◌, ◌-◌, ◌*◌, ◌<◌, ◌≤◌, Bool, true, false, Option, Some, None, List, [], ◌∷◌, length, drop, refl, sym, subst, ap, ◌∙◌, arith, length-drop}
-use Rattle.std.specs.Prelude.{Result, Ok, Err, is_some, slice_get, ⊤}
+use Rattle.std.proofs.Common.{◌≡◌, ℕ, ◌+◌, ◌-◌, ◌*◌, ◌<◌, ◌≤◌, Bool, false, Option, Some, None, List, [], length, drop, refl, sym, subst, ap, ◌∙◌, arith, length-drop}
+use Rattle.std.specs.Prelude.{is_some, ⊤}
 use Rattle.ldc_link.specs.declared.phase.Role.{Role}
 use Rattle.ldc_link.specs.declared.phase.Role.TheVariants.{Initiator, Responder}
-use Rattle.ldc_link.specs.LinkState.{LinkState, cleared}
-use Rattle.ldc_link.specs.Taking.{Heard, LinkTake, Unheard}
+use Rattle.ldc_link.specs.LinkState.{LinkState}
 use Rattle.ldc_packet.specs.declared.packet.Subtype.{Subtype}
 use Rattle.ldc_queue.specs.declared.end.ChannelState.{ChannelState}
 use Rattle.ldc_queue.specs.declared.end.ChannelState.TheVariants.{Up}
@@ -15,24 +14,21 @@ use Rattle.ldc_queue.specs.Wire.{peer_of, state_of}
 use Rattle.runs.specs.Lawful.{log_of}
 use Rattle.runs.specs.Run.{Run}
 use Rattle.vio_handshake.specs.declared.handshake.Handshake.{Handshake}
-use Rattle.vio_handshake.specs.Rules.{Faults, Goes, GoesOpen, HandshakeTake, handshake_take}
-use Rattle.vio_tag.specs.declared.message.Message.{Message}
 use Rattle.vio_tag.specs.declared.message.MsgBody.{MsgBody}
-use Rattle.vio_tag.specs.declared.message.TagFault.{TagFault}
 use Rattle.dring.specs.Slots.{range_length}
 use Rattle.channel_model.specs.TranscriptLog.{transcript_of}
 use Rattle.channel_model.specs.WireAt.{IsFirstOn, IsUp}
 use Rattle.channel_laws.proofs.PacketsTaken.{unforged_took}
 use Rattle.channel_laws.specs.LaneCore.{end_of}
 use Rattle.channel_laws.specs.PacketsLeft.{packets_left}
-use Rattle.channel_laws.specs.Standing.{EndStands, is_open_in}
+use Rattle.channel_laws.specs.Standing.{EndStands}
 use Rattle.port_model.proofs.Ruling.{says_of}
 use Rattle.port_model.specs.FramesStand.{CountsStand, FramesStand}
 use Rattle.port_model.specs.NetEndPutting.{cleared_ring}
 use Rattle.port_model.specs.NetEndRule.{Takes}
 use Rattle.port_model.specs.NetEndState.{GroupsReply, NetEndState, NetSession, opened_net_end, unseen_in, with_session}
 use Rattle.port_model.specs.NetEndStep.{NetLeft, Took}
-use Rattle.port_model.specs.NetEndTaking.{GoesOn, HearsLink, HearsWhole, NetTake, NetTakes, Resets, acknowledged, active, by_handshake, freed, hears_message, opens_by_take, reads, replying, risen}
+use Rattle.port_model.specs.NetEndTaking.{GoesOn, NetTake, NetTakes, Resets, acknowledged, active, freed, replying}
 use Rattle.port_model.specs.NetEvent.{NetEvent, Steps}
 use Rattle.port_model.specs.NetLaneState.{IsNetShape, NetLaneState, NetShape, memory_of, net_end, role_at, seen_at, with_left}
 use Rattle.port_model.specs.NetLaneStep.{EndSteps, net_wire}
@@ -44,15 +40,19 @@ use Rattle.port_laws.specs.PortCore.{port_core, port_events}
 use Rattle.port_laws.specs.Remaining.{answers_left, end_left, frames_left, groups_left, put_weight, ready_slots, ready_weight, remaining, remaining_of, session_left, took_some}
 use Rattle.port_laws.proofs.CoreLaws.{offers_match, sizes_fit}
 use Rattle.port_laws.proofs.FlightSums.{first_gone}
-use Rattle.port_laws.proofs.MemoryRoom.{HasRoom, before_room, room_behind}
-use Rattle.port_laws.proofs.MessageDoes.{Acks, Asks, Declines, MessageDoes, Names, TakeDoes, Told, message_does}
+use Rattle.port_laws.proofs.MemoryLong.{room_behind}
+use Rattle.port_laws.proofs.MemoryRoom.{HasRoom, before_room}
+use Rattle.port_laws.proofs.MessageDoes.{Acks, Asks, Declines, MessageDoes, Names, TakeDoes, Told}
 use Rattle.port_laws.proofs.PortCounts.{Ready}
 use Rattle.port_laws.proofs.PortRuns.{before_core, fresh_port_core, port_fits_behind, port_step_core}
-use Rattle.port_laws.proofs.RemainingEnds.{answers_less, counts_stand, groups_same, own_left}
+use Rattle.port_laws.proofs.RemainingEnds.{answers_less, groups_same, own_left}
 use Rattle.port_laws.proofs.RemainingReady.{cleared_none, freed_less}
-use Rattle.port_laws.proofs.RemainingSteps.{left_at, more_at, reach_memory, ready_here, room_at, seen_up, steps_before}
+use Rattle.port_laws.proofs.RemainingSteps.{left_at, more_at, ready_here, room_at, seen_up, steps_before}
 use Rattle.port_laws.proofs.RuleFrames.{end_acts}
 use Rattle.port_laws.proofs.TookWhat.{Fails, Opens, Reads, Stays, TookWhat, took_what}
+use Rattle.port_laws.proofs.EndMoves.{one_most}
+use Rattle.port_laws.proofs.RuleUnforged.{reach_memory}
+use Rattle.port_laws.proofs.StepCounts.{counts_stand}
 
 -- WHAT AN END MAY OWE for a packet that it takes: the switch's end an answer to groups
 abbrev slack : Role → ℕ
@@ -83,10 +83,6 @@ asks_sum : (role : Role) (slots held : ℕ) (memory : List ℕ) (p : NetSession)
 asks_sum role slots held memory p seq start =
     let less = answers_less role (frames_left role slots held memory (Some p)) (0 + one_if (is_some p.reply)) (one_if (took_some p.active) + one_if (is_some p.reply)) (groups_left role (Some p)) 0 (omega arith) in
     omega (arith, less, groups_same role p (active p seq start) refl)
-
-one_most : (b : Bool) → one_if b ≤ 1
-one_most true = omega arith
-one_most false = omega arith
 
 ack_falls : (role : Role) (fresh few many ready more rest : ℕ) → few ≤ many → ready ≤ more
     → 8 * fresh + put_weight role * few + ready_weight role * ready + rest ≤ 8 * fresh + put_weight role * many + ready_weight role * more + rest

@@ -9,7 +9,7 @@ use Rattle.cookie_copy.specs.Reach.{Reach}
 use Rattle.ldc_link.specs.declared.phase.Role.{Role}
 use Rattle.ldc_link.specs.declared.phase.Role.TheVariants.{Initiator, Responder}
 use Rattle.ldc_queue.specs.declared.end.ChannelState.{ChannelState}
-use Rattle.ldc_queue.specs.declared.end.ChannelState.TheVariants.{Down, Resetting, Up}
+use Rattle.ldc_queue.specs.declared.end.ChannelState.TheVariants.{Up}
 use Rattle.ldc_queue.specs.declared.end.End.{End}
 use Rattle.ldc_queue.specs.declared.end.End.TheVariants.{A, B}
 use Rattle.ldc_queue.specs.Transcript.{Turn}
@@ -30,20 +30,20 @@ use Rattle.channel_laws.specs.LaneCore.{end_of}
 use Rattle.channel_laws.specs.Standing.{is_open_in}
 use Rattle.port_model.proofs.Refuting.{false_true, none_some, true_false}
 use Rattle.port_model.proofs.Ruling.{says_of}
-use Rattle.port_model.specs.EndLog.{EndLog, SessionLog, said_in, said_kind}
+use Rattle.port_model.specs.EndLog.{EndLog, SessionLog, said_in}
 use Rattle.port_model.specs.Fetching.{slots_cookies}
 use Rattle.port_model.specs.FrameLaws.{InSession, IsActive}
 use Rattle.port_model.specs.NetEndPutting.{net_kind}
 use Rattle.port_model.specs.NetEndRule.{Fetches, port_rule}
 use Rattle.port_model.specs.NetEndState.{NetEndState, NetSession}
-use Rattle.port_model.specs.NetEndStep.{Blocked, Frame, Idle, Joined, NetAnswer, NetEndStep, NetLeft, Published, Reset, Sent, Took}
+use Rattle.port_model.specs.NetEndStep.{Frame, Joined, NetAnswer, NetEndStep, NetLeft, Reset, Sent, Took}
 use Rattle.port_model.specs.NetEvent.{Steps}
 use Rattle.port_model.specs.NetLaneState.{NetLaneState, NetShape, memory_of, net_end, reach_of, role_at, seen_at}
 use Rattle.port_model.specs.NetLaneStep.{EndSteps, net_wire}
 use Rattle.port_model.specs.Offers.{port_offer, ring_cookie}
 use Rattle.port_model.specs.PortLog.{PortLog, after, after_answer, log_of_end}
 use Rattle.port_model.specs.PortState.{OnLane, PortState}
-use Rattle.port_model.specs.Spoken.{GroupsAck, GroupsInfo, Other, RangeAck, RangeInfo, Spoken, spoken}
+use Rattle.port_model.specs.Spoken.{spoken}
 use Rattle.port_laws.specs.Counted.{EndCounts, unsaid}
 use Rattle.port_laws.specs.NetCore.{lane_core, net_core}
 use Rattle.port_laws.specs.RingStands.{RingIn, RingStands, taken_by, taken_in, taken_of}
@@ -54,8 +54,8 @@ use Rattle.port_laws.proofs.MemoryRoom.{HasRoom}
 use Rattle.port_laws.proofs.PeerOpens.{row}
 use Rattle.port_laws.proofs.PortCounts.{PortCounts, Ready, queue_of}
 use Rattle.port_laws.proofs.PortTalks.{PortTalks, many_open, open_turns, shut_turns}
-use Rattle.port_laws.proofs.RemainingEnds.{kind_shut, shut_none}
-use Rattle.port_laws.proofs.RingEvents.{Active, Frames, Goes, Turned, acts_up, mine_now, own_stands, peer_stands, spoke_after, theirs_now, turns_at, turns_now, wire_now}
+use Rattle.port_laws.proofs.RemainingEnds.{kind_shut}
+use Rattle.port_laws.proofs.RingEvents.{Active, Frames, Goes, Turned, acts_up, mine_now, own_stands, peer_stands, saying_taken, some_not, spoke_after, theirs_now, turns_at, turns_now, wire_now}
 use Rattle.port_laws.proofs.RingFetches.{Reaches}
 use Rattle.port_laws.proofs.RingMoves.{Fits}
 use Rattle.port_laws.proofs.RingSteps.{Owns, TakesOf, opens_by}
@@ -63,6 +63,7 @@ use Rattle.port_laws.proofs.RuleFrames.{active_here, end_acts, end_counted}
 use Rattle.port_laws.proofs.SessionsHeard.{Spoke, SpokeIn, spoke_some}
 use Rattle.port_laws.proofs.StepCounts.{Acting, took_here}
 use Rattle.port_laws.proofs.TookCounts.{free_empty}
+use Rattle.port_laws.proofs.PutCounts.{not_some}
 
 -- THE RINGS, and what the logs say
 pub record Rings (s : NetLaneState) (l : PortLog) : Type 0 where
@@ -135,9 +136,6 @@ pub record OpenBoth (s : NetEndState) (l : EndLog) : Type 0 where
   pub opened : l.session ≢ None → is_some s.session ≡ true
   pub none : s.session ≡ None → l.session ≡ None
 
-some_not : {X : Type 0} (x : X) → Some x ≢ None
-some_not {X} x is = cc is
-
 pub open_both : (role : Role) (slots : ℕ) (queue : List (List ℕ)) (s : NetEndState) (l : EndLog) → EndCounts role slots queue s l → OpenBoth s l
 open_both role slots queue s l counts = by_session s.session refl
   where
@@ -169,14 +167,9 @@ step_shut role slots queue s l turns at memory reach (Sent packet opens) left ac
     let held : NetEndState = step.held in
     let core : HeldCore role s held = held_core role s at reach (port_rule role s at) held acting.fits refl step.holds in
     let shut : is_open_in held.handshake.phase ≡ false = kind_shut (net_kind held) held.handshake (sym step.opens_is ∙ opened) in
-    shut_none s.session
+    not_some s.session
     (acting.ends.opened ∙ sym (ap (λ (h : Handshake). is_open_in h.phase) (held_handshake (net_core role s) (net_core role held) core.what core.holds)) ∙ shut)
-step_shut role slots queue s l turns at memory reach (Joined lost) left acting step opened = false_true opened
-step_shut role slots queue s l turns at memory reach Blocked left acting step opened = false_true opened
-step_shut role slots queue s l turns at memory reach Idle left acting step opened = false_true opened
-step_shut role slots queue s l turns at memory reach (Published id) left acting step opened = false_true opened
-step_shut role slots queue s l turns at memory reach (Frame frame) left acting step opened = false_true opened
-step_shut role slots queue s l turns at memory reach (Reset cause packet lost) left acting step opened = false_true opened
+step_shut role slots queue s l turns at memory reach _ left acting step opened = false_true opened
 
 -- A FRAME IS TAKEN in an open session, in which a message of it was heard
 pub record Busy (answer : NetAnswer) (log : Option SessionLog) : Type 0 where
@@ -194,13 +187,7 @@ step_busy role slots queue s l turns at memory reach (Frame frame) left acts ste
     let acting = acts says.0.free.up in
     frame_busy frame l.session
     (active_here role slots queue s l step.session step.activity acting.counts says.0.session says.1 (free_empty role s turns acting.ends says.0.free.quiet))
-step_busy role slots queue s l turns at memory reach (Joined lost) left acts step = record { busy = tt; active = tt }
-step_busy role slots queue s l turns at memory reach (Took packet opens) left acts step = record { busy = tt; active = tt }
-step_busy role slots queue s l turns at memory reach (Sent packet opens) left acts step = record { busy = tt; active = tt }
-step_busy role slots queue s l turns at memory reach Blocked left acts step = record { busy = tt; active = tt }
-step_busy role slots queue s l turns at memory reach Idle left acts step = record { busy = tt; active = tt }
-step_busy role slots queue s l turns at memory reach (Published id) left acts step = record { busy = tt; active = tt }
-step_busy role slots queue s l turns at memory reach (Reset cause packet lost) left acts step = record { busy = tt; active = tt }
+step_busy role slots queue s l turns at memory reach _ left acts step = record { busy = tt; active = tt }
 
 -- AN END THAT ISN'T IN SESSION has a peer that took nothing
 none_asked : (role : Role) (turns : List Turn) (v : SessionLog) (n : ℕ) → v.taken ≡ n → Spoke role turns v → (1 ≤ v.asked → ⊥) → n ≡ 0
@@ -211,10 +198,8 @@ none_asked role turns v n is spoke never = by_asked v.asked refl
     by_asked (suc more) some = absurd (never (omega (arith, some)))
 
 none_taken : (role : Role) (turns : List Turn) (x : ChannelState) (log : Option SessionLog) → SpokeIn role turns log → (x ≡ Up → (v : SessionLog) → log ≡ Some v → 1 ≤ v.asked → ⊥) → taken_by x log ≡ 0
-none_taken role turns Down log spoke never = refl
-none_taken role turns Resetting log spoke never = refl
-none_taken role turns Up None spoke never = refl
 none_taken role turns Up (Some v) spoke never = none_asked role turns v v.taken refl spoke (never refl v refl)
+none_taken role turns _ _ spoke never = refl
 
 pub shut_peer : (shape : NetShape) (e : End) (u : NetLaneState) (l : PortLog) → PortTalks shape (lane_core u) l → Rings u l → (net_end e u).session ≡ None
     → taken_by (state_of (peer_of e) u.wire.wire) (log_of_end (peer_of e) l).session ≡ 0
@@ -290,16 +275,9 @@ pub record Finds (shape : NetShape) (u : PortState) (l : PortLog) : Type 0 where
   pub talks : PortTalks shape (lane_core u.lane) l
   pub rings : Rings u.lane l
 
-kind_taken : (k : Spoken) (message : List ℕ) (v : SessionLog) → (said_kind k message v).taken ≡ v.taken
-kind_taken RangeInfo message v = refl
-kind_taken RangeAck message v = refl
-kind_taken GroupsInfo message v = refl
-kind_taken GroupsAck message v = refl
-kind_taken Other message v = refl
-
 pub left_taken : (left : Option (List ℕ)) (v : SessionLog) → (said_in left v).taken ≡ v.taken
 left_taken None v = refl
-left_taken (Some message) v = kind_taken (spoken message) message v
+left_taken (Some message) v = saying_taken (spoken message) message v
 
 pub place_is : (role : Role) (slots : ℕ) (queue : List (List ℕ)) (s : NetEndState) (l : EndLog) (q : NetSession) → EndCounts role slots queue s l → s.session ≡ Some q
     → q.place ≡ taken_in l.session % slots
@@ -331,19 +309,12 @@ end_reaches shape B u l finds mine theirs =
 takes_of : (shape : NetShape) (e : End) (u : PortState) (l : PortLog) (answer : NetAnswer) (left : NetLeft) (session : Option NetSession) → Finds shape u l → (net_end (peer_of e) u.lane).session ≡ session
     → NetEndStep (role_at e) (net_end e u.lane) (seen_at e u.lane) (memory_of e u.lane) (reach_of e u.lane) answer left
     → TakesOf answer (net_end e u.lane) (reach_of e u.lane) shape.slots (memory_pages shape.slots) (taken_in (log_of_end e l).session) session
-takes_of shape e u l (Frame frame) left None finds is step = tt
 takes_of shape e u l (Frame frame) left (Some p) finds is step =
     let says = says_of (role_at e) (net_end e u.lane) (seen_at e u.lane) (Fetches step.session step.activity) step.rule in (
       end_reaches shape e u l finds (ap is_some says.0.session) (ap is_some is),
       λ q of_end. place_is (role_at e) shape.slots (queue_of e u) (net_end e u.lane) (log_of_end e l) q (end_counted shape e u l finds.ready) of_end,
     )
-takes_of shape e u l (Joined lost) left session finds is step = tt
-takes_of shape e u l (Took packet opens) left session finds is step = tt
-takes_of shape e u l (Sent packet opens) left session finds is step = tt
-takes_of shape e u l Blocked left session finds is step = tt
-takes_of shape e u l Idle left session finds is step = tt
-takes_of shape e u l (Published id) left session finds is step = tt
-takes_of shape e u l (Reset cause packet lost) left session finds is step = tt
+takes_of shape e u l _ left _ finds is step = tt
 
 end_frames : (shape : NetShape) (e : End) (u : PortState) (l : PortLog) → Finds shape u l → (n : ℕ) (frame : List ℕ) → slice_get (net_end e u.lane).frames n ≡ Some frame → IsFrame frame
 end_frames shape A u l finds n frame get =
@@ -356,7 +327,7 @@ pub core_open : (e : End) (u : NetLaneState) (b : Bool) → is_some (net_end e u
 core_open A u b is = is
 core_open B u b is = is
 
-seen_state : (e : End) (u : NetLaneState) → (seen_at e u).state ≡ state_of e u.wire.wire
+pub seen_state : (e : End) (u : NetLaneState) → (seen_at e u).state ≡ state_of e u.wire.wire
 seen_state A u = refl
 seen_state B u = refl
 
@@ -399,24 +370,14 @@ acts_shut shape e u t l answer left acts opened =
     acts.step opened
   where
     opening_same : (answer : NetAnswer) (x : ChannelState) → opens_by answer ≡ true → mine_now answer x ≡ x
-    opening_same (Took packet opens) x opened = refl
-    opening_same (Sent packet opens) x opened = refl
-    opening_same Blocked x opened = refl
-    opening_same Idle x opened = refl
-    opening_same (Published id) x opened = refl
-    opening_same (Frame frame) x opened = refl
     opening_same (Joined lost) x opened = false_true opened
     opening_same (Reset cause packet lost) x opened = false_true opened
+    opening_same _ x opened = refl
 
 pub goes_same : (answer : NetAnswer) (x : ChannelState) → Goes answer → mine_now answer x ≡ x
-goes_same (Took packet opens) x goes = refl
-goes_same (Sent packet opens) x goes = refl
-goes_same Blocked x goes = refl
-goes_same Idle x goes = refl
-goes_same (Published id) x goes = refl
-goes_same (Frame frame) x goes = refl
 goes_same (Joined lost) x goes = absurd goes
 goes_same (Reset cause packet lost) x goes = absurd goes
+goes_same _ x goes = refl
 
 pub acts_up_at : (shape : NetShape) (e : End) (u t : PortState) (l : PortLog) (answer : NetAnswer) (left : NetLeft) → Acts shape e u t l answer left → Goes answer → state_of e u.lane.wire.wire ≡ Up
 acts_up_at shape e u t l answer left acts goes =

@@ -24,12 +24,12 @@ use Rattle.port_model.specs.NetEvent.{Steps, on_wire}
 use Rattle.port_model.specs.NetLaneState.{NetLaneState}
 use Rattle.port_model.specs.NetLaneStep.{net_wire}
 use Rattle.port_model.specs.PortLog.{after_answer, spoken_on}
-use Rattle.port_model.specs.Spoken.{GroupsAck, GroupsInfo, Other, RangeAck, RangeInfo, Spoken, spoken}
+use Rattle.port_model.specs.Spoken.{GroupsInfo, Spoken, spoken}
 use Rattle.port_laws.specs.RingStands.{RingIn, taken_by, taken_in}
 use Rattle.port_laws.proofs.PeerOpens.{row}
 use Rattle.port_laws.proofs.RingSteps.{Owns, TakesOf, more_taken, opens_by, own_ring, peer_ring}
 use Rattle.port_laws.proofs.SessionsHeard.{Spoke, SpokeIn, frame_spoke, published_spoke, sent_opens, sent_spoke, took_opens, took_spoke}
-use Rattle.port_laws.proofs.StepCounts.{holds_up}
+use Rattle.port_laws.proofs.LaneMoves.{holds_up}
 
 -- BOTH CHANNEL ENDS and what was said, after an answer
 abbrev pub mine_now : NetAnswer → ChannelState → ChannelState
@@ -48,21 +48,9 @@ pub record WireNow (e : End) (u : NetLaneState) (answer : NetAnswer) : Type 0 wh
 
 pub wire_now : (e : End) (u : NetLaneState) (answer : NetAnswer) → WireNow e u answer
 wire_now A u (Joined lost) = record { mine = refl; theirs = refl }
-wire_now A u (Took packet opens) = record { mine = refl; theirs = refl }
-wire_now A u (Sent packet opens) = record { mine = refl; theirs = refl }
-wire_now A u Blocked = record { mine = refl; theirs = refl }
-wire_now A u Idle = record { mine = refl; theirs = refl }
-wire_now A u (Published id) = record { mine = refl; theirs = refl }
-wire_now A u (Frame frame) = record { mine = refl; theirs = refl }
-wire_now A u (Reset cause packet lost) = record { mine = refl; theirs = refl }
 wire_now B u (Joined lost) = record { mine = refl; theirs = refl }
-wire_now B u (Took packet opens) = record { mine = refl; theirs = refl }
-wire_now B u (Sent packet opens) = record { mine = refl; theirs = refl }
-wire_now B u Blocked = record { mine = refl; theirs = refl }
-wire_now B u Idle = record { mine = refl; theirs = refl }
-wire_now B u (Published id) = record { mine = refl; theirs = refl }
-wire_now B u (Frame frame) = record { mine = refl; theirs = refl }
-wire_now B u (Reset cause packet lost) = record { mine = refl; theirs = refl }
+wire_now A u _ = record { mine = refl; theirs = refl }
+wire_now B u _ = record { mine = refl; theirs = refl }
 
 abbrev pub turns_now : NetAnswer → List Turn → List Turn
 turns_now (Joined lost) turns = []
@@ -77,21 +65,9 @@ pub record TurnsNow (e : End) (l : TranscriptLog) (answer : NetAnswer) : Type 0 
 
 pub turns_at : (e : End) (l : TranscriptLog) (answer : NetAnswer) → TurnsNow e l answer
 turns_at A l (Joined lost) = record { mine = refl; theirs = refl }
-turns_at A l (Took packet opens) = record { mine = refl; theirs = refl }
-turns_at A l (Sent packet opens) = record { mine = refl; theirs = refl }
-turns_at A l Blocked = record { mine = refl; theirs = refl }
-turns_at A l Idle = record { mine = refl; theirs = refl }
-turns_at A l (Published id) = record { mine = refl; theirs = refl }
-turns_at A l (Frame frame) = record { mine = refl; theirs = refl }
-turns_at A l (Reset cause packet lost) = record { mine = refl; theirs = refl }
 turns_at B l (Joined lost) = record { mine = refl; theirs = refl }
-turns_at B l (Took packet opens) = record { mine = refl; theirs = refl }
-turns_at B l (Sent packet opens) = record { mine = refl; theirs = refl }
-turns_at B l Blocked = record { mine = refl; theirs = refl }
-turns_at B l Idle = record { mine = refl; theirs = refl }
-turns_at B l (Published id) = record { mine = refl; theirs = refl }
-turns_at B l (Frame frame) = record { mine = refl; theirs = refl }
-turns_at B l (Reset cause packet lost) = record { mine = refl; theirs = refl }
+turns_at A l _ = record { mine = refl; theirs = refl }
+turns_at B l _ = record { mine = refl; theirs = refl }
 
 pub up_is : (x : ChannelState) → is_up x ≡ true → x ≡ Up
 up_is Up is = refl
@@ -120,23 +96,17 @@ Goes _ = ⊤
 
 -- THE FRAMES THAT IT TOOK in its session, after an answer
 kind_taken : (k : Spoken) (slots : ℕ) (message : List ℕ) (v : SessionLog) → (heard_kind slots k message v).taken ≡ v.taken
-kind_taken RangeInfo slots message v = refl
-kind_taken RangeAck slots message v = refl
 kind_taken GroupsInfo slots message v = refl
-kind_taken GroupsAck slots message v = refl
-kind_taken Other slots message v = refl
+kind_taken _ slots message v = refl
 
 heard_taken : (slots : ℕ) (ended : Option (List ℕ)) (log : Option SessionLog) → taken_in (change (heard_in slots ended) log) ≡ taken_in log
 heard_taken slots ended None = refl
 heard_taken slots None (Some v) = refl
 heard_taken slots (Some message) (Some v) = kind_taken (spoken message) slots message v
 
-saying_taken : (k : Spoken) (message : List ℕ) (v : SessionLog) → (said_kind k message v).taken ≡ v.taken
-saying_taken RangeInfo message v = refl
-saying_taken RangeAck message v = refl
+pub saying_taken : (k : Spoken) (message : List ℕ) (v : SessionLog) → (said_kind k message v).taken ≡ v.taken
 saying_taken GroupsInfo message v = refl
-saying_taken GroupsAck message v = refl
-saying_taken Other message v = refl
+saying_taken _ message v = refl
 
 said_taken : (ended : Option (List ℕ)) (log : Option SessionLog) → taken_in (change (said_in ended) log) ≡ taken_in log
 said_taken ended None = refl
@@ -200,10 +170,9 @@ own_stands role slots x y log s turns at memory reach answer left owns same none
 -- THE RING OF ITS PEER
 pub peer_up : (x y : ChannelState) → peer_behind x y ≡ Up → (x ≢ Up) × (y ≡ Up)
 peer_up Up Up is = absurd (cc is)
-peer_up Up Down is = absurd (cc is)
-peer_up Up Resetting is = absurd (cc is)
 peer_up Down y is = ((λ up. cc up), is)
 peer_up Resetting y is = ((λ up. cc up), is)
+peer_up Up _ is = absurd (cc is)
 
 pub none_down : (x : ChannelState) (log : Option SessionLog) → x ≢ Up → taken_by x log ≡ 0
 none_down Up log not = absurd (not refl)
@@ -258,7 +227,7 @@ abbrev pub Active : NetAnswer → Option SessionLog → Type 0
 Active (Frame frame) (Some v) = v.asked ≡ v.acks + 1
 Active _ log = ⊤
 
-some_not : {X : Type 0} (x : X) → Some x ≢ None
+pub some_not : {X : Type 0} (x : X) → Some x ≢ None
 some_not {X} x is = cc is
 
 took_case : (role : Role) (slots : ℕ) (turns : List Turn) (packet : List ℕ) (opens : Bool) (log : Option SessionLog) (l : EndLog) → l.session ≡ log → (opens ≡ true → log ≡ None)

@@ -241,7 +241,7 @@ pub get_behind : (frames : List (List ℕ)) (n : ℕ) (frame : List ℕ) → sli
 get_behind [] n frame get = absurd (cc get)
 get_behind (one ∷ frames) n frame get = let next : n + 1 ≡ suc n = omega arith in ap (slice_get (one ∷ frames)) next ∙ get
 
-free_byte : (bytes : List ℕ) → slice_index (put_at 0 (free_state ∷ []) bytes) 0 ≡ free_state
+pub free_byte : (bytes : List ℕ) → slice_index (put_at 0 (free_state ∷ []) bytes) 0 ≡ free_state
 free_byte bytes = refl
 
 pub one_freed : (slots seen taken published : ℕ) (frames : List (List ℕ)) (memory : List ℕ) → Fits slots memory → RingHolds slots seen taken published frames memory → seen < taken

@@ -1,5 +1,5 @@
 -- Along every run of a port that nobody forged the ring of each end holds its frames.
-use Rattle.std.proofs.Common.{◌≡◌, ℕ, Bool, true, false, Option, Some, None, List, [], ◌∷◌, ◌++◌, refl, sym, ap, ◌∙◌, subst}
+use Rattle.std.proofs.Common.{◌≡◌, ℕ, false, Option, Some, None, List, [], ◌∷◌, ◌++◌, refl, sym, ap, ◌∙◌, subst}
 use Rattle.std.specs.Prelude.{⊤}
 use Rattle.ldc_link.specs.declared.phase.Role.TheVariants.{Initiator}
 use Rattle.ldc_queue.specs.declared.end.ChannelState.{ChannelState}
@@ -11,19 +11,21 @@ use Rattle.runs.specs.Lawful.{log_of, run_lawful}
 use Rattle.runs.specs.Run.{Run}
 use Rattle.channel_model.specs.WireLog.{WireLog}
 use Rattle.channel_laws.specs.LaneCore.{LaneCore}
+use Rattle.port_model.proofs.Moving.{before_keeps}
 use Rattle.port_model.proofs.Refuting.{true_false}
 use Rattle.port_model.specs.EndLog.{SessionLog}
 use Rattle.port_model.specs.NetEndState.{NetEndState, NetSession}
-use Rattle.port_model.specs.NetEndStep.{Already, BadLength, Blocked, Frame, Full, Given, GroupsFull, Idle, Joined, Joining, Member, NetGives, NetJoins, Published, Queued, Reset, Sent, Took, untold}
+use Rattle.port_model.specs.NetEndStep.{Already, BadLength, Full, Given, GroupsFull, Joined, Joining, Member, NetGives, NetJoins, Queued, untold}
 use Rattle.port_model.specs.NetEvent.{Asked, CalmTick, Declines, Gives, Injects, Joins, Loses, NetEvent, Pokes, Steps, Ticked, on_wire}
 use Rattle.port_model.specs.NetLaneState.{IsNetShape, NetLaneState, NetShape}
 use Rattle.port_model.specs.NetLaneStep.{NetLaneStep, Resets, moved_on}
 use Rattle.port_model.specs.PortLog.{PortLog, after, after_given, no_events}
-use Rattle.port_model.specs.PortState.{OfQueue, OnLane, PortEvent, PortState, PortStep, Receives, before, fresh_port, moves_first, takes_more}
+use Rattle.port_model.specs.PortState.{OfQueue, OnLane, PortEvent, PortState, PortStep, Receives, before, fresh_port}
 use Rattle.port_laws.specs.NetCore.{lane_core}
 use Rattle.port_laws.specs.RingStands.{RingIn, RingStands, taken_by}
-use Rattle.port_laws.proofs.LogsStand.{LogsStand, TablesStand, logs_event, logs_received, tables_event}
-use Rattle.port_laws.proofs.MemoryRoom.{before_room, room_behind}
+use Rattle.port_laws.proofs.LogsStand.{LogsStand, TablesStand, fresh_logs, logs_event, logs_received, tables_event}
+use Rattle.port_laws.proofs.MemoryLong.{room_behind}
+use Rattle.port_laws.proofs.MemoryRoom.{before_room}
 use Rattle.port_laws.proofs.PortCounts.{PortCounts, before_queue, counts_step, port_counts, ready_before}
 use Rattle.port_laws.proofs.PortRuns.{before_core}
 use Rattle.port_laws.proofs.PortTalks.{PortTalks, port_talks}
@@ -37,46 +39,17 @@ more_frames : (slots taken : ℕ) (session : Option NetSession) (frames more : L
 more_frames slots taken None frames more memory ring = tt
 more_frames slots taken (Some p) frames more memory ring = ring_given slots p.seen taken p.published frames more memory ring
 
-moves_rings : (b : Bool) (queue : List (List ℕ)) (s : PortState) (l : PortLog) → Rings s.lane l → Rings (moves_first b queue s).lane l
-moves_rings true [] s l rings = rings
-moves_rings true (frame ∷ frames) s l rings = record {
-  guest_spoke = rings.guest_spoke;
-  hub_spoke = rings.hub_spoke;
-  guest_ring = rings.guest_ring;
-  hub_ring = λ up. more_frames l.shape.slots (taken_by s.lane.wire.wire.end_a l.guest.session) s.lane.hub.session s.lane.hub.frames (frame ∷ []) s.lane.hub_memory (rings.hub_ring up);
-}
-moves_rings false queue s l rings = rings
-
 before_rings : (event : NetEvent) (s : PortState) (l : PortLog) → Rings s.lane l → Rings (before event s).lane l
-before_rings (Steps B answer) s l rings = moves_rings (takes_more s.lane.hub) s.queue s l rings
-before_rings (Steps A answer) s l rings = rings
-before_rings (Asked e lost) s l rings = rings
-before_rings (Ticked queued lost) s l rings = rings
-before_rings (CalmTick queued) s l rings = rings
-before_rings (Gives e given) s l rings = rings
-before_rings (Joins joining) s l rings = rings
-before_rings (Loses e packet) s l rings = rings
-before_rings (Injects e packet) s l rings = rings
-before_rings (Pokes e at bytes) s l rings = rings
-before_rings (Declines d) s l rings = rings
-
-moves_tables : (b : Bool) (queue : List (List ℕ)) (shape : NetShape) (s : PortState) → TablesStand shape s.lane → TablesStand shape (moves_first b queue s).lane
-moves_tables true [] shape s tables = tables
-moves_tables true (frame ∷ frames) shape s tables = record { guest = tables.guest; hub = tables.hub }
-moves_tables false queue shape s tables = tables
+before_rings event s l rings =
+    before_keeps (λ (x : PortState). Rings x.lane l) event s (λ frame frames. record {
+      guest_spoke = rings.guest_spoke;
+      hub_spoke = rings.hub_spoke;
+      guest_ring = rings.guest_ring;
+      hub_ring = λ up. more_frames l.shape.slots (taken_by s.lane.wire.wire.end_a l.guest.session) s.lane.hub.session s.lane.hub.frames (frame ∷ []) s.lane.hub_memory (rings.hub_ring up);
+    }) rings
 
 before_tables : (event : NetEvent) (shape : NetShape) (s : PortState) → TablesStand shape s.lane → TablesStand shape (before event s).lane
-before_tables (Steps B answer) shape s tables = moves_tables (takes_more s.lane.hub) s.queue shape s tables
-before_tables (Steps A answer) shape s tables = tables
-before_tables (Asked e lost) shape s tables = tables
-before_tables (Ticked queued lost) shape s tables = tables
-before_tables (CalmTick queued) shape s tables = tables
-before_tables (Gives e given) shape s tables = tables
-before_tables (Joins joining) shape s tables = tables
-before_tables (Loses e packet) shape s tables = tables
-before_tables (Injects e packet) shape s tables = tables
-before_tables (Pokes e at bytes) shape s tables = tables
-before_tables (Declines d) shape s tables = tables
+before_tables event shape s tables = before_keeps (λ (x : PortState). TablesStand shape x.lane) event s (λ frame frames. record { guest = tables.guest; hub = tables.hub }) tables
 
 -- WHAT ISN'T A STEP
 begun_ring : (slots : ℕ) (x y : ChannelState) (log : Option SessionLog) (session : Option NetSession) (frames : List (List ℕ)) (memory : List ℕ)
@@ -150,14 +123,12 @@ lane_rings shape u t l (Gives A given) of_queue finds step clean counts talks =
   where
     given_spoke : (given : Given) → SpokeIn Initiator l.transcript.client (after_given given l.guest).session
     given_spoke (Queued id frame) = finds.rings.guest_spoke
-    given_spoke (Full frame) = finds.rings.guest_spoke
-    given_spoke (BadLength frame) = finds.rings.guest_spoke
+    given_spoke _ = finds.rings.guest_spoke
 
     given_other : (given : Given) → u.lane.wire.wire.end_b ≡ Up
         → RingIn l.shape.slots (taken_by u.lane.wire.wire.end_a (after_given given l.guest).session) u.lane.hub.session u.lane.hub.frames u.lane.hub_memory
     given_other (Queued id frame) up = finds.rings.hub_ring up
-    given_other (Full frame) up = finds.rings.hub_ring up
-    given_other (BadLength frame) up = finds.rings.hub_ring up
+    given_other _ up = finds.rings.hub_ring up
 lane_rings shape u t l (Gives B given) of_queue finds step clean counts talks = absurd of_queue
 lane_rings shape u t l (Joins joining) of_queue finds step clean counts talks =
     subst (λ (x : NetLaneState). Rings x (after l (OnLane (Joins joining)))) (sym step.1)
@@ -182,22 +153,9 @@ lane_rings shape u t l (Declines d) of_queue finds step clean counts talks =
 -- nobody had forged before
 pub was_clean : (w : WireLog) (event : NetEvent) → (moved_on w (on_wire event)).forged ≡ false → w.forged ≡ false
 was_clean w (Steps e (Joined lost)) clean = clean
-was_clean w (Steps e (Took packet opens)) clean = clean
-was_clean w (Steps e (Sent packet opens)) clean = clean
-was_clean w (Steps e Blocked) clean = clean
-was_clean w (Steps e Idle) clean = clean
-was_clean w (Steps e (Published id)) clean = clean
-was_clean w (Steps e (Frame frame)) clean = clean
-was_clean w (Steps e (Reset cause packet lost)) clean = clean
-was_clean w (Asked e lost) clean = clean
-was_clean w (Ticked queued lost) clean = clean
-was_clean w (CalmTick queued) clean = clean
-was_clean w (Gives e given) clean = clean
-was_clean w (Joins joining) clean = clean
-was_clean w (Loses e packet) clean = clean
 was_clean w (Injects e packet) clean = true_false clean
 was_clean w (Pokes e at bytes) clean = true_false clean
-was_clean w (Declines d) clean = clean
+was_clean w _ clean = clean
 
 -- ALONG EVERY RUN
 pub record Kept (shape : NetShape) (s : PortState) (l : PortLog) : Type 0 where
@@ -246,7 +204,7 @@ kept_step shape is s l (Receives frame) t kept step =
 pub fresh_kept : (shape : NetShape) → IsNetShape shape → Kept shape (fresh_port shape) (no_events shape)
 fresh_kept shape is = record {
   counts = port_counts shape [] (fresh_port shape) is refl;
-  logs = record { guest = record { head = tt; given = λ n frame get. absurd (cc get) }; hub = record { head = tt; given = λ n frame get. absurd (cc get) } };
+  logs = fresh_logs shape;
   tables = record { guest = refl; hub = refl };
   rings = λ clean. record { guest_spoke = tt; hub_spoke = tt; guest_ring = λ up. tt; hub_ring = λ up. tt };
 }

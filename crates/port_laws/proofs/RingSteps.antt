@@ -1,46 +1,39 @@
 -- What each step of an end does to its own ring, and to that of its peer, where nobody meddles.
 use Rattle.std.proofs.Common.{◌≡◌, ℕ, ◌+◌, ◌%◌, ◌≤◌, Bool, true, false, Option, Some, None, List, refl, sym, ap, ◌∙◌, subst, arith}
-use Rattle.std.specs.Prelude.{Result, Ok, Err, slice_get, ⊤}
+use Rattle.std.specs.Prelude.{slice_get, ⊤}
 use Rattle.std.proofs.lemmas.Option.{slice_get_within}
 use Rattle.ldc_link.specs.declared.phase.Role.{Role}
 use Rattle.ldc_link.specs.declared.phase.Role.TheVariants.{Initiator, Responder}
-use Rattle.ldc_link.specs.LinkState.{LinkState, cleared}
 use Rattle.ldc_link.specs.Putting.{behind_put}
-use Rattle.ldc_link.specs.Taking.{Heard, LinkTake, Unheard}
 use Rattle.ldc_packet.specs.declared.packet.Subtype.{Subtype}
 use Rattle.ldc_queue.specs.Transcript.{Turn}
-use Rattle.vio_handshake.specs.declared.handshake.Handshake.{Handshake}
-use Rattle.vio_handshake.specs.Rules.{Faults, Goes, GoesOpen, HandshakeTake, handshake_take}
 use Rattle.vio_tag.specs.declared.message.Message.{Message}
 use Rattle.vio_tag.specs.declared.message.MsgBody.{MsgBody}
-use Rattle.vio_tag.specs.declared.message.TagFault.{TagFault}
 use Rattle.vnet_msg.specs.Frames.{IsFrame}
 use Rattle.channel_model.specs.EndPuts.{handshake_behind}
 use Rattle.dring.specs.Slots.{range_length}
 use Rattle.channel_model.specs.Seeing.{Seen}
 use Rattle.cookie_copy.specs.Reach.{Reach}
-use Rattle.channel_laws.specs.Standing.{EndStands, is_open_in}
-use Rattle.port_model.proofs.Refuting.{none_some}
+use Rattle.channel_laws.specs.Standing.{EndStands}
+use Rattle.port_model.proofs.Refuting.{none_some, of_some}
 use Rattle.port_model.proofs.Ruling.{says_of}
-use Rattle.port_model.specs.Fetching.{Fetched, IsFrame as IsFetched, NotReady, Refuses, fetched}
+use Rattle.port_model.specs.Fetching.{Fetched, IsFrame as IsFetched, NotReady, fetched}
 use Rattle.port_model.specs.FramesStand.{CountsStand, FramesStand}
 use Rattle.port_model.specs.Groups.{membership}
 use Rattle.port_model.specs.NetEndPutting.{announcement, answer, answers, cleared_by_put, cleared_ring, groups_answer, holding, holding_own, net_holds, net_kind, net_opens, net_put, opened_by_put}
-use Rattle.port_model.specs.NetEndRule.{Announces, Fetches, Idles, Joins, NetRule, Publishes, Puts, Replies, Says, Takes, Tells, port_rule}
+use Rattle.port_model.specs.NetEndRule.{Announces, Fetches, NetRule, Publishes, Puts, Replies, Says, Tells, port_rule}
 use Rattle.port_model.specs.NetEndState.{Activity, NetEndState, NetSession, unseen_in}
 use Rattle.port_model.specs.NetEndStep.{Blocked, Frame, Idle, Joined, NetAnswer, NetEndStep, NetLeft, NetSends, Published, Reset, Sent, Took, published, published_memory, taken}
-use Rattle.port_model.specs.NetEndTaking.{GoesOn, HearsLink, HearsWhole, NetTake, NetTakes, Resets, by_handshake, freed, hears_message, opens_by_take, reads, risen}
+use Rattle.port_model.specs.NetEndTaking.{GoesOn, NetTake, NetTakes, Resets, freed}
 use Rattle.port_laws.specs.NetCore.{net_core}
 use Rattle.port_laws.specs.RingHolds.{RingHolds}
 use Rattle.port_laws.specs.RingStands.{RingIn}
-use Rattle.port_laws.proofs.MessageDoes.{Acks, Asks, Declines, MessageDoes, Names, TakeDoes, Told, message_does}
-use Rattle.port_laws.proofs.RemainingEnds.{counts_stand, held_slots}
+use Rattle.port_laws.proofs.MessageDoes.{Acks, Asks, Declines, MessageDoes, Names, Told}
+use Rattle.port_laws.proofs.RemainingEnds.{held_slots}
 use Rattle.port_laws.proofs.RingFetches.{Reaches, ring_fetched}
 use Rattle.port_laws.proofs.RingMoves.{Fits, ring_acked, ring_cleared, ring_published}
-use Rattle.port_laws.proofs.TookCounts.{risen_up, session_open, session_up}
-
-of_some : {X : Type 0} (P : X → Type 0) (x y : X) → Some x ≡ Some y → P x → P y
-of_some {X} P x y same holds = let is : x ≡ y = cc in subst P is holds
+use Rattle.port_laws.proofs.TookWhat.{Fails, Opens, Reads, Stays, TookWhat, took_what}
+use Rattle.port_laws.proofs.StepCounts.{counts_stand}
 
 -- the ring of an open session
 ring_of : (slots taken : ℕ) (session : Option NetSession) (p : NetSession) (frames : List (List ℕ)) (memory : List ℕ) → session ≡ Some p → RingIn slots taken session frames memory
@@ -62,9 +55,7 @@ slot_held : (slots taken : ℕ) (memory : List ℕ) (s held : NetEndState) (p : 
     → answers s p activity last found ≡ Some held → Same slots taken memory s held
 slot_held slots taken memory s held p activity (Some last) (NotReady state) is same =
     held_own slots taken memory s held (answer s activity last) p (record p { active = None }) is refl refl same
-slot_held slots taken memory s held p activity (Some last) (IsFetched frame new) is same = none_some held same
-slot_held slots taken memory s held p activity (Some last) (Refuses why) is same = none_some held same
-slot_held slots taken memory s held p activity None found is same = none_some held same
+slot_held slots taken memory s held p activity _ _ is same = none_some held same
 
 pub held_ring : (role : Role) (slots taken : ℕ) (memory : List ℕ) (s : NetEndState) (at : Seen) (reach : Reach) (rule : NetRule) (held : NetEndState) → port_rule role s at ≡ rule
     → net_holds rule s reach ≡ Some held → Same slots taken memory s held
@@ -78,10 +69,7 @@ held_ring role slots taken memory s at reach (Tells p) held is same =
     held_own slots taken memory s held (membership s.handshake.draft.sid s.groups) p (record p { untold = false; telling = true }) (says_of role s at (Tells p) is).0.in_session.session refl refl same
 held_ring role slots taken memory s at reach (Announces p) held is same =
     held_own slots taken memory s held (announcement s p) p (record p { infos = p.infos + 1; asking = true }) (says_of role s at (Announces p) is).0.in_session.session refl refl same
-held_ring role slots taken memory s at reach Joins held is same = none_some held same
-held_ring role slots taken memory s at reach (Takes packet) held is same = none_some held same
-held_ring role slots taken memory s at reach (Publishes p frame) held is same = none_some held same
-held_ring role slots taken memory s at reach Idles held is same = none_some held same
+held_ring role slots taken memory s at reach _ held is same = none_some held same
 
 -- A SESSION OPENS with a ring that is cleared
 opened_ring : (slots taken : ℕ) (frames : List (List ℕ)) (memory : List ℕ) → taken ≡ 0 → RingHolds slots 0 taken 0 frames (cleared_ring slots memory)
@@ -117,55 +105,18 @@ does_ring role taken memory s p subtype b t new session fits (Told set count add
 does_ring role taken memory s p subtype b t new session fits (Declines h declined stays is) ring =
     subst (RingIn s.slots taken t.session t.frames) (sym stays) (subst (λ (x : NetEndState). RingIn s.slots taken x.session x.frames memory) (sym is) ring)
 
-take_ring : (role : Role) (taken : ℕ) (memory : List ℕ) (s : NetEndState) (p : NetSession) (subtype : Subtype) (b : MsgBody) (take : NetTake) → s.session ≡ Some p → Fits s.slots memory
-    → TakeDoes role s p memory subtype b take → RingTake taken memory s take
-take_ring role taken memory s p subtype b (GoesOn t opens new) session fits does = λ none ring. does_ring role taken memory s p subtype b t new session fits does.does ring
-take_ring role taken memory s p subtype b (Resets cause) session fits does = tt
-
-opens_ring : (role : Role) (taken : ℕ) (memory : List ℕ) (s : NetEndState) → RingTake taken memory s (opens_by_take role s memory)
-opens_ring Initiator taken memory s = λ none ring. ring
-opens_ring Responder taken memory s = λ none ring. opened_ring s.slots taken s.frames memory (none refl)
-
-handshake_ring : (role : Role) (taken : ℕ) (memory : List ℕ) (s : NetEndState) (take : HandshakeTake) → RingTake taken memory s (by_handshake role s memory take)
-handshake_ring role taken memory s (Goes h) = λ none ring. ring
-handshake_ring role taken memory s (GoesOpen h) = opens_with role (opens_ring role taken memory (record s { handshake = h }))
-  where
-    opens_with : (r : Role) → RingTake taken memory (record s { handshake = h }) (opens_by_take r (record s { handshake = h }) memory)
-        → RingTake taken memory s (opens_by_take r (record s { handshake = h }) memory)
-    opens_with Initiator ring = ring
-    opens_with Responder ring = ring
-handshake_ring role taken memory s (Faults cause) = tt
+take_ring : (role : Role) (taken : ℕ) (memory : List ℕ) (s : NetEndState) (take : NetTake) → Fits s.slots memory → TookWhat role s memory take → RingTake taken memory s take
+take_ring role taken memory s take fits (Stays k h is) = subst (RingTake taken memory s) (sym is) (λ none ring. ring)
+take_ring role taken memory s take fits (Opens k h role_is closed is) = subst (RingTake taken memory s) (sym is) (λ none ring. opened_ring s.slots taken s.frames memory (none refl))
+take_ring role taken memory s take fits (Fails cause is) = subst (RingTake taken memory s) (sym is) tt
+take_ring role taken memory s (GoesOn t opens new) fits (Reads k h p m session does) =
+    λ none ring. does_ring role taken memory (record s { link = k; handshake = h }) p m.subtype m.body t new session fits does.does ring
+take_ring role taken memory s (Resets cause) fits (Reads k h p m session does) = tt
 
 took_ring : (role : Role) (taken : ℕ) (memory packet : List ℕ) (s t : NetEndState) (turns : List Turn) (opens : Bool) (new : List ℕ) → EndStands role (net_core role s) turns → Fits s.slots memory
     → NetTakes role s memory packet (GoesOn t opens new) → (opens ≡ true → taken ≡ 0) → RingIn s.slots taken s.session s.frames memory → RingIn s.slots taken t.session t.frames new
-took_ring role taken memory packet s t turns opens new ends fits takes = by_link takes.link takes.hears
-  where
-    seen : LinkState → NetEndState
-    seen k = record s { link = cleared k; handshake = risen role s.link k s.handshake }
-
-    seen_as : (k : LinkState) (take : NetTake) → RingTake taken memory (seen k) take → RingTake taken memory s take
-    seen_as k (GoesOn u opened now) ring = ring
-    seen_as k (Resets cause) ring = tt
-
-    by_session : (k : LinkState) (m : Message) (session : Option NetSession) → s.session ≡ session → RingTake taken memory (seen k) (hears_message role (seen k) memory session m)
-    by_session k m None closed = handshake_ring role taken memory (seen k) (handshake_take (seen k).handshake m)
-    by_session k m (Some p) session =
-        let stays : risen role s.link k s.handshake ≡ s.handshake = risen_up role s.link k s.handshake (session_up role s turns p ends session) in
-        let opened : is_open_in (seen k).handshake.phase ≡ true = ap (λ (h : Handshake). is_open_in h.phase) stays ∙ session_open role s turns p ends session in
-        take_ring role taken memory (seen k) p m.subtype m.body (hears_message role (seen k) memory (Some p) m) session fits (message_does role (seen k) p memory m opened)
-
-    by_decoded : (k : LinkState) (d : Result Message TagFault) → RingTake taken memory s (reads role (seen k) memory d)
-    by_decoded k (Ok m) = seen_as k (hears_message role (seen k) memory s.session m) (by_session k m s.session refl)
-    by_decoded k (Err fault) = tt
-
-    by_whole : (k : LinkState) (whole : Option (List ℕ)) → HearsWhole role (record s { link = k; handshake = risen role s.link k s.handshake }) memory whole (GoesOn t opens new)
-        → RingTake taken memory s (GoesOn t opens new)
-    by_whole k None is = subst (RingTake taken memory s) (sym is) (λ none ring. ring)
-    by_whole k (Some bytes) hears = subst (RingTake taken memory s) (sym hears.2) (by_decoded k hears.0)
-
-    by_link : (link : LinkTake) → HearsLink role s memory link (GoesOn t opens new) → RingTake taken memory s (GoesOn t opens new)
-    by_link (Heard k) hears = by_whole k k.whole hears
-    by_link (Unheard cause) hears = absurd (cc hears)
+took_ring role taken memory packet s t turns opens new ends fits takes =
+    take_ring role taken memory s (GoesOn t opens new) fits (took_what role s turns memory packet (GoesOn t opens new) ends takes)
 
 -- ITS OWN STEP
 abbrev pub opens_by : NetAnswer → Bool

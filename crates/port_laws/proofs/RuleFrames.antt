@@ -24,8 +24,8 @@ use Rattle.port_model.specs.FrameLaws.{AcknowledgesAt, Acknowledges, Admits, Adm
 use Rattle.port_model.specs.FramesStand.{CountsStand, FramesStand}
 use Rattle.port_model.specs.NetEndRule.{Fetches, Publishes, Takes, port_rule}
 use Rattle.port_model.specs.NetEndState.{Activity, NetEndState, NetSession, unseen, unseen_in}
-use Rattle.port_model.specs.NetEndStep.{BadLength, Blocked, Frame, Full, Given, Idle, Joined, NetGives, Published, Queued, Reset, Sent, Took}
-use Rattle.port_model.specs.NetEvent.{Asked, CalmTick, Declines, Gives, Injects, Joins, Loses, NetEvent, Pokes, Steps, Ticked}
+use Rattle.port_model.specs.NetEndStep.{BadLength, Frame, Full, Given, Joined, NetGives, Published, Queued, Reset, Sent, Took}
+use Rattle.port_model.specs.NetEvent.{Asked, Gives, NetEvent, Steps, Ticked}
 use Rattle.port_model.specs.NetLaneState.{IsNetShape, NetLaneState, NetShape, memory_of, net_end, reach_of, role_at, seen_at}
 use Rattle.port_model.specs.NetLaneStep.{NetLaneStep}
 use Rattle.port_model.specs.PortLog.{PortLog, after, log_of_end, no_events}
@@ -37,8 +37,9 @@ use Rattle.port_laws.proofs.EndCounting.{OpenCounts, empty_unsaid, left_publishe
 use Rattle.port_laws.proofs.PortCounts.{PortCounts, Ready, guest_acts, hub_acts, port_counts, queue_of, ready_before}
 use Rattle.port_laws.proofs.PortRuns.{lawful_along}
 use Rattle.port_laws.proofs.PutCounts.{SaidRight}
-use Rattle.port_laws.proofs.StepCounts.{Acting, holds_up, sent_right, took_here}
+use Rattle.port_laws.proofs.StepCounts.{Acting, sent_right, took_here}
 use Rattle.port_laws.proofs.TookCounts.{TookCounts, free_empty}
+use Rattle.port_laws.proofs.LaneMoves.{holds_up}
 
 -- EITHER END
 pub end_counted : (shape : NetShape) (e : End) (u : PortState) (l : PortLog) → Ready shape u l → EndCounts (role_at e) shape.slots (queue_of e u) (net_end e u.lane) (log_of_end e l)
@@ -92,21 +93,9 @@ end_lost shape e u l lost ready is = is ∙ lost_log (role_at e) shape.slots (qu
 lost_event : (shape : NetShape) (u : PortState) (l : PortLog) (event : NetEvent) (t : NetLaneState) → Ready shape u l → NetLaneStep u.lane event t → LostAt l (OnLane event)
 lost_event shape u l (Steps e (Joined lost)) t ready step = end_lost shape e u l lost ready step.step.1
 lost_event shape u l (Steps e (Reset cause packet lost)) t ready step = end_lost shape e u l lost ready step.step.1
-lost_event shape u l (Steps e (Took packet opens)) t ready step = tt
-lost_event shape u l (Steps e (Sent packet opens)) t ready step = tt
-lost_event shape u l (Steps e Blocked) t ready step = tt
-lost_event shape u l (Steps e Idle) t ready step = tt
-lost_event shape u l (Steps e (Published id)) t ready step = tt
-lost_event shape u l (Steps e (Frame frame)) t ready step = tt
 lost_event shape u l (Asked e lost) t ready step = end_lost shape e u l lost ready step.0
 lost_event shape u l (Ticked queued lost) t ready step = end_lost shape A u l lost ready step.1.0
-lost_event shape u l (CalmTick queued) t ready step = tt
-lost_event shape u l (Gives e given) t ready step = tt
-lost_event shape u l (Joins joining) t ready step = tt
-lost_event shape u l (Loses e packet) t ready step = tt
-lost_event shape u l (Injects e packet) t ready step = tt
-lost_event shape u l (Pokes e at bytes) t ready step = tt
-lost_event shape u l (Declines d) t ready step = tt
+lost_event shape u l _ t ready step = tt
 
 -- 3. PUBLISHED
 may_publish : (role : Role) (slots : ℕ) (queue : List (List ℕ)) (s : NetEndState) (l : EndLog) (p : NetSession) (frame : List ℕ) (id : ℕ) → EndCounts role slots queue s l → FramesStand s → s.session ≡ Some p
@@ -127,22 +116,7 @@ published_event shape u l (Steps e (Published id)) t ready step =
     let says = says_of (role_at e) (net_end e u.lane) (seen_at e u.lane) (Publishes step.step.session step.step.frame) step.step.rule in
     may_publish (role_at e) shape.slots (queue_of e u) (net_end e u.lane) (log_of_end e l) step.step.session step.step.frame id (end_counted shape e u l ready) (end_stood shape e u l ready)
     says.0.in_session.session says.1 step.step.id_is
-published_event shape u l (Steps e (Joined lost)) t ready step = tt
-published_event shape u l (Steps e (Reset cause packet lost)) t ready step = tt
-published_event shape u l (Steps e (Took packet opens)) t ready step = tt
-published_event shape u l (Steps e (Sent packet opens)) t ready step = tt
-published_event shape u l (Steps e Blocked) t ready step = tt
-published_event shape u l (Steps e Idle) t ready step = tt
-published_event shape u l (Steps e (Frame frame)) t ready step = tt
-published_event shape u l (Asked e lost) t ready step = tt
-published_event shape u l (Ticked queued lost) t ready step = tt
-published_event shape u l (CalmTick queued) t ready step = tt
-published_event shape u l (Gives e given) t ready step = tt
-published_event shape u l (Joins joining) t ready step = tt
-published_event shape u l (Loses e packet) t ready step = tt
-published_event shape u l (Injects e packet) t ready step = tt
-published_event shape u l (Pokes e at bytes) t ready step = tt
-published_event shape u l (Declines d) t ready step = tt
+published_event shape u l _ t ready step = tt
 
 -- RANGES by their kind
 range_test : (k : ℕ) (message : List ℕ) → is_range k message ≡ true → spoken message ≡ spoken_by 0x0042 k
@@ -177,22 +151,7 @@ announces_event shape u l (Steps e (Sent packet opens)) t ready step =
     if_range 1 (ended_by (half_said (transcript_of e l.transcript)) packet) (Announces l.shape.slots v) (λ message ended kind.
     subst (λ (x : NetShape). Announces x.slots v message) (sym ready.shape_is)
     (subst (SaysRightly shape.slots step.step.held.groups v message) kind (sent_said shape e u l packet opens t ready step message v ended log))))
-announces_event shape u l (Steps e (Published id)) t ready step = tt
-announces_event shape u l (Steps e (Joined lost)) t ready step = tt
-announces_event shape u l (Steps e (Reset cause packet lost)) t ready step = tt
-announces_event shape u l (Steps e (Took packet opens)) t ready step = tt
-announces_event shape u l (Steps e Blocked) t ready step = tt
-announces_event shape u l (Steps e Idle) t ready step = tt
-announces_event shape u l (Steps e (Frame frame)) t ready step = tt
-announces_event shape u l (Asked e lost) t ready step = tt
-announces_event shape u l (Ticked queued lost) t ready step = tt
-announces_event shape u l (CalmTick queued) t ready step = tt
-announces_event shape u l (Gives e given) t ready step = tt
-announces_event shape u l (Joins joining) t ready step = tt
-announces_event shape u l (Loses e packet) t ready step = tt
-announces_event shape u l (Injects e packet) t ready step = tt
-announces_event shape u l (Pokes e at bytes) t ready step = tt
-announces_event shape u l (Declines d) t ready step = tt
+announces_event shape u l _ t ready step = tt
 
 acknowledges_event : (shape : NetShape) (u : PortState) (l : PortLog) (event : NetEvent) (t : NetLaneState) → Ready shape u l → NetLaneStep u.lane event t → AcknowledgesAt l (OnLane event)
 acknowledges_event shape u l (Steps e (Sent packet opens)) t ready step =
@@ -200,22 +159,7 @@ acknowledges_event shape u l (Steps e (Sent packet opens)) t ready step =
     if_range 2 (ended_by (half_said (transcript_of e l.transcript)) packet) (Acknowledges l.shape.slots v) (λ message ended kind.
     subst (λ (x : NetShape). Acknowledges x.slots v message) (sym ready.shape_is)
     (subst (SaysRightly shape.slots step.step.held.groups v message) kind (sent_said shape e u l packet opens t ready step message v ended log))))
-acknowledges_event shape u l (Steps e (Published id)) t ready step = tt
-acknowledges_event shape u l (Steps e (Joined lost)) t ready step = tt
-acknowledges_event shape u l (Steps e (Reset cause packet lost)) t ready step = tt
-acknowledges_event shape u l (Steps e (Took packet opens)) t ready step = tt
-acknowledges_event shape u l (Steps e Blocked) t ready step = tt
-acknowledges_event shape u l (Steps e Idle) t ready step = tt
-acknowledges_event shape u l (Steps e (Frame frame)) t ready step = tt
-acknowledges_event shape u l (Asked e lost) t ready step = tt
-acknowledges_event shape u l (Ticked queued lost) t ready step = tt
-acknowledges_event shape u l (CalmTick queued) t ready step = tt
-acknowledges_event shape u l (Gives e given) t ready step = tt
-acknowledges_event shape u l (Joins joining) t ready step = tt
-acknowledges_event shape u l (Loses e packet) t ready step = tt
-acknowledges_event shape u l (Injects e packet) t ready step = tt
-acknowledges_event shape u l (Pokes e at bytes) t ready step = tt
-acknowledges_event shape u l (Declines d) t ready step = tt
+acknowledges_event shape u l _ t ready step = tt
 
 -- 4. WHAT IT HEARS goes no further than what is published
 pub seen_within : (role : Role) (slots : ℕ) (queue : List (List ℕ)) (s : NetEndState) (l : EndLog) (v : SessionLog) → EndCounts role slots queue s l → FramesStand s → l.session ≡ Some v → v.seen ≤ v.published
@@ -251,22 +195,7 @@ sees_event shape u l (Steps e (Took packet opens)) t ready step =
     if_range 2 (ended_by (half_heard (transcript_of e l.transcript)) packet) (SeesPublished l.shape.slots v) (λ message ended kind.
     subst (λ (x : NetShape). SeesPublished x.slots v message) (sym ready.shape_is)
     (sees_here (role_at e) shape.slots (queue_of e u) (net_end e u.lane) step.left.end (log_of_end e l) (transcript_of e l.transcript) packet opens v message (end_counted shape e u l ready) stands took log ended kind)))
-sees_event shape u l (Steps e (Sent packet opens)) t ready step = tt
-sees_event shape u l (Steps e (Published id)) t ready step = tt
-sees_event shape u l (Steps e (Joined lost)) t ready step = tt
-sees_event shape u l (Steps e (Reset cause packet lost)) t ready step = tt
-sees_event shape u l (Steps e Blocked) t ready step = tt
-sees_event shape u l (Steps e Idle) t ready step = tt
-sees_event shape u l (Steps e (Frame frame)) t ready step = tt
-sees_event shape u l (Asked e lost) t ready step = tt
-sees_event shape u l (Ticked queued lost) t ready step = tt
-sees_event shape u l (CalmTick queued) t ready step = tt
-sees_event shape u l (Gives e given) t ready step = tt
-sees_event shape u l (Joins joining) t ready step = tt
-sees_event shape u l (Loses e packet) t ready step = tt
-sees_event shape u l (Injects e packet) t ready step = tt
-sees_event shape u l (Pokes e at bytes) t ready step = tt
-sees_event shape u l (Declines d) t ready step = tt
+sees_event shape u l _ t ready step = tt
 
 -- 5. A FRAME is taken while an INFO isn't answered
 pub active_here : (role : Role) (slots : ℕ) (queue : List (List ℕ)) (s : NetEndState) (l : EndLog) (p : NetSession) (activity : Activity) → EndCounts role slots queue s l → s.session ≡ Some p
@@ -283,22 +212,7 @@ taking_event shape u l (Steps e (Frame frame)) t ready step =
     let acting = end_acts shape e u l ready says.0.free.up in
     active_here (role_at e) shape.slots (queue_of e u) (net_end e u.lane) (log_of_end e l) step.step.session step.step.activity acting.counts says.0.session says.1
     (free_empty (role_at e) (net_end e u.lane) (transcript_of e l.transcript) acting.ends says.0.free.quiet)
-taking_event shape u l (Steps e (Took packet opens)) t ready step = tt
-taking_event shape u l (Steps e (Sent packet opens)) t ready step = tt
-taking_event shape u l (Steps e (Published id)) t ready step = tt
-taking_event shape u l (Steps e (Joined lost)) t ready step = tt
-taking_event shape u l (Steps e (Reset cause packet lost)) t ready step = tt
-taking_event shape u l (Steps e Blocked) t ready step = tt
-taking_event shape u l (Steps e Idle) t ready step = tt
-taking_event shape u l (Asked e lost) t ready step = tt
-taking_event shape u l (Ticked queued lost) t ready step = tt
-taking_event shape u l (CalmTick queued) t ready step = tt
-taking_event shape u l (Gives e given) t ready step = tt
-taking_event shape u l (Joins joining) t ready step = tt
-taking_event shape u l (Loses e packet) t ready step = tt
-taking_event shape u l (Injects e packet) t ready step = tt
-taking_event shape u l (Pokes e at bytes) t ready step = tt
-taking_event shape u l (Declines d) t ready step = tt
+taking_event shape u l _ t ready step = tt
 
 -- 1. A FRAME THAT IS SENT
 pub held_frames : (role : Role) (slots : ℕ) (queue : List (List ℕ)) (s : NetEndState) (l : EndLog) → EndCounts role slots queue s l → held l ≡ length s.frames + length queue
@@ -306,7 +220,7 @@ held_frames role slots queue s l counts =
     let long : length (s.frames ++ queue) ≡ length (drop l.gone l.given) = ap length counts.frames in
     omega (arith, long, length-append s.frames queue, length-drop l.gone l.given)
 
-none_more : (n : ℕ) → n + 0 ≡ n
+pub none_more : (n : ℕ) → n + 0 ≡ n
 none_more n = omega arith
 
 guest_held : (slots : ℕ) (s : NetEndState) (l : EndLog) → EndCounts Initiator slots [] s l → held l ≡ length s.frames
@@ -356,15 +270,7 @@ port_takes shape events s is run = along shape TakingAt is (λ x l event t count
 admission_event : (shape : NetShape) (s u : PortState) (l : PortLog) (event : NetEvent) (t : PortState) → Ready shape u l → OfQueue s event → NetLaneStep u.lane event t.lane → AdmissionAt l (OnLane event)
 admission_event shape s u l (Gives A given) t ready of_queue step = admits shape u l given t.lane.guest ready step.0
 admission_event shape s u l (Gives B given) t ready of_queue step = of_queue
-admission_event shape s u l (Steps e answer) t ready of_queue step = tt
-admission_event shape s u l (Asked e lost) t ready of_queue step = tt
-admission_event shape s u l (Ticked queued lost) t ready of_queue step = tt
-admission_event shape s u l (CalmTick queued) t ready of_queue step = tt
-admission_event shape s u l (Joins joining) t ready of_queue step = tt
-admission_event shape s u l (Loses e packet) t ready of_queue step = tt
-admission_event shape s u l (Injects e packet) t ready of_queue step = tt
-admission_event shape s u l (Pokes e at bytes) t ready of_queue step = tt
-admission_event shape s u l (Declines d) t ready of_queue step = tt
+admission_event shape s u l _ t ready of_queue step = tt
 
 pub port_admits : (shape : NetShape) (events : List PortEvent) (s : PortState) → IsNetShape shape → Run PortStep (fresh_port shape) events s → Lawful AdmissionAt after (no_events shape) events
 port_admits shape events s is run = along shape AdmissionAt is (λ x l event t counts ready step. admission_event shape x (before event x) l event t ready step.0 step.1) (λ l frame. tt) events s run

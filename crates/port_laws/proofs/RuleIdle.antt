@@ -15,16 +15,17 @@ use Rattle.runs.specs.Run.{Run}
 use Rattle.vio_tag.specs.declared.message.Message.{Message}
 use Rattle.channel_model.specs.Seeing.{Seen}
 use Rattle.channel_model.specs.WireLog.{WireLog}
+use Rattle.port_model.proofs.Moving.{before_keeps}
 use Rattle.port_model.proofs.Refuting.{false_true, none_some, true_false}
 use Rattle.port_model.proofs.Ruling.{says_of}
 use Rattle.port_model.specs.EndLog.{EndLog, SessionLog}
 use Rattle.port_model.specs.FrameLaws.{IfSession}
 use Rattle.port_model.specs.FramesStand.{CountsStand, FramesStand}
-use Rattle.port_model.specs.NetEndRule.{Announces, Idles, Joins as JoinsRule, NetRule, Publishes, Puts, Tells, announces, fetches_first, in_session, port_rule, publishes, replies_first, takes_first, tells_first}
+use Rattle.port_model.specs.NetEndRule.{Announces, Idles, Joins as JoinsRule, NetRule, Puts, Tells, fetches_first, in_session, port_rule, publishes, replies_first, takes_first, tells_first}
 use Rattle.port_model.specs.NetEndRule as rule
 use Rattle.port_model.specs.NetEndState.{Activity, GroupsReply, NetEndState, NetSession, unseen_in}
-use Rattle.port_model.specs.NetEndStep.{Blocked, Frame, Idle, Joined, Published, Reset, Sent, Took}
-use Rattle.port_model.specs.NetEvent.{Asked, CalmTick, Declines, Gives, Injects, Joins, Loses, NetEvent, Pokes, Steps, Ticked}
+use Rattle.port_model.specs.NetEndStep.{Idle}
+use Rattle.port_model.specs.NetEvent.{NetEvent, Steps}
 use Rattle.port_model.specs.NetLaneState.{IsNetShape, NetShape, net_end, role_at, seen_at}
 use Rattle.port_model.specs.NetLaneStep.{NetLaneStep}
 use Rattle.port_model.specs.PortLog.{PortLog, after, no_events}
@@ -179,11 +180,6 @@ hub_left false queue s p takes is stands session past same =
     right_false true c one both = both
     right_false false c one both = false_true one
 
-moves_slots : (b : Bool) (queue : List (List ℕ)) (s : PortState) → (moves_first b queue s).lane.hub.slots ≡ s.lane.hub.slots
-moves_slots true [] s = refl
-moves_slots true (frame ∷ queue) s = refl
-moves_slots false queue s = refl
-
 hub_idle : (shape : NetShape) (s : PortState) (l : PortLog) → PortCounts shape s l → Ready shape (moved s) l → port_rule Responder (moved s).lane.hub (seen_at B (moved s).lane) ≡ Idles
     → IfSession l.hub.session (IsIdle B l)
 hub_idle shape s l kept ready idles =
@@ -197,7 +193,7 @@ hub_idle shape s l kept ready idles =
     let left : NothingLeft Responder u.lane.hub both.p = rule_left Responder u.lane.hub (seen_at B u.lane) both.p says.0 says.1 both.is listens idles in
     let counts = idle_counts Responder shape.slots u.queue u.lane.hub l.hub v both.p ready.hub ready.stands.1 both.is log empty listens left in
     let past : length u.lane.hub.frames ≤ unseen_in both.p = past_end u.lane.hub.frames (unseen_in both.p) left.published in
-    let slots_same : u.lane.hub.slots ≡ s.lane.hub.slots = moves_slots (takes_more s.lane.hub) s.queue s in
+    let slots_same : u.lane.hub.slots ≡ s.lane.hub.slots = before_keeps (λ (x : PortState). x.lane.hub.slots ≡ s.lane.hub.slots) (Steps B Idle) s (λ frame frames. refl) refl in
     let shape_slots : l.shape.slots ≡ shape.slots = ap (λ (x : NetShape). x.slots) ready.shape_is in
     let all : AllPublished B l v =
     elim (hub_left (takes_more s.lane.hub) s.queue s both.p refl refl kept.stands.1 both.is past slots_same) [
@@ -216,22 +212,7 @@ idle_event : (shape : NetShape) (s : PortState) (l : PortLog) (event : NetEvent)
     → IdleAt l (OnLane event)
 idle_event shape s l (Steps A Idle) t kept ready step = (idle_waits shape A s l ready step.step.0, guest_idle shape s l ready step.step.0)
 idle_event shape s l (Steps B Idle) t kept ready step = (idle_waits shape B (moved s) l ready step.step.0, hub_idle shape s l kept ready step.step.0)
-idle_event shape s l (Steps e (Published id)) t kept ready step = tt
-idle_event shape s l (Steps e (Frame frame)) t kept ready step = tt
-idle_event shape s l (Steps e (Took packet opens)) t kept ready step = tt
-idle_event shape s l (Steps e (Sent packet opens)) t kept ready step = tt
-idle_event shape s l (Steps e (Joined lost)) t kept ready step = tt
-idle_event shape s l (Steps e Blocked) t kept ready step = tt
-idle_event shape s l (Steps e (Reset cause packet lost)) t kept ready step = tt
-idle_event shape s l (Asked e lost) t kept ready step = tt
-idle_event shape s l (Ticked queued lost) t kept ready step = tt
-idle_event shape s l (CalmTick queued) t kept ready step = tt
-idle_event shape s l (Gives e given) t kept ready step = tt
-idle_event shape s l (Joins joining) t kept ready step = tt
-idle_event shape s l (Loses e packet) t kept ready step = tt
-idle_event shape s l (Injects e packet) t kept ready step = tt
-idle_event shape s l (Pokes e at bytes) t kept ready step = tt
-idle_event shape s l (Declines d) t kept ready step = tt
+idle_event shape s l _ t kept ready step = tt
 
 pub port_idle : (shape : NetShape) (events : List PortEvent) (s : PortState) → IsNetShape shape → Run PortStep (fresh_port shape) events s → Lawful IdleAt after (no_events shape) events
 port_idle shape events s is run = along shape IdleAt is (λ x l event t counts ready step. idle_event shape x l event t counts ready step.1) (λ l frame. tt) events s run

@@ -1,6 +1,6 @@
 -- Where an end of a port is idle directly after the other, where nobody forged and nothing was lost, no frame is left.
-use Rattle.std.proofs.Common.{◌≡◌, ◌≢◌, ℕ, ◌-◌, ◌<◌, ◌≤◌, Bool, true, false, Option, Some, None, List, [], ◌∷◌, ◌++◌, length, inl, inr, refl, sym, subst, ap, ◌∙◌, arith}
-use Rattle.std.specs.Prelude.{slice_get, ⊤}
+use Rattle.std.proofs.Common.{◌≡◌, ◌≢◌, ℕ, ◌-◌, ◌<◌, ◌≤◌, true, false, Option, Some, None, List, [], ◌∷◌, ◌++◌, length, inl, inr, refl, sym, subst, ap, ◌∙◌, arith}
+use Rattle.std.specs.Prelude.{slice_get}
 use Rattle.std.proofs.lemmas.Bool.{cases_lt}
 use Rattle.std.proofs.lemmas.List.{append-nil, append_cancel_left}
 use Rattle.ldc_link.specs.declared.phase.Role.TheVariants.{Initiator, Responder}
@@ -13,7 +13,7 @@ use Rattle.ldc_queue.specs.Messages.{whole_in}
 use Rattle.ldc_queue.specs.Numbered.{numbered}
 use Rattle.ldc_queue.specs.OneStream.{OneWay, live}
 use Rattle.ldc_queue.specs.Transcript.{numbered_heard, numbered_said}
-use Rattle.runs.specs.Lawful.{Lawful, log_of, run_lawful}
+use Rattle.runs.specs.Lawful.{Lawful, log_of}
 use Rattle.runs.specs.Run.{Run}
 use Rattle.channel_model.proofs.SameSayings.{heard_is, said_is}
 use Rattle.channel_model.specs.Sayings.{heard, said}
@@ -22,18 +22,19 @@ use Rattle.channel_model.specs.TranscriptLog.{transcript_of}
 use Rattle.channel_model.specs.WireLog.{WireLog}
 use Rattle.channel_laws.specs.Conversing.{Converse}
 use Rattle.channel_laws.specs.Sides.{Sides, sides_of}
-use Rattle.port_model.proofs.Refuting.{none_some, true_false}
+use Rattle.port_model.proofs.Moving.{before_keeps}
+use Rattle.port_model.proofs.Refuting.{true_false}
 use Rattle.port_model.proofs.Ruling.{says_of}
 use Rattle.port_model.specs.EndLog.{SessionLog}
 use Rattle.port_model.specs.FrameLaws.{InSession}
 use Rattle.port_model.specs.NetEndRule.{Idles, port_rule}
 use Rattle.port_model.specs.NetEndState.{NetEndState, NetSession}
-use Rattle.port_model.specs.NetEndStep.{Blocked, Frame, Idle, Joined, NetLeft, Published, Reset, Sent, Took}
-use Rattle.port_model.specs.NetEvent.{Asked, CalmTick, Declines, Gives, Injects, Joins, Loses, NetEvent, Pokes, Steps, Ticked}
-use Rattle.port_model.specs.NetLaneState.{IsNetShape, NetLaneState, NetShape, net_end, role_at, seen_at, with_left}
-use Rattle.port_model.specs.NetLaneStep.{EndSteps, NetLaneStep, net_wire}
-use Rattle.port_model.specs.PortLog.{PortLog, after, idle_in, log_of_end, no_events}
-use Rattle.port_model.specs.PortState.{OnLane, PortEvent, PortState, PortStep, Receives, before, fresh_port, moves_first, takes_more}
+use Rattle.port_model.specs.NetEndStep.{Idle}
+use Rattle.port_model.specs.NetEvent.{CalmTick, NetEvent, Steps}
+use Rattle.port_model.specs.NetLaneState.{IsNetShape, NetShape, net_end, role_at, seen_at}
+use Rattle.port_model.specs.NetLaneStep.{NetLaneStep}
+use Rattle.port_model.specs.PortLog.{PortLog, after, log_of_end, no_events}
+use Rattle.port_model.specs.PortState.{OnLane, PortEvent, PortState, PortStep, Receives, before, fresh_port}
 use Rattle.port_model.specs.RestLaws.{TwoIdleAt}
 use Rattle.port_model.specs.RuleFacts.{IfOpen, MayListen}
 use Rattle.port_laws.specs.NetCore.{lane_core}
@@ -46,7 +47,7 @@ use Rattle.port_laws.proofs.RingRuns.{finds_before}
 use Rattle.port_laws.proofs.RuleFrames.{both_open, end_acts, end_counted, end_stood, held_frames, seen_within}
 use Rattle.port_laws.proofs.RuleIdle.{idle_counts, rule_left}
 use Rattle.port_laws.proofs.RuleRest.{up_state}
-use Rattle.port_laws.proofs.RuleTwoIdle.{two_idle_event}
+use Rattle.port_laws.proofs.RuleTwoIdle.{IdlesKept, idles_kept, two_idle_event}
 use Rattle.port_laws.proofs.TookCounts.{free_empty}
 use Rattle.port_laws.proofs.WayRuns.{KeptWays, port_ways, ways_before}
 
@@ -166,53 +167,9 @@ both_left shape u l finds ways guest_idles hub_idles lossless opened =
       none = omega (arith, frames, unseen, guest_seen);
     }
 
--- THE END that was idle last has nothing to do
-pub record IdlesKept (s : PortState) (l : PortLog) : Type 0 where
-  pub idles : (e : End) → l.last_idle ≡ Some e → port_rule (role_at e) (net_end e s.lane) (seen_at e s.lane) ≡ Idles
-
-idle_stays : (e : End) (u t : NetLaneState) → EndSteps e u Idle t → port_rule (role_at e) (net_end e t) (seen_at e t) ≡ Idles
-idle_stays A u t step =
-    let is : t ≡ record (with_left A step.left u) { wire = net_wire (Steps A Idle) u } = step.is in
-    ap (λ (x : NetLaneState). port_rule Initiator x.guest (seen_at A x)) is ∙ ap (λ (x : NetLeft). port_rule Initiator x.end (seen_at A u)) step.step.1 ∙ step.step.0
-idle_stays B u t step =
-    let is : t ≡ record (with_left B step.left u) { wire = net_wire (Steps B Idle) u } = step.is in
-    ap (λ (x : NetLaneState). port_rule Responder x.hub (seen_at B x)) is ∙ ap (λ (x : NetLeft). port_rule Responder x.end (seen_at B u)) step.step.1 ∙ step.step.0
-
-last_idles : (u : NetLaneState) (event : NetEvent) (t : NetLaneState) → NetLaneStep u event t → (e : End) → idle_in event ≡ Some e → port_rule (role_at e) (net_end e t) (seen_at e t) ≡ Idles
-last_idles u (Steps end Idle) t step e is =
-    let same : end ≡ e = cc in subst (λ (x : End). port_rule (role_at x) (net_end x t) (seen_at x t) ≡ Idles) same (idle_stays end u t step)
-last_idles u (Steps end Blocked) t step e is = none_some e is
-last_idles u (Steps end (Joined lost)) t step e is = none_some e is
-last_idles u (Steps end (Took packet opens)) t step e is = none_some e is
-last_idles u (Steps end (Sent packet opens)) t step e is = none_some e is
-last_idles u (Steps end (Published id)) t step e is = none_some e is
-last_idles u (Steps end (Frame frame)) t step e is = none_some e is
-last_idles u (Steps end (Reset cause packet lost)) t step e is = none_some e is
-last_idles u (Asked end lost) t step e is = none_some e is
-last_idles u (Ticked queued lost) t step e is = none_some e is
-last_idles u (CalmTick queued) t step e is = none_some e is
-last_idles u (Gives end given) t step e is = none_some e is
-last_idles u (Joins joining) t step e is = none_some e is
-last_idles u (Loses end packet) t step e is = none_some e is
-last_idles u (Injects end packet) t step e is = none_some e is
-last_idles u (Pokes end at bytes) t step e is = none_some e is
-last_idles u (Declines d) t step e is = none_some e is
-
-idles_step : (s : PortState) (l : PortLog) (event : PortEvent) (t : PortState) → IdlesKept s l → PortStep s event t → IdlesKept t (after l event)
-idles_step s l (OnLane event) t kept step = record { idles = λ e is. last_idles (before event s).lane event t.lane step.1 e is }
-idles_step s l (Receives frame) t kept step =
-    record { idles = λ e is. subst (λ (x : PortState). port_rule (role_at e) (net_end e x.lane) (seen_at e x.lane) ≡ Idles) (sym step.2) (kept.idles e is) }
-
-pub idles_kept : (shape : NetShape) (events : List PortEvent) (s : PortState) → Run PortStep (fresh_port shape) events s → IdlesKept s (log_of after (no_events shape) events)
-idles_kept shape events s run =
-    (run_lawful PortStep (λ (l : PortLog) (e : PortEvent). ⊤) after IdlesKept (λ (x : PortState) (l : PortLog) (e : PortEvent) (y : PortState) kept step. (tt, idles_step x l e y kept step))
-    (fresh_port shape) s (no_events shape) events (record { idles = λ e is. none_some e is }) run).1
-
 -- AN EVENT
-pub moves_entries : (b : Bool) (queue : List (List ℕ)) (s : PortState) → (moves_first b queue s).lane.shape.entries ≡ s.lane.shape.entries
-moves_entries true [] s = refl
-moves_entries true (frame ∷ frames) s = refl
-moves_entries false queue s = refl
+pub before_entries : (event : NetEvent) (s : PortState) → (before event s).lane.shape.entries ≡ s.lane.shape.entries
+before_entries event s = before_keeps (λ (x : PortState). x.lane.shape.entries ≡ s.lane.shape.entries) event s (λ frame frames. refl) refl
 
 pub moved_guest : (s u : PortState) → u.lane.guest ≡ s.lane.guest → u.lane.wire ≡ s.lane.wire → u.lane.shape.entries ≡ s.lane.shape.entries
     → port_rule Initiator s.lane.guest (seen_at A s.lane) ≡ Idles → port_rule Initiator u.lane.guest (seen_at A u.lane) ≡ Idles
@@ -229,24 +186,9 @@ left_event shape s l (Steps B Idle) t is had kept opened step = λ last clean wh
     let u : PortState = before (Steps B Idle) s in
     let wire = before_wire (Steps B Idle) s in
     let guest : port_rule Initiator u.lane.guest (seen_at A u.lane) ≡ Idles =
-    moved_guest s u (before_guest (Steps B Idle) s) wire (moves_entries (takes_more s.lane.hub) s.queue s) (kept.idles A last) in
+    moved_guest s u (before_guest (Steps B Idle) s) wire (before_entries (Steps B Idle) s) (kept.idles A last) in
     both_left shape u l (finds_before shape s l (Steps B Idle) is had.kept clean) (ways_before (Steps B Idle) s l (had.ways clean)) guest step.step.0 whole (opened last clean whole)
-left_event shape s l (Steps e (Published id)) t is had kept opened step = tt
-left_event shape s l (Steps e (Frame frame)) t is had kept opened step = tt
-left_event shape s l (Steps e (Took packet opens)) t is had kept opened step = tt
-left_event shape s l (Steps e (Sent packet opens)) t is had kept opened step = tt
-left_event shape s l (Steps e (Joined lost)) t is had kept opened step = tt
-left_event shape s l (Steps e Blocked) t is had kept opened step = tt
-left_event shape s l (Steps e (Reset cause packet lost)) t is had kept opened step = tt
-left_event shape s l (Asked e lost) t is had kept opened step = tt
-left_event shape s l (Ticked queued lost) t is had kept opened step = tt
-left_event shape s l (CalmTick queued) t is had kept opened step = tt
-left_event shape s l (Gives e given) t is had kept opened step = tt
-left_event shape s l (Joins joining) t is had kept opened step = tt
-left_event shape s l (Loses e packet) t is had kept opened step = tt
-left_event shape s l (Injects e packet) t is had kept opened step = tt
-left_event shape s l (Pokes e at bytes) t is had kept opened step = tt
-left_event shape s l (Declines d) t is had kept opened step = tt
+left_event shape s l _ t is had kept opened step = tt
 
 pub port_none_left : (shape : NetShape) (events : List PortEvent) (s : PortState) → IsNetShape shape → Run PortStep (fresh_port shape) events s → Lawful NoneLeftAt after (no_events shape) events
 port_none_left shape events s is run = lawful_along shape NoneLeftAt here events s run

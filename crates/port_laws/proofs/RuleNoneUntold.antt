@@ -22,7 +22,7 @@ use Rattle.port_model.specs.NetEvent.{CalmTick, NetEvent, Steps}
 use Rattle.port_model.specs.NetLaneState.{IsNetShape, NetShape, seen_at}
 use Rattle.port_model.specs.NetLaneStep.{NetLaneStep}
 use Rattle.port_model.specs.PortLog.{PortLog, after, no_events}
-use Rattle.port_model.specs.PortState.{OnLane, PortEvent, PortState, PortStep, Receives, before, fresh_port, takes_more}
+use Rattle.port_model.specs.PortState.{OnLane, PortEvent, PortState, PortStep, Receives, before, fresh_port}
 use Rattle.port_model.specs.RestLaws.{TwoIdleAt}
 use Rattle.port_model.specs.RuleFacts.{IfOpen, MayListen}
 use Rattle.port_laws.specs.Counted.{GroupCounts, unsaid}
@@ -36,9 +36,9 @@ use Rattle.port_laws.proofs.RingActs.{Finds}
 use Rattle.port_laws.proofs.RingRuns.{finds_before}
 use Rattle.port_laws.proofs.RuleFrames.{both_open, end_acts}
 use Rattle.port_laws.proofs.RuleIdle.{rule_left}
-use Rattle.port_laws.proofs.RuleNoneLeft.{IdlesKept, heard_all, idles_kept, moved_guest, moves_entries, no_first, some_log}
+use Rattle.port_laws.proofs.RuleNoneLeft.{heard_all, moved_guest, before_entries, no_first, some_log}
 use Rattle.port_laws.proofs.RuleRest.{up_state}
-use Rattle.port_laws.proofs.RuleTwoIdle.{two_idle_event}
+use Rattle.port_laws.proofs.RuleTwoIdle.{IdlesKept, idles_kept, two_idle_event}
 use Rattle.port_laws.proofs.Talking.{owed_replies, reply_in}
 use Rattle.port_laws.proofs.TalkGuest.{TalkStands}
 use Rattle.port_laws.proofs.TalkRuns.{KeptTalk, before_talk, port_talk}
@@ -98,7 +98,7 @@ told_event shape s l (Steps A Idle) t is had kept opened step = λ last clean wh
 told_event shape s l (Steps B Idle) t is had kept opened step = λ last clean whole.
     let u : PortState = before (Steps B Idle) s in
     both_told shape u l (finds_before shape s l (Steps B Idle) is had.ways.kept clean) (before_talk (Steps B Idle) s l (had.talk clean))
-    (moved_guest s u (before_guest (Steps B Idle) s) (before_wire (Steps B Idle) s) (moves_entries (takes_more s.lane.hub) s.queue s) (kept.idles A last)) step.step.0 whole (opened last clean whole)
+    (moved_guest s u (before_guest (Steps B Idle) s) (before_wire (Steps B Idle) s) (before_entries (Steps B Idle) s) (kept.idles A last)) step.step.0 whole (opened last clean whole)
 told_event shape s l _ t is had kept opened step = tt
 
 pub port_none_untold : (shape : NetShape) (events : List PortEvent) (s : PortState) → IsNetShape shape → Run PortStep (fresh_port shape) events s → Lawful NoneUntoldAt after (no_events shape) events

@@ -1,5 +1,5 @@
 -- Why an end of a port resets itself, where a port is finished, and where its ends may be idle, by the counts of both ends.
-use Rattle.std.proofs.Common.{◌≡◌, ◌≢◌, ℕ, ◌+◌, ◌<◌, Bool, true, false, ◌⊎◌, inl, inr, Option, Some, None, List, [], ◌∷◌, length, refl, sym, subst, ap, ◌∙◌, arith}
+use Rattle.std.proofs.Common.{◌≡◌, ◌≢◌, ℕ, ◌<◌, Bool, true, false, ◌⊎◌, inl, inr, Option, Some, None, List, [], ◌∷◌, length, refl, sym, subst, ap, ◌∙◌, arith}
 use Rattle.std.specs.Prelude.{◌*◌, ◌==◌, ◌&&◌, nat_le, not, slice_index, if◌then◌else◌, ⊤}
 use Rattle.std.proofs.lemmas.Bool.{and_parts, eqb-true, leb-false}
 use Rattle.cookie_copy.specs.declared.fault.CopyFault.{CopyFault}
@@ -13,7 +13,6 @@ use Rattle.ldc_link.specs.declared.phase.Role.TheVariants.{Initiator, Responder}
 use Rattle.ldc_queue.specs.declared.end.ChannelState.{ChannelState}
 use Rattle.ldc_queue.specs.declared.end.ChannelState.TheVariants.{Down, Resetting, Up}
 use Rattle.ldc_queue.specs.declared.end.End.{End}
-use Rattle.ldc_queue.specs.declared.end.End.TheVariants.{A, B}
 use Rattle.ldc_queue.specs.Wire.{state_of}
 use Rattle.runs.specs.Lawful.{Lawful}
 use Rattle.runs.specs.Run.{Run}
@@ -30,19 +29,19 @@ use Rattle.port_model.proofs.Ruling.{says_of}
 use Rattle.port_model.specs.EndLog.{EndLog, SessionLog, said_in, said_kind}
 use Rattle.port_model.specs.Fetching.{Fetched, IsFrame, NotReady, Refuses, copied, copy_refused, data_cookies, described, fetched, frame_fault, mark_fault, marked, read, slot_read, slots_cookies}
 use Rattle.port_model.specs.FrameLaws.{InSession, IsFinished, OwnReset, OwnResetAt, SlotCause, TickAt, ToldAll, WorksAt}
-use Rattle.port_model.specs.NetEndRule.{Announces, Fetches, Idles, Joins as JoinsRule, NetRule, Publishes, Puts, Replies, Says, Takes, Tells, port_rule}
+use Rattle.port_model.specs.NetEndRule.{Fetches, NetRule, Publishes, Takes, port_rule}
 use Rattle.port_model.specs.NetEndState.{Activity, NetEndState, NetSession}
-use Rattle.port_model.specs.NetEndStep.{Blocked, FetchFails, Frame, Idle, Joined, NetFails, Published, Reset, Sent, Took}
-use Rattle.port_model.specs.NetEvent.{Asked, CalmTick, Declines, Gives, Injects, Joins, Loses, NetEvent, Pokes, Steps, Ticked}
+use Rattle.port_model.specs.NetEndStep.{FetchFails, Frame, NetFails, Published, Reset}
+use Rattle.port_model.specs.NetEvent.{CalmTick, NetEvent, Steps, Ticked}
 use Rattle.port_model.specs.NetLaneState.{IsNetShape, NetLaneState, NetShape, memory_of, net_end, reach_of, role_at, seen_at}
 use Rattle.port_model.specs.NetLaneStep.{NetLaneStep, is_finished, is_nothing, told_all}
 use Rattle.port_model.specs.PortLog.{PortLog, after, log_of_end, no_events}
 use Rattle.port_model.specs.PortState.{OfQueue, OnLane, PortEvent, PortState, PortStep, before, fresh_port}
-use Rattle.port_model.specs.Spoken.{GroupsAck, GroupsInfo, Other, RangeAck, RangeInfo, Spoken, spoken}
+use Rattle.port_model.specs.Spoken.{GroupsInfo, Spoken, spoken}
 use Rattle.port_laws.specs.Counted.{EndCounts, GroupCounts, IsBehind, SaysRightly, UnsaidRight, unsaid}
 use Rattle.port_laws.proofs.EndCounting.{open_counts}
 use Rattle.port_laws.proofs.PortCounts.{Ready, queue_of}
-use Rattle.port_laws.proofs.RuleFrames.{active_here, along, both_open, end_acts, held_frames}
+use Rattle.port_laws.proofs.RuleFrames.{active_here, along, both_open, end_acts, held_frames, none_more}
 use Rattle.port_laws.proofs.TookCounts.{free_empty}
 
 -- ONLY AN END THAT IS UP publishes a frame or takes one
@@ -59,21 +58,7 @@ works_event shape u l (Steps e (Published id)) t ready step =
     end_up shape e u l ready (says_of (role_at e) (net_end e u.lane) (seen_at e u.lane) (Publishes step.step.session step.step.frame) step.step.rule).0.in_session.free.up
 works_event shape u l (Steps e (Frame frame)) t ready step =
     end_up shape e u l ready (says_of (role_at e) (net_end e u.lane) (seen_at e u.lane) (Fetches step.step.session step.step.activity) step.step.rule).0.free.up
-works_event shape u l (Steps e (Took packet opens)) t ready step = tt
-works_event shape u l (Steps e (Sent packet opens)) t ready step = tt
-works_event shape u l (Steps e (Joined lost)) t ready step = tt
-works_event shape u l (Steps e (Reset cause packet lost)) t ready step = tt
-works_event shape u l (Steps e Blocked) t ready step = tt
-works_event shape u l (Steps e Idle) t ready step = tt
-works_event shape u l (Asked e lost) t ready step = tt
-works_event shape u l (Ticked queued lost) t ready step = tt
-works_event shape u l (CalmTick queued) t ready step = tt
-works_event shape u l (Gives e given) t ready step = tt
-works_event shape u l (Joins joining) t ready step = tt
-works_event shape u l (Loses e packet) t ready step = tt
-works_event shape u l (Injects e packet) t ready step = tt
-works_event shape u l (Pokes e at bytes) t ready step = tt
-works_event shape u l (Declines d) t ready step = tt
+works_event shape u l _ t ready step = tt
 
 pub port_works : (shape : NetShape) (events : List PortEvent) (s : PortState) → IsNetShape shape → Run PortStep (fresh_port shape) events s → Lawful WorksAt after (no_events shape) events
 port_works shape events s is run = along shape WorksAt is (λ x l event t counts ready step. works_event shape (before event x) l event t.lane ready step.1) (λ l frame. tt) events s run
@@ -85,12 +70,8 @@ Fits (NotReady state) = state ≢ 2
 Fits (Refuses why) = SlotCause why
 
 copy_fits : (why : CopyFault) → Fits (copy_refused why)
-copy_fits fault.Channel = (omega arith, omega arith)
 copy_fits fault.BadAlign = (omega arith, omega arith)
-copy_fits fault.Short = (omega arith, omega arith)
-copy_fits fault.BadPage = (omega arith, omega arith)
-copy_fits fault.NoMap = (omega arith, omega arith)
-copy_fits fault.NoAccess = (omega arith, omega arith)
+copy_fits _ = (omega arith, omega arith)
 
 marked_fits : (s : NetEndState) (reach : Reach) (slot : ℕ) (desc : NetDesc) (frame : List ℕ) (why : Option CopyFault) → Fits (marked s reach slot desc frame why)
 marked_fits s reach slot desc frame None = tt
@@ -148,34 +129,12 @@ own_reset shape e u l cause packet (Fetches p activity) ready is fails =
       active_here (role_at e) shape.slots (queue_of e u) (net_end e u.lane) (log_of_end e l) p activity acting.counts says.0.session says.1
           (free_empty (role_at e) (net_end e u.lane) (transcript_of e l.transcript) acting.ends says.0.free.quiet),
     )
-own_reset shape e u l cause packet JoinsRule ready is fails = absurd fails
-own_reset shape e u l cause packet Puts ready is fails = absurd fails
-own_reset shape e u l cause packet (Says message) ready is fails = absurd fails
-own_reset shape e u l cause packet (Replies p reply) ready is fails = absurd fails
-own_reset shape e u l cause packet (Tells p) ready is fails = absurd fails
-own_reset shape e u l cause packet (Publishes p frame) ready is fails = absurd fails
-own_reset shape e u l cause packet (Announces p) ready is fails = absurd fails
-own_reset shape e u l cause packet Idles ready is fails = absurd fails
+own_reset shape e u l cause packet _ ready is fails = absurd fails
 
 own_reset_event : (shape : NetShape) (u : PortState) (l : PortLog) (event : NetEvent) (t : NetLaneState) → Ready shape u l → NetLaneStep u.lane event t → OwnResetAt l (OnLane event)
 own_reset_event shape u l (Steps e (Reset cause packet lost)) t ready step =
     own_reset shape e u l cause packet (port_rule (role_at e) (net_end e u.lane) (seen_at e u.lane)) ready refl step.step.0
-own_reset_event shape u l (Steps e (Published id)) t ready step = tt
-own_reset_event shape u l (Steps e (Frame frame)) t ready step = tt
-own_reset_event shape u l (Steps e (Took packet opens)) t ready step = tt
-own_reset_event shape u l (Steps e (Sent packet opens)) t ready step = tt
-own_reset_event shape u l (Steps e (Joined lost)) t ready step = tt
-own_reset_event shape u l (Steps e Blocked) t ready step = tt
-own_reset_event shape u l (Steps e Idle) t ready step = tt
-own_reset_event shape u l (Asked e lost) t ready step = tt
-own_reset_event shape u l (Ticked queued lost) t ready step = tt
-own_reset_event shape u l (CalmTick queued) t ready step = tt
-own_reset_event shape u l (Gives e given) t ready step = tt
-own_reset_event shape u l (Joins joining) t ready step = tt
-own_reset_event shape u l (Loses e packet) t ready step = tt
-own_reset_event shape u l (Injects e packet) t ready step = tt
-own_reset_event shape u l (Pokes e at bytes) t ready step = tt
-own_reset_event shape u l (Declines d) t ready step = tt
+own_reset_event shape u l _ t ready step = tt
 
 pub port_resets : (shape : NetShape) (events : List PortEvent) (s : PortState) → IsNetShape shape → Run PortStep (fresh_port shape) events s → Lawful OwnResetAt after (no_events shape) events
 port_resets shape events s is run = along shape OwnResetAt is (λ x l event t counts ready step. own_reset_event shape (before event x) l event t.lane ready step.1) (λ l frame. tt) events s run
@@ -186,11 +145,8 @@ record Told (groups : List (List ℕ)) (v : SessionLog) : Type 0 where
   told : v.told ≡ true
 
 told_kind : (k : Spoken) (groups : List (List ℕ)) (message : List ℕ) (v : SessionLog) → Told groups (said_kind k message v) → Told groups v
-told_kind RangeInfo groups message v is = record { membership = is.membership; told = is.told }
-told_kind RangeAck groups message v is = record { membership = is.membership; told = is.told }
 told_kind GroupsInfo groups message v is = false_true is.told
-told_kind GroupsAck groups message v is = record { membership = is.membership; told = is.told }
-told_kind Other groups message v is = record { membership = is.membership; told = is.told }
+told_kind _ groups message v is = record { membership = is.membership; told = is.told }
 
 told_left : (left : Option (List ℕ)) (groups : List (List ℕ)) (v : SessionLog) → Told groups (said_in left v) → Told groups v
 told_left None groups v is = is
@@ -201,11 +157,8 @@ never_behind groups told is behind =
     let below : length groups < length groups = subst (λ (x : Option (List (List ℕ))). IsBehind x groups) is behind in absurd (omega (arith, below))
 
 kept_kind : (k : Spoken) (slots : ℕ) (groups : List (List ℕ)) (message : List ℕ) (v : SessionLog) → SaysRightly slots groups v message k → Told groups v → Told groups (said_kind k message v)
-kept_kind RangeInfo slots groups message v right is = record { membership = is.membership; told = is.told }
-kept_kind RangeAck slots groups message v right is = record { membership = is.membership; told = is.told }
 kept_kind GroupsInfo slots groups message v right is = absurd (never_behind groups v.membership is.membership right)
-kept_kind GroupsAck slots groups message v right is = record { membership = is.membership; told = is.told }
-kept_kind Other slots groups message v right is = record { membership = is.membership; told = is.told }
+kept_kind _ slots groups message v right is = record { membership = is.membership; told = is.told }
 
 kept_left : (left : Option (List ℕ)) (slots : ℕ) (groups : List (List ℕ)) (begun : Bool) (v : SessionLog) → UnsaidRight slots groups begun v left → Told groups v → Told groups (said_in left v)
 kept_left None slots groups begun v right is = is
@@ -260,9 +213,6 @@ in_open : (log : Option SessionLog) (P Q : SessionLog → Type 0) → ((v : Sess
 in_open None P Q means holds = holds
 in_open (Some v) P Q means holds = means v holds
 
-none_more : (n : ℕ) → n + 0 ≡ n
-none_more n = omega arith
-
 calm_finished : (shape : NetShape) (u : PortState) (l : PortLog) (queued : ℕ) → Ready shape u l → queued ≡ length u.queue → is_finished u.lane queued ≡ true → IsFinished l
 calm_finished shape u l queued ready queue is =
     let three = and_parts (told_all u.lane.guest.session && is_nothing u.lane.guest.frames && is_nothing u.lane.hub.frames) (queued == 0) is in
@@ -314,28 +264,12 @@ finished_calm shape u l queued ready queue finished =
 tick_event : (shape : NetShape) (u : PortState) (l : PortLog) (event : NetEvent) (t : NetLaneState) → Ready shape u l → OfQueue u event → NetLaneStep u.lane event t → TickAt l (OnLane event)
 tick_event shape u l (Ticked queued lost) t ready of_queue step = λ finished. absurd (true_false (sym (finished_calm shape u l queued ready of_queue finished) ∙ step.0))
 tick_event shape u l (CalmTick queued) t ready of_queue step = calm_finished shape u l queued ready of_queue step.0
-tick_event shape u l (Steps e answer) t ready of_queue step = tt
-tick_event shape u l (Asked e lost) t ready of_queue step = tt
-tick_event shape u l (Gives e given) t ready of_queue step = tt
-tick_event shape u l (Joins joining) t ready of_queue step = tt
-tick_event shape u l (Loses e packet) t ready of_queue step = tt
-tick_event shape u l (Injects e packet) t ready of_queue step = tt
-tick_event shape u l (Pokes e at bytes) t ready of_queue step = tt
-tick_event shape u l (Declines d) t ready of_queue step = tt
+tick_event shape u l _ t ready of_queue step = tt
 
 -- a tick finds the queue as it was
 tick_queue : (s : PortState) (event : NetEvent) → OfQueue s event → OfQueue (before event s) event
 tick_queue s (Steps e answer) is = tt
-tick_queue s (Asked e lost) is = is
-tick_queue s (Ticked queued lost) is = is
-tick_queue s (CalmTick queued) is = is
-tick_queue s (Gives A given) is = is
-tick_queue s (Gives B given) is = is
-tick_queue s (Joins joining) is = is
-tick_queue s (Loses e packet) is = is
-tick_queue s (Injects e packet) is = is
-tick_queue s (Pokes e at bytes) is = is
-tick_queue s (Declines d) is = is
+tick_queue s _ is = is
 
 pub port_ticks : (shape : NetShape) (events : List PortEvent) (s : PortState) → IsNetShape shape → Run PortStep (fresh_port shape) events s → Lawful TickAt after (no_events shape) events
 port_ticks shape events s is run =

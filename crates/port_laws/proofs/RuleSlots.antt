@@ -17,16 +17,16 @@ use Rattle.port_model.proofs.Ruling.{says_of}
 use Rattle.port_model.specs.EndLog.{SessionLog, said_in, said_kind}
 use Rattle.port_model.specs.Fetching.{fetched}
 use Rattle.port_model.specs.FramesStand.{CountsStand}
-use Rattle.port_model.specs.NetEndRule.{Announces, Fetches, Idles, Joins, NetRule, Publishes, Puts, Replies, Says, Takes, Tells, port_rule}
+use Rattle.port_model.specs.NetEndRule.{Fetches, NetRule, Takes, port_rule}
 use Rattle.port_model.specs.NetEndState.{Activity, NetEndState, NetSession}
-use Rattle.port_model.specs.NetEndStep.{Blocked, FetchFails, Frame, Idle, Joined, NetEndStep, NetFails, NetLeft, Published, Reset, Sent, Took}
-use Rattle.port_model.specs.NetEvent.{Asked, CalmTick, Declines, Gives as GivesFrame, Injects, Joins as JoinsGroup, Loses, NetEvent, Pokes, Steps, Ticked}
+use Rattle.port_model.specs.NetEndStep.{FetchFails, NetEndStep, NetFails, NetLeft, Reset}
+use Rattle.port_model.specs.NetEvent.{NetEvent, Steps}
 use Rattle.port_model.specs.NetLaneState.{IsNetShape, NetLaneState, NetShape, memory_of, net_end, reach_of, role_at, seen_at}
 use Rattle.port_model.specs.NetLaneStep.{NetLaneStep}
 use Rattle.port_model.specs.PortLog.{PortLog, after, log_of_end, no_events}
 use Rattle.port_model.specs.PortState.{OnLane, PortEvent, PortState, PortStep, Receives, before, fresh_port}
 use Rattle.port_model.specs.RuleFacts.{IfOpen}
-use Rattle.port_model.specs.Spoken.{GroupsAck, GroupsInfo, Other, RangeAck, RangeInfo, Spoken, spoken}
+use Rattle.port_model.specs.Spoken.{RangeInfo, Spoken, spoken}
 use Rattle.port_laws.specs.Counted.{ActiveCounts, LastCounts, unsaid}
 use Rattle.port_laws.specs.NetCore.{lane_core}
 use Rattle.port_laws.specs.NoSlotReset.{NoSlotResetAt}
@@ -56,7 +56,7 @@ reach_both : (e : End) (u : NetLaneState) → state_of e u.wire.wire ≡ Up → 
 reach_both A u one two = ap (λ (x : ChannelState). is_up x && is_up u.wire.wire.end_b) one ∙ ap is_up two
 reach_both B u one two = ap (λ (x : ChannelState). is_up x && is_up u.wire.wire.end_b) two ∙ ap is_up one
 
-seen_up : (e : End) (u : NetLaneState) → state_of e u.wire.wire ≡ (seen_at e u).state
+pub seen_up : (e : End) (u : NetLaneState) → state_of e u.wire.wire ≡ (seen_at e u).state
 seen_up A u = refl
 seen_up B u = refl
 
@@ -70,10 +70,6 @@ working slots v w infos acks busy (Rests asking asked acked answered taken none 
 working slots v w infos acks busy (Goes info asking asked acked answered taken some seq start end no_ack) = absurd (omega (arith, busy, acked))
 working slots v w infos acks busy (Works asking asked active answered none no_ack) = record { asking = asking; answered = answered }
 working slots v w infos acks busy (Comes ack asking asked acked answered some none one_ack start end) = absurd (omega (arith, busy, acked))
-
-up_both : (e : End) (u : NetLaneState) → state_of e u.wire.wire ≡ Up → state_of (peer_of e) u.wire.wire ≡ Up → (u.wire.wire.end_a ≡ Up) × (u.wire.wire.end_b ≡ Up)
-up_both A u one two = (one, two)
-up_both B u one two = (two, one)
 
 works_at : (e : End) (u : NetLaneState) (l : PortLog) (v w : SessionLog) → WaysStand u l → state_of e u.wire.wire ≡ Up → state_of (peer_of e) u.wire.wire ≡ Up → (log_of_end e l).session ≡ Some w
     → (log_of_end (peer_of e) l).session ≡ Some v → w.asked ≡ w.acks + 1 → Working v w
@@ -91,10 +87,7 @@ works_at B u l v w ways up other mine theirs busy =
 -- what an end holds to say leaves an INFO unanswered
 kind_asking : (k : Spoken) (message : List ℕ) (v : SessionLog) → v.asking ≡ true → (said_kind k message v).asking ≡ true
 kind_asking RangeInfo message v is = refl
-kind_asking RangeAck message v is = is
-kind_asking GroupsInfo message v is = is
-kind_asking GroupsAck message v is = is
-kind_asking Other message v is = is
+kind_asking _ message v is = is
 
 left_asking : (left : Option (List ℕ)) (v : SessionLog) → v.asking ≡ true → (said_in left v).asking ≡ true
 left_asking None v is = is
@@ -178,14 +171,7 @@ slot_reset shape e u l cause lost left finds ways step = by_rule (port_rule (rol
     by_rule : (rule : NetRule) → port_rule (role_at e) s (seen_at e u.lane) ≡ rule → NetFails (role_at e) rule s (memory_of e u.lane) (reach_of e u.lane) cause None → ⊥
     by_rule (Fetches p activity) is fails = at_work p activity is fails.1
     by_rule (Takes packet) is fails = none_some packet fails.0
-    by_rule Joins is fails = fails
-    by_rule Puts is fails = fails
-    by_rule (Says message) is fails = fails
-    by_rule (Replies p reply) is fails = fails
-    by_rule (Tells p) is fails = fails
-    by_rule (Publishes p frame) is fails = fails
-    by_rule (Announces p) is fails = fails
-    by_rule Idles is fails = fails
+    by_rule _ is fails = fails
 
 -- ALONG EVERY RUN
 by_forged : (b : Bool) → (b ≡ false → ⊥) → b ≡ true
@@ -198,23 +184,7 @@ slots_event shape s l (Steps e (Reset cause None lost)) t is had step =
     by_forged l.wire.forged (λ clean.
     slot_reset shape e (before (Steps e (Reset cause None lost)) s) l cause lost step.left (finds_before shape s l (Steps e (Reset cause None lost)) is had.kept clean)
     (ways_before (Steps e (Reset cause None lost)) s l (had.ways clean)) step.step)
-slots_event shape s l (Steps e (Reset cause (Some packet) lost)) t is had step = tt
-slots_event shape s l (Steps e Idle) t is had step = tt
-slots_event shape s l (Steps e Blocked) t is had step = tt
-slots_event shape s l (Steps e (Published id)) t is had step = tt
-slots_event shape s l (Steps e (Frame frame)) t is had step = tt
-slots_event shape s l (Steps e (Took packet opens)) t is had step = tt
-slots_event shape s l (Steps e (Sent packet opens)) t is had step = tt
-slots_event shape s l (Steps e (Joined lost)) t is had step = tt
-slots_event shape s l (Asked e lost) t is had step = tt
-slots_event shape s l (Ticked queued lost) t is had step = tt
-slots_event shape s l (CalmTick queued) t is had step = tt
-slots_event shape s l (GivesFrame e given) t is had step = tt
-slots_event shape s l (JoinsGroup joining) t is had step = tt
-slots_event shape s l (Loses e packet) t is had step = tt
-slots_event shape s l (Injects e packet) t is had step = tt
-slots_event shape s l (Pokes e at bytes) t is had step = tt
-slots_event shape s l (Declines d) t is had step = tt
+slots_event shape s l _ t is had step = tt
 
 pub port_slots : (shape : NetShape) (events : List PortEvent) (s : PortState) → IsNetShape shape → Run PortStep (fresh_port shape) events s → Lawful NoSlotResetAt after (no_events shape) events
 port_slots shape events s is run = lawful_along shape NoSlotResetAt here events s run

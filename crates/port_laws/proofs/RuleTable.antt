@@ -3,7 +3,7 @@ use Rattle.std.proofs.Common.{◌≡◌, ℕ, ◌+◌, ◌*◌, ◌≤◌, List,
 use Rattle.ldc_link.specs.declared.phase.Role.TheVariants.{Initiator, Responder}
 use Rattle.ldc_queue.specs.declared.end.End.{End}
 use Rattle.ldc_queue.specs.declared.end.End.TheVariants.{A, B}
-use Rattle.ldc_queue.specs.Wire.{Wire, peer_of, state_of, waiting_for}
+use Rattle.ldc_queue.specs.Wire.{Wire, peer_of, waiting_for}
 use Rattle.runs.specs.Lawful.{Lawful, log_of}
 use Rattle.runs.specs.Run.{Run}
 use Rattle.vnet_msg.specs.Frames.{memory_pages}
@@ -15,8 +15,8 @@ use Rattle.channel_laws.specs.CoreLog.{RoomStands}
 use Rattle.channel_laws.specs.LaneCore.{CoreStands}
 use Rattle.port_model.proofs.Ruling.{says_of}
 use Rattle.port_model.specs.NetEndRule.{Idles}
-use Rattle.port_model.specs.NetEndStep.{Blocked, Frame, Idle, Joined, NetAnswer, Published, Reset, Sent, Took}
-use Rattle.port_model.specs.NetEvent.{Asked, CalmTick, Declines, Gives, Injects, Joins, Loses, NetEvent, Pokes, Steps, Ticked}
+use Rattle.port_model.specs.NetEndStep.{Blocked, Frame, Idle, Joined, NetAnswer, Published}
+use Rattle.port_model.specs.NetEvent.{Asked, Declines, Injects, Loses, NetEvent, Pokes, Steps, Ticked}
 use Rattle.port_model.specs.NetLaneState.{IsNetShape, NetLaneState, NetShape, net_end, role_at, seen_at}
 use Rattle.port_model.specs.NetLaneStep.{NetLaneStep, declined_at, sizes_of}
 use Rattle.port_model.specs.Offers.{port_offer}
@@ -30,6 +30,7 @@ use Rattle.port_laws.proofs.MemoryLong.{KeptLong, port_long}
 use Rattle.port_laws.proofs.PortCounts.{before_wire}
 use Rattle.port_laws.proofs.PortRuns.{fresh_port_core, lawful_along, logs_same, port_fits_behind, port_step_core}
 use Rattle.port_laws.proofs.RuleRest.{up_state}
+use Rattle.port_laws.proofs.RuleSlots.{seen_up}
 
 -- THE SIZES of the log are those of the lane
 record SameSizes (s : NetLaneState) (l : PortLog) : Type 0 where
@@ -53,11 +54,11 @@ same_sizes shape events s is run =
     let knows = converse_knows shape.entries (port_offer Initiator shape.address shape.slots) (port_offer Responder shape.address shape.slots) (port_events events) (port_core s) (sizes_fit shape is)
     (fresh_port_core shape events s run) in
     let room : RoomStands now = knows.room in
-    let slots : shape.slots ≡ l.shape.slots = sym (ap (λ (z : NetShape). z.slots) had.kept.counts.shape_is) in
+    let slots : shape.slots ≡ l.shape.slots = sym (ap (λ (z : NetShape). z.slots) had.counts.shape_is) in
     let to_a = room.to_a in
     let to_b = room.to_b in
     record {
-      wire = had.kept.counts.wire;
+      wire = had.counts.wire;
       entries = knows.entries ∙ logs.entries;
       guest = had.memory.guest ∙ ap (λ (n : ℕ). 8192 * memory_pages n) slots;
       hub = had.memory.hub ∙ ap (λ (n : ℕ). 8192 * memory_pages n) slots;
@@ -70,20 +71,13 @@ full_at : (e : End) (l : PortLog) (s : NetLaneState) → SameSizes s l → l.sha
 full_at A l s same full = let room = same.room_b in omega (arith, room, full)
 full_at B l s same full = let room = same.room_a in omega (arith, room, full)
 
-seen_up : (e : End) (u : NetLaneState) → state_of e u.wire.wire ≡ (seen_at e u).state
-seen_up A u = refl
-seen_up B u = refl
-
 answer_table : (e : End) (answer : NetAnswer) (s : NetLaneState) (l : PortLog) → SameSizes s l → (answer ≡ Idle → IsUp e l.wire.wire) → CoreStands l.shape.entries l.wire (core_event (Steps e answer))
     → OfWire (WireTableAt (sizes_in l) l.wire) (OnLane (Steps e answer))
-answer_table e (Joined lost) s l same idle stands = stands
-answer_table e (Took packet opens) s l same idle stands = stands
-answer_table e (Sent packet opens) s l same idle stands = stands
 answer_table e Blocked s l same idle stands = (stands.0, full_at e l s same stands.1)
 answer_table e Idle s l same idle stands = idle refl
 answer_table e (Published id) s l same idle stands = tt
 answer_table e (Frame frame) s l same idle stands = tt
-answer_table e (Reset cause packet lost) s l same idle stands = stands
+answer_table e _ s l same idle stands = stands
 
 idle_up : (e : End) (u t : NetLaneState) (l : PortLog) (answer : NetAnswer) → u.wire ≡ l.wire → NetLaneStep u (Steps e answer) t → answer ≡ Idle → IsUp e l.wire.wire
 idle_up e u t l answer wire step is =
@@ -102,13 +96,10 @@ table_event s l (Steps e answer) t same stands step =
     answer_table e answer s.lane l same (idle_up e (before (Steps e answer) s).lane t l answer (before_wire (Steps e answer) s ∙ same.wire) step) stands
 table_event s l (Asked e lost) t same stands step = refl
 table_event s l (Ticked queued lost) t same stands step = refl
-table_event s l (CalmTick queued) t same stands step = tt
-table_event s l (Gives e given) t same stands step = tt
-table_event s l (Joins joining) t same stands step = tt
 table_event s l (Loses e packet) t same stands step = stands
 table_event s l (Injects e packet) t same stands step = stands
 table_event s l (Pokes e at bytes) t same stands step = on_log e s.lane l same (λ n w. at + length bytes ≤ n.memory) step.0
-table_event s l (Declines d) t same stands step = tt
+table_event s l _ t same stands step = tt
 
 pub port_table : (shape : NetShape) (events : List PortEvent) (s : PortState) → IsNetShape shape → Run PortStep (fresh_port shape) events s
     → Lawful (λ (l : PortLog) (event : PortEvent). OfWire (WireTableAt (sizes_in l) l.wire) event) after (no_events shape) events
@@ -131,21 +122,7 @@ answers_event : (s : PortState) (l : PortLog) (event : NetEvent) (t : NetLaneSta
 answers_event s l (Declines d) t same step =
     subst (λ (n : Sizes). DeclinesAt n l.wire d) (sizes_are s.lane l same (declined_at d)) (subst (λ (w : WireLog). DeclinesAt (sizes_of (declined_at d) s.lane) w d) same.wire step.0)
 answers_event s l (Steps e (Joined lost)) t same step = tt
-answers_event s l (Steps e (Took packet opens)) t same step = tt
-answers_event s l (Steps e (Sent packet opens)) t same step = tt
-answers_event s l (Steps e Blocked) t same step = tt
-answers_event s l (Steps e Idle) t same step = tt
-answers_event s l (Steps e (Published id)) t same step = tt
-answers_event s l (Steps e (Frame frame)) t same step = tt
-answers_event s l (Steps e (Reset cause packet lost)) t same step = tt
-answers_event s l (Asked e lost) t same step = tt
-answers_event s l (Ticked queued lost) t same step = tt
-answers_event s l (CalmTick queued) t same step = tt
-answers_event s l (Gives e given) t same step = tt
-answers_event s l (Joins joining) t same step = tt
-answers_event s l (Loses e packet) t same step = tt
-answers_event s l (Injects e packet) t same step = tt
-answers_event s l (Pokes e at bytes) t same step = tt
+answers_event s l _ t same step = tt
 
 pub port_answers : (shape : NetShape) (events : List PortEvent) (s : PortState) → IsNetShape shape → Run PortStep (fresh_port shape) events s
     → Lawful (λ (l : PortLog) (event : PortEvent). OfWire (WireAnswersAt (sizes_in l) l.wire) event) after (no_events shape) events

@@ -2,7 +2,6 @@
 use Rattle.std.proofs.Common.{◌≡◌, ◌≢◌, true, false, Option, Some, None, List, [], refl, sym, subst, ap, ◌∙◌}
 use Rattle.std.specs.Prelude.{is_some, ⊤}
 use Rattle.ldc_link.specs.declared.phase.Role.TheVariants.{Initiator, Responder}
-use Rattle.ldc_link.specs.Putting.{owes}
 use Rattle.ldc_queue.specs.declared.end.End.{End}
 use Rattle.ldc_queue.specs.declared.end.End.TheVariants.{A, B}
 use Rattle.runs.specs.Lawful.{Lawful, log_of, run_lawful}
@@ -13,11 +12,11 @@ use Rattle.channel_laws.specs.EndsAtRest.{IsAtRest}
 use Rattle.port_model.proofs.Refuting.{none_some}
 use Rattle.port_model.proofs.Ruling.{says_of}
 use Rattle.port_model.specs.NetEndRule.{Idles, port_rule}
-use Rattle.port_model.specs.NetEndState.{NetEndState, NetSession}
-use Rattle.port_model.specs.NetEndStep.{Blocked, Frame, Idle, Joined, NetLeft, Published, Reset, Sent, Took}
-use Rattle.port_model.specs.NetEvent.{Asked, CalmTick, Declines, Gives, Injects, Joins, Loses, NetEvent, Pokes, Steps, Ticked}
-use Rattle.port_model.specs.NetLaneState.{IsNetShape, NetLaneState, NetShape, net_end, role_at, seen_at}
-use Rattle.port_model.specs.NetLaneStep.{NetLaneStep}
+use Rattle.port_model.specs.NetEndState.{NetSession}
+use Rattle.port_model.specs.NetEndStep.{Idle, NetLeft}
+use Rattle.port_model.specs.NetEvent.{CalmTick, NetEvent, Steps}
+use Rattle.port_model.specs.NetLaneState.{IsNetShape, NetLaneState, NetShape, net_end, role_at, seen_at, with_left}
+use Rattle.port_model.specs.NetLaneStep.{EndSteps, NetLaneStep, net_wire}
 use Rattle.port_model.specs.Offers.{port_offer}
 use Rattle.port_model.specs.PortLog.{PortLog, after, idle_in, no_events}
 use Rattle.port_model.specs.PortState.{OnLane, PortEvent, PortState, PortStep, Receives, before, fresh_port}
@@ -26,7 +25,7 @@ use Rattle.port_laws.specs.NetCore.{lane_core}
 use Rattle.port_laws.specs.PortCore.{port_core, port_events}
 use Rattle.port_laws.proofs.CoreLaws.{offers_match, sizes_fit}
 use Rattle.port_laws.proofs.EndCounting.{open_counts}
-use Rattle.port_laws.proofs.PortCounts.{PortCounts, Ready, ready_before, wire_event}
+use Rattle.port_laws.proofs.PortCounts.{PortCounts, Ready, ready_before}
 use Rattle.port_laws.proofs.PortRuns.{before_core, fresh_port_core}
 use Rattle.port_laws.proofs.RuleFrames.{along}
 use Rattle.port_laws.proofs.RuleRest.{up_state}
@@ -40,65 +39,35 @@ idle_rests B u idles =
     let says = says_of Responder u.hub (seen_at B u) Idles idles in
     record { up = up_state u.wire.wire.end_b says.0.up; quiet = says.0.quiet; owed = says.0.owed; waits = none_waits u.wire.wire.to_b says.1 }
 
--- an idle step leaves its end and the wire
-idle_left : (e : End) (u t : NetLaneState) → NetLaneStep u (Steps e Idle) t → IsAtRest e (lane_core t)
-idle_left A u t step =
-    let end : t.guest ≡ u.guest = ap (λ (x : NetLaneState). x.guest) step.is ∙ ap (λ (x : NetLeft). x.end) step.step.1 in
-    let wire : t.wire ≡ u.wire = wire_event u (Steps A Idle) t step in
-    let rests = idle_rests A u step.step.0 in
-    record {
-      up = ap (λ (w : WireLog). w.wire.end_a) wire ∙ rests.up;
-      quiet = ap (λ (x : NetEndState). owes x.link) end ∙ rests.quiet;
-      owed = ap (λ (x : NetEndState). x.handshake.owed) end ∙ rests.owed;
-      waits = ap (λ (w : WireLog). w.wire.to_a) wire ∙ rests.waits;
-    }
-idle_left B u t step =
-    let end : t.hub ≡ u.hub = ap (λ (x : NetLaneState). x.hub) step.is ∙ ap (λ (x : NetLeft). x.end) step.step.1 in
-    let wire : t.wire ≡ u.wire = wire_event u (Steps B Idle) t step in
-    let rests = idle_rests B u step.step.0 in
-    record {
-      up = ap (λ (w : WireLog). w.wire.end_b) wire ∙ rests.up;
-      quiet = ap (λ (x : NetEndState). owes x.link) end ∙ rests.quiet;
-      owed = ap (λ (x : NetEndState). x.handshake.owed) end ∙ rests.owed;
-      waits = ap (λ (w : WireLog). w.wire.to_b) wire ∙ rests.waits;
-    }
+-- THE END that was idle last has nothing to do
+pub record IdlesKept (s : PortState) (l : PortLog) : Type 0 where
+  pub idles : (e : End) → l.last_idle ≡ Some e → port_rule (role_at e) (net_end e s.lane) (seen_at e s.lane) ≡ Idles
 
--- THE END that was idle last is at rest
-record IdleKept (s : PortState) (l : PortLog) : Type 0 where
-  rests : (e : End) → l.last_idle ≡ Some e → IsAtRest e (lane_core s.lane)
+idle_stays : (e : End) (u t : NetLaneState) → EndSteps e u Idle t → port_rule (role_at e) (net_end e t) (seen_at e t) ≡ Idles
+idle_stays A u t step =
+    let is : t ≡ record (with_left A step.left u) { wire = net_wire (Steps A Idle) u } = step.is in
+    ap (λ (x : NetLaneState). port_rule Initiator x.guest (seen_at A x)) is ∙ ap (λ (x : NetLeft). port_rule Initiator x.end (seen_at A u)) step.step.1 ∙ step.step.0
+idle_stays B u t step =
+    let is : t ≡ record (with_left B step.left u) { wire = net_wire (Steps B Idle) u } = step.is in
+    ap (λ (x : NetLaneState). port_rule Responder x.hub (seen_at B x)) is ∙ ap (λ (x : NetLeft). port_rule Responder x.end (seen_at B u)) step.step.1 ∙ step.step.0
 
-last_rests : (u : NetLaneState) (event : NetEvent) (t : NetLaneState) → NetLaneStep u event t → (e : End) → idle_in event ≡ Some e → IsAtRest e (lane_core t)
-last_rests u (Steps end Idle) t step e is =
-    let same : end ≡ e = cc in subst (λ (x : End). IsAtRest x (lane_core t)) same (idle_left end u t step)
-last_rests u (Steps end Blocked) t step e is = none_some e is
-last_rests u (Steps end (Joined lost)) t step e is = none_some e is
-last_rests u (Steps end (Took packet opens)) t step e is = none_some e is
-last_rests u (Steps end (Sent packet opens)) t step e is = none_some e is
-last_rests u (Steps end (Published id)) t step e is = none_some e is
-last_rests u (Steps end (Frame frame)) t step e is = none_some e is
-last_rests u (Steps end (Reset cause packet lost)) t step e is = none_some e is
-last_rests u (Asked end lost) t step e is = none_some e is
-last_rests u (Ticked queued lost) t step e is = none_some e is
-last_rests u (CalmTick queued) t step e is = none_some e is
-last_rests u (Gives end given) t step e is = none_some e is
-last_rests u (Joins joining) t step e is = none_some e is
-last_rests u (Loses end packet) t step e is = none_some e is
-last_rests u (Injects end packet) t step e is = none_some e is
-last_rests u (Pokes end at bytes) t step e is = none_some e is
-last_rests u (Declines d) t step e is = none_some e is
+last_idles : (u : NetLaneState) (event : NetEvent) (t : NetLaneState) → NetLaneStep u event t → (e : End) → idle_in event ≡ Some e → port_rule (role_at e) (net_end e t) (seen_at e t) ≡ Idles
+last_idles u (Steps end Idle) t step e is =
+    let same : end ≡ e = cc in subst (λ (x : End). port_rule (role_at x) (net_end x t) (seen_at x t) ≡ Idles) same (idle_stays end u t step)
+last_idles u _ t step e is = none_some e is
 
-kept_step : (s : PortState) (l : PortLog) (event : PortEvent) (t : PortState) → IdleKept s l → PortStep s event t → IdleKept t (after l event)
-kept_step s l (OnLane event) t kept step = record { rests = λ e is. last_rests (before event s).lane event t.lane step.1 e is }
-kept_step s l (Receives frame) t kept step =
-    record { rests = λ e is. subst (λ (x : PortState). IsAtRest e (lane_core x.lane)) (sym step.2) (kept.rests e is) }
+idles_step : (s : PortState) (l : PortLog) (event : PortEvent) (t : PortState) → IdlesKept s l → PortStep s event t → IdlesKept t (after l event)
+idles_step s l (OnLane event) t kept step = record { idles = λ e is. last_idles (before event s).lane event t.lane step.1 e is }
+idles_step s l (Receives frame) t kept step =
+    record { idles = λ e is. subst (λ (x : PortState). port_rule (role_at e) (net_end e x.lane) (seen_at e x.lane) ≡ Idles) (sym step.2) (kept.idles e is) }
 
-idle_kept : (shape : NetShape) (events : List PortEvent) (s : PortState) → Run PortStep (fresh_port shape) events s → IdleKept s (log_of after (no_events shape) events)
-idle_kept shape events s run =
-    (run_lawful PortStep (λ (l : PortLog) (e : PortEvent). ⊤) after IdleKept (λ (x : PortState) (l : PortLog) (e : PortEvent) (y : PortState) kept step. (tt, kept_step x l e y kept step))
-    (fresh_port shape) s (no_events shape) events (record { rests = λ e is. none_some e is }) run).1
+pub idles_kept : (shape : NetShape) (events : List PortEvent) (s : PortState) → Run PortStep (fresh_port shape) events s → IdlesKept s (log_of after (no_events shape) events)
+idles_kept shape events s run =
+    (run_lawful PortStep (λ (l : PortLog) (e : PortEvent). ⊤) after IdlesKept (λ (x : PortState) (l : PortLog) (e : PortEvent) (y : PortState) kept step. (tt, idles_step x l e y kept step))
+    (fresh_port shape) s (no_events shape) events (record { idles = λ e is. none_some e is }) run).1
 
 -- BOTH AT REST
-some_session : (session : Option NetSession) → is_some session ≡ true → (p : NetSession) × (session ≡ Some p)
+pub some_session : (session : Option NetSession) → is_some session ≡ true → (p : NetSession) × (session ≡ Some p)
 some_session (Some p) is = (p, refl)
 some_session None is = absurd (cc is)
 
@@ -117,28 +86,13 @@ two_idle shape s l counts ready one other clean whole =
 
 pub two_idle_event : (shape : NetShape) (s : PortState) (l : PortLog) (event : NetEvent) (t : PortState) → PortCounts shape s l → Ready shape s l → NetLaneStep (before event s).lane event t.lane → TwoIdleAt l (OnLane event)
 two_idle_event shape s l (Steps A Idle) t counts ready step = λ last clean whole.
-    let kept : IdleKept s l = subst (IdleKept s) (sym counts.log) (idle_kept shape counts.events s counts.run) in
-    two_idle shape s l counts ready (idle_rests A s.lane step.step.0) (kept.rests B last) clean whole
+    let kept : IdlesKept s l = subst (IdlesKept s) (sym counts.log) (idles_kept shape counts.events s counts.run) in
+    two_idle shape s l counts ready (idle_rests A s.lane step.step.0) (idle_rests B s.lane (kept.idles B last)) clean whole
 two_idle_event shape s l (Steps B Idle) t counts ready step = λ last clean whole.
-    let kept : IdleKept s l = subst (IdleKept s) (sym counts.log) (idle_kept shape counts.events s counts.run) in
-    two_idle shape s l counts ready (kept.rests A last)
+    let kept : IdlesKept s l = subst (IdlesKept s) (sym counts.log) (idles_kept shape counts.events s counts.run) in
+    two_idle shape s l counts ready (idle_rests A s.lane (kept.idles A last))
     (subst (IsAtRest B) (before_core (Steps B Idle) s) (idle_rests B (before (Steps B Idle) s).lane step.step.0)) clean whole
-two_idle_event shape s l (Steps e (Published id)) t counts ready step = tt
-two_idle_event shape s l (Steps e (Frame frame)) t counts ready step = tt
-two_idle_event shape s l (Steps e (Took packet opens)) t counts ready step = tt
-two_idle_event shape s l (Steps e (Sent packet opens)) t counts ready step = tt
-two_idle_event shape s l (Steps e (Joined lost)) t counts ready step = tt
-two_idle_event shape s l (Steps e Blocked) t counts ready step = tt
-two_idle_event shape s l (Steps e (Reset cause packet lost)) t counts ready step = tt
-two_idle_event shape s l (Asked e lost) t counts ready step = tt
-two_idle_event shape s l (Ticked queued lost) t counts ready step = tt
-two_idle_event shape s l (CalmTick queued) t counts ready step = tt
-two_idle_event shape s l (Gives e given) t counts ready step = tt
-two_idle_event shape s l (Joins joining) t counts ready step = tt
-two_idle_event shape s l (Loses e packet) t counts ready step = tt
-two_idle_event shape s l (Injects e packet) t counts ready step = tt
-two_idle_event shape s l (Pokes e at bytes) t counts ready step = tt
-two_idle_event shape s l (Declines d) t counts ready step = tt
+two_idle_event shape s l _ t counts ready step = tt
 
 pub port_two_idle : (shape : NetShape) (events : List PortEvent) (s : PortState) → IsNetShape shape → Run PortStep (fresh_port shape) events s → Lawful TwoIdleAt after (no_events shape) events
 port_two_idle shape events s is run =

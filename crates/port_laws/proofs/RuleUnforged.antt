@@ -20,8 +20,8 @@ use Rattle.port_model.specs.Fetching.{IsFrame, fetched}
 use Rattle.port_model.specs.FrameLaws.{InSession, IsActive}
 use Rattle.port_model.specs.NetEndRule.{Fetches}
 use Rattle.port_model.specs.NetEndState.{NetEndState, NetSession}
-use Rattle.port_model.specs.NetEndStep.{Blocked, Frame, Idle, Joined, Published, Reset, Sent, Took}
-use Rattle.port_model.specs.NetEvent.{Asked, CalmTick, Declines, Gives, Injects, Joins, Loses, NetEvent, Pokes, Steps, Ticked}
+use Rattle.port_model.specs.NetEndStep.{Frame}
+use Rattle.port_model.specs.NetEvent.{NetEvent, Steps}
 use Rattle.port_model.specs.NetLaneState.{IsNetShape, NetLaneState, NetShape, memory_of, net_end, reach_of, role_at, seen_at}
 use Rattle.port_model.specs.NetLaneStep.{EndSteps, NetLaneStep}
 use Rattle.port_model.specs.PortLog.{PortLog, after, log_of_end, no_events}
@@ -36,13 +36,14 @@ use Rattle.port_laws.proofs.LogsStand.{EndLogStands, HeadIn, held_given}
 use Rattle.port_laws.proofs.PortCounts.{queue_of}
 use Rattle.port_laws.proofs.PortRuns.{lawful_along}
 use Rattle.port_laws.proofs.PortTalks.{PeerOpen, many_open}
-use Rattle.port_laws.proofs.RingActs.{Finds, end_reaches, peer_ring_of, place_is, spoke_of}
+use Rattle.port_laws.proofs.RingActs.{Finds, end_reaches, peer_ring_of, place_is, seen_state, spoke_of}
 use Rattle.port_laws.proofs.RingEvents.{acts_up}
 use Rattle.port_laws.proofs.RingFetches.{Fetches as FetchesFrame, ring_fetched}
 use Rattle.port_laws.proofs.RingRuns.{Kept, finds_before, port_kept}
 use Rattle.port_laws.proofs.RuleFrames.{active_here, end_acts, end_counted}
 use Rattle.port_laws.proofs.SessionsHeard.{same_sid, spoke_some}
 use Rattle.port_laws.proofs.TookCounts.{free_empty}
+use Rattle.port_laws.proofs.RuleTwoIdle.{some_session}
 
 -- IN THE LOG of the end that published it
 last_is : (one : OpenedLog) (rest : List OpenedLog) (sid : ℕ) → one.sid ≡ sid → last_of sid (one ∷ rest) ≡ Some one
@@ -105,10 +106,6 @@ pub record TakesPublished (shape : NetShape) (e : End) (u : PortState) (l : Port
   pub ring : RingHolds shape.slots p.seen v.taken p.published (net_end (peer_of e) u.lane).frames (memory_of (peer_of e) u.lane)
   pub found : FetchesFrame shape.slots p.seen v.taken p.published (net_end (peer_of e) u.lane).frames frame (memory_of (peer_of e) u.lane) new
 
-some_open : (session : Option NetSession) → is_some session ≡ true → (p : NetSession) × (session ≡ Some p)
-some_open (Some p) is = (p, refl)
-some_open None is = absurd (cc is)
-
 in_some : (log : Option SessionLog) (P : SessionLog → Type 0) → InSession log P → (v : SessionLog) × (log ≡ Some v) × P v
 in_some None P holds = absurd holds
 in_some (Some v) P holds = (v, refl, holds)
@@ -125,13 +122,9 @@ core_up : (e : End) (u : NetLaneState) → state_of e u.wire.wire ≡ Up → IsU
 core_up A u up = up
 core_up B u up = up
 
-reach_memory : (e : End) (u : NetLaneState) → (reach_of e u).memory ≡ memory_of (peer_of e) u
+pub reach_memory : (e : End) (u : NetLaneState) → (reach_of e u).memory ≡ memory_of (peer_of e) u
 reach_memory A u = refl
 reach_memory B u = refl
-
-seen_state : (e : End) (u : NetLaneState) → (seen_at e u).state ≡ state_of e u.wire.wire
-seen_state A u = refl
-seen_state B u = refl
 
 pub takes_published : (shape : NetShape) (e : End) (u : PortState) (l : PortLog) (frame : List ℕ) (t : NetLaneState) → Finds shape u l → (step : EndSteps e u.lane (Frame frame) t)
     → TakesPublished shape e u l frame step.step.new
@@ -152,7 +145,7 @@ takes_published shape e u l frame t finds step =
     let spoke = spoke_some (role_at e) (transcript_of e l.transcript) log.session v mine (spoke_of e u.lane l finds.rings) in
     let there : PeerOpen e (lane_core u.lane) = many_open shape (lane_core u.lane) l e finds.talks (core_up e u.lane up) (spoke.many (omega (arith, busy))) in
     let peer_up : state_of (peer_of e) u.lane.wire.wire ≡ Up = peer_is_up e u.lane there in
-    let peer = some_open (net_end (peer_of e) u.lane).session (core_peer e u.lane there) in
+    let peer = some_session (net_end (peer_of e) u.lane).session (core_peer e u.lane there) in
     let p : NetSession = peer.0 in
     let frames : List (List ℕ) = (net_end (peer_of e) u.lane).frames in
     let memory : List ℕ = memory_of (peer_of e) u.lane in
@@ -198,22 +191,7 @@ frame_published shape e u l frame t finds step =
 unforged_event : (shape : NetShape) (s : PortState) (l : PortLog) (event : NetEvent) (t : PortState) → IsNetShape shape → Kept shape s l → NetLaneStep (before event s).lane event t.lane
     → UnforgedAt l (OnLane event)
 unforged_event shape s l (Steps e (Frame frame)) t is kept step = λ clean. frame_published shape e (before (Steps e (Frame frame)) s) l frame t.lane (finds_before shape s l (Steps e (Frame frame)) is kept clean) step
-unforged_event shape s l (Steps e (Published id)) t is kept step = tt
-unforged_event shape s l (Steps e (Took packet opens)) t is kept step = tt
-unforged_event shape s l (Steps e (Sent packet opens)) t is kept step = tt
-unforged_event shape s l (Steps e (Joined lost)) t is kept step = tt
-unforged_event shape s l (Steps e (Reset cause packet lost)) t is kept step = tt
-unforged_event shape s l (Steps e Blocked) t is kept step = tt
-unforged_event shape s l (Steps e Idle) t is kept step = tt
-unforged_event shape s l (Asked e lost) t is kept step = tt
-unforged_event shape s l (Ticked queued lost) t is kept step = tt
-unforged_event shape s l (CalmTick queued) t is kept step = tt
-unforged_event shape s l (Gives e given) t is kept step = tt
-unforged_event shape s l (Joins joining) t is kept step = tt
-unforged_event shape s l (Loses e packet) t is kept step = tt
-unforged_event shape s l (Injects e packet) t is kept step = tt
-unforged_event shape s l (Pokes e at bytes) t is kept step = tt
-unforged_event shape s l (Declines d) t is kept step = tt
+unforged_event shape s l _ t is kept step = tt
 
 pub port_unforged : (shape : NetShape) (events : List PortEvent) (s : PortState) → IsNetShape shape → Run PortStep (fresh_port shape) events s → Lawful UnforgedAt after (no_events shape) events
 port_unforged shape events s is run = lawful_along shape UnforgedAt here events s run

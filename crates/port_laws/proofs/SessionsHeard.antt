@@ -47,10 +47,6 @@ heard_grown turns packet = grown (is_part packet) (fragment_at packet) (half_hea
 pub said_grown : (turns : List Turn) (packet : List ℕ) → Grown (ended_by (half_said turns) packet) (said turns) (said (Said packet ∷ turns))
 said_grown turns packet = grown (is_part packet) (fragment_at packet) (half_said turns) (said turns)
 
-grown_long : (o : Option (List ℕ)) (before now : List (List ℕ)) → Grown o before now → length before ≤ length now
-grown_long None before now is = omega (arith, ap length is)
-grown_long (Some message) before now is = omega (arith, ap length is, length-append before (message ∷ []))
-
 pub grown_most : (o : Option (List ℕ)) (before now : List (List ℕ)) → Grown o before now → length now ≤ length before + 1
 grown_most None before now is = omega (arith, ap length is)
 grown_most (Some message) before now is = omega (arith, ap length is, length-append before (message ∷ []))
@@ -152,11 +148,8 @@ same_spoke role turns now o v w spoke grows more same = record {
 }
 
 said_same : (k : Spoken) (message : List ℕ) (v : SessionLog) → SameTaking v (said_kind k message v)
-said_same RangeInfo message v = record { sid = refl; asked = refl; taken = refl }
-said_same RangeAck message v = record { sid = refl; asked = refl; taken = refl }
 said_same GroupsInfo message v = record { sid = refl; asked = refl; taken = refl }
-said_same GroupsAck message v = record { sid = refl; asked = refl; taken = refl }
-said_same Other message v = record { sid = refl; asked = refl; taken = refl }
+said_same _ message v = record { sid = refl; asked = refl; taken = refl }
 
 said_taking : (ended : Option (List ℕ)) (v : SessionLog) → SameTaking v (said_in ended v)
 said_taking None v = record { sid = refl; asked = refl; taken = refl }

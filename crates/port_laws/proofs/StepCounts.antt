@@ -20,12 +20,12 @@ use Rattle.channel_laws.proofs.EndStanding.{stands_step}
 use Rattle.channel_laws.specs.EndCore.{Waits}
 use Rattle.channel_laws.specs.Grounds.{has_named}
 use Rattle.channel_laws.specs.Standing.{EndStands, is_open_in}
-use Rattle.port_model.proofs.Refuting.{false_true, none_some}
+use Rattle.port_model.proofs.Refuting.{false_true}
 use Rattle.port_model.proofs.Ruling.{says_of}
 use Rattle.port_model.specs.EndLog.{EndLog, SessionLog, change, ends_log, more_published, more_taken, publishes_log, takes_log}
 use Rattle.port_model.specs.FramesStand.{CountsStand, FramesStand}
-use Rattle.port_model.specs.NetEndPutting.{net_holds, net_opens, net_put}
-use Rattle.port_model.specs.NetEndRule.{Announces, Fetches, Idles, Joins, NetRule, Publishes, Puts, Replies, Says, Takes, Tells, port_rule}
+use Rattle.port_model.specs.NetEndPutting.{net_opens, net_put}
+use Rattle.port_model.specs.NetEndRule.{Fetches, Publishes, Takes, port_rule}
 use Rattle.port_model.specs.NetEndState.{Activity, NetEndState, NetSession, joined_net_end, unseen}
 use Rattle.port_model.specs.NetEndStep.{Blocked, Frame, Idle, Joined, NetAnswer, NetEndStep, NetLeft, NetSends, Published, Reset, Sent, Took, published, taken}
 use Rattle.port_model.specs.PortLog.{after_answer}
@@ -41,6 +41,7 @@ use Rattle.port_model.specs.Offers.{port_offer}
 use Rattle.port_laws.proofs.HeldCounts.{SlotsFit, held_counts}
 use Rattle.port_laws.proofs.PutCounts.{PutCounts, SaidRight, put_counts}
 use Rattle.port_laws.proofs.TookCounts.{TookCounts, free_empty, session_open, took_counts}
+use Rattle.port_laws.proofs.LaneMoves.{holds_up}
 
 -- WHAT IS KNOWN of an end that makes a step
 pub record Acting (role : Role) (slots : ℕ) (queue : List (List ℕ)) (s : NetEndState) (l : EndLog) (turns : List Turn) : Type 0 where
@@ -51,7 +52,7 @@ pub record Acting (role : Role) (slots : ℕ) (queue : List (List ℕ)) (s : Net
   pub keeps : HandshakeFits role (port_offer role s.address s.slots) s.handshake
   pub slots_fit : SlotsFit slots
 
-counts_stand : (s : NetEndState) (p : NetSession) → FramesStand s → s.session ≡ Some p → CountsStand s p
+pub counts_stand : (s : NetEndState) (p : NetSession) → FramesStand s → s.session ≡ Some p → CountsStand s p
 counts_stand s p stands is = subst (λ (x : Option NetSession). IfOpen x (CountsStand s)) is stands.session
 
 -- IT BEGINS ANEW, and frames that are published and not acknowledged are lost
@@ -199,18 +200,6 @@ peer_slots_known role slots queue s l turns p acting is =
     acting.keeps.ring (takes_both role) (named_open role s.handshake.phase (session_open role s turns p acting.ends is)) ∙ acting.counts.slots_is
 
 -- IT IS UP where it puts, and takes what waits
-pub holds_up : (role : Role) (s : NetEndState) (at : Seen) (reach : Reach) (rule : NetRule) (held : NetEndState) → port_rule role s at ≡ rule → net_holds rule s reach ≡ Some held → is_up at.state ≡ true
-holds_up role s at reach Puts held is same = (says_of role s at Puts is).0
-holds_up role s at reach (Says message) held is same = (says_of role s at (Says message) is).0
-holds_up role s at reach (Replies p reply) held is same = (says_of role s at (Replies p reply) is).0.free.up
-holds_up role s at reach (Fetches p activity) held is same = (says_of role s at (Fetches p activity) is).0.free.up
-holds_up role s at reach (Tells p) held is same = (says_of role s at (Tells p) is).0.in_session.free.up
-holds_up role s at reach (Announces p) held is same = (says_of role s at (Announces p) is).0.in_session.free.up
-holds_up role s at reach Joins held is same = none_some held same
-holds_up role s at reach (Takes packet) held is same = none_some held same
-holds_up role s at reach (Publishes p frame) held is same = none_some held same
-holds_up role s at reach Idles held is same = none_some held same
-
 pub took_here : (role : Role) (slots : ℕ) (queue : List (List ℕ)) (s : NetEndState) (l : EndLog) (turns : List Turn) (at : Seen) (memory : List ℕ) (reach : Reach) (packet : List ℕ) (opens : Bool)
     (t : NetLeft) (sid : ℕ) → Acting role slots queue s l turns → NetEndStep role s at memory reach (Took packet opens) t → TookCounts role slots queue s t.end l turns packet opens sid
 took_here role slots queue s l turns at memory reach packet opens t sid acting step =

@@ -26,7 +26,7 @@ use Rattle.channel_laws.specs.Standing.{EndStands}
 use Rattle.port_model.proofs.Refuting.{none_some, true_false}
 use Rattle.port_model.proofs.Ruling.{says_of}
 use Rattle.port_model.specs.NetEndPutting.{holding, net_holds}
-use Rattle.port_model.specs.NetEndRule.{Announces, Fetches, Idles, Joins, NetRule, Publishes, Puts, Replies, Says, Takes, Tells, port_rule}
+use Rattle.port_model.specs.NetEndRule.{Announces, Fetches, NetRule, Publishes, Puts, Replies, Says, Takes, Tells, port_rule}
 use Rattle.port_model.specs.NetEndState.{GroupsReply, NetEndState, NetSession, opened_net_end}
 use Rattle.port_model.specs.NetEndStep.{Blocked, Frame, Idle, Joined, NetAnswer, NetEndStep, NetLeft, Published, Reset, Sent, Took, published, taken}
 use Rattle.port_model.specs.NetEndTaking.{GoesOn, HearsLink, HearsWhole, NetTakes, Resets, by_handshake, hears_message, reads, risen}
@@ -259,10 +259,7 @@ shut_held s at reach (Replies p reply) held none is same = none_some p (sym none
 shut_held s at reach (Fetches p activity) held none is same = none_some p (sym none ∙ (says_of Responder s at (Fetches p activity) is).0.session)
 shut_held s at reach (Tells p) held none is same = none_some p (sym none ∙ (says_of Responder s at (Tells p) is).0.in_session.session)
 shut_held s at reach (Announces p) held none is same = none_some p (sym none ∙ (says_of Responder s at (Announces p) is).0.in_session.session)
-shut_held s at reach Joins held none is same = none_some held same
-shut_held s at reach (Takes packet) held none is same = none_some held same
-shut_held s at reach (Publishes p frame) held none is same = none_some held same
-shut_held s at reach Idles held none is same = none_some held same
+shut_held s at reach _ held none is same = none_some held same
 
 -- a session that isn't open stays so, but by what it takes
 abbrev pub ShutStays : NetAnswer → NetEndState → Type 0
@@ -327,11 +324,6 @@ asks_now : (shape : NetShape) (u : PortState) (l : PortLog) (answer : NetAnswer)
     → TalkIn u.lane.guest.handshake.draft.sid u.lane.guest.groups p (outbox u.lane.guest l.transcript.client (turns_now answer l.transcript.server)) now after_session u.lane.hub.groups
 asks_now shape u l (Joined lost) p now after_session goes none fits talk = absurd goes
 asks_now shape u l (Reset cause packet lost) p now after_session goes none fits talk = absurd goes
-asks_now shape u l Idle p now after_session goes none fits talk = talk
-asks_now shape u l Blocked p now after_session goes none fits talk = talk
-asks_now shape u l (Published id) p now after_session goes none fits talk = talk
-asks_now shape u l (Frame frame) p now after_session goes none fits talk = talk
-asks_now shape u l (Sent packet opens) p now after_session goes none fits talk = talk
 asks_now shape u l (Took packet opens) p now after_session goes none fits talk = by_ended (ended_by (half_heard l.transcript.server) packet) (heard_grown l.transcript.server packet)
   where
     by_ended : (o : Option (List ℕ)) → Grown o (heard l.transcript.server) (heard (Heard packet ∷ l.transcript.server)) → HeardAs u l p now after_session (heard (Heard packet ∷ l.transcript.server))
@@ -343,6 +335,7 @@ asks_now shape u l (Took packet opens) p now after_session goes none fits talk =
         hub_hears u.lane.guest.handshake.draft.sid u.lane.guest.groups p (outbox u.lane.guest l.transcript.client (Heard packet ∷ l.transcript.server)) now after_session after_session u.lane.hub.groups m
         (not_low m low.0) refl
         (subst (λ (xs : List (List ℕ)). TalkIn u.lane.guest.handshake.draft.sid u.lane.guest.groups p xs now after_session u.lane.hub.groups) first talk)
+asks_now shape u l _ p now after_session goes none fits talk = talk
 
 -- A STEP
 pub hub_talk : (shape : NetShape) (u t : PortState) (l : PortLog) (answer : NetAnswer) (left : NetLeft) → Acts shape B u t l answer left → Fresh [] u.lane.guest.groups → TalkStands u.lane l
@@ -405,13 +398,7 @@ hub_talk shape u t l answer left acts fresh talk p up other some = as_now (by_se
         let says = says_of Responder u.lane.hub (seen_at B u.lane) (Takes packet) step.step.0 in
         let took = shut_took u.lane.hub left.end u.lane.hub_memory packet left.own opens none step.step.1 in
         empty_unsaid left.end (took.sends ∙ free_empty Responder u.lane.hub l.transcript.server (acting_at shape B u l acts.finds up_before).ends says.0.quiet)
-    none_left none (Sent packet opens) is stays = shut_now stays
-    none_left none Idle is stays = shut_now stays
-    none_left none Blocked is stays = shut_now stays
-    none_left none (Published id) is stays = shut_now stays
-    none_left none (Frame frame) is stays = shut_now stays
-    none_left none (Joined lost) is stays = shut_now stays
-    none_left none (Reset cause packet lost) is stays = shut_now stays
+    none_left none _ is stays = shut_now stays
 
     by_session : (session : Option NetSession) → u.lane.hub.session ≡ session → Between u.lane.guest left.end l.transcript.client (turns_now answer l.transcript.server) p
     by_session (Some q) is = hub_in shape u t l answer left p q acts goes is guest_some fresh guest_before up_before front was

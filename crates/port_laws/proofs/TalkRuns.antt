@@ -1,5 +1,5 @@
 -- Along every run of a port that nobody forged, what is on the way between its ends fits, and no message of a session is refused.
-use Rattle.std.proofs.Common.{◌≡◌, ℕ, Bool, true, false, Option, Some, None, List, [], ◌∷◌, refl, sym, ap, ◌∙◌, subst}
+use Rattle.std.proofs.Common.{◌≡◌, ℕ, true, false, Option, Some, None, List, [], refl, sym, ap, ◌∙◌, subst}
 use Rattle.std.specs.Prelude.{is_some, ⊤}
 use Rattle.ldc_link.specs.declared.phase.Role.TheVariants.{Initiator, Responder}
 use Rattle.ldc_queue.specs.declared.end.End.TheVariants.{A, B}
@@ -7,6 +7,7 @@ use Rattle.ldc_queue.specs.Transcript.{Turn}
 use Rattle.runs.specs.Lawful.{log_of, run_lawful}
 use Rattle.runs.specs.Run.{Run}
 use Rattle.channel_model.specs.WireLog.{WireLog}
+use Rattle.port_model.proofs.Moving.{before_keeps}
 use Rattle.port_model.proofs.Refuting.{none_some, true_false}
 use Rattle.port_model.specs.EndLog.{EndLog, SessionLog, change}
 use Rattle.port_model.specs.Groups.{is_in}
@@ -16,7 +17,7 @@ use Rattle.port_model.specs.NetEvent.{Asked, CalmTick, Declines, Gives, Injects,
 use Rattle.port_model.specs.NetLaneState.{IsNetShape, NetLaneState, NetShape, reach_of, seen_at}
 use Rattle.port_model.specs.NetLaneStep.{EndSteps, NetLaneStep, moved_on}
 use Rattle.port_model.specs.PortLog.{PortLog, after, after_answer, no_events}
-use Rattle.port_model.specs.PortState.{OfQueue, OnLane, PortEvent, PortState, PortStep, Receives, before, fresh_port, moves_first, takes_more}
+use Rattle.port_model.specs.PortState.{OfQueue, OnLane, PortEvent, PortState, PortStep, Receives, before, fresh_port}
 use Rattle.port_laws.specs.NetCore.{lane_core}
 use Rattle.port_laws.proofs.GroupsLearnt.{Fresh, fresh_more}
 use Rattle.port_laws.proofs.PortCounts.{PortCounts, before_guest, before_queue}
@@ -34,17 +35,7 @@ use Rattle.port_laws.proofs.Outbox.{outbox}
 -- THE GROUPS of a guest are repeated nowhere
 fresh_event : (u : NetLaneState) (l : PortLog) (event : NetEvent) (t : NetLaneState) → u.guest.groups ≡ l.members → NetLaneStep u event t → Fresh [] l.members → Fresh [] (after l (OnLane event)).members
 fresh_event u l (Joins (Member address)) t are step fresh = fresh_more [] l.members address fresh (subst (λ (xs : List (List ℕ)). is_in xs address ≡ false) are step.0.0)
-fresh_event u l (Joins (Already address)) t are step fresh = fresh
-fresh_event u l (Joins (GroupsFull address)) t are step fresh = fresh
-fresh_event u l (Steps e answer) t are step fresh = fresh
-fresh_event u l (Asked e lost) t are step fresh = fresh
-fresh_event u l (Ticked queued lost) t are step fresh = fresh
-fresh_event u l (CalmTick queued) t are step fresh = fresh
-fresh_event u l (Gives e given) t are step fresh = fresh
-fresh_event u l (Loses e packet) t are step fresh = fresh
-fresh_event u l (Injects e packet) t are step fresh = fresh
-fresh_event u l (Pokes e at bytes) t are step fresh = fresh
-fresh_event u l (Declines d) t are step fresh = fresh
+fresh_event u l _ t are step fresh = fresh
 
 -- THE SWITCH'S END without a session knows no groups
 abbrev pub KnowsNone : NetEndState → Type 0
@@ -56,15 +47,12 @@ change_none f (Some v) is = absurd (cc is)
 
 shut_before : (slots : ℕ) (turns : List Turn) (answer : NetAnswer) (l : EndLog) → Goes answer → (after_answer slots turns answer l).session ≡ None → l.session ≡ None
 shut_before slots turns (Took packet true) l goes is = absurd (cc is)
-shut_before slots turns (Took packet false) l goes is = change_none _ l.session is
 shut_before slots turns (Sent packet true) l goes is = absurd (cc is)
-shut_before slots turns (Sent packet false) l goes is = change_none _ l.session is
 shut_before slots turns Blocked l goes is = is
 shut_before slots turns Idle l goes is = is
-shut_before slots turns (Published id) l goes is = change_none _ l.session is
-shut_before slots turns (Frame frame) l goes is = change_none _ l.session is
 shut_before slots turns (Joined lost) l goes is = absurd goes
 shut_before slots turns (Reset cause packet lost) l goes is = absurd goes
+shut_before slots turns _ l goes is = change_none _ l.session is
 
 hub_none : (shape : NetShape) (u t : PortState) (l : PortLog) (answer : NetAnswer) → Finds shape u l → (step : EndSteps B u.lane answer t.lane) → PortCounts shape t (after l (OnLane (Steps B answer))) → Goes answer
     → KnowsNone u.lane.hub → KnowsNone t.lane.hub
@@ -89,18 +77,12 @@ none_event shape u t l (Steps B Blocked) of_queue finds step counts had = hub_no
 none_event shape u t l (Steps B Idle) of_queue finds step counts had = hub_none shape u t l Idle finds step counts tt had
 none_event shape u t l (Steps B (Published id)) of_queue finds step counts had = hub_none shape u t l (Published id) finds step counts tt had
 none_event shape u t l (Steps B (Frame frame)) of_queue finds step counts had = hub_none shape u t l (Frame frame) finds step counts tt had
-none_event shape u t l (Asked A lost) of_queue finds step counts had = subst (λ (x : NetLaneState). KnowsNone x.hub) (sym step.1) had
 none_event shape u t l (Asked B lost) of_queue finds step counts had = λ none. ap (λ (x : NetLaneState). x.hub.groups) step.1
 none_event shape u t l (Ticked queued lost) of_queue finds step counts had = subst (λ (x : NetLaneState). KnowsNone x.hub) (sym step.1.1) had
-none_event shape u t l (CalmTick queued) of_queue finds step counts had = subst (λ (x : NetLaneState). KnowsNone x.hub) (sym step.1) had
-none_event shape u t l (Gives A given) of_queue finds step counts had = subst (λ (x : NetLaneState). KnowsNone x.hub) (sym step.1) had
 none_event shape u t l (Gives B given) of_queue finds step counts had = absurd of_queue
-none_event shape u t l (Joins joining) of_queue finds step counts had = subst (λ (x : NetLaneState). KnowsNone x.hub) (sym step.1) had
-none_event shape u t l (Loses e packet) of_queue finds step counts had = subst (λ (x : NetLaneState). KnowsNone x.hub) (sym step.1) had
 none_event shape u t l (Injects e packet) of_queue finds step counts had = subst (λ (x : NetLaneState). KnowsNone x.hub) (sym step.2) had
 none_event shape u t l (Pokes A at bytes) of_queue finds step counts had = subst (λ (x : NetLaneState). KnowsNone x.hub) (sym step.1) had
-none_event shape u t l (Pokes B at bytes) of_queue finds step counts had = subst (λ (x : NetLaneState). KnowsNone x.hub) (sym step.1) had
-none_event shape u t l (Declines d) of_queue finds step counts had = subst (λ (x : NetLaneState). KnowsNone x.hub) (sym step.1) had
+none_event shape u t l _ of_queue finds step counts had = subst (λ (x : NetLaneState). KnowsNone x.hub) (sym step.1) had
 
 -- A GUEST that is given a frame, or joins a group
 given_talk : (s : NetEndState) (given : Given) (t hub : NetEndState) (client server : List Turn) (p : NetSession) → NetGives s given t → (s.session ≡ Some p → Between s hub client server p) → t.session ≡ Some p → Between t hub client server p
@@ -164,41 +146,11 @@ pub record KeptTalk (shape : NetShape) (s : PortState) (l : PortLog) : Type 0 wh
   pub nothing : l.wire.forged ≡ false → KnowsNone s.lane.hub
   pub talk : l.wire.forged ≡ false → TalkStands s.lane l
 
-moves_talk : (b : Bool) (queue : List (List ℕ)) (s : PortState) (l : PortLog) → TalkStands s.lane l → TalkStands (moves_first b queue s).lane l
-moves_talk true [] s l talk = talk
-moves_talk true (frame ∷ frames) s l talk = λ p up other some. talk p up other some
-moves_talk false queue s l talk = talk
-
 pub before_talk : (event : NetEvent) (s : PortState) (l : PortLog) → TalkStands s.lane l → TalkStands (before event s).lane l
-before_talk (Steps B answer) s l talk = moves_talk (takes_more s.lane.hub) s.queue s l talk
-before_talk (Steps A answer) s l talk = talk
-before_talk (Asked e lost) s l talk = talk
-before_talk (Ticked queued lost) s l talk = talk
-before_talk (CalmTick queued) s l talk = talk
-before_talk (Gives e given) s l talk = talk
-before_talk (Joins joining) s l talk = talk
-before_talk (Loses e packet) s l talk = talk
-before_talk (Injects e packet) s l talk = talk
-before_talk (Pokes e at bytes) s l talk = talk
-before_talk (Declines d) s l talk = talk
-
-moves_none : (b : Bool) (queue : List (List ℕ)) (s : PortState) → KnowsNone s.lane.hub → KnowsNone (moves_first b queue s).lane.hub
-moves_none true [] s had = had
-moves_none true (frame ∷ frames) s had = had
-moves_none false queue s had = had
+before_talk event s l talk = before_keeps (λ (x : PortState). TalkStands x.lane l) event s (λ frame frames p up other some. talk p up other some) talk
 
 before_none : (event : NetEvent) (s : PortState) → KnowsNone s.lane.hub → KnowsNone (before event s).lane.hub
-before_none (Steps B answer) s had = moves_none (takes_more s.lane.hub) s.queue s had
-before_none (Steps A answer) s had = had
-before_none (Asked e lost) s had = had
-before_none (Ticked queued lost) s had = had
-before_none (CalmTick queued) s had = had
-before_none (Gives e given) s had = had
-before_none (Joins joining) s had = had
-before_none (Loses e packet) s had = had
-before_none (Injects e packet) s had = had
-before_none (Pokes e at bytes) s had = had
-before_none (Declines d) s had = had
+before_none event s had = before_keeps (λ (x : PortState). KnowsNone x.lane.hub) event s (λ frame frames. had) had
 
 talk_step : (shape : NetShape) → IsNetShape shape → (s : PortState) (l : PortLog) (event : PortEvent) (t : PortState) → KeptTalk shape s l → PortStep s event t → KeptTalk shape t (after l event)
 talk_step shape is s l (OnLane event) t had step =

@@ -11,6 +11,7 @@ use Rattle.port_model.specs.NetEndState.{GroupsReply, NetSession}
 use Rattle.port_model.specs.Spoken.{addresses_of}
 use Rattle.port_laws.specs.NetCore.{one_if}
 use Rattle.port_laws.proofs.Outbox.{EachFits, EachTells, MessageFits, SaysGroups, SaysRange, TellsSome, count-append, count_groups, fits_more, is_groups, none_tells, tells_more}
+use Rattle.port_laws.proofs.EndMoves.{one_most}
 
 -- an answer that the switch's end owes agrees, and has the addresses of a message
 pub record ReplyAgrees (r : GroupsReply) : Type 0 where
@@ -37,9 +38,6 @@ pub record TalkIn (sid : ℕ) (groups : List (List ℕ)) (p : NetSession) (asks 
   pub front : known ≡ take (length known) groups
   pub reply : RepliesAgree (reply_in session)
   pub quiet : p.reply ≡ None
-
-none_in : (m : List ℕ) → count_groups (m ∷ []) ≡ 0 → one_if (is_groups m) ≡ 0
-none_in m none = omega (arith, none)
 
 known_few : (groups known : List (List ℕ)) → known ≡ take (length known) groups → length known ≤ length groups
 known_few groups known front =
@@ -79,10 +77,6 @@ guest_tells sid groups p q asks answers session known m says tells before now re
     }
 
 -- it hears what comes first
-one_most : (b : Bool) → one_if b ≤ 1
-one_most true = omega arith
-one_most false = omega arith
-
 told_now : (b was now : Bool) (rest : ℕ) → rest + one_if b ≡ one_if was → (b ≡ true → now ≡ false) → (b ≡ false → now ≡ was) → rest ≡ one_if now
 told_now true was now rest is told same = omega (arith, is, one_most was, ap one_if (told refl))
 told_now false was now rest is told same = omega (arith, is, ap one_if (same refl))

@@ -18,18 +18,12 @@ use Rattle.port_laws.proofs.SessionsHeard.{Grown}
 
 -- LISTS
 info_more : (k : Spoken) (message : List ℕ) (rest more : List (List ℕ)) → info_first k message (rest ++ more) ≡ info_first k message rest ++ more
-info_more RangeInfo message rest more = refl
-info_more RangeAck message rest more = refl
 info_more GroupsInfo message rest more = refl
-info_more GroupsAck message rest more = refl
-info_more Other message rest more = refl
+info_more _ message rest more = refl
 
 ack_more : (k : Spoken) (message : List ℕ) (rest more : List (List ℕ)) → ack_first k message (rest ++ more) ≡ ack_first k message rest ++ more
-ack_more RangeInfo message rest more = refl
-ack_more RangeAck message rest more = refl
 ack_more GroupsInfo message rest more = refl
-ack_more GroupsAck message rest more = refl
-ack_more Other message rest more = refl
+ack_more _ message rest more = refl
 
 pub infos-append : (xs ys : List (List ℕ)) → infos_in (xs ++ ys) ≡ infos_in xs ++ infos_in ys
 infos-append [] ys = refl
@@ -61,13 +55,6 @@ pub record Plain (messages : List (List ℕ)) : Type 0 where
   pub infos : infos_in messages ≡ []
   pub acks : acks_in messages ≡ []
   pub low : EachLow messages
-
-pub plain_front : (xs ys : List (List ℕ)) → Plain (xs ++ ys) → Plain xs
-plain_front xs ys plain = record {
-  infos = (both_none (infos_in xs) (infos_in ys) (sym (infos-append xs ys) ∙ plain.infos)).0;
-  acks = (both_none (acks_in xs) (acks_in ys) (sym (acks-append xs ys) ∙ plain.acks)).0;
-  low = low_front xs ys plain.low;
-}
 
 pub plain_rest : (xs ys : List (List ℕ)) → Plain (xs ++ ys) → Plain ys
 plain_rest xs ys plain = record {

@@ -21,19 +21,8 @@ use Rattle.port_laws.proofs.WayMoves.{Plain}
 -- THE HANDSHAKE'S MESSAGES
 place_other : (d : Deal) (n : Place) → spoken (bytes_at d n) ≡ Other
 unfolding canonical
-place_other d VersionSaid = refl
-place_other d VersionAnswered = refl
-place_other d AttributesSaid = refl
 place_other d AttributesAnswered = refl
-place_other d RingSaid = refl
-place_other d RingAnswered = refl
-place_other d PeerRingSaid = refl
-place_other d PeerRingAnswered = refl
-place_other d ReadySaid = refl
-place_other d ReadyAnswered = refl
-place_other d PeerReadySaid = refl
-place_other d PeerReadyAnswered = refl
-place_other d AllSaid = refl
+place_other d _ = refl
 
 place_low : (d : Deal) (n : Place) → envelope_at (bytes_at d n) < 0x0042
 unfolding canonical

@@ -20,8 +20,8 @@ use Rattle.channel_laws.specs.Sides.{sides_of, swapped}
 use Rattle.port_model.proofs.Refuting.{none_some, true_false}
 use Rattle.port_model.specs.EndLog.{EndLog, SessionLog, change, opened_log}
 use Rattle.port_model.specs.NetEndState.{NetSession}
-use Rattle.port_model.specs.NetEndStep.{BadLength, Blocked, Frame, Full, Given, Idle, Joined, NetAnswer, NetLeft, Published, Queued, Reset, Sent, Took}
-use Rattle.port_model.specs.NetEvent.{Asked, CalmTick, Declines, Gives, Injects, Joins, Loses, NetEvent, Pokes, Steps, Ticked, on_wire}
+use Rattle.port_model.specs.NetEndStep.{Blocked, Frame, Given, Idle, Joined, NetAnswer, NetLeft, Published, Queued, Reset, Sent, Took}
+use Rattle.port_model.specs.NetEvent.{Asked, Gives, Injects, Loses, NetEvent, Pokes, Steps, Ticked, on_wire}
 use Rattle.port_model.specs.NetLaneState.{IsNetShape, NetLaneState, NetShape, memory_of, net_end, reach_of, role_at, seen_at}
 use Rattle.port_model.specs.NetLaneStep.{EndSteps, NetLaneStep, moved_on}
 use Rattle.port_model.specs.PortLog.{PortLog, after, after_answer, after_given, log_of_end, no_events}
@@ -121,14 +121,9 @@ fits_at shape e u t l answer left v acts other is front = by_answer answer acts 
     by_answer (Reset cause packet lost) moves ahead = tt
 
 pub goes_theirs : (answer : NetAnswer) (x y : ChannelState) → Goes answer → theirs_now answer x y ≡ y
-goes_theirs (Took packet opens) x y goes = refl
-goes_theirs (Sent packet opens) x y goes = refl
-goes_theirs Blocked x y goes = refl
-goes_theirs Idle x y goes = refl
-goes_theirs (Published id) x y goes = refl
-goes_theirs (Frame frame) x y goes = refl
 goes_theirs (Joined lost) x y goes = absurd goes
 goes_theirs (Reset cause packet lost) x y goes = absurd goes
+goes_theirs _ x y goes = refl
 
 pub peer_was_up : (shape : NetShape) (e : End) (u t : PortState) (l : PortLog) (answer : NetAnswer) (left : NetLeft) → Acts shape e u t l answer left → Goes answer → state_of (peer_of e) t.lane.wire.wire ≡ Up
     → state_of (peer_of e) u.lane.wire.wire ≡ Up
@@ -140,12 +135,7 @@ peer_was_up shape e u t l answer left acts goes up =
 pub guest_goes : (slots : ℕ) (turns : List Turn) (answer : NetAnswer) (l : EndLog) → (after_answer slots turns answer l).session ≢ None → Goes answer
 guest_goes slots turns (Joined lost) l some = absurd (some refl)
 guest_goes slots turns (Reset cause packet lost) l some = absurd (some refl)
-guest_goes slots turns (Took packet opens) l some = tt
-guest_goes slots turns (Sent packet opens) l some = tt
-guest_goes slots turns Blocked l some = tt
-guest_goes slots turns Idle l some = tt
-guest_goes slots turns (Published id) l some = tt
-guest_goes slots turns (Frame frame) l some = tt
+guest_goes slots turns _ l some = tt
 
 none_change : (f : SessionLog → SessionLog) (log : Option SessionLog) → log ≡ None → change f log ≡ None
 none_change f log is = ap (change f) is
@@ -155,13 +145,9 @@ pub opening_sent : (slots : ℕ) (turns : List Turn) (answer : NetAnswer) (l : E
     → 6 ≤ length (said (turns_now answer turns)) → (packet : List ℕ) × (answer ≡ Sent packet true)
 opening_sent slots turns (Sent packet true) l none some few many = (packet, refl)
 opening_sent slots turns (Sent packet false) l none some few many = absurd (some (none_change _ l.session none))
-opening_sent slots turns (Took packet opens) l none some few many = absurd (omega (arith, few, many))
-opening_sent slots turns Blocked l none some few many = absurd (omega (arith, few, many))
-opening_sent slots turns Idle l none some few many = absurd (omega (arith, few, many))
-opening_sent slots turns (Published id) l none some few many = absurd (omega (arith, few, many))
-opening_sent slots turns (Frame frame) l none some few many = absurd (omega (arith, few, many))
 opening_sent slots turns (Joined lost) l none some few many = absurd (some refl)
 opening_sent slots turns (Reset cause packet lost) l none some few many = absurd (some refl)
+opening_sent slots turns _ l none some few many = absurd (omega (arith, few, many))
 
 pub hub_none : (shape : NetShape) (u : PortState) (l : PortLog) → Finds shape u l → IsUp B u.lane.wire.wire → l.guest.session ≡ None → l.hub.session ≡ None
 hub_none shape u l finds up none = by_log l.hub.session refl
@@ -279,23 +265,15 @@ hub_plain shape u t l answer left acts goes up none = by_log then_.hub.session r
 
     heard_short : (given : NetAnswer) → length (heard l.transcript.server) ≤ 5 → length (heard (turns_now given l.transcript.server)) ≤ 6
     heard_short (Took packet opens) few = omega (arith, few, grown_most _ (heard l.transcript.server) (heard (Heard packet ∷ l.transcript.server)) (heard_grown l.transcript.server packet))
-    heard_short (Sent packet opens) few = omega (arith, few)
-    heard_short Blocked few = omega (arith, few)
-    heard_short Idle few = omega (arith, few)
-    heard_short (Published id) few = omega (arith, few)
-    heard_short (Frame frame) few = omega (arith, few)
     heard_short (Joined lost) few = omega arith
     heard_short (Reset cause packet lost) few = omega arith
+    heard_short _ few = omega (arith, few)
 
     said_same : (given : NetAnswer) → length (heard l.transcript.server) ≤ 5 → 6 ≤ length (heard (turns_now given l.transcript.server)) → Plain (said (turns_now given l.transcript.server))
-    said_same (Took packet opens) few many = was.said_plain
     said_same (Sent packet opens) few many = absurd (omega (arith, few, many))
-    said_same Blocked few many = was.said_plain
-    said_same Idle few many = was.said_plain
-    said_same (Published id) few many = was.said_plain
-    said_same (Frame frame) few many = was.said_plain
     said_same (Joined lost) few many = absurd (omega (arith, many))
     said_same (Reset cause packet lost) few many = absurd (omega (arith, many))
+    said_same _ few many = was.said_plain
 
     by_log : (log : Option SessionLog) → then_.hub.session ≡ log → ClosedFits l.transcript.server l.transcript.client answer
     by_log None is =
@@ -322,12 +300,7 @@ guest_open_up shape u l finds up some =
 pub hub_goes : (answer : NetAnswer) (x y : ChannelState) → (y ≡ Up → x ≡ Up) → theirs_now answer x y ≡ Up → Goes answer
 hub_goes (Joined lost) x y means up = let both = peer_up x y up in absurd (both.0 (means both.1))
 hub_goes (Reset cause packet lost) x y means up = let both = peer_up x y up in absurd (both.0 (means both.1))
-hub_goes (Took packet opens) x y means up = tt
-hub_goes (Sent packet opens) x y means up = tt
-hub_goes Blocked x y means up = tt
-hub_goes Idle x y means up = tt
-hub_goes (Published id) x y means up = tt
-hub_goes (Frame frame) x y means up = tt
+hub_goes _ x y means up = tt
 
 hub_ways : (shape : NetShape) (u t : PortState) (l : PortLog) (answer : NetAnswer) (left : NetLeft) → Acts shape B u t l answer left → WaysStand u.lane l
     → WaysStand t.lane (after l (OnLane (Steps B answer)))
@@ -387,8 +360,7 @@ never_alone shape u l X finds some up =
 
 given_same : (given : Given) (l : EndLog) → (after_given given l).session ≡ l.session
 given_same (Queued id frame) l = refl
-given_same (Full frame) l = refl
-given_same (BadLength frame) l = refl
+given_same _ l = refl
 
 pub acts_of : (shape : NetShape) (e : End) (u t : PortState) (l : PortLog) (answer : NetAnswer) → Finds shape u l → (step : EndSteps e u.lane answer t.lane)
     → PortCounts shape t (after l (OnLane (Steps e answer))) → PortTalks shape (lane_core t.lane) (after l (OnLane (Steps e answer))) → Acts shape e u t l answer step.left
@@ -402,23 +374,17 @@ lane_ways shape u t l (Asked A lost) of_queue finds step clean counts talks ways
 lane_ways shape u t l (Asked B lost) of_queue finds step clean counts talks ways =
     λ up other some. never_alone shape u l _ finds some (sym (ap (λ (x : NetLaneState). x.wire.wire.end_a) step.1) ∙ up)
 lane_ways shape u t l (Ticked queued lost) of_queue finds step clean counts talks ways = λ up other some. absurd (some refl)
-lane_ways shape u t l (CalmTick queued) of_queue finds step clean counts talks ways =
-    λ up other some. ways (sym (ap (λ (x : NetLaneState). x.wire.wire.end_a) step.1) ∙ up) (sym (ap (λ (x : NetLaneState). x.wire.wire.end_b) step.1) ∙ other) some
 lane_ways shape u t l (Gives A given) of_queue finds step clean counts talks ways =
     λ up other some.
     subst (λ (o : Option SessionLog). Ways l.shape.slots (said l.transcript.client) (heard l.transcript.client) (said l.transcript.server) (heard l.transcript.server) (or_new o) (or_new l.hub.session))
     (sym (given_same given l.guest))
     (ways (sym (ap (λ (x : NetLaneState). x.wire.wire.end_a) step.1) ∙ up) (sym (ap (λ (x : NetLaneState). x.wire.wire.end_b) step.1) ∙ other) (λ none. some (given_same given l.guest ∙ none)))
 lane_ways shape u t l (Gives B given) of_queue finds step clean counts talks ways = absurd of_queue
-lane_ways shape u t l (Joins joining) of_queue finds step clean counts talks ways =
-    λ up other some. ways (sym (ap (λ (x : NetLaneState). x.wire.wire.end_a) step.1) ∙ up) (sym (ap (λ (x : NetLaneState). x.wire.wire.end_b) step.1) ∙ other) some
 lane_ways shape u t l (Loses A packet) of_queue finds step clean counts talks ways =
-    λ up other some. ways (sym (ap (λ (x : NetLaneState). x.wire.wire.end_a) step.1) ∙ up) (sym (ap (λ (x : NetLaneState). x.wire.wire.end_b) step.1) ∙ other) some
-lane_ways shape u t l (Loses B packet) of_queue finds step clean counts talks ways =
     λ up other some. ways (sym (ap (λ (x : NetLaneState). x.wire.wire.end_a) step.1) ∙ up) (sym (ap (λ (x : NetLaneState). x.wire.wire.end_b) step.1) ∙ other) some
 lane_ways shape u t l (Injects e packet) of_queue finds step clean counts talks ways = true_false clean
 lane_ways shape u t l (Pokes e at bytes) of_queue finds step clean counts talks ways = true_false clean
-lane_ways shape u t l (Declines d) of_queue finds step clean counts talks ways =
+lane_ways shape u t l _ of_queue finds step clean counts talks ways =
     λ up other some. ways (sym (ap (λ (x : NetLaneState). x.wire.wire.end_a) step.1) ∙ up) (sym (ap (λ (x : NetLaneState). x.wire.wire.end_b) step.1) ∙ other) some
 
 -- ALONG EVERY RUN

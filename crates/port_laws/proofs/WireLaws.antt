@@ -15,8 +15,8 @@ use Rattle.channel_laws.specs.CoreLog as core
 use Rattle.channel_laws.specs.LaneCore.{end_of, role_of, transcript_behind}
 use Rattle.channel_laws.proofs.OpeningOrder.{opens_hearing, opens_saying}
 use Rattle.port_model.specs.FrameLaws.{OpeningsAt}
-use Rattle.port_model.specs.NetEndStep.{Blocked, Frame, Idle, Joined, Published, Reset, Sent, Took}
-use Rattle.port_model.specs.NetEvent.{Asked, CalmTick, Declines, Gives, Injects, Joins, Loses, Pokes, Steps, Ticked, on_wire}
+use Rattle.port_model.specs.NetEndStep.{Sent, Took}
+use Rattle.port_model.specs.NetEvent.{Steps, on_wire}
 use Rattle.port_model.specs.NetLaneState.{IsNetShape, NetShape, role_at}
 use Rattle.port_model.specs.Offers.{port_offer}
 use Rattle.port_model.specs.PortLog.{PortLog, after, no_events}
@@ -105,22 +105,7 @@ opens_at : (shape : NetShape) (is : IsNetShape shape) (events : List PortEvent) 
     → OpeningsAt (log_of after (no_events shape) events) event
 opens_at shape is events s (OnLane (Steps e (Sent packet opens))) t run step = says_order shape events s e packet opens t is run step
 opens_at shape is events s (OnLane (Steps e (Took packet opens))) t run step = hears_order shape events s e packet opens t is run step
-opens_at shape is events s (OnLane (Steps e (Joined lost))) t run step = tt
-opens_at shape is events s (OnLane (Steps e Blocked)) t run step = tt
-opens_at shape is events s (OnLane (Steps e Idle)) t run step = tt
-opens_at shape is events s (OnLane (Steps e (Published id))) t run step = tt
-opens_at shape is events s (OnLane (Steps e (Frame frame))) t run step = tt
-opens_at shape is events s (OnLane (Steps e (Reset cause packet lost))) t run step = tt
-opens_at shape is events s (OnLane (Asked e lost)) t run step = tt
-opens_at shape is events s (OnLane (Ticked queued lost)) t run step = tt
-opens_at shape is events s (OnLane (CalmTick queued)) t run step = tt
-opens_at shape is events s (OnLane (Gives e given)) t run step = tt
-opens_at shape is events s (OnLane (Joins joining)) t run step = tt
-opens_at shape is events s (OnLane (Loses e packet)) t run step = tt
-opens_at shape is events s (OnLane (Injects e packet)) t run step = tt
-opens_at shape is events s (OnLane (Pokes e at bytes)) t run step = tt
-opens_at shape is events s (OnLane (Declines d)) t run step = tt
-opens_at shape is events s (Receives frame) t run step = tt
+opens_at shape is events s _ t run step = tt
 
 pub port_opens : (shape : NetShape) (events : List PortEvent) (s : PortState) → IsNetShape shape → Run PortStep (fresh_port shape) events s
     → Lawful OpeningsAt after (no_events shape) events

@@ -13,26 +13,23 @@ use Rattle.vio_tag.specs.declared.message.Message.{Message}
 use Rattle.channel_model.specs.EndPuts.{handshake_behind}
 use Rattle.channel_model.specs.Seeing.{Seen}
 use Rattle.cookie_copy.specs.Reach.{Reach}
-use Rattle.port_model.specs.Fetching.{Fetched, IsFrame, NotReady, Refuses, fetched}
+use Rattle.port_model.specs.Fetching.{Fetched, NotReady, fetched}
 use Rattle.port_model.specs.FramesStand.{CountsStand, FramesStand}
 use Rattle.port_model.specs.NetEndPutting.{answer, announcement, answers, groups_answer, holding, holding_own, net_holds, net_kind, net_opens, net_put, opened_by_put}
 use Rattle.port_model.specs.Groups.{membership}
-use Rattle.port_model.specs.NetEndRule.{Announces, Fetches, Idles, Joins, NetRule, Publishes, Puts, Replies, Says, Takes, Tells, port_rule}
+use Rattle.port_model.specs.NetEndRule.{Announces, Fetches, NetRule, Publishes, Puts, Replies, Says, Tells, port_rule}
 use Rattle.port_model.specs.NetEndState.{Activity, NetEndState, NetSession, fresh_net_end, joined_net_end, unseen, unseen_in, with_frame}
 use Rattle.port_model.specs.NetEndStep.{Already, BadLength, Blocked, Frame, Full, Given, GroupsFull, Idle, Joined, Joining, Member, NetAnswer, NetEndStep, NetGives, NetJoins, NetLeft, Published, Queued, Reset, Sent, Took, untold}
-use Rattle.port_model.specs.NetEvent.{Asked, CalmTick, Declines, Gives, Injects, Joins as JoinsGroup, Loses, NetEvent, Pokes, Steps, Ticked}
+use Rattle.port_model.specs.NetEvent.{Asked, Gives, Injects, Joins as JoinsGroup, NetEvent, Pokes, Steps, Ticked}
 use Rattle.port_model.specs.NetLaneState.{NetLaneState, fresh_net, net_end}
 use Rattle.port_model.specs.NetLaneStep.{NetLaneStep, Resets}
 use Rattle.port_model.specs.NetReached.{NetReached}
 use Rattle.port_model.specs.RuleFacts.{IfOpen}
 use Rattle.port_model.proofs.FramesTaken.{opened_stands, stands_with, taken_stands, with_stands}
 use Rattle.port_model.proofs.Ruling.{says_of}
-use Rattle.port_model.proofs.Refuting.{none_some, true_false}
+use Rattle.port_model.proofs.Refuting.{none_some, of_some, true_false}
 
 -- what holds of one value holds of the other that the same `Some` has
-of_some : {X : Type 0} (P : X → Type 0) (x y : X) → Some x ≡ Some y → P x → P y
-of_some {X} P x y same holds = let is : x ≡ y = cc in subst P is holds
-
 -- IT BEGINS ANEW
 pub held_in : (s : NetEndState) (session : Option NetSession) → s.session ≡ session → FramesStand s → unseen session ≤ length s.frames
 held_in s None is stands = omega arith
@@ -61,9 +58,7 @@ answers_stands : (s : NetEndState) (p : NetSession) (activity : Activity) (last 
     → answers s p activity last found ≡ Some held → FramesStand held
 answers_stands s p activity (Some last) (NotReady state) held stands is same =
     of_some FramesStand _ held same (own_stands s (answer s activity last) p (record p { active = None }) stands is refl refl refl refl refl)
-answers_stands s p activity (Some last) (IsFrame frame new) held stands is same = none_some held same
-answers_stands s p activity (Some last) (Refuses why) held stands is same = none_some held same
-answers_stands s p activity None found held stands is same = none_some held same
+answers_stands s p activity _ _ held stands is same = none_some held same
 
 announces_stands : (s : NetEndState) (p : NetSession) → FramesStand s → s.session ≡ Some p → p.seen < p.published → p.asking ≡ false
     → FramesStand (holding_own (announcement s p) (record p { infos = p.infos + 1; asking = true }) s)
@@ -94,10 +89,7 @@ holds_stands role s at r (Tells p) held stands is same =
 holds_stands role s at r (Announces p) held stands is same =
     let says = says_of role s at (Announces p) is in
     of_some FramesStand _ held same (announces_stands s p stands says.0.in_session.session says.1 says.2)
-holds_stands role s at r Joins held stands is same = none_some held same
-holds_stands role s at r (Takes packet) held stands is same = none_some held same
-holds_stands role s at r (Publishes p frame) held stands is same = none_some held same
-holds_stands role s at r Idles held stands is same = none_some held same
+holds_stands role s at r _ held stands is same = none_some held same
 
 opened_put_stands : (role : Role) (opens : Bool) (s : NetEndState) → FramesStand s → FramesStand (opened_by_put role opens s)
 opened_put_stands Initiator true s stands = opened_stands s stands
@@ -190,15 +182,12 @@ event_stands s (Steps A answer) t step stands = subst BothStand (sym step.is) (s
 event_stands s (Steps B answer) t step stands = subst BothStand (sym step.is) (stands.0, step_stands Responder s.hub _ s.hub_memory _ answer step.left stands.1 step.step)
 event_stands s (Asked e lost) t step stands = resets_stand e (Asked e lost) s lost t stands step
 event_stands s (Ticked queued lost) t step stands = resets_stand A (Ticked queued lost) s lost t stands step.1
-event_stands s (CalmTick queued) t step stands = subst BothStand (sym step.1) stands
 event_stands s (Gives A given) t step stands = subst BothStand (sym step.1) (gives_stands s.guest given t.guest stands.0 step.0, stands.1)
 event_stands s (Gives B given) t step stands = subst BothStand (sym step.1) (stands.0, gives_stands s.hub given t.hub stands.1 step.0)
 event_stands s (JoinsGroup joining) t step stands = subst BothStand (sym step.1) (joins_stands s.guest joining t.guest stands.0 step.0, stands.1)
-event_stands s (Loses e packet) t step stands = subst BothStand (sym step.1) stands
 event_stands s (Injects e packet) t step stands = subst BothStand (sym step.2) stands
 event_stands s (Pokes A at bytes) t step stands = subst BothStand (sym step.1) stands
-event_stands s (Pokes B at bytes) t step stands = subst BothStand (sym step.1) stands
-event_stands s (Declines d) t step stands = subst BothStand (sym step.1) stands
+event_stands s _ t step stands = subst BothStand (sym step.1) stands
 
 -- EVERY RUN
 pub fresh_stands : (role : Role) (address : List ℕ) (slots : ℕ) → FramesStand (fresh_net_end role address slots)

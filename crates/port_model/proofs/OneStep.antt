@@ -73,25 +73,17 @@ slot_held : (role : Role) (room : Bool) (s : NetEndState) (memory : List ℕ) (r
     → answers s p activity last found ≡ Some held → HeldComes role room s memory reach held o → SlotComes role room s memory reach p activity last found o
 slot_held role room s memory reach p activity (Some last) (NotReady state) held o same comes =
     of_some (λ (x : NetEndState). HeldComes role room s memory reach x o) (holding_own (answer s activity last) (record p { active = None }) s) held same comes
-slot_held role room s memory reach p activity None (NotReady state) held o same comes = none_some held same
-slot_held role room s memory reach p activity (Some last) (IsFrame frame new) held o same comes = none_some held same
-slot_held role room s memory reach p activity None (IsFrame frame new) held o same comes = none_some held same
-slot_held role room s memory reach p activity (Some last) (Refuses why) held o same comes = none_some held same
-slot_held role room s memory reach p activity None (Refuses why) held o same comes = none_some held same
+slot_held role room s memory reach p activity _ _ held o same comes = none_some held same
 
 rule_held : (role : Role) (rule : NetRule) (s : NetEndState) (at : Seen) (memory : List ℕ) (reach : Reach) (held : NetEndState) (o : Outcome)
     → net_holds rule s reach ≡ Some held → HeldComes role at.room s memory reach held o → RuleComes role rule s at memory reach o
-rule_held role Puts s at memory reach held o same comes = (held, same, comes)
-rule_held role (Says message) s at memory reach held o same comes = (held, same, comes)
-rule_held role (Replies p reply) s at memory reach held o same comes = (held, same, comes)
-rule_held role (Tells p) s at memory reach held o same comes = (held, same, comes)
-rule_held role (Announces p) s at memory reach held o same comes = (held, same, comes)
 rule_held role (Fetches p activity) s at memory reach held o same comes =
     slot_held role at.room s memory reach p activity activity.last (fetched s reach p.place) held o same comes
 rule_held role Joins s at memory reach held o same comes = none_some held same
 rule_held role (Takes packet) s at memory reach held o same comes = none_some held same
 rule_held role (Publishes p frame) s at memory reach held o same comes = none_some held same
 rule_held role Idles s at memory reach held o same comes = none_some held same
+rule_held role _ s at memory reach held o same comes = (held, same, comes)
 
 slot_fails : (role : Role) (room : Bool) (s : NetEndState) (memory : List ℕ) (reach : Reach) (p : NetSession) (activity : Activity) (last : Option ℕ) (found : Fetched) (cause : Cause) (o : Outcome)
     → activity.last ≡ last → FetchFails found activity p.place cause → o ≡ fails role s memory reach cause None → SlotComes role room s memory reach p activity last found o
@@ -107,14 +99,7 @@ rule_fails role (Takes bytes) s at memory reach cause packet o because comes =
 rule_fails role (Fetches p activity) s at memory reach cause packet o because comes =
     slot_fails role at.room s memory reach p activity activity.last (fetched s reach p.place) cause o refl because.1
     (comes ∙ ap (λ (x : Option (List ℕ)). fails role s memory reach cause x) because.0)
-rule_fails role Joins s at memory reach cause packet o because comes = absurd because
-rule_fails role Puts s at memory reach cause packet o because comes = absurd because
-rule_fails role (Says message) s at memory reach cause packet o because comes = absurd because
-rule_fails role (Replies p reply) s at memory reach cause packet o because comes = absurd because
-rule_fails role (Tells p) s at memory reach cause packet o because comes = absurd because
-rule_fails role (Publishes p frame) s at memory reach cause packet o because comes = absurd because
-rule_fails role (Announces p) s at memory reach cause packet o because comes = absurd because
-rule_fails role Idles s at memory reach cause packet o because comes = absurd because
+rule_fails role _ s at memory reach cause packet o because comes = absurd because
 
 room_held : (role : Role) (room : Bool) (s : NetEndState) (memory : List ℕ) (reach : Reach) (held : NetEndState) (bytes : List ℕ) (link : LinkState) (opens : Bool) (t : NetLeft)
     → room ≡ true → PutsPacket held.link bytes link → opens ≡ net_opens held
@@ -216,17 +201,15 @@ slot_once role room s memory reach p activity last (Refuses why) o u comes also 
 
 rule_once : (role : Role) (rule : NetRule) (s : NetEndState) (at : Seen) (memory : List ℕ) (reach : Reach) (o u : Outcome)
     → RuleComes role rule s at memory reach o → RuleComes role rule s at memory reach u → o ≡ u
-rule_once role Joins s at memory reach o u comes also = comes ∙ sym also
 rule_once role (Takes packet) s at memory reach o u comes also =
     comes.2 ∙ ap (took role s memory reach packet) (takes_once role s memory packet comes.0 also.0 comes.1 also.1) ∙ sym also.2
 rule_once role (Fetches p activity) s at memory reach o u comes also = slot_once role at.room s memory reach p activity activity.last (fetched s reach p.place) o u comes also
-rule_once role (Publishes p frame) s at memory reach o u comes also = comes ∙ sym also
-rule_once role Idles s at memory reach o u comes also = comes ∙ sym also
 rule_once role Puts s at memory reach o u comes also = holds_once role at.room Puts s memory reach comes.0 also.0 o u comes.1 also.1 comes.2 also.2
 rule_once role (Says message) s at memory reach o u comes also = holds_once role at.room (Says message) s memory reach comes.0 also.0 o u comes.1 also.1 comes.2 also.2
 rule_once role (Replies p reply) s at memory reach o u comes also = holds_once role at.room (Replies p reply) s memory reach comes.0 also.0 o u comes.1 also.1 comes.2 also.2
 rule_once role (Tells p) s at memory reach o u comes also = holds_once role at.room (Tells p) s memory reach comes.0 also.0 o u comes.1 also.1 comes.2 also.2
 rule_once role (Announces p) s at memory reach o u comes also = holds_once role at.room (Announces p) s memory reach comes.0 also.0 o u comes.1 also.1 comes.2 also.2
+rule_once role _ s at memory reach o u comes also = comes ∙ sym also
 
 -- two steps of one state have one answer, and leave the same
 pub step_once : (role : Role) (s : NetEndState) (at : Seen) (memory : List ℕ) (reach : Reach) (one other : NetAnswer) (t u : NetLeft)

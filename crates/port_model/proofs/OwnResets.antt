@@ -29,7 +29,7 @@ use Rattle.channel_model.proofs.OwnCauses.{IsOwn, OwnLink, link_own}
 use Rattle.channel_model.proofs.OwnMessages.{OwnFault, OwnHandshake, handshake_own, sid_own}
 use Rattle.port_model.specs.Fetching.{Fetched, IsFrame, NotReady, Refuses, copied, data_cookies, described, fetched, frame_fault, mark_fault, marked, read, slot_read, slots_cookies}
 use Rattle.port_model.specs.Groups.{groups_after}
-use Rattle.port_model.specs.NetEndRule.{Announces, Fetches, Idles, Joins, NetRule, Publishes, Puts, Replies, Says, Takes, Tells}
+use Rattle.port_model.specs.NetEndRule.{Fetches, NetRule, Takes}
 use Rattle.port_model.specs.NetEndState.{Activity, NetEndState, NetSession}
 use Rattle.port_model.specs.NetEndStep.{FetchFails, NetFails}
 use Rattle.port_model.specs.NetEndTaking.{GoesOn, HearsLink, HearsWhole, NetTake, NetTakes, Resets, by_handshake, ends_outside, first_undone, hears_message, in_session, opens_by_take, reads, refused, risen, sid_first, slot_state, takes_ack, takes_done, takes_groups, takes_info, takes_range, told}
@@ -168,11 +168,4 @@ net_resets_own role (Takes bytes) s memory r cause packet fails = takes_own role
 net_resets_own role (Fetches p activity) s memory r cause packet fails =
     fetch_own (fetched s r p.place) activity p.place cause
     (slot_own s r p.place (first_copy_fault r.both Read r.table (slots_cookies s) (64 * p.place) 64)) fails.1
-net_resets_own role Joins s memory r cause packet fails = absurd fails
-net_resets_own role Puts s memory r cause packet fails = absurd fails
-net_resets_own role (Says message) s memory r cause packet fails = absurd fails
-net_resets_own role (Replies p reply) s memory r cause packet fails = absurd fails
-net_resets_own role (Tells p) s memory r cause packet fails = absurd fails
-net_resets_own role (Publishes p frame) s memory r cause packet fails = absurd fails
-net_resets_own role (Announces p) s memory r cause packet fails = absurd fails
-net_resets_own role Idles s memory r cause packet fails = absurd fails
+net_resets_own role _ s memory r cause packet fails = absurd fails

@@ -4,7 +4,7 @@ use Rattle.std.specs.Prelude.{is_some, ◌+◌, ◌%◌}
 use Rattle.ldc_link.specs.declared.phase.LinkPhase.{LinkPhase}
 use Rattle.ldc_link.specs.declared.phase.LinkPhase.TheVariants as phase
 use Rattle.ldc_link.specs.declared.phase.Role.{Role}
-use Rattle.ldc_link.specs.declared.phase.Role.TheVariants.{Initiator, Responder}
+use Rattle.ldc_link.specs.declared.phase.Role.TheVariants.{Initiator}
 use Rattle.ldc_link.specs.LinkState.{LinkState, cleared, is_established, is_up, offered}
 use Rattle.ldc_link.specs.Putting.{behind_put, link_puts, owed_in, owed_packet, owes, with_link}
 use Rattle.ldc_link.specs.Taking.{Heard, LinkTake, Unheard, takes_decoded}
@@ -78,9 +78,8 @@ puts_step role s at memory reach held holds owing true room =
     })
   where
     opened_link : (role : Role) (opens : Bool) (s : NetEndState) → (opened_by_put role opens s).link ≡ s.link
-    opened_link Initiator true s = refl
     opened_link Initiator false s = refl
-    opened_link Responder opens s = refl
+    opened_link _ _ s = refl
 
     put_link : (role : Role) (held : NetEndState) → behind_put held.link ≡ (net_put role held).link
     put_link role held = sym (opened_link role (net_opens held) _)
