@@ -51,7 +51,8 @@ use Rattle.port_laws.proofs.MessageDoes.{Acks, Asks, Declines, MessageDoes, Name
 use Rattle.port_laws.proofs.PortCounts.{Ready}
 use Rattle.port_laws.proofs.MemoryRoom.{HasRoom}
 use Rattle.port_laws.proofs.ReadyFrames.{ready_most}
-use Rattle.port_laws.proofs.RemainingEnds.{counts_stand, held_slots, kind_shut, shut_none}
+use Rattle.port_laws.proofs.PutCounts.{not_some}
+use Rattle.port_laws.proofs.RemainingEnds.{held_slots, kind_shut}
 use Rattle.port_laws.proofs.RemainingFrames.{ready_falls}
 use Rattle.port_laws.proofs.RemainingReady.{cleared_none, freed_less, published_more}
 use Rattle.port_laws.proofs.RingActs.{Finds, step_now}
@@ -59,7 +60,7 @@ use Rattle.port_laws.proofs.RingEvents.{acts_up, mine_now}
 use Rattle.port_laws.proofs.RingRuns.{finds_before, port_kept}
 use Rattle.port_laws.proofs.RuleFrames.{end_acts}
 use Rattle.port_laws.proofs.RuleUnforged.{TakesPublished, takes_published}
-use Rattle.port_laws.proofs.StepCounts.{Acting}
+use Rattle.port_laws.proofs.StepCounts.{Acting, counts_stand}
 use Rattle.port_laws.proofs.TookWhat.{Fails, Opens, Reads, Stays, TookWhat, took_what}
 
 -- A GUEST THAT IS UP
@@ -120,7 +121,7 @@ sends_kept slots queue s l turns at memory reach packet opens t acting step =
     let core : HeldCore Initiator s held = held_core Initiator s at reach (port_rule Initiator s at) held acting.fits refl step.holds in
     let held_so = held_stands Initiator (net_core Initiator s) (net_core Initiator held) turns core.what acting.ends core.holds in
     let now : NetEndState = record held { link = behind_put held.link; handshake = handshake_behind (net_kind held) held.handshake } in
-    let shut : net_opens held ≡ true → held.session ≡ None = λ is. shut_none held.session (held_so.opened ∙ kind_shut (net_kind held) held.handshake is) in
+    let shut : net_opens held ≡ true → held.session ≡ None = λ is. not_some held.session (held_so.opened ∙ kind_shut (net_kind held) held.handshake is) in
     let slots_is : held.slots ≡ s.slots = held_slots s reach (port_rule Initiator s at) held step.holds in
     let put : own_untaken (cleared_by_put Initiator (net_opens held) s.slots memory) (net_put Initiator held) ≤ own_untaken memory held =
     subst (λ (n : ℕ). own_untaken (cleared_by_put Initiator (net_opens held) n memory) (net_put Initiator held) ≤ own_untaken memory held) slots_is (opened_kept (net_opens held) memory now shut) in

@@ -34,7 +34,7 @@ use Rattle.port_laws.specs.RingStands.{RingIn, taken_by, taken_in, taken_of}
 use Rattle.port_laws.proofs.EndCounting.{left_seen, open_counts, shut_counts}
 use Rattle.port_laws.proofs.LogsStand.{held_given}
 use Rattle.port_laws.proofs.PortCounts.{before_queue, before_wire, queue_of}
-use Rattle.port_laws.proofs.RemainingEnds.{counts_stand}
+use Rattle.port_laws.proofs.StepCounts.{counts_stand}
 use Rattle.port_laws.proofs.RingActs.{Acts, Finds, acts_shut, acts_up_at, goes_same, left_taken, open_both, ring_of_end, step_now}
 use Rattle.port_laws.proofs.RingEvents.{Goes, mine_now, peer_up, theirs_now, wire_now}
 use Rattle.port_laws.proofs.RingRuns.{Kept, finds_before, fresh_kept, kept_step, was_clean}

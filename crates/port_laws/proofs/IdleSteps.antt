@@ -17,7 +17,7 @@ use Rattle.port_model.specs.PortLog.{PortLog, after, no_events}
 use Rattle.port_model.specs.PortState.{OnLane, PortEvent, PortState, PortStep, fresh_port, moved, moves_first, takes_more}
 use Rattle.port_model.specs.RuleFacts.{IfOpen, MayListen}
 use Rattle.port_laws.proofs.PortCounts.{ready_before}
-use Rattle.port_laws.proofs.RemainingEnds.{counts_stand}
+use Rattle.port_laws.proofs.StepCounts.{counts_stand}
 use Rattle.port_laws.proofs.RingRuns.{port_kept}
 use Rattle.port_laws.proofs.RuleFrames.{end_stood}
 use Rattle.port_laws.proofs.RuleIdle.{past_end, rule_left}
