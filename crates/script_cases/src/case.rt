@@ -44,17 +44,23 @@ impl Case {
         let mut case = Case {
             lines: Vec::new(alloc),
         };
+        case.take_lines(alloc, text)?;
+        Ok(case)
+    }
+
+    /// Takes up the lines of this text.
+    fn take_lines(&mut self, alloc: Global, text: &str) -> Result<(), Fault> {
         for line in text.lines() {
             let (key, text) = line.split_once(' ').unwrap_or((line, ""));
             match key {
                 "" | "#" | "each" | "count" => {}
-                _ => case.take(alloc, key, text)?,
+                _ => self.take(alloc, key, text)?,
             }
         }
-        if !case.has("status") {
+        if !self.has("status") {
             return Err(Fault::Wrong("no status"));
         }
-        Ok(case)
+        Ok(())
     }
 
     /// Takes up a line.
@@ -125,16 +131,20 @@ impl Case {
 
     /// The words of the command.
     pub fn words(&self, alloc: Global) -> Result<Vec<String>, Fault> {
-        let mut words = Vec::new(alloc);
         if self.has("no-words") {
-            return Ok(words);
+            return Ok(Vec::new(alloc));
         }
-        let Some(text) = self.get("words") else {
-            return Err(Fault::Wrong("no words"));
-        };
-        for word in text.split(',') {
-            words.push(String::from_str(alloc, word)?)?;
+        match self.get("words") {
+            Some(text) => words_of(alloc, text),
+            None => Err(Fault::Wrong("no words")),
         }
-        Ok(words)
     }
+}
+
+fn words_of(alloc: Global, text: &str) -> Result<Vec<String>, Fault> {
+    let mut words = Vec::new(alloc);
+    for word in text.split(',') {
+        words.push(String::from_str(alloc, word)?)?;
+    }
+    Ok(words)
 }

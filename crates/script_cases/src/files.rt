@@ -1,7 +1,6 @@
 use crate::case::Case;
 use crate::fault::Fault;
 use crate::filling::{filled, numbers_of, values_of};
-use crate::looking::look_at;
 use crate::replaying::replay_case;
 use std::alloc::Global;
 use std::rt::Files;
@@ -10,7 +9,12 @@ use std::{fs, io};
 /// Runs the cases of a file, prints what differs, and answers how many ran.
 pub fn run_file<R: Files + Print + AllocGlobal>(rt: &R, file: &str) -> io::Result<u64> {
     let text = fs::read_to_string(rt, file)?;
-    let mut cases = text.as_str().split("\ncase ");
+    run_cases(rt, file, text.as_str())
+}
+
+/// Runs the cases of a file's text.
+fn run_cases<R: Print + AllocGlobal>(rt: &R, file: &str, text: &str) -> io::Result<u64> {
+    let mut cases = text.split("\ncase ");
     let head = cases.next().unwrap_or("");
     if !head.starts_with('#') {
         println!(rt; "{file}: no comment at its head")?;
@@ -50,21 +54,30 @@ fn run_numbers<R: Print + AllocGlobal>(
 ) -> io::Result<u64> {
     let mut count = 0u64;
     for number in numbers_of(text) {
-        if let Err(fault) = run_one(rt.alloc(), text, values, number) {
-            let values = values.unwrap_or("");
-            let fault = fault.text();
-            println!(rt; "{file}: {name} ({values}, {number}): {fault}")?;
+        match run_one(rt.alloc(), text, values, number) {
+            Ok(()) => {}
+            Err(fault) => print_fault(rt, file, name, values.unwrap_or(""), number, &fault)?,
         }
         count = count.saturating_add(1);
     }
     Ok(count)
 }
 
+fn print_fault<R: Print>(
+    rt: &R,
+    file: &str,
+    name: &str,
+    values: &str,
+    number: u32,
+    fault: &Fault,
+) -> io::Result<()> {
+    let fault = fault.text();
+    println!(rt; "{file}: {name} ({values}, {number}): {fault}")
+}
+
 /// Runs a case, and looks at what came of it.
 fn run_one(alloc: Global, text: &str, values: Option<&str>, number: u32) -> Result<(), Fault> {
     let text = filled(alloc, text, values, number)?;
     let case = Case::read(alloc, text.as_str())?;
-    let mut report = String::new(alloc);
-    let ended = replay_case(alloc, &case, &mut report)?;
-    look_at(alloc, &case, &ended, report.as_str())
+    replay_case(alloc, &case)
 }

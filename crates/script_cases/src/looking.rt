@@ -1,21 +1,38 @@
 use crate::case::Case;
 use crate::fault::Fault;
-use crate::replaying::Ended;
 use flat_store::MemStore;
+use ldom_replay::Outcome;
 use std::alloc::{AllocError, Global};
 use vio_io::Store;
 
 /// Compares what came of a case with what the case wants.
-pub fn look_at(alloc: Global, case: &Case, ended: &Ended, report: &str) -> Result<(), Fault> {
-    look_at_report(alloc, case, report)?;
-    look_at_number(alloc, case, "status", ended.status)?;
-    look_at_number(alloc, case, "journal", ended.entries)?;
-    let lanes = if ended.has_lanes { "given" } else { "none" };
+pub fn look_at(
+    alloc: Global,
+    case: &Case,
+    outcome: &Outcome<MemStore>,
+    report: &[u8],
+) -> Result<(), Fault> {
+    match str::from_utf8(report) {
+        Ok(report) => look_at_report(alloc, case, report)?,
+        Err(_) => return Err(Fault::Wrong("a report that is no text")),
+    }
+    let status = usize::from(outcome.status.number());
+    look_at_number(alloc, case, "status", status)?;
+    look_at_number(alloc, case, "journal", outcome.journal.len())?;
+    let lanes = if outcome.lanes.is_some() {
+        "given"
+    } else {
+        "none"
+    };
     look_at_word(alloc, case, "lanes", lanes)?;
-    if is_faulty(&ended.image) != case.has("faulty") {
+    look_at_image(alloc, case, &outcome.image)
+}
+
+fn look_at_image(alloc: Global, case: &Case, image: &Option<MemStore>) -> Result<(), Fault> {
+    if is_faulty(image) != case.has("faulty") {
         return Err(Fault::Wrong("an image failed, or one that should didn't"));
     }
-    let image = image_word(case.get("image").unwrap_or(""), &ended.image)?;
+    let image = image_word(case.get("image").unwrap_or(""), image)?;
     look_at_word(alloc, case, "image", image)
 }
 
@@ -38,17 +55,20 @@ fn look_at_word(alloc: Global, case: &Case, key: &str, came: &str) -> Result<(),
 fn look_at_report(alloc: Global, case: &Case, report: &str) -> Result<(), Fault> {
     let wanted = case.text(alloc, ">", ">.")?;
     let told = without(alloc, report, case.get("without").unwrap_or(""))?;
-    let least = case.number("front", 0)?;
-    let fits = if case.has("front") {
-        is_front(wanted.as_str(), told.as_str(), least)
-    } else {
-        is_told(wanted.as_str(), told.as_str())
-    };
-    if fits {
+    if fits(case, wanted.as_str(), told.as_str())? {
         return Ok(());
     }
-    let difference = difference(alloc, wanted.as_str(), told.as_str())?;
-    Err(Fault::Differs(difference))
+    Err(Fault::Differs(difference(alloc, wanted.as_str(), told.as_str())?))
+}
+
+/// Whether what was told is what a case wants, or a front of it.
+fn fits(case: &Case, wanted: &str, told: &str) -> Result<bool, Fault> {
+    let least = case.number("front", 0)?;
+    if case.has("front") {
+        Ok(is_front(wanted, told, least))
+    } else {
+        Ok(is_told(wanted, told))
+    }
 }
 
 /// Whether these lines were told, in which `...` at a line's end is any text up to another line's end.

@@ -1,24 +1,16 @@
 use crate::case::Case;
 use crate::fault::Fault;
-use flat_store::{ListHost, MemStore};
-use ldom_replay::{Outcome, replay};
+use crate::looking::look_at;
+use flat_store::ListHost;
+use ldom_replay::replay;
 use std::alloc::Global;
 use vio_io::{ListSink, ListSource};
 
-/// What became of a command.
-#[derive(Drop)]
-pub struct Ended {
-    pub status: usize,
-    pub entries: usize,
-    pub has_lanes: bool,
-    pub image: Option<MemStore>,
-}
-
-/// Does what a case's words say, and appends what is written to the report.
-pub fn replay_case(alloc: Global, case: &Case, report: &mut String) -> Result<Ended, Fault> {
+/// Does what a case's words say, and looks at what comes of it.
+pub fn replay_case(alloc: Global, case: &Case) -> Result<(), Fault> {
     let words = case.words(alloc)?;
     let mut host = host_of(alloc, case)?;
-    replay_script(alloc, case, &words, &mut host, report)
+    replay_script(alloc, case, &words, &mut host)
 }
 
 fn replay_script(
@@ -26,72 +18,66 @@ fn replay_script(
     case: &Case,
     words: &[String],
     host: &mut ListHost,
-    report: &mut String,
-) -> Result<Ended, Fault> {
+) -> Result<(), Fault> {
     let mut source = source_of(alloc, case)?;
     let mut sink = sink_of(alloc, case)?;
-    let ended = run(alloc, words, host, &mut source, &mut sink);
-    push_text(report, sink.bytes())?;
-    Ok(ended)
+    run(alloc, case, words, host, &mut source, &mut sink)
 }
 
-fn push_text(report: &mut String, bytes: &[u8]) -> Result<(), Fault> {
-    match str::from_utf8(bytes) {
-        Ok(text) => Ok(report.push_str(text)?),
-        Err(_) => Err(Fault::Wrong("a report that is no text")),
-    }
-}
-
-// The call alone, so that its contract isn't computed on what the caller knows.
+// The call alone, so that its contract isn't computed on what the caller knows. What comes of it is only lent: a
+// function that takes it apart has to prove how each part is dropped.
 fn run(
     alloc: Global,
+    case: &Case,
     words: &[String],
     host: &mut ListHost,
     source: &mut ListSource,
     sink: &mut ListSink,
-) -> Ended {
-    ended_of(replay(alloc, words, host, source, sink))
-}
-
-fn ended_of(outcome: Outcome<MemStore>) -> Ended {
-    let Outcome {
-        status,
-        journal,
-        image,
-        lanes,
-    } = outcome;
-    Ended {
-        status: usize::from(status.number()),
-        entries: journal.len(),
-        has_lanes: lanes.is_some(),
-        image,
-    }
+) -> Result<(), Fault> {
+    let outcome = replay(alloc, words, host, source, sink);
+    look_at(alloc, case, &outcome, sink.bytes())
 }
 
 /// A host with the image of the line `host LENGTH BYTE NAME`, or one of no bytes.
 fn host_of(alloc: Global, case: &Case) -> Result<ListHost, Fault> {
-    let wrong = Fault::Wrong("a host without LENGTH BYTE NAME");
     let text = case.get("host").unwrap_or("0 00 img");
-    let Some((length, rest)) = text.split_once(' ') else {
-        return Err(wrong);
-    };
-    let Some((byte, name)) = rest.split_once(' ') else {
-        return Err(wrong);
-    };
-    let image = vec![in alloc; u8::from_str_radix(byte, 16)?; length.parse()?]?;
+    match three_words(text) {
+        Some((length, byte, name)) => host_with(alloc, case, length, byte, name),
+        None => Err(Fault::Wrong("a host without LENGTH BYTE NAME")),
+    }
+}
+
+fn three_words(text: &str) -> Option<(&str, &str, &str)> {
+    let (one, rest) = text.split_once(' ')?;
+    let (two, three) = rest.split_once(' ')?;
+    Some((one, two, three))
+}
+
+fn host_with(
+    alloc: Global,
+    case: &Case,
+    length: &str,
+    byte: &str,
+    name: &str,
+) -> Result<ListHost, Fault> {
+    let image = image_of(alloc, length, byte)?;
     let failing = case.numbers(alloc, "disk-fails")?;
     let attach_fails = case.has("attach-fails");
     Ok(ListHost::new(alloc, name, &image, &failing, attach_fails)?)
 }
 
+fn image_of(alloc: Global, length: &str, byte: &str) -> Result<Vec<u8>, Fault> {
+    Ok(vec![in alloc; u8::from_str_radix(byte, 16)?; length.parse()?]?)
+}
+
 /// A source that gives the script in pieces.
 fn source_of(alloc: Global, case: &Case) -> Result<ListSource, Fault> {
-    let script = case.text(alloc, "<", "<.")?;
-    let failing = case.numbers(alloc, "source-fails")?;
     let piece = case.number("piece", 16)?;
     if piece == 0 {
         return Err(Fault::Wrong("a piece of no byte"));
     }
+    let script = case.text(alloc, "<", "<.")?;
+    let failing = case.numbers(alloc, "source-fails")?;
     Ok(ListSource::new(alloc, script.as_bytes(), piece, &failing)?)
 }
 

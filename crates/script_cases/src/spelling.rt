@@ -26,15 +26,20 @@ fn repeated(alloc: Global, text: &str) -> Result<String, Fault> {
 
 /// The text with the last repetition of its front written out.
 fn one_repeated(alloc: Global, front: &str, behind: &str) -> Result<String, Fault> {
-    let wrong = Fault::Wrong("a repetition that is none");
-    let Some((front, inner)) = front.rsplit_once('{') else {
-        return Err(wrong);
-    };
-    let Some((unit, count)) = inner.rsplit_once('*') else {
-        return Err(wrong);
-    };
-    let units = unit.repeat(alloc, count.parse()?)?;
-    Ok(format!(in alloc; "{front}{units}{behind}")?)
+    match repetition(front) {
+        Some((front, unit, count)) => {
+            let units = unit.repeat(alloc, count.parse()?)?;
+            Ok(format!(in alloc; "{front}{units}{behind}")?)
+        }
+        None => Err(Fault::Wrong("a repetition that is none")),
+    }
+}
+
+/// The last repetition at the end of a text: what stands before it, its text and its count.
+fn repetition(text: &str) -> Option<(&str, &str, &str)> {
+    let (front, inner) = text.rsplit_once('{')?;
+    let (unit, count) = inner.rsplit_once('*')?;
+    Some((front, unit, count))
 }
 
 /// The text with zeros in place of `~`, as many as bring its word to the digits of a packet, or in a line that tells a
@@ -55,11 +60,17 @@ fn characters(alloc: Global, text: &str) -> Result<String, Fault> {
     let mut pieces = text.split('\\');
     let mut all = String::from_str(alloc, pieces.next().unwrap_or(""))?;
     for piece in pieces {
-        let Some((digits, rest)) = piece.split_at_checked(2) else {
-            return Err(Fault::Wrong("a character without a number"));
-        };
-        all.push(char::from(u8::from_str_radix(digits, 16)?))?;
-        all.push_str(rest)?;
+        push_piece(&mut all, piece)?;
     }
     Ok(all)
+}
+
+/// Appends a character by its number, and what stands behind that.
+fn push_piece(all: &mut String, piece: &str) -> Result<(), Fault> {
+    let Some((digits, rest)) = piece.split_at_checked(2) else {
+        return Err(Fault::Wrong("a character without a number"));
+    };
+    all.push(char::from(u8::from_str_radix(digits, 16)?))?;
+    all.push_str(rest)?;
+    Ok(())
 }

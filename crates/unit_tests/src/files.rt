@@ -224,6 +224,11 @@ fn asked_in_memory() -> [Asked; 3] {
     ]
 }
 
+/// What is asked of one that fails.
+fn asked_where_it_fails() -> [Asked; 1] {
+    [("-", 1024, NONE)]
+}
+
 /// What is asked of the program's host.
 fn asked_of_the_program() -> [Asked; 5] {
     [
@@ -240,14 +245,27 @@ fn host_in_memory(alloc: Global, fails: bool) -> Result<ListHost, NoMemory> {
     ListHost::new(alloc, "img", &[5; 512], &[], fails)
 }
 
+/// Whether it gives what it has, and counts the one fault.
+fn memory_gives(alloc: Global) -> Result<bool, NoMemory> {
+    let mut list = host_in_memory(alloc, false)?;
+    Ok(gives(alloc, &mut list, &asked_in_memory()) && list.faults() == 1)
+}
+
+/// Whether it gives nothing where it fails.
+fn failing_gives(alloc: Global) -> Result<bool, NoMemory> {
+    let mut failing = host_in_memory(alloc, true)?;
+    Ok(gives(alloc, &mut failing, &asked_where_it_fails()))
+}
+
+/// Whether both do so.
+fn hosts_in_memory_give(alloc: Global) -> Result<bool, NoMemory> {
+    Ok(memory_gives(alloc)? && failing_gives(alloc)?)
+}
+
 #[test]
 fn hosts_give_what_they_have(rt: HostRuntime) -> Result<(), Fail> {
     let alloc = rt.alloc();
-    let mut list = host_in_memory(alloc, false)?;
-    assert!(rt; gives(alloc, &mut list, &asked_in_memory()));
-    assert!(rt; list.faults() == 1);
-    let mut failing = host_in_memory(alloc, true)?;
-    assert!(rt; gives(alloc, &mut failing, &[("-", 1024, NONE)]));
+    assert!(rt; hosts_in_memory_give(alloc)?);
     assert!(rt; gives(alloc, &mut StdHost::new(&rt), &asked_of_the_program()));
     Ok(())
 }

@@ -78,12 +78,18 @@ fn short_descriptor() -> [u8; 128] {
 
 /// What lines ask for, and what becomes of it.
 fn of_lines(alloc: Global) -> Result<[Entry; 11], NoMemory> {
-    let read = Request::Read { block: 2, count: 1 };
-    Ok([
+    let request = KeptRequest::new(alloc, &Request::Read { block: 2, count: 1 })?;
+    let bytes = Bytes::from_slice(alloc, &[7; 512])?;
+    Ok(lines_with(request, Bytes::empty(alloc), bytes))
+}
+
+/// The same with what took memory.
+fn lines_with(request: KeptRequest, none: Bytes, bytes: Bytes) -> [Entry; 11] {
+    [
         Entry::Accepted {
             disk: 3,
             id: 7,
-            request: KeptRequest::new(alloc, &read)?,
+            request,
         },
         Entry::Full { who: LANE },
         refused(Why::Count),
@@ -97,9 +103,9 @@ fn of_lines(alloc: Global) -> Result<[Entry; 11], NoMemory> {
         Entry::Unsettled {
             who: Who::End(CLIENT),
         },
-        done(8, VD_OP_FLUSH, 5, Bytes::empty(alloc)),
-        done(9, VD_OP_BREAD, 0, Bytes::from_slice(alloc, &[7; 512])?),
-    ])
+        done(8, VD_OP_FLUSH, 5, none),
+        done(9, VD_OP_BREAD, 0, bytes),
+    ]
 }
 
 fn refused(why: Why) -> Entry {
@@ -190,19 +196,35 @@ fn note(journal: &mut Journal, entry: Entry) -> Result<(), NoMemory> {
     Ok(())
 }
 
-/// A journal of an entry of each kind.
-pub(crate) fn journal_of_all(alloc: Global) -> Result<Journal, NoMemory> {
-    let mut journal = Journal::new(alloc);
+/// Puts what lines ask for last.
+fn note_lines(alloc: Global, journal: &mut Journal) -> Result<(), NoMemory> {
     for entry in of_lines(alloc)? {
-        note(&mut journal, entry)?;
+        note(journal, entry)?;
     }
+    Ok(())
+}
+
+/// Puts what ends do last.
+fn note_ends(journal: &mut Journal) -> Result<(), NoMemory> {
     for entry in of_ends() {
-        note(&mut journal, entry)?;
+        note(journal, entry)?;
     }
+    Ok(())
+}
+
+/// Puts what servers do last.
+fn note_servers(journal: &mut Journal) -> Result<(), NoMemory> {
     for entry in of_servers() {
-        note(&mut journal, entry)?;
+        note(journal, entry)?;
     }
-    Ok(journal)
+    Ok(())
+}
+
+/// Puts an entry of each kind last.
+pub(crate) fn note_each_kind(alloc: Global, journal: &mut Journal) -> Result<(), NoMemory> {
+    note_lines(alloc, journal)?;
+    note_ends(journal)?;
+    note_servers(journal)
 }
 
 /// An end's disk and its side, as a number of two digits.
@@ -294,57 +316,113 @@ fn row_at(journal: &Journal, k: usize) -> Row {
     row(journal.get(k))
 }
 
-#[test]
-fn each_kind_is_read_as_it_was_put(rt: HostRuntime) -> Result<(), Fail> {
-    let journal = journal_of_all(rt.alloc())?;
+/// What is looked at of a journal of an entry of each kind. A proof pays for each journal that stands in a function.
+fn of_each_kind(alloc: Global, look: Look) -> Result<bool, NoMemory> {
+    let mut journal = Journal::new(alloc);
+    note_each_kind(alloc, &mut journal)?;
+    Ok(match look {
+        Look::Each => reads_each(&journal),
+        Look::Seen => reads_seen(&journal),
+        Look::Counts => is_counted(&journal),
+    })
+}
+
+/// What is looked at.
+#[derive(Clone, Copy)]
+enum Look {
+    Each,
+    Seen,
+    Counts,
+}
+
+/// Whether each entry is read as it was put, one after the other and at its place, and nothing behind the last.
+fn reads_each(journal: &Journal) -> bool {
     let mut rest = journal.entries();
     for (k, (expected, _)) in rows().iter().enumerate() {
-        assert!(rt; next_row(&mut rest) == *expected);
-        assert!(rt; row_at(&journal, k) == *expected);
+        if next_row(&mut rest) != *expected || row_at(journal, k) != *expected {
+            return false;
+        }
     }
-    assert!(rt; next_row(&mut rest) == NOTHING && row_at(&journal, 25) == NOTHING);
+    next_row(&mut rest) == NOTHING && row_at(journal, 25) == NOTHING
+}
+
+#[test]
+fn each_kind_is_read_as_it_was_put(rt: HostRuntime) -> Result<(), Fail> {
+    assert!(rt; of_each_kind(rt.alloc(), Look::Each)?);
     Ok(())
+}
+
+/// Whether the entries that a user may see are read, and no other.
+fn reads_seen(journal: &Journal) -> bool {
+    let mut rest = journal.entries();
+    for (expected, may_be_seen) in rows() {
+        if may_be_seen && next_seen_row(&mut rest) != expected {
+            return false;
+        }
+    }
+    next_seen_row(&mut rest) == NOTHING
 }
 
 #[test]
 fn entries_that_nobody_may_see_are_passed_over(rt: HostRuntime) -> Result<(), Fail> {
-    let journal = journal_of_all(rt.alloc())?;
-    let mut rest = journal.entries();
-    for (expected, may_be_seen) in rows() {
-        if may_be_seen {
-            assert!(rt; next_seen_row(&mut rest) == expected);
-        }
-    }
-    assert!(rt; next_seen_row(&mut rest) == NOTHING);
+    assert!(rt; of_each_kind(rt.alloc(), Look::Seen)?);
     Ok(())
 }
 
-#[test]
-fn a_journal_is_counted(rt: HostRuntime) -> Result<(), Fail> {
-    let journal = journal_of_all(rt.alloc())?;
+/// Whether the journal of each kind is counted.
+fn is_counted(journal: &Journal) -> bool {
     let counts = [
         journal.accepted(),
         journal.done(),
         journal.resets(),
         journal.len(),
     ];
-    assert!(rt; counts == [1, 2, 2, 25]);
-    assert!(rt; !journal.is_empty() && Journal::new(rt.alloc()).is_empty());
+    counts == [1, 2, 2, 25] && !journal.is_empty()
+}
+
+fn new_is_empty(alloc: Global) -> bool {
+    Journal::new(alloc).is_empty()
+}
+
+#[test]
+fn a_journal_is_counted(rt: HostRuntime) -> Result<(), Fail> {
+    assert!(rt; of_each_kind(rt.alloc(), Look::Counts)?);
+    assert!(rt; new_is_empty(rt.alloc()));
     Ok(())
+}
+
+/// Puts 1,001 entries last, the last of them of another kind.
+fn note_many(journal: &mut Journal) -> Result<(), NoMemory> {
+    for _ in 0..1000 {
+        note(journal, Entry::Settled)?;
+    }
+    note(journal, Entry::Full { who: LANE })
+}
+
+/// Whether it holds those, and no more.
+fn holds_many(journal: &Journal) -> bool {
+    journal.len() == 1001
+        && row_at(journal, 0) == ("settled", 0, 0)
+        && row_at(journal, 1000) == ("full", 13, 0)
+        && row_at(journal, 1001) == NOTHING
+}
+
+/// Whether an empty journal makes room for many entries, refuses it for too many, and holds those that are put.
+fn makes_room(journal: &mut Journal) -> Result<bool, NoMemory> {
+    journal.reserve(1000)?;
+    let refuses = journal.reserve(usize::MAX).is_err();
+    note_many(journal)?;
+    Ok(refuses && holds_many(journal))
+}
+
+/// The same of a new journal.
+fn new_makes_room(alloc: Global) -> Result<bool, NoMemory> {
+    let mut journal = Journal::new(alloc);
+    makes_room(&mut journal)
 }
 
 #[test]
 fn room_is_made_for_many_entries(rt: HostRuntime) -> Result<(), Fail> {
-    let mut journal = Journal::new(rt.alloc());
-    journal.reserve(1000)?;
-    assert!(rt; journal.reserve(usize::MAX).is_err());
-    for _ in 0..1000 {
-        note(&mut journal, Entry::Settled)?;
-    }
-    note(&mut journal, Entry::Full { who: LANE })?;
-    assert!(rt; journal.len() == 1001);
-    assert!(rt; row_at(&journal, 0) == ("settled", 0, 0));
-    assert!(rt; row_at(&journal, 1000) == ("full", 13, 0));
-    assert!(rt; row_at(&journal, 1001) == NOTHING);
+    assert!(rt; new_makes_room(rt.alloc())?);
     Ok(())
 }

@@ -36,6 +36,17 @@ fn read(array: Option<TrimmedArray<'_>>) -> (&[u8], usize) {
     }
 }
 
+/// Whether three fronts are read, each of an array of four bytes, and no more.
+fn reads_three(arrays: &TrimmedArrays) -> bool {
+    let mut rest = arrays.rest();
+    for front in [&[1][..], &[], &[0, 2, 0, 3]] {
+        if read(rest.next_array()) != (front, 4) {
+            return false;
+        }
+    }
+    rest.next_array().is_none()
+}
+
 #[test]
 fn arrays_are_read_in_the_order_of_their_pushes(rt: HostRuntime) -> Result<(), NoMemory> {
     let mut arrays = TrimmedArrays::new(rt.alloc(), 4);
@@ -43,24 +54,40 @@ fn arrays_are_read_in_the_order_of_their_pushes(rt: HostRuntime) -> Result<(), N
     arrays.push(&[1, 0, 0, 0]);
     arrays.push(&[0, 0, 0, 0]);
     arrays.push(&[0, 2, 0, 3]);
-    let mut rest = arrays.rest();
-    for front in [&[1][..], &[], &[0, 2, 0, 3]] {
-        assert!(rt; read(rest.next_array()) == (front, 4));
-    }
-    assert!(rt; rest.next_array().is_none());
+    assert!(rt; reads_three(&arrays));
     Ok(())
+}
+
+/// Whether these bytes are held, and so many.
+fn holds(alloc: Global, bytes: &Bytes, all: &[u8]) -> Result<bool, NoMemory> {
+    let held = bytes.to_vec(alloc)?;
+    Ok(held.as_slice() == all && bytes.len() == all.len() && !bytes.is_empty())
+}
+
+/// 1,029 bytes, which aren't all the same.
+fn many_bytes() -> [u8; 1029] {
+    let mut all = [0xab; 1029];
+    all[500..505].copy_from_slice(b"abcde");
+    all
+}
+
+/// Whether bytes hold these, which they are filled with in three parts.
+fn fills(alloc: Global, all: &[u8; 1029]) -> Result<bool, NoMemory> {
+    let mut bytes = Bytes::with_room(alloc, 1029)?;
+    bytes.fill(&all[..512]);
+    bytes.fill(&all[512..514]);
+    bytes.fill(&all[514..]);
+    holds(alloc, &bytes, all)
+}
+
+/// Whether no bytes are empty.
+fn none_are_empty(alloc: Global) -> bool {
+    Bytes::empty(alloc).is_empty()
 }
 
 #[test]
 fn bytes_fill_into_their_room(rt: HostRuntime) -> Result<(), Fail> {
-    let alloc = rt.alloc();
-    let mut bytes = Bytes::with_room(alloc, 1029)?;
-    let mut all = [0xab; 1029];
-    all[500..505].copy_from_slice(b"abcde");
-    bytes.fill(&all[..512]);
-    bytes.fill(&all[512..514]);
-    bytes.fill(&all[514..]);
-    assert!(rt; bytes.to_vec(alloc)?.as_slice() == all.as_slice() && bytes.len() == 1029);
-    assert!(rt; !bytes.is_empty() && Bytes::empty(alloc).is_empty());
+    assert!(rt; fills(rt.alloc(), &many_bytes())?);
+    assert!(rt; none_are_empty(rt.alloc()));
     Ok(())
 }

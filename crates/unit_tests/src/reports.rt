@@ -1,11 +1,11 @@
 // Lines of a report that no script reaches, and a sink that fails.
-ghost use Rattle.std.specs.Prelude.{◌≡◌, ◌%◌, ◌≤◌, ◌<◌, ◌++◌, All, List, length, IfOk, OnOk};
+ghost use Rattle.std.specs.Prelude.{◌≡◌, ◌%◌, ◌≤◌, ◌<◌, ◌++◌, All, List, length, OnOk};
 ghost use Rattle.domain_script.specs.declared.event.DiskDecl.{DiskDecl};
 ghost use Rattle.domain_script.specs.Declarations.{AreDisks};
 ghost use Rattle.ldom_report.specs.HasWords.{HasFault, HasWords, IsEnd};
 ghost use Rattle.world_parts.specs.Declared.{bytes_needed};
 
-use crate::journals::journal_of_all;
+use crate::journals::note_each_kind;
 use domain_script::{DiskDecl, Event, Name};
 use ldom_report::{
     Bytes, Cause, CopyFault, EndName, Entry, Journal, Lane, LaneKind, LimitKind, Mode, Names,
@@ -131,19 +131,18 @@ fn note_failures(alloc: Global, journal: &mut Journal) -> Result<(), NoMemory>
     note(journal, Entry::Finished { end, slot, status })
 }
 
-/// Entries that no script reaches, some of them only over an image that fails.
-fn unreached(alloc: Global) -> Result<Journal, NoMemory>
-    ensures { IfOk result (λ journal. (disks : List DiskDecl) → length disks ≡ 1 → All (HasWords disks) journal.entries) }
+/// Puts entries last that no script reaches, some of them only over an image that fails.
+fn note_unreached(alloc: Global, journal: &mut Journal) -> Result<(), NoMemory>
+    requires { (disks : List DiskDecl) → length disks ≡ 1 → All (HasWords disks) journal.old.entries }
+    ensures { OnOk result ((disks : List DiskDecl) → length disks ≡ 1 → All (HasWords disks) journal.new.entries) }
 {
-    let mut journal = Journal::new(alloc);
-    note_failures(alloc, &mut journal)?;
-    note(&mut journal, reset(Cause::Copy(5), None, 4))?;
+    note_failures(alloc, journal)?;
+    note(journal, reset(Cause::Copy(5), None, 4))?;
     let cause = Cause::Gap {
         expected: 7,
         found: 9,
     };
-    note(&mut journal, reset(cause, Some([0xab; 64]), 1))?;
-    Ok(journal)
+    note(journal, reset(cause, Some([0xab; 64]), 1))
 }
 
 /// What a trace shows of them.
@@ -176,13 +175,27 @@ fn shows(alloc: Global, mode: Mode, journal: &Journal, text: &str) -> Result<boo
     Ok(told && sink.bytes() == text.as_bytes())
 }
 
+/// Whether each mode shows its text of them.
+fn shows_each(alloc: Global, journal: &Journal) -> Result<bool, NoMemory>
+    requires { (disks : List DiskDecl) → length disks ≡ 1 → All (HasWords disks) journal.now.entries }
+{
+    Ok(
+        shows(alloc, Mode::Trace, journal, TRACED)?
+            && shows(alloc, Mode::Run, journal, RUN)?
+            && shows(alloc, Mode::EndOnly, journal, "")?,
+    )
+}
+
+/// The same of a journal of those alone.
+fn shows_unreached(alloc: Global) -> Result<bool, NoMemory> {
+    let mut journal = Journal::new(alloc);
+    note_unreached(alloc, &mut journal)?;
+    shows_each(alloc, &journal)
+}
+
 #[test]
 fn entries_that_no_script_reaches_have_their_lines(rt: HostRuntime) -> Result<(), Fail> {
-    let alloc = rt.alloc();
-    let journal = unreached(alloc)?;
-    assert!(rt; shows(alloc, Mode::Trace, &journal, TRACED)?);
-    assert!(rt; shows(alloc, Mode::Run, &journal, RUN)?);
-    assert!(rt; shows(alloc, Mode::EndOnly, &journal, "")?);
+    assert!(rt; shows_unreached(rt.alloc())?);
     Ok(())
 }
 
@@ -195,16 +208,15 @@ fn without_repetition(alloc: Global) -> Result<Vec<u8>, NoMemory> {
     Ok(bytes)
 }
 
-/// A journal of a read that gave these bytes.
-fn read_of(alloc: Global, bytes: &[u8]) -> Result<Journal, NoMemory>
+/// Puts a read last that gave these bytes.
+fn note_read(alloc: Global, journal: &mut Journal, bytes: &[u8]) -> Result<(), NoMemory>
+    requires words { (disks : List DiskDecl) → length disks ≡ 1 → All (HasWords disks) journal.old.entries }
     requires some { 0 < length bytes.now }
     requires blocks { length bytes.now % 512 ≡ 0 }
-    ensures { IfOk result (λ journal. (disks : List DiskDecl) → length disks ≡ 1 → All (HasWords disks) journal.entries) }
+    ensures { OnOk result ((disks : List DiskDecl) → length disks ≡ 1 → All (HasWords disks) journal.new.entries) }
 {
-    let mut journal = Journal::new(alloc);
     let bytes = Bytes::from_slice(alloc, bytes)?;
-    note(&mut journal, done(VD_OP_BREAD, 0, bytes))?;
-    Ok(journal)
+    note(journal, done(VD_OP_BREAD, 0, bytes))
 }
 
 /// Whether a sink that fails at a call gets a front of a journal's lines, of so many bytes at least.
@@ -223,22 +235,46 @@ fn fails_at(
     Ok(!told && partly && lines.starts_with(front))
 }
 
+/// Whether a sink that fails at its first calls gets a front of a journal's lines.
+fn fails_at_each(alloc: Global, journal: &Journal, lines: &[u8]) -> Result<bool, NoMemory>
+    requires { (disks : List DiskDecl) → length disks ≡ 1 → All (HasWords disks) journal.now.entries }
+{
+    Ok(
+        fails_at(alloc, journal, lines, 0, 0)?
+            && fails_at(alloc, journal, lines, 1, 61_440)?
+            && fails_at(alloc, journal, lines, 2, 122_880)?,
+    )
+}
+
+/// The same of a journal of 128 blocks without repetition, whose lines are of the right length.
+fn is_told_in_front(alloc: Global, journal: &Journal) -> Result<bool, NoMemory>
+    requires { (disks : List DiskDecl) → length disks ≡ 1 → All (HasWords disks) journal.now.entries }
+{
+    let (told, whole) = shown(alloc, Mode::Run, journal, &[])?;
+    // A block without repetition has 1,024 digits.
+    let is_whole = told && whole.bytes().len() == 16 + 128 * (2 + 1024) + 1;
+    Ok(is_whole && fails_at_each(alloc, journal, whole.bytes())?)
+}
+
+/// The same of a read that gave these bytes.
+fn is_read_in_front(alloc: Global, bytes: &[u8]) -> Result<bool, NoMemory>
+    requires some { 0 < length bytes.now }
+    requires blocks { length bytes.now % 512 ≡ 0 }
+{
+    let mut journal = Journal::new(alloc);
+    note_read(alloc, &mut journal, bytes)?;
+    is_told_in_front(alloc, &journal)
+}
+
 #[test]
 fn a_failing_sink_gets_a_front_of_the_lines(rt: HostRuntime) -> Result<(), Fail> {
-    let alloc = rt.alloc();
-    let bytes = without_repetition(alloc)?;
+    let bytes = without_repetition(rt.alloc())?;
     assert!(rt; bytes.len() == 65_536);
-    let journal = read_of(alloc, &bytes)?;
-    let (told, whole) = shown(alloc, Mode::Run, &journal, &[])?;
-    // A block without repetition has 1,024 digits.
-    assert!(rt; told && whole.bytes().len() == 16 + 128 * (2 + 1024) + 1);
-    assert!(rt; fails_at(alloc, &journal, whole.bytes(), 0, 0)?);
-    assert!(rt; fails_at(alloc, &journal, whole.bytes(), 1, 61_440)?);
-    assert!(rt; fails_at(alloc, &journal, whole.bytes(), 2, 122_880)?);
+    assert!(rt; is_read_in_front(rt.alloc(), &bytes)?);
     Ok(())
 }
 
-/// Whether the last line over the journal of all kinds is written. That has one request that was taken up, two
+/// Whether the last line over a journal of each kind is written. That has one request that was taken up, two
 /// completions and two resets.
 fn ends<K: Sink>(
     alloc: Global,
@@ -246,7 +282,9 @@ fn ends<K: Sink>(
     status: &Status,
     out: &mut K,
 ) -> Result<bool, NoMemory> {
-    Ok(write_end(&journal_of_all(alloc)?, lines, status, out).is_ok())
+    let mut journal = Journal::new(alloc);
+    note_each_kind(alloc, &mut journal)?;
+    Ok(write_end(&journal, lines, status, out).is_ok())
 }
 
 /// Whether it is this line.
