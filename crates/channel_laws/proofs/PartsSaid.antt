@@ -1,6 +1,5 @@
 -- Along every run the parts of messages that an end said since it last began are those that may come, one after the other.
 use Rattle.std.proofs.Common.{◌≡◌, ℕ, ◌≤◌, Bool, true, false, List, [], ◌∷◌, ◌++◌, length, take, refl, sym, ◌∙◌, subst, arith}
-use Rattle.std.specs.Prelude.{◌||◌, ◌&&◌}
 use Rattle.std.proofs.lemmas.List.{append-nil, length-take-le}
 use Rattle.runs.specs.Run.{Run}
 use Rattle.ldc_packet.proofs.Canonical.{canonical_spells}

@@ -82,8 +82,10 @@ module _ {W M R E : Type 0} (K : Rounds W M R E) where
         now = at_marks now marks;
         run = gone.run;
         later = part ++ later;
-        front = inl (subst (λ (n : ℕ). n < most_rounds K start) (sym gone.many) few,
-            inr (record { steps = steps; between = m; made = round.made; quiet = quiet; later = later; ticks = front; is = ap (λ (l : List E). l ++ later) round.leaves }));
+        front = inl (
+          subst (λ (n : ℕ). n < most_rounds K start) (sym gone.many) few,
+          inr (record { steps = steps; between = m; made = round.made; quiet = quiet; later = later; ticks = front; is = ap (λ (l : List E). l ++ later) round.leaves }),
+        );
         is = ap (λ (l : List E). l ++ (part ++ later)) gone.leaves;
       }
 
@@ -124,7 +126,9 @@ module _ {W M R E : Type 0} (K : Rounds W M R E) where
           now = at_marks now marks;
           run = gone.run;
           later = part;
-          front = inr (gone.many ∙ most,
-              record { before = at.before; last = at.last; is_last = at.is; unnamed = unnamed; is = named at.last.steps (gone.last at.before at.last at.is); lanes = refl });
+          front = inr (
+            gone.many ∙ most,
+            record { before = at.before; last = at.last; is_last = at.is; unnamed = unnamed; is = named at.last.steps (gone.last at.before at.last at.is); lanes = refl },
+          );
           is = ap (λ (l : List E). l ++ part) gone.leaves;
         }

@@ -72,14 +72,6 @@ not_near near = by (near.others 0 (omega arith) (λ among. absurd (omega (arith,
     by (inl same) = let first : 7 ≡ 0 = ap (λ (bytes : List ℕ). slice_index bytes 0) same in absurd (omega (arith, first))
     by (inr puts) = let below = puts.below in absurd (omega (arith, below))
 
--- a read of the last block shows the content, and no write that wasn't disturbed
-read_shows : FrontShows zeros (Read 1 1 ∷ last_block ∷ []) 0 (replicate 512 0)
-read_shows = (refl, blocks)
-  where
-    blocks : (b : ℕ) → b < 1 → (block_at b (replicate 512 0) ≡ block_at (1 + b) zeros) ⊎ PendingPuts (last_block ∷ []) 0 0 (1 + b) (block_at b (replicate 512 0))
-    blocks zero less = inl refl
-    blocks (suc b) less = absurd (omega (arith, less))
-
 -- where both were disturbed it may show the write after it
 read_disturbed : FrontShows zeros (Read 1 1 ∷ last_block ∷ []) 2 (replicate 512 9)
 unfolding repeated

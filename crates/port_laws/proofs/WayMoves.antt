@@ -42,10 +42,6 @@ abbrev pub EachLow : List (List ℕ) → Type 0
 EachLow [] = ⊤
 EachLow (message ∷ messages) = (envelope_at message < 0x0042) × EachLow messages
 
-low_front : (xs ys : List (List ℕ)) → EachLow (xs ++ ys) → EachLow xs
-low_front [] ys low = tt
-low_front (x ∷ xs) ys low = (low.0, low_front xs ys low.1)
-
 pub low_rest : (xs ys : List (List ℕ)) → EachLow (xs ++ ys) → EachLow ys
 low_rest [] ys low = low
 low_rest (x ∷ xs) ys low = low_rest xs ys low.1

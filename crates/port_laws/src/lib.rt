@@ -35,11 +35,10 @@ pub use rest_laws::{
     only_an_end_that_is_up_moves_frames, two_idle_ends_of_a_port_are_in_session,
 };
 pub use ring_laws::{
-    frames_arrive_in_order_and_at_most_once,
     a_frame_that_is_taken_is_the_next_that_was_published,
-    at_most_one_announcement_of_an_end_is_on_the_way, no_end_of_a_port_resets_itself_for_a_slot,
-    no_frame_is_left_where_both_ends_are_idle, no_group_is_left_untold_where_both_ends_are_idle,
-    the_ring_of_each_end_holds_its_frames,
+    at_most_one_announcement_of_an_end_is_on_the_way, frames_arrive_in_order_and_at_most_once,
+    no_end_of_a_port_resets_itself_for_a_slot, no_frame_is_left_where_both_ends_are_idle,
+    no_group_is_left_untold_where_both_ends_are_idle, the_ring_of_each_end_holds_its_frames,
 };
 pub use rule_laws::{
     a_frame_is_queued_or_refused_rightly, a_frame_is_taken_while_an_announcement_waits,

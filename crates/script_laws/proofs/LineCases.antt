@@ -1,5 +1,5 @@
 -- What each kind of line does: no other lemma lists the kinds.
-use Rattle.std.proofs.Common.{◌≡◌, ℕ, true, false, List, [], ◌∷◌, length, refl, ap, arith, ◌⊎◌, inl, inr, IsTrue}
+use Rattle.std.proofs.Common.{◌≡◌, ℕ, true, false, List, [], length, refl, ap, arith, ◌⊎◌, inl, inr, IsTrue}
 use Rattle.vdisk_msg.specs.declared.request.Request.TheVariants.{Read, Write, Flush}
 use Rattle.domain_script.specs.Limits.{AreTurns}
 use Rattle.domain_script.specs.Words.{IsWithin}

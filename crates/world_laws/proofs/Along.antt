@@ -3,13 +3,12 @@ use Rattle.std.proofs.Common.{◌≡◌, ℕ, zero, suc, ◌+◌, List, [], ◌�
 use Rattle.std.proofs.lemmas.List.{length-map}
 use Rattle.std.proofs.lemmas.Option.{slice_get-map, slice_get_within}
 use Rattle.std.specs.Option.{option_map}
-use Rattle.runs.specs.Run.{Run, run_append, run_keeps}
+use Rattle.runs.specs.Run.{Run, run_append}
 use Rattle.disk_law.specs.ListState.{ImageState}
 use Rattle.disk_model.specs.DiskEvent.{Asks, Desc, DiskEvent, Done, Finished, Misplaced, Moved, OnWire, Published, Calms, Stored, Switches, Works}
 use Rattle.disk_model.specs.LaneState.{IsShape, LaneState, Shape, fresh}
 use Rattle.disk_model.specs.LaneStep.{LaneStep}
 use Rattle.disk_model.specs.Reached.{IsReached}
-use Rattle.lane_laws.proofs.RingPages.{same_pages}
 use Rattle.lane_kinds.proofs.Moving.{lane_steps, told_moves}
 use Rattle.world_laws.proofs.DiskLaws.{disk_reads, disk_silent, gives_nothing}
 use Rattle.world_laws.specs.DiskKind.{disk_kind}
@@ -94,15 +93,6 @@ pub world_reached : (first : ℕ) (shapes : List Shape) (image : ImageState) (en
 world_reached first shapes image entries w are run = stay_reached (fresh_world shapes image) entries w (fresh_reached first shapes are) run
 
 -- SHAPES STAY
-pub run_shape : (s : LaneState) (events : List DiskEvent) (t : LaneState) → Run LaneStep s events t → t.shape ≡ s.shape
-run_shape s events t run =
-    run_keeps LaneStep (λ (x : LaneState). x.shape ≡ s.shape) (λ x event y step same. (same_pages x event y step).shape ∙ same) s t events run refl
-
-pub world_shape : (shapes : List Shape) (image : ImageState) (entries : List SettleEntry) (w : WorldState) (k : ℕ) (shape : Shape) (s : LaneState) → Run WorldStep (fresh_world shapes image) entries w
-    → slice_get shapes k ≡ Some shape → slice_get w.lanes k ≡ Some s → s.shape ≡ shape
-world_shape shapes image entries w k shape s run of_shape there =
-    run_shape (fresh shape) (happened k entries) s ((lanes_run shapes image entries w run).each k shape s of_shape there)
-
 -- A SCRIPT runs the world by the parts of its lines
 pub lines_run : (w : WorldState) (lines : List (Line × List SettleEntry)) (v : WorldState) → Run LineStep w lines v → Run WorldStep w (entries_of_lines lines) v
 lines_run w [] v run = run

@@ -32,10 +32,14 @@ no_lanes = record {
 -- one lane's two steps, each of which leaves it as it is
 one_lane : (s : LaneState) (client server : DiskEvent) → IsStep A client → IsStep B server → LaneStep s client s → LaneStep s server s → MakeRound (s ∷ []) ((client ∷ server ∷ []) ∷ []) (s ∷ [])
 one_lane s client server of_client of_server first second = record {
-  turns_made = (s ∷ [], record {
-    of_turn = (of_client, of_server);
-    run = (s ∷ [], record { sees = tt; step = ((s, first, refl), tt) }, (s ∷ [], record { sees = tt; step = ((s, second, refl), tt) }, refl));
-  }, refl);
+  turns_made = (
+    s ∷ [],
+    record {
+      of_turn = (of_client, of_server);
+      run = (s ∷ [], record { sees = tt; step = ((s, first, refl), tt) }, (s ∷ [], record { sees = tt; step = ((s, second, refl), tt) }, refl));
+    },
+    refl,
+  );
   many = refl;
 }
 

@@ -1,12 +1,10 @@
 -- Counts over entries one after another.
-use Rattle.std.proofs.Common.{◌≡◌, ℕ, ◌+◌, ◌≤◌, ◌⊎◌, inl, inr, Bool, true, false, List, ◌++◌, refl, arith}
+use Rattle.std.proofs.Common.{◌≡◌, ℕ, ◌+◌, ◌≤◌, ◌⊎◌, inl, inr, Bool, true, false, refl, arith}
 use Rattle.std.specs.Prelude.{◌&&◌, ◌==◌, if◌then◌else◌}
 use Rattle.ldc_queue.specs.declared.end.End.{End}
 use Rattle.channel_model.specs.WireEvent.{Blocked}
 use Rattle.disk_model.specs.DiskEvent.{OnWire}
-use Rattle.lane_kinds.proofs.Stuck.{sum_both}
-use Rattle.lane_kinds.specs.Stuck.{sum_over}
-use Rattle.world_laws.specs.Moves.{is_end, moves, moves_in, stuck, ticks, ticks_in}
+use Rattle.world_laws.specs.Moves.{is_end, moves, stuck}
 use Rattle.world_laws.specs.Settle.{OfLane, SettleEntry}
 
 -- how often the end found no room at all

@@ -2,7 +2,6 @@
 use Rattle.std.proofs.Common.{◌≡◌, ◌⊎◌, ℕ, ◌+◌, ◌*◌, ◌≤◌, ◌<◌, inl, inr, Bool, true, false, List, [], ◌∷◌, ◌++◌, refl, sym, ap, ◌∙◌, subst, arith}
 use Rattle.std.proofs.lemmas.Bool.{eq-eqb, eqb-true}
 use Rattle.std.specs.Prelude.{◌&&◌, ◌==◌, if◌then◌else◌}
-use Rattle.runs.specs.Run.{Run}
 use Rattle.ldc_queue.specs.declared.end.End.{End}
 use Rattle.ldc_queue.specs.declared.end.End.TheVariants.{A, B}
 use Rattle.vio_tag.specs.declared.cause.Cause.TheVariants as the_cause
@@ -14,11 +13,11 @@ use Rattle.disk_model.specs.LaneStep.{LaneStep}
 use Rattle.disk_model.specs.Reached.{IsReached}
 use Rattle.lane_kinds.proofs.Stuck.{sum_both}
 use Rattle.lane_kinds.specs.LaneCounts.{LaneMoves, LaneTicks, LaneUnsticks, TickWaits, once}
-use Rattle.lane_kinds.specs.Lanes.{CalmTurn, EachStep, GivesNothing, IsSilent, LaneFalls, LaneRests, OwnTurn, Reads, own_or, turn_entries}
+use Rattle.lane_kinds.specs.Lanes.{CalmTurn, EachStep, GivesNothing, IsSilent, LaneFalls, LaneRests, Reads, own_or, turn_entries}
 use Rattle.lane_kinds.specs.Stuck.{sum_over}
 use Rattle.lane_laws.proofs.StepFalls.{idles, step_falls}
 use Rattle.lane_laws.proofs.StepKeeps.{step_keeps}
-use Rattle.lane_laws.specs.CalmEnds.{HaveFinished, IsCalm, IsStep, StepKeeps}
+use Rattle.lane_laws.specs.CalmEnds.{IsCalm, IsStep, StepKeeps}
 use Rattle.lane_laws.specs.Remaining.{remaining}
 use Rattle.lane_laws.specs.TickBegins.{TickBegins}
 use Rattle.world_laws.proofs.Counts.{blocked, still_or_none, stuck_most}
@@ -28,7 +27,7 @@ use Rattle.world_laws.specs.Along.{event_at}
 use Rattle.world_laws.specs.DiskKind.{IsTurn, disk_kind, is_calm, is_silent, tick, waits_on}
 use Rattle.world_laws.specs.Moves.{is_end, moves, stuck, ticks}
 use Rattle.world_laws.specs.Rounds.{MakesRound}
-use Rattle.world_laws.specs.Settle.{OfLane, SettleEntry, disk_entries, entry_of}
+use Rattle.world_laws.specs.Settle.{OfLane, disk_entries, entry_of}
 use Rattle.world_laws.specs.Sums.{IsUnforged}
 
 -- NO EVENT gives anything to another lane

@@ -1,5 +1,5 @@
 -- Each lane is run by what the part of a settle, or a front of it, says happened to it: a step that leaves no entry left the lane as it was.
-use Rattle.std.proofs.Common.{◌≡◌, ℕ, ◌+◌, List, [], ◌∷◌, ◌++◌, refl}
+use Rattle.std.proofs.Common.{◌≡◌, ℕ, ◌+◌, List, [], ◌∷◌, ◌++◌}
 use Rattle.runs.specs.Run.{Run, run_append}
 use Rattle.disk_model.specs.LaneState.{LaneState, fresh}
 use Rattle.disk_model.specs.DiskEvent.{DiskEvent}

@@ -1,5 +1,5 @@
 -- Where the rounds of a settle ran out some lane is named: one that wasn't quiet in the last of them, or one that had its tick after it.
-use Rattle.std.proofs.Common.{ℕ, ◌≤◌, List, length}
+use Rattle.std.proofs.Common.{◌≤◌, List, length}
 use Rattle.disk_model.specs.LaneState.{LaneState}
 use Rattle.disk_model.specs.Reached.{IsReached}
 use Rattle.lane_kinds.proofs.LaneCounts.{lanes_name}

@@ -1,5 +1,5 @@
 -- A round up to a lane: it begins and goes on by the two steps of the next lane; where memory is wanted, what was made is a front of one.
-use Rattle.std.proofs.Common.{◌≡◌, ℕ, ◌+◌, ◌<◌, Bool, true, false, List, [], ◌∷◌, ◌++◌, length, slice_set, take, refl, sym, ap, ap₂, ◌∙◌, subst, append-nil}
+use Rattle.std.proofs.Common.{◌≡◌, ℕ, ◌+◌, ◌<◌, Bool, true, false, List, [], ◌∷◌, ◌++◌, length, slice_set, take, refl, sym, ap₂, ◌∙◌, subst, append-nil}
 use Rattle.std.proofs.lemmas.Option.{slice_get_within}
 use Rattle.std.specs.Prelude.{◌&&◌}
 use Rattle.runs.specs.Run.{run_append}
