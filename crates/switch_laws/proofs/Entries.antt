@@ -49,7 +49,7 @@ turns_run k lanes (r ∷ turns) behind made =
 tick_run : (get : Bool) (k : ℕ) (front : List PortState) (s : PortState) (lanes : List PortState) (t : PortState) → k ≡ 0 + length front → TicksIf ports get s t
     → SwitchRun (front ++ s ∷ lanes) (if get then OfPort k (tick s) ∷ [] else []) (front ++ t ∷ lanes)
 tick_run true k front s lanes t place step =
-    (front ++ t ∷ lanes, record { sees = tt; step = one_steps ports of_ports said_port reads silence 0 k front s lanes (tick s) t (λ i. refl) place step }, refl)
+    (front ++ t ∷ lanes, record { sees = tt; step = one_steps ports 0 k front s lanes (tick s) t (λ i. refl) place step }, refl)
 tick_run false k front s lanes t place same = ap (λ (x : PortState). front ++ x ∷ lanes) (sym same)
 
 one_more : (k n m : ℕ) → k ≡ 0 + n → m ≡ n + 1 → k + 1 ≡ 0 + m

@@ -77,7 +77,7 @@ pub port_rests : LaneRests ports IsReached IsUnforged IsLossless
 port_rests = record {
   turn_steps = turn_steps;
   reached = reached_step_of;
-  was_unforged = was_unforged;
+  was_unforged = λ s event t step own clean. was_unforged s event t step clean;
   lossless = lossless_step;
   given_lossless = given_lossless;
   calm_gives = calm_gives;
