@@ -36,6 +36,16 @@ begun_anew e s = record (with_net_end e (joined_net_end (role_at e) (net_end e s
   wire = record s.wire { wire = configured e s.wire.wire; lossy = lossy_behind (state_of e s.wire.wire) s.wire.lossy };
 }
 
+-- the id of an end's next frame behind what came of a frame that it was given: one more where that is held
+abbrev pub next_behind : {U : Type 0} → Result ℕ U → ℕ → ℕ
+next_behind (Ok id) next = next + 1
+next_behind (Err fault) next = next
+
+-- the next ids of both ends stay
+pub record SameIds (s t : NetLaneState) : Type 0 where
+  pub guest : t.guest.next_id ≡ s.guest.next_id
+  pub hub : t.hub.next_id ≡ s.hub.next_id
+
 -- bytes are written that lie within a memory; or they don't, and nothing changes
 abbrev pub PutsWithin : Bool → ℕ → List ℕ → List ℕ → List ℕ → Type 0
 PutsWithin true at bytes memory new = (at + length bytes ≤ length memory) × (new ≡ put_at at bytes memory)

@@ -1,11 +1,12 @@
 ghost use Rattle.std.specs.Prelude.{◌≡◌, ◌^◌, ◌-◌, ◌<◌, IfOk};
+ghost use Rattle.ldc_queue.specs.Wire.{peer_of};
 ghost use Rattle.port_model.specs.NetEvent.{Asked, Gives, Joins, Steps};
 ghost use Rattle.port_model.specs.NetLaneState.{fresh_net, IsNetShape, net_end};
 ghost use Rattle.port_model.specs.NetLaneStep.{is_finished, NetLaneStep};
 ghost use Rattle.port_model.specs.NetReached.{NetReached};
 ghost use Rattle.vnet_port.specs.Calls.{given, joining};
 ghost use Rattle.vnet_port.specs.Stepping.{net_answer, TellsLength};
-ghost use Rattle.net_lane.specs.Events.{injected_event, lost_event, poked_event, ticked_event};
+ghost use Rattle.net_lane.specs.Events.{injected_event, lost_event, next_behind, poked_event, ticked_event, SameIds};
 
 use crate::port_ends::PortEnds;
 use ldc_queue::{End, PutFault};
@@ -54,6 +55,7 @@ impl NetLane {
     pub fn step(&mut self, end: End) -> NetOut
         ensures step { NetLaneStep self.old (Steps end (net_answer result (net_end end self.new).last)) self.new }
         ensures count { TellsLength result (net_end end self.new).last }
+        ensures ids { SameIds self.old self.new }
     {
         let mut out = NetOut::Idle;
         self.step_into(end, &mut out);
@@ -64,13 +66,15 @@ impl NetLane {
     pub fn step_into(&mut self, end: End, out: &mut NetOut)
         ensures step { NetLaneStep self.old (Steps end (net_answer out.new (net_end end self.new).last)) self.new }
         ensures count { TellsLength out.new (net_end end self.new).last }
+        ensures ids { SameIds self.old self.new }
     {
         self.ends.step_into(end, out);
     }
 
     /// Resets an end, which begins anew, and answers how many frames are lost.
     pub fn reset(&mut self, end: End) -> u32
-        ensures { NetLaneStep self.old (Asked end result) self.new }
+        ensures step { NetLaneStep self.old (Asked end result) self.new }
+        ensures ids { SameIds self.old self.new }
     {
         self.ends.reset(end)
     }
@@ -80,7 +84,9 @@ impl NetLane {
     /// slots.
     pub fn send(&mut self, end: End, frame: &[u8]) -> Result<u64, SendFault>
         requires few { (net_end end self.old).next_id < 2 ^ 64 - 1 }
-        ensures { NetLaneStep self.old (Gives end (given result frame.now)) self.new }
+        ensures step { NetLaneStep self.old (Gives end (given result frame.now)) self.new }
+        ensures ids { (net_end end self.new).next_id ≡ next_behind result (net_end end self.old).next_id }
+        ensures other_ids { (net_end (peer_of end) self.new).next_id ≡ (net_end (peer_of end) self.old).next_id }
     {
         self.ends.send(end, frame)
     }
@@ -88,7 +94,8 @@ impl NetLane {
     /// Puts a group's address last into the guest's list, which is told to the switch. The answer is false where it is
     /// in the list. `GroupsFull` comes where it isn't, and seven others are. Then nothing changes.
     pub fn join_group(&mut self, address: [u8; 6]) -> Result<bool, GroupsFull>
-        ensures { NetLaneStep self.old (Joins (joining result address)) self.new }
+        ensures step { NetLaneStep self.old (Joins (joining result address)) self.new }
+        ensures ids { SameIds self.old self.new }
     {
         self.ends.join_group(address)
     }
@@ -96,14 +103,16 @@ impl NetLane {
     /// Nothing comes any more, and so many frames stand in the port's out queue: resets a guest's end that isn't
     /// finished, and answers how many frames are lost. `None` where the port is finished.
     pub fn tick(&mut self, queued: u32) -> Option<u32>
-        ensures { NetLaneStep self.old (ticked_event queued result) self.new }
+        ensures step { NetLaneStep self.old (ticked_event queued result) self.new }
+        ensures ids { SameIds self.old self.new }
     {
         self.ends.tick(queued)
     }
 
     /// Loses the packet that has waited longest for an end. `None` where none waits.
     pub fn lose(&mut self, end: End) -> Option<[u8; 64]>
-        ensures { NetLaneStep self.old (lost_event end result) self.new }
+        ensures step { NetLaneStep self.old (lost_event end result) self.new }
+        ensures ids { SameIds self.old self.new }
     {
         self.ends.lose(end)
     }
@@ -111,7 +120,8 @@ impl NetLane {
     /// Makes a packet wait last for an end, though the other end never put it. Refused where the end isn't `Up`, and
     /// where its queue is full.
     pub fn inject(&mut self, end: End, packet: &[u8; 64]) -> Result<(), PutFault>
-        ensures { NetLaneStep self.old (injected_event end packet.now result) self.new }
+        ensures step { NetLaneStep self.old (injected_event end packet.now result) self.new }
+        ensures ids { SameIds self.old self.new }
     {
         self.ends.inject(end, packet)
     }
@@ -119,7 +129,8 @@ impl NetLane {
     /// Writes bytes into the memory of an end, though the end never wrote them. False where they don't lie within it:
     /// then nothing changes.
     pub fn poke(&mut self, end: End, at: u64, bytes: &[u8]) -> bool
-        ensures { NetLaneStep self.old (poked_event end at bytes.now result) self.new }
+        ensures step { NetLaneStep self.old (poked_event end at bytes.now result) self.new }
+        ensures ids { SameIds self.old self.new }
     {
         self.ends.poke(end, at, bytes)
     }

@@ -2,6 +2,7 @@
 
 ghost use Rattle.std.specs.Prelude.{◌≡◌, ◌^◌, ◌-◌, ◌<◌, ◌≤◌, length, IfOk};
 ghost use Rattle.ldc_queue.specs.declared.end.End.TheVariants.{A, B};
+ghost use Rattle.ldc_queue.specs.Wire.{peer_of};
 ghost use Rattle.vnet_msg.specs.Frames.{memory_pages};
 ghost use Rattle.port_model.specs.NetEndState.{unseen};
 ghost use Rattle.port_model.specs.NetEvent.{Asked, Gives, Joins, Steps};
@@ -9,7 +10,7 @@ ghost use Rattle.port_model.specs.NetLaneState.{fresh_net, IsNetShape, net_end};
 ghost use Rattle.port_model.specs.NetLaneStep.{is_finished, is_nothing, NetLaneStep};
 ghost use Rattle.vnet_port.specs.Calls.{given, joining};
 ghost use Rattle.vnet_port.specs.Stepping.{net_answer, TellsLength};
-ghost use Rattle.net_lane.specs.Events.{begun_anew, injected_event, lost_event, poked_event, PutsWithin, ticked_event};
+ghost use Rattle.net_lane.specs.Events.{begun_anew, injected_event, lost_event, next_behind, poked_event, PutsWithin, ticked_event, SameIds};
 ghost use Rattle.net_lane.specs.Noted.{noted, noted_behind};
 
 use dom_memory::{Memory, PAGE};
@@ -114,6 +115,7 @@ impl PortEnds {
     pub fn step_into(&mut self, end: End, out: &mut NetOut)
         ensures step { NetLaneStep self.old (Steps end (net_answer out.new (net_end end self.new).last)) self.new }
         ensures count { TellsLength out.new (net_end end self.new).last }
+        ensures ids { SameIds self.old self.new }
     {
         match end {
             End::A => self.step_guest(out),
@@ -123,7 +125,8 @@ impl PortEnds {
 
     /// Resets an end, and tells how many frames are lost.
     pub fn reset(&mut self, end: End) -> u32
-        ensures { NetLaneStep self.old (Asked end result) self.new }
+        ensures step { NetLaneStep self.old (Asked end result) self.new }
+        ensures ids { SameIds self.old self.new }
     {
         match end {
             End::A => self.begin_guest(),
@@ -133,7 +136,8 @@ impl PortEnds {
 
     /// A tick of the guest's end, which is reset unless the port is finished.
     pub fn tick(&mut self, queued: u32) -> Option<u32>
-        ensures { NetLaneStep self.old (ticked_event queued result) self.new }
+        ensures step { NetLaneStep self.old (ticked_event queued result) self.new }
+        ensures ids { SameIds self.old self.new }
     {
         if self.finished(queued) {
             return None;
@@ -144,7 +148,9 @@ impl PortEnds {
     /// Gives an end a frame.
     pub fn send(&mut self, end: End, frame: &[u8]) -> Result<u64, SendFault>
         requires few { (net_end end self.old).next_id < 2 ^ 64 - 1 }
-        ensures { NetLaneStep self.old (Gives end (given result frame.now)) self.new }
+        ensures step { NetLaneStep self.old (Gives end (given result frame.now)) self.new }
+        ensures ids { (net_end end self.new).next_id ≡ next_behind result (net_end end self.old).next_id }
+        ensures other_ids { (net_end (peer_of end) self.new).next_id ≡ (net_end (peer_of end) self.old).next_id }
     {
         match end {
             End::A => self.send_guest(frame),
@@ -154,7 +160,8 @@ impl PortEnds {
 
     /// Writes bytes into an end's memory, though the end never wrote them.
     pub fn poke(&mut self, end: End, at: u64, bytes: &[u8]) -> bool
-        ensures { NetLaneStep self.old (poked_event end at bytes.now result) self.new }
+        ensures step { NetLaneStep self.old (poked_event end at bytes.now result) self.new }
+        ensures ids { SameIds self.old self.new }
     {
         match end {
             End::A => self.poke_guest(at, bytes),
@@ -164,14 +171,16 @@ impl PortEnds {
 
     /// The guest joins a group.
     pub fn join_group(&mut self, address: [u8; 6]) -> Result<bool, GroupsFull>
-        ensures { NetLaneStep self.old (Joins (joining result address)) self.new }
+        ensures step { NetLaneStep self.old (Joins (joining result address)) self.new }
+        ensures ids { SameIds self.old self.new }
     {
         self.guest.join_group(address)
     }
 
     /// Loses the packet that has waited longest for the end, if one waits.
     pub fn lose(&mut self, end: End) -> Option<[u8; 64]>
-        ensures { NetLaneStep self.old (lost_event end result) self.new }
+        ensures step { NetLaneStep self.old (lost_event end result) self.new }
+        ensures ids { SameIds self.old self.new }
     {
         let packet = self.channel.lose(end);
         if packet.is_some() {
@@ -182,7 +191,8 @@ impl PortEnds {
 
     /// Makes a packet wait last for the end.
     pub fn inject(&mut self, end: End, packet: &[u8; 64]) -> Result<(), PutFault>
-        ensures { NetLaneStep self.old (injected_event end packet.now result) self.new }
+        ensures step { NetLaneStep self.old (injected_event end packet.now result) self.new }
+        ensures ids { SameIds self.old self.new }
     {
         let injected = self.channel.forge(end, packet);
         if injected.is_ok() {
@@ -218,6 +228,7 @@ impl PortEnds {
     fn step_guest(&mut self, out: &mut NetOut)
         ensures step { NetLaneStep self.old (Steps A (net_answer out.new self.new.guest.last)) self.new }
         ensures count { TellsLength out.new self.new.guest.last }
+        ensures ids { SameIds self.old self.new }
     {
         let was = self.channel.state(End::A);
         self.guest.step_into(
@@ -234,6 +245,7 @@ impl PortEnds {
     fn step_hub(&mut self, out: &mut NetOut)
         ensures step { NetLaneStep self.old (Steps B (net_answer out.new self.new.hub.last)) self.new }
         ensures count { TellsLength out.new self.new.hub.last }
+        ensures ids { SameIds self.old self.new }
     {
         let was = self.channel.state(End::B);
         self.hub.step_into(
@@ -271,7 +283,9 @@ impl PortEnds {
     // Gives the guest's end a frame.
     fn send_guest(&mut self, frame: &[u8]) -> Result<u64, SendFault>
         requires few { self.old.guest.next_id < 2 ^ 64 - 1 }
-        ensures { NetLaneStep self.old (Gives A (given result frame.now)) self.new }
+        ensures step { NetLaneStep self.old (Gives A (given result frame.now)) self.new }
+        ensures ids { self.new.guest.next_id ≡ next_behind result self.old.guest.next_id }
+        ensures other_ids { self.new.hub.next_id ≡ self.old.hub.next_id }
     {
         self.guest.send(frame)
     }
@@ -279,14 +293,17 @@ impl PortEnds {
     // The same of the switch's end.
     fn send_hub(&mut self, frame: &[u8]) -> Result<u64, SendFault>
         requires few { self.old.hub.next_id < 2 ^ 64 - 1 }
-        ensures { NetLaneStep self.old (Gives B (given result frame.now)) self.new }
+        ensures step { NetLaneStep self.old (Gives B (given result frame.now)) self.new }
+        ensures ids { self.new.hub.next_id ≡ next_behind result self.old.hub.next_id }
+        ensures other_ids { self.new.guest.next_id ≡ self.old.guest.next_id }
     {
         self.hub.send(frame)
     }
 
     // Writes bytes into the memory of the guest's end, though the end never wrote them.
     fn poke_guest(&mut self, at: u64, bytes: &[u8]) -> bool
-        ensures { NetLaneStep self.old (poked_event A at bytes.now result) self.new }
+        ensures step { NetLaneStep self.old (poked_event A at bytes.now result) self.new }
+        ensures ids { SameIds self.old self.new }
     {
         let poked = put_within(&mut self.guest_memory, at, bytes);
         if poked {
@@ -297,7 +314,8 @@ impl PortEnds {
 
     // The same of the switch's end.
     fn poke_hub(&mut self, at: u64, bytes: &[u8]) -> bool
-        ensures { NetLaneStep self.old (poked_event B at bytes.now result) self.new }
+        ensures step { NetLaneStep self.old (poked_event B at bytes.now result) self.new }
+        ensures ids { SameIds self.old self.new }
     {
         let poked = put_within(&mut self.hub_memory, at, bytes);
         if poked {

@@ -4,4 +4,4 @@ use Rattle.net_lane.proofs.net_lane.NetLane.inject.Goals as goal
 
 pub invariant_of-self : goal.invariant_of-self
 invariant_of-self c =
-    reached_more c.self.inside.ends c.inject.new.self (injected_event c.args.end c.args.packet.now c.inject.result) c.self.invariant c.inject.ensures
+    reached_more c.self.inside.ends c.inject.new.self (injected_event c.args.end c.args.packet.now c.inject.result) c.self.invariant c.inject.ensures.step

@@ -4,4 +4,4 @@ use Rattle.net_lane.proofs.net_lane.NetLane.poke.Goals as goal
 
 pub invariant_of-self : goal.invariant_of-self
 invariant_of-self c =
-    reached_more c.self.inside.ends c.poke.new.self (poked_event c.args.end c.args.at c.args.bytes.now c.poke.result) c.self.invariant c.poke.ensures
+    reached_more c.self.inside.ends c.poke.new.self (poked_event c.args.end c.args.at c.args.bytes.now c.poke.result) c.self.invariant c.poke.ensures.step

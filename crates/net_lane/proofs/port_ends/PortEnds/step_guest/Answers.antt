@@ -1,4 +1,4 @@
-use Rattle.std.proofs.Common.{ℕ, List, sym, ap, subst}
+use Rattle.std.proofs.Common.{ℕ, List, sym, ap, subst, ◌∙◌}
 use Rattle.ldc_queue.specs.declared.end.End.TheVariants.{A}
 use Rattle.port_model.specs.NetEvent.{Steps}
 use Rattle.port_model.specs.NetLaneState.{NetLaneState}
@@ -19,3 +19,9 @@ returns-clause-step c =
 pub returns-clause-count : goal.returns-clause-count
 returns-clause-count c =
     subst (λ (bytes : List ℕ). TellsLength c.step_into.new.out bytes) (sym (ap (λ (s : NetLaneState). s.guest.last) c.note.ensures)) c.step_into.ensures.step.count
+
+pub returns-clause-ids : goal.returns-clause-ids
+returns-clause-ids c = record {
+  guest = ap (λ (s : NetLaneState). s.guest.next_id) c.note.ensures ∙ c.step_into.ensures.same_ids ∙ ap (λ (s : NetLaneState). s.guest.next_id) c.self.view_is;
+  hub = ap (λ (s : NetLaneState). s.hub.next_id) c.note.ensures ∙ ap (λ (s : NetLaneState). s.hub.next_id) c.self.view_is;
+}
