@@ -32,7 +32,7 @@ abbrev pub OnEvent : (DiskEvent → Type 0) → SettleEntry → Type 0
 OnEvent P (OfLane k event) = P event
 OnEvent P _ = ⊤
 
--- WHAT COMES OF A CALL has what each part of one event has. Kinds of lanes without calls need no line here.
+-- WHAT COMES OF A CALL has what each part of one event has, by the kind of its lane
 pub by_answer : (Holds : List SettleEntry → Type 0) (lane : LaneName) (call : Call) (part : List SettleEntry)
     → ((k : ℕ) (event : DiskEvent) → lane ≡ OfDisk k → AnswersCall call event → Holds (OfLane k event ∷ [])) → AnswersOn lane call part → Holds part
 by_answer Holds (OfDisk k) call part holds one = subst Holds (sym one.is) (holds k one.event refl one.answers)
