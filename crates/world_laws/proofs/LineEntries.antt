@@ -32,10 +32,15 @@ abbrev pub OnEvent : (DiskEvent → Type 0) → SettleEntry → Type 0
 OnEvent P (OfLane k event) = P event
 OnEvent P _ = ⊤
 
--- WHAT COMES OF A CALL has what each part of one event has, by the kind of its lane
+-- WHAT COMES OF A CALL is one event, and has what each part of one event has
+pub one_answer : (k : ℕ) (call : Call) (part : List SettleEntry) → AnswersOn (OfDisk k) call part → OneEntry k (AnswersCall call) part
+one_answer k call (OfLane j event ∷ []) one = record { event = event; answers = one.1; is = ap (λ (n : ℕ). OfLane n event ∷ []) one.0 }
+one_answer k call _ one = absurd one
+
 pub by_answer : (Holds : List SettleEntry → Type 0) (lane : LaneName) (call : Call) (part : List SettleEntry)
     → ((k : ℕ) (event : DiskEvent) → lane ≡ OfDisk k → AnswersCall call event → Holds (OfLane k event ∷ [])) → AnswersOn lane call part → Holds part
-by_answer Holds (OfDisk k) call part holds one = subst Holds (sym one.is) (holds k one.event refl one.answers)
+by_answer Holds (OfDisk k) call (OfLane j event ∷ []) holds one = subst (λ (n : ℕ). Holds (OfLane n event ∷ [])) (sym one.0) (holds k event refl one.1)
+by_answer Holds _ call _ holds one = absurd one
 
 module _ (P : SettleEntry → Type 0) where
   pub each_both : (one two : List SettleEntry) → EachEntry P one → EachEntry P two → EachEntry P (one ++ two)
