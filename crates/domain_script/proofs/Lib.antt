@@ -7,6 +7,7 @@ pub mod DecimalDigits
 pub mod HexWords
 pub mod SameName
 pub mod LaneKinds
+pub mod NamedLanes
 pub mod Naming
 pub mod WordTests
 pub mod NamingTests

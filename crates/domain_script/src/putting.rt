@@ -6,7 +6,6 @@ ghost use Rattle.domain_script.specs.Printed.{HasName, IsLaneNamed, disk_text, e
 ghost use Rattle.domain_script.specs.Rows.{row_of};
 ghost use Rattle.domain_script.specs.Words.{side_text, IsName};
 
-use crate::fields::LaneKind;
 use crate::rows::RowKind;
 use crate::{EndName, Fill, Lane, Name, Names, Side};
 use hex::encode_to_slice;
@@ -74,16 +73,15 @@ pub fn put_disk(disk: u32, names: &Names, out: &mut [u8; 3100], len: usize) -> u
     }
 }
 
-/// Puts the name of a declared lane.
+/// Puts the name of a declared lane: it is a disk's, since no others are declared.
+#[tactic(auto, using(crate::proofs::NamedLanes::named_number, crate::proofs::NamedLanes::named_text))]
 pub fn put_lane(lane: Lane, names: &Names, out: &mut [u8; 3100], len: usize) -> usize
     requires name { IsLaneNamed names.now lane }
     requires room { len + 9 ≤ 3100 }
     ensures text { take result out.new ≡ take len out.old ++ 32 ∷ lane_text names.now lane }
     ensures len { result ≤ len + 9 }
 {
-    match lane.kind {
-        LaneKind::Disk => put_disk(lane.number, names, out, len),
-    }
+    put_disk(lane.number, names, out, len)
 }
 
 /// Puts an end: its lane's name, and its side.

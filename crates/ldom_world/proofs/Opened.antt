@@ -4,7 +4,7 @@ use Rattle.disk_law.specs.ListState.{ImageState}
 use Rattle.disk_model.specs.DiskEvent.{DiskEvent}
 use Rattle.disk_model.specs.LaneState.{LaneState}
 use Rattle.world_laws.specs.Settle.{OfLane, SettleEntry}
-use Rattle.world_laws.specs.Lines.{AnswersCall, AnswersRequest, Asked, Call, Calls, Line, OneEntry, PartOf, OfDisk}
+use Rattle.world_laws.specs.Lines.{AnswersCall, AnswersOn, AnswersRequest, Asked, Call, Calls, Line, OneEntry, PartOf, OfDisk}
 use Rattle.world_laws.specs.World.{OneMoves, WorldState}
 use Rattle.ldom_entries.specs.declared.entry.Entry.{Entry}
 use Rattle.ldom_report.specs.Report.{accepted_count}
@@ -70,7 +70,8 @@ module _ (w : WorldState) (lanes : List LaneState) (image : ImageState) (k : ℕ
 
   pub call_fits : (call : Call) → LaneAnswers (Calls (OfDisk k) call) k (AnswersCall call) s x t
       → Fits w (Calls (OfDisk k) call) old new (over (slice_set lanes k t) image)
-  call_fits call answer = answer_fits (Calls (OfDisk k) call) (AnswersCall call) (λ part one. one) answer
+  call_fits call answer = answer_fits (Calls (OfDisk k) call) (AnswersCall call)
+      (λ part one. subst (AnswersOn (OfDisk k) call) (sym one.is) (refl, one.answers)) answer
 
   pub request_fits : (request : Request) → LaneAnswers (Asked k request) k (AnswersRequest request) s x t
       → Fits w (Asked k request) old new (over (slice_set lanes k t) image)

@@ -18,6 +18,7 @@ use Rattle.ldom_entries.specs.declared.entry.Entry.TheVariants as entry
 use Rattle.ldom_entries.specs.declared.entry.Who.{Who}
 use Rattle.ldom_entries.specs.declared.entry.Who.TheVariants.{Lane as OfWhole, End as OfEnd}
 use Rattle.lane_kinds.proofs.Places.{after_one, set_same, take_set_one}
+use Rattle.world_laws.proofs.LineEntries.{one_answer}
 use Rattle.world_laws.proofs.TicksOn.{lane_gets_none, lane_gets_tick}
 use Rattle.world_laws.specs.Names.{name_of}
 use Rattle.world_laws.specs.RoundMade.{all_true}
@@ -98,7 +99,7 @@ pub tick_grew : (k : ℕ) (w v : WorldState) (old new : List Entry) (lane : Lane
     → slice_get w.lanes k ≡ Some lane → gets_tick lane had ≡ true → Fits w (Calls (OfDisk k) Ticks) old new v
     → Grew (λ es. LaneTicked k had true w es v) old new
 tick_grew k w v old new lane had there gets fits =
-    let one : OneEntry k (AnswersCall Ticks) fits.entries = fits.moves.part_of in
+    let one : OneEntry k (AnswersCall Ticks) fits.entries = one_answer k Ticks fits.entries fits.moves.part_of in
     let moves : OneMoves w k one.event v = run_of_one w v (OfLane k one.event) fits.entries one.is fits.moves.run in
     let ticked : LaneTicked k had true w (OfLane k one.event ∷ []) v = lane_gets_tick k had w one.event v lane there
     gets one.answers moves in

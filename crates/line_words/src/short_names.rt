@@ -5,7 +5,7 @@ ghost use Rattle.line_words.specs.IsDeclared.{IsLane};
 ghost use Rattle.line_words.specs.LineNames.{disk_name, lane_name};
 
 use crate::LaneNames;
-use domain_script::{Lane, LaneKind, Name, Names};
+use domain_script::{Lane, Name, Names};
 use std::marker::Model;
 
 fn name_bytes(name: &Name) -> &[u8]
@@ -82,13 +82,12 @@ impl<'a> LineNames<'a> {
         &self.lanes[disk as usize]
     }
 
-    /// The names of a lane.
+    /// The names of a declared lane: it is a disk's, since no others are declared.
+    #[tactic(auto, using(crate::proofs::DiskNames::declared_number, crate::proofs::DiskNames::declared_name))]
     pub fn of_lane(&self, lane: Lane) -> &'a LaneNames
         requires { IsLane self.now.disks lane }
         ensures { result.now ≡ lane_name self.now.disks lane }
     {
-        match lane.kind {
-            LaneKind::Disk => self.of_disk(lane.number),
-        }
+        self.of_disk(lane.number)
     }
 }

@@ -3,12 +3,12 @@ use Rattle.std.proofs.Common.{◌≡◌, ◌⊎◌, inl, inr, ℕ, List, [], ◌
 use Rattle.disk_model.specs.DiskEvent.{DiskEvent}
 use Rattle.disk_model.specs.LaneState.{LaneState}
 use Rattle.world_laws.proofs.Falling.{ends_settled, rounds_few}
-use Rattle.world_laws.proofs.LineEntries.{EachEntry, each_as, each_both, each_in, one_each, steps_each}
+use Rattle.world_laws.proofs.LineEntries.{EachEntry, by_answer, each_as, each_both, each_in, one_each, steps_each}
 use Rattle.world_laws.proofs.Stuck.{front_never, part_never}
 use Rattle.world_laws.proofs.TicksOnce.{front_ticks, part_ticks}
 use Rattle.world_laws.specs.Begun.{SettleFront}
 use Rattle.world_laws.specs.Settle.{SettleEntry, SettlePart, Settled, Settles}
-use Rattle.world_laws.specs.Lines.{AnswersCall, AnswersRequest, AreSteps, Asked, BeginsPart, Calls, Line, OfDisk}
+use Rattle.world_laws.specs.Lines.{AnswersRequest, AreSteps, Asked, BeginsPart, Calls, Line}
 use Rattle.world_laws.specs.Lines.{Nothing, OneEntry, PartOf, Rounds, Steps, EndTurn, turn, turns_of}
 use Rattle.world_laws.specs.Lines as world
 use Rattle.script_laws.proofs.CleanLanes.{AreClean}
@@ -34,7 +34,7 @@ part_is (Asked k request) lanes part behind is = inr (one k (AnswersRequest requ
 part_is (Steps k e count) lanes part behind is = inr (steps (replicate count (turn k e)) part is)
 part_is (Rounds count) lanes part behind is = inr (steps (turns_of count (length lanes)) part is)
 part_is world.Settles lanes part behind is = inl is
-part_is (Calls (OfDisk k) call) lanes part behind is = inr (one k (AnswersCall call) part is)
+part_is (Calls lane call) lanes part behind is = inr (by_answer AreOfLanes lane call part (λ k event same answers. (tt, tt)) is)
 
 -- A SETTLE over clean lanes
 pub clean_settles : (lanes : List LaneState) (part : List SettleEntry) (behind : List LaneState) → AreClean lanes

@@ -11,7 +11,7 @@ use Rattle.domain_script.specs.declared.event.DiskDecl.{DiskDecl}
 use Rattle.domain_script.specs.declared.event.Event.{Event}
 use Rattle.world_laws.proofs.Along.{lanes_run, lines_run}
 use Rattle.world_laws.specs.Settle.{OfLane, SettleEntry, Settled}
-use Rattle.world_laws.specs.Lines.{AreSteps, Asked, Calls, Line, Nothing, OneEntry, PartOf, Rounds, Steps, EndTurn, entries_of_lines, turn, turns_of, OfDisk}
+use Rattle.world_laws.specs.Lines.{AreSteps, Asked, Calls, Line, Nothing, OneEntry, PartOf, Rounds, Steps, EndTurn, entries_of_lines, turn, turns_of}
 use Rattle.world_laws.specs.Lines as world
 use Rattle.world_laws.specs.World.{WorldState}
 use Rattle.world_parts.specs.WorldEvents.{world_event}
@@ -19,7 +19,7 @@ use Rattle.ldom_entries.specs.declared.entry.Entry.{Entry}
 use Rattle.script_laws.proofs.CleanLanes.{AreClean}
 use Rattle.script_laws.proofs.DeclaredWorlds.{as_told, lines_told}
 use Rattle.script_laws.proofs.DiskShapes.{many_shapes}
-use Rattle.world_laws.proofs.LineEntries.{EachEntry}
+use Rattle.world_laws.proofs.LineEntries.{EachEntry, by_answer}
 use Rattle.script_laws.proofs.Entries.{IsOfLane}
 use Rattle.script_laws.proofs.LineEntries.{clean_settles}
 use Rattle.script_laws.proofs.SettleEntries.{SettledLast, settled_last}
@@ -95,7 +95,8 @@ delimited (Steps k e count) lanes part behind clean is = as_turns (replicate cou
 delimited (Rounds count) lanes part behind clean is = as_turns (turns_of count (length lanes)) part is
 delimited world.Settles lanes part behind clean is =
     settled_last lanes part behind (clean_settles lanes part behind clean is)
-delimited (Calls (OfDisk k) call) lanes part behind clean is = one_long k _ part is
+delimited (Calls lane call) lanes part behind clean is =
+    by_answer (λ (l : List SettleEntry). length l ≡ 1) lane call part (λ k event same answers. refl) is
 
 -- ITS ENTRIES are as many, and the answer stands last among them
 abbrev is_answer : Option SettleEntry → Bool

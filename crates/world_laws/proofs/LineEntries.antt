@@ -1,6 +1,6 @@
 -- A condition on each entry of a part. Each entry of a line's part has it where each step of an end and each tick has it, and what may come of requests and calls.
 -- In a settle the names of lanes that are left over must have it too, and its answer.
-use Rattle.std.proofs.Common.{◌≡◌, ℕ, ◌+◌, ◌<◌, List, [], ◌∷◌, ◌++◌, length, replicate, refl, sym, ◌∙◌, subst, arith}
+use Rattle.std.proofs.Common.{◌≡◌, ℕ, ◌+◌, ◌<◌, List, [], ◌∷◌, ◌++◌, length, replicate, refl, sym, ◌∙◌, ap, subst, arith}
 use Rattle.std.specs.Prelude.{⊤}
 use Rattle.ldc_queue.specs.declared.end.End.{End}
 use Rattle.vdisk_msg.specs.declared.request.Request.{Request}
@@ -21,7 +21,7 @@ use Rattle.world_laws.specs.Begun.{RoundFront, SettleFront, fronts}
 use Rattle.world_laws.specs.Rounds.{LaneRound, MakeRound}
 use Rattle.world_laws.specs.Settle.{OfLane, SettleEntry, Settled, Settles, Unsettled, disk_entries, disks, entries_of_rounds, entry_of, left_over, most_rounds, round_entries, tick_entries}
 use Rattle.world_laws.specs.DiskKind.{disk_kind, tick}
-use Rattle.world_laws.specs.Lines.{AnswersCall, AnswersRequest, AreSteps, Asked, BeginsPart, Call, Calls, Line, Nothing, OneEntry, PartOf, Rounds, Steps, EndTurn, turn, turns_of, LaneName, OfDisk, IsStepOf}
+use Rattle.world_laws.specs.Lines.{AnswersCall, AnswersRequest, AreSteps, Asked, BeginsPart, Call, Calls, Line, Nothing, OneEntry, PartOf, Rounds, Steps, EndTurn, turn, turns_of, AnswersOn, LaneName, OfDisk, IsStepOf}
 use Rattle.world_laws.specs.Lines as script
 
 abbrev pub EachEntry : (SettleEntry → Type 0) → List SettleEntry → Type 0
@@ -31,6 +31,16 @@ EachEntry = EachOf
 abbrev pub OnEvent : (DiskEvent → Type 0) → SettleEntry → Type 0
 OnEvent P (OfLane k event) = P event
 OnEvent P _ = ⊤
+
+-- WHAT COMES OF A CALL is one event, and has what each part of one event has
+pub one_answer : (k : ℕ) (call : Call) (part : List SettleEntry) → AnswersOn (OfDisk k) call part → OneEntry k (AnswersCall call) part
+one_answer k call (OfLane j event ∷ []) one = record { event = event; answers = one.1; is = ap (λ (n : ℕ). OfLane n event ∷ []) one.0 }
+one_answer k call _ one = absurd one
+
+pub by_answer : (Holds : List SettleEntry → Type 0) (lane : LaneName) (call : Call) (part : List SettleEntry)
+    → ((k : ℕ) (event : DiskEvent) → lane ≡ OfDisk k → AnswersCall call event → Holds (OfLane k event ∷ [])) → AnswersOn lane call part → Holds part
+by_answer Holds (OfDisk k) call (OfLane j event ∷ []) holds one = subst (λ (n : ℕ). Holds (OfLane n event ∷ [])) (sym one.0) (holds k event refl one.1)
+by_answer Holds _ call _ holds one = absurd one
 
 module _ (P : SettleEntry → Type 0) where
   pub each_both : (one two : List SettleEntry) → EachEntry P one → EachEntry P two → EachEntry P (one ++ two)
@@ -63,7 +73,7 @@ module _ (P : SettleEntry → Type 0) where
   module _ (steps : (k : ℕ) (e : End) (event : DiskEvent) → IsStep e event → P (OfLane k event)) where
     of_step : (lane : LaneName) (side : End) (entry : SettleEntry) → IsStepOf lane side entry → P entry
     of_step (OfDisk k) side (OfLane j event) is = steps j side event is.1
-    of_step (OfDisk k) side _ is = absurd is
+    of_step _ side _ is = absurd is
 
     pub steps_each : (turns : List EndTurn) (part : List SettleEntry) → AreSteps turns part → EachEntry P part
     steps_each [] [] are = tt
@@ -130,7 +140,8 @@ module _ (P : SettleEntry → Type 0) where
         line_each asked (Steps k e count) called lanes part behind long are = steps_each (replicate count (turn k e)) part are
         line_each asked (Rounds count) called lanes part behind long are = steps_each (turns_of count (length lanes)) part are
         line_each asked script.Settles called lanes part behind long settle = (part_leads disks (Over n) (leads n) ends lanes part behind settle long).0
-        line_each asked (Calls (OfDisk k) call) called lanes part behind long one = one_each k (AnswersCall call) part (λ event answers. called k call event refl answers) one
+        line_each asked (Calls lane call) called lanes part behind long one =
+            by_answer (EachEntry P) lane call part (λ k event is answers. (called k call event (ap (λ (x : LaneName). Calls x call) is) answers, tt)) one
 
         pub begins_each : (line : Line) (lanes : List LaneState) (part : List SettleEntry) (behind : List LaneState) → length lanes ≡ n → BeginsPart line lanes part behind → EachEntry P part
         begins_each Nothing lanes part behind long is = each_as part [] is tt

@@ -65,9 +65,10 @@ pub record OneEntry (k : ℕ) (Answers : DiskEvent → Type 0) (part : List Sett
   pub answers : Answers event
   pub is : part ≡ OfLane k event ∷ []
 
--- what comes of a call, by the kind of its lane
+-- what comes of a call: one entry, by the kind of its lane
 abbrev pub AnswersOn : LaneName → Call → List SettleEntry → Type 0
-AnswersOn (OfDisk k) call part = OneEntry k (AnswersCall call) part
+AnswersOn (OfDisk k) call (OfLane j event ∷ []) = (j ≡ k) × AnswersCall call event
+AnswersOn lane call _ = ⊥
 
 -- STEPS, by whose turn it is: a lane and its end
 pub record EndTurn : Type 0 where
