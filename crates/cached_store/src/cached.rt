@@ -82,6 +82,9 @@ impl<D: Store> Store for Cached<D> {
 
     ghost flushes = { λ c. D.flushes c.inner };
 
+
+    ghost writes = { λ c. D.writes c.inner };
+
     ghost faults = { λ c. D.faults c.inner };
 
     ghost told_size = { λ c. D.told_size c.inner };
@@ -97,6 +100,7 @@ impl<D: Store> Store for Cached<D> {
         ensures size { D.size self.new.inner ≡ D.size self.old.inner }
         ensures calls { calls_of D.calls self.new ≡ next_count (calls_of D.calls self.old) }
         ensures flushes { D.flushes self.new.inner ≡ D.flushes self.old.inner }
+        ensures writes { D.writes self.new.inner ≡ D.writes self.old.inner }
         ensures ok { OnOk result (D.faults self.new.inner ≡ D.faults self.old.inner) }
         ensures count { D.faults self.old.inner ≤ D.faults self.new.inner }
         ensures cause { OnErr result (Rose (D.faults self.old.inner) (D.faults self.new.inner)) }
@@ -140,6 +144,7 @@ impl<D: Store> Store for Cached<D> {
         ensures size { D.size self.new.inner ≡ D.size self.old.inner }
         ensures calls { calls_of D.calls self.new ≡ next_count (calls_of D.calls self.old) }
         ensures flushes { D.flushes self.new.inner ≡ D.flushes self.old.inner }
+        ensures writes { D.writes self.new.inner ≡ next_count (D.writes self.old.inner) }
         ensures ok { OnOk result (D.faults self.new.inner ≡ D.faults self.old.inner) }
         ensures count { D.faults self.old.inner ≤ D.faults self.new.inner }
         ensures cause { OnErr result (Rose (D.faults self.old.inner) (D.faults self.new.inner)) }
@@ -171,6 +176,7 @@ impl<D: Store> Store for Cached<D> {
         ensures size { D.size self.new.inner ≡ D.size self.old.inner }
         ensures calls { calls_of D.calls self.new ≡ next_count (calls_of D.calls self.old) }
         ensures flushes { D.flushes self.new.inner ≡ next_count (D.flushes self.old.inner) }
+        ensures writes { D.writes self.new.inner ≡ D.writes self.old.inner }
         ensures ok { OnOk result (D.faults self.new.inner ≡ D.faults self.old.inner) }
         ensures count { D.faults self.old.inner ≤ D.faults self.new.inner }
         ensures cause { OnErr result (Rose (D.faults self.old.inner) (D.faults self.new.inner)) }

@@ -18,11 +18,12 @@ abbrev pub FaultsAfter : Bool → ℕ → ℕ → Type 0
 FaultsAfter true before now = now ≡ next_count before
 FaultsAfter false before now = now ≡ before
 
--- ONE CALL of a store, which failed exactly where this says so. The operation 3 is one flush of it, and no other
--- flushes it.
+-- ONE CALL of a store, which failed exactly where this says so. The operation 2 is one write of it and 3 one flush, and
+-- no other writes or flushes it.
 pub record CalledOnce {D : Type 0} (store : Ghosts D) (operation : ℕ) (failed : Bool) (old new : D) : Type 0 where
   pub calls : store.calls new ≡ next_count (store.calls old)
   pub flushes : store.flushes new ≡ (if operation == 3 then next_count (store.flushes old) else store.flushes old)
+  pub writes : store.writes new ≡ (if operation == 2 then next_count (store.writes old) else store.writes old)
   pub faults : FaultsAfter failed (store.faults old) (store.faults new)
 
 -- WHAT A STEP DOES TO THE STORE: a unit and a flush are one call of it, whether it failed or not; by every other step

@@ -1,5 +1,6 @@
 -- A disk whose requests are a plain list: where its blocks lie in the image, and what is pending.
 use Rattle.std.specs.Prelude.{ℕ, ◌+◌, List, [], length, Option}
+use Rattle.vio_io.specs.declared.store.Store.{Ghosts}
 use Rattle.vdisk_msg.specs.declared.request.Request.{Request}
 
 pub record ListState : Type 0 where
@@ -28,6 +29,21 @@ pub record ImageState : Type 0 where
   pub told : Option (List ℕ)
   -- how often it failed
   pub faults : ℕ
-  -- how often it was asked to read, to write or to flush, and how often to flush
+  -- how often it was asked to read, to write or to flush, and how often to flush and to write
   pub calls : ℕ
   pub flushes : ℕ
+  pub writes : ℕ
+
+-- a store, by what contracts see of it
+abbrev pub as_image : {D : Type 0} → Ghosts D → D → ImageState
+as_image store disk = record {
+  told = store.content disk;
+  faults = store.faults disk;
+  calls = store.calls disk;
+  flushes = store.flushes disk;
+  writes = store.writes disk;
+}
+
+-- one that was just attached: nothing was asked of it
+abbrev pub attached : Option (List ℕ) → ImageState
+attached told = record { told = told; faults = 0; calls = 0; flushes = 0; writes = 0 }

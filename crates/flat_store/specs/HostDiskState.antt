@@ -24,6 +24,11 @@ abbrev pub flushes_of : {F : Type 0} → HostDisk F → ℕ
 flushes_of (Memory store) = store.flushes
 flushes_of (File store) = store.flushes
 
+-- how often it was asked to write
+abbrev pub writes_of : {F : Type 0} → HostDisk F → ℕ
+writes_of (Memory store) = store.writes
+writes_of (File store) = store.writes
+
 -- how often it failed
 abbrev pub faults_of : {F : Type 0} → HostDisk F → ℕ
 faults_of (Memory store) = store.plan.faults

@@ -6,5 +6,6 @@ pub record MemStoreState : Type 0 where
   pub bytes : List ℕ
   -- reads, writes and flushes are counted together
   pub plan : Plan
-  -- how many of them were flushes
+  -- how many of them were flushes, and how many writes
   pub flushes : ℕ
+  pub writes : ℕ

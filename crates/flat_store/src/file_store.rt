@@ -16,6 +16,7 @@ pub struct FileStore<F: ImageFile> {
     file: F,
     calls: u64,
     flushes: u64,
+    writes: u64,
     faults: u64,
 }
 
@@ -25,12 +26,14 @@ impl<F: ImageFile> FileStore<F> {
         ensures file { result.file ≡ file }
         ensures calls { result.calls ≡ 0 }
         ensures flushes { result.flushes ≡ 0 }
+        ensures writes { result.writes ≡ 0 }
         ensures faults { result.faults ≡ 0 }
     {
         FileStore {
             file,
             calls: 0,
             flushes: 0,
+            writes: 0,
             faults: 0,
         }
     }
@@ -44,6 +47,8 @@ impl<F: ImageFile> Store for FileStore<F> {
     ghost calls = { λ s. s.calls };
 
     ghost flushes = { λ s. s.flushes };
+
+    ghost writes = { λ s. s.writes };
 
     ghost faults = { λ s. s.faults };
 
@@ -60,6 +65,7 @@ impl<F: ImageFile> Store for FileStore<F> {
         ensures size { F.size self.new.file ≡ F.size self.old.file }
         ensures calls { self.new.calls ≡ next_count self.old.calls }
         ensures flushes { self.new.flushes ≡ self.old.flushes }
+        ensures writes { self.new.writes ≡ self.old.writes }
         ensures ok { OnOk result (self.new.faults ≡ self.old.faults) }
         ensures count { self.old.faults ≤ self.new.faults }
         ensures cause { OnErr result (Rose self.old.faults self.new.faults) }
@@ -80,6 +86,7 @@ impl<F: ImageFile> Store for FileStore<F> {
         ensures size { F.size self.new.file ≡ F.size self.old.file }
         ensures calls { self.new.calls ≡ next_count self.old.calls }
         ensures flushes { self.new.flushes ≡ self.old.flushes }
+        ensures writes { self.new.writes ≡ next_count self.old.writes }
         ensures ok { OnOk result (self.new.faults ≡ self.old.faults) }
         ensures count { self.old.faults ≤ self.new.faults }
         ensures cause { OnErr result (Rose self.old.faults self.new.faults) }
@@ -89,6 +96,7 @@ impl<F: ImageFile> Store for FileStore<F> {
         ensures lacked { OnErr result (Lacked (F.calls self.old.file) (F.calls self.new.file)) }
     {
         self.calls = self.calls.saturating_add(1);
+        self.writes = self.writes.saturating_add(1);
         count_fault(write_whole(&mut self.file, at, bytes), &mut self.faults)
     }
 
@@ -97,6 +105,7 @@ impl<F: ImageFile> Store for FileStore<F> {
         ensures size { F.size self.new.file ≡ F.size self.old.file }
         ensures calls { self.new.calls ≡ next_count self.old.calls }
         ensures flushes { self.new.flushes ≡ next_count self.old.flushes }
+        ensures writes { self.new.writes ≡ self.old.writes }
         ensures ok { OnOk result (self.new.faults ≡ self.old.faults) }
         ensures count { self.old.faults ≤ self.new.faults }
         ensures cause { OnErr result (Rose self.old.faults self.new.faults) }

@@ -105,6 +105,7 @@ impl Host for ListHost {
         ensures fresh { IfOk result (λ disk. disk.plan.faults ≡ 0) }
         ensures calls { IfOk result (λ disk. disk.plan.calls ≡ 0) }
         ensures flushes { IfOk result (λ disk. disk.flushes ≡ 0) }
+        ensures writes { IfOk result (λ disk. disk.writes ≡ 0) }
         ensures given { OnOk result (self.new.given ≡ next_given self.old.given) }
         ensures none { OnErr result (self.new.given ≡ self.old.given) }
         ensures ok { OnOk result (self.new.faults ≡ self.old.faults) }

@@ -16,29 +16,31 @@ pub struct MemStore {
     bytes: Vec<u8>,
     plan: FaultPlan,
     flushes: u64,
+    writes: u64,
 }
 
 impl Model for MemStore {
     ghost Value = { MemStoreState };
 
-    ghost view = { λ s. record { bytes = s.bytes.items; plan = s.plan; flushes = s.flushes } };
+    ghost view = { λ s. record { bytes = s.bytes.items; plan = s.plan; flushes = s.flushes; writes = s.writes } };
 }
 
 impl MemStore {
     /// A store of these bytes.
     pub fn new(alloc: Global, bytes: &[u8], failing: &[u64]) -> Result<Self, NoMemory>
-        ensures { IfOk result (λ s. s ≡ record { bytes = bytes.now; plan = unused failing.now; flushes = 0 }) }
+        ensures { IfOk result (λ s. s ≡ record { bytes = bytes.now; plan = unused failing.now; flushes = 0; writes = 0 }) }
     {
         Ok(MemStore {
             bytes: Vec::from_slice(alloc, bytes)?,
             plan: FaultPlan::new(alloc, failing)?,
             flushes: 0,
+            writes: 0,
         })
     }
 
     /// A store of zeros that never fails.
     pub fn zeros(alloc: Global, length: usize) -> Result<Self, NoMemory>
-        ensures { IfOk result (λ s. s ≡ record { bytes = replicate length 0; plan = unused []; flushes = 0 }) }
+        ensures { IfOk result (λ s. s ≡ record { bytes = replicate length 0; plan = unused []; flushes = 0; writes = 0 }) }
     {
         let mut bytes = Vec::with_capacity(alloc, length)?;
         bytes.resize(length, 0)?;
@@ -46,6 +48,7 @@ impl MemStore {
             bytes,
             plan: FaultPlan::new(alloc, &[])?,
             flushes: 0,
+            writes: 0,
         })
     }
 
@@ -67,6 +70,8 @@ impl Store for MemStore {
 
     ghost flushes = { λ s. s.flushes };
 
+    ghost writes = { λ s. s.writes };
+
     ghost faults = { λ s. s.plan.faults };
 
     ghost told_size = { λ s. refl };
@@ -82,6 +87,7 @@ impl Store for MemStore {
         ensures size { length self.new.bytes ≡ length self.old.bytes }
         ensures calls { self.new.plan.calls ≡ next_count self.old.plan.calls }
         ensures flushes { self.new.flushes ≡ self.old.flushes }
+        ensures writes { self.new.writes ≡ self.old.writes }
         ensures ok { OnOk result (self.new.plan.faults ≡ self.old.plan.faults) }
         ensures count { self.old.plan.faults ≤ self.new.plan.faults }
         ensures cause { OnErr result (Rose self.old.plan.faults self.new.plan.faults) }
@@ -104,6 +110,7 @@ impl Store for MemStore {
         ensures size { length self.new.bytes ≡ length self.old.bytes }
         ensures calls { self.new.plan.calls ≡ next_count self.old.plan.calls }
         ensures flushes { self.new.flushes ≡ self.old.flushes }
+        ensures writes { self.new.writes ≡ next_count self.old.writes }
         ensures ok { OnOk result (self.new.plan.faults ≡ self.old.plan.faults) }
         ensures count { self.old.plan.faults ≤ self.new.plan.faults }
         ensures cause { OnErr result (Rose self.old.plan.faults self.new.plan.faults) }
@@ -113,6 +120,7 @@ impl Store for MemStore {
         ensures plan { self.new.plan ≡ after_call self.old.plan }
         ensures refused { OnErr result (self.new.bytes ≡ self.old.bytes) }
     {
+        self.writes = self.writes.saturating_add(1);
         self.plan.call()?;
         write_range(&mut self.bytes, at as usize, bytes);
         Ok(())
@@ -123,6 +131,7 @@ impl Store for MemStore {
         ensures size { length self.new.bytes ≡ length self.old.bytes }
         ensures calls { self.new.plan.calls ≡ next_count self.old.plan.calls }
         ensures flushes { self.new.flushes ≡ next_count self.old.flushes }
+        ensures writes { self.new.writes ≡ self.old.writes }
         ensures ok { OnOk result (self.new.plan.faults ≡ self.old.plan.faults) }
         ensures count { self.old.plan.faults ≤ self.new.plan.faults }
         ensures cause { OnErr result (Rose self.old.plan.faults self.new.plan.faults) }

@@ -5,7 +5,7 @@ ghost use Rattle.vio_io.specs.Given.{next_given};
 ghost use Rattle.vio_io.specs.FaultPlan.{after_call, fails_next, unused};
 ghost use Rattle.vio_io.specs.Stores.{IsUnitRange, KeepsOutside, ReadsRange, WritesRange};
 ghost use Rattle.flat_store.specs.Files.{Lacked, MovedOnce, SyncedOnce};
-ghost use Rattle.flat_store.specs.HostDiskState.{FileCalled, IsUncalled, calls_of, content_of, faults_of, flushes_of, plan_of, size_of};
+ghost use Rattle.flat_store.specs.HostDiskState.{FileCalled, IsUncalled, calls_of, content_of, faults_of, flushes_of, plan_of, size_of, writes_of};
 ghost use Rattle.flat_store.specs.Hosts.{zeros_alone};
 
 use crate::{FileStore, ImageFile, StdFile, ZeroStore};
@@ -22,7 +22,7 @@ pub enum HostDisk<F: ImageFile> {
 }
 
 impl<F: ImageFile> Store for HostDisk<F> {
-    ghost use Rattle.flat_store.specs.HostDiskState.{calls_of, content_of, faults_of, flushes_of, size_of, told_length};
+    ghost use Rattle.flat_store.specs.HostDiskState.{calls_of, content_of, faults_of, flushes_of, size_of, told_length, writes_of};
 
     ghost content = { content_of F.ImageFile };
 
@@ -31,6 +31,8 @@ impl<F: ImageFile> Store for HostDisk<F> {
     ghost calls = { calls_of };
 
     ghost flushes = { flushes_of };
+
+    ghost writes = { writes_of };
 
     ghost faults = { faults_of };
 
@@ -50,6 +52,7 @@ impl<F: ImageFile> Store for HostDisk<F> {
         ensures size { size_of F.ImageFile self.new ≡ size_of F.ImageFile self.old }
         ensures calls { calls_of self.new ≡ next_count (calls_of self.old) }
         ensures flushes { flushes_of self.new ≡ flushes_of self.old }
+        ensures writes { writes_of self.new ≡ writes_of self.old }
         ensures ok { OnOk result (faults_of self.new ≡ faults_of self.old) }
         ensures count { faults_of self.old ≤ faults_of self.new }
         ensures cause { OnErr result (Rose (faults_of self.old) (faults_of self.new)) }
@@ -74,6 +77,7 @@ impl<F: ImageFile> Store for HostDisk<F> {
         ensures size { size_of F.ImageFile self.new ≡ size_of F.ImageFile self.old }
         ensures calls { calls_of self.new ≡ next_count (calls_of self.old) }
         ensures flushes { flushes_of self.new ≡ flushes_of self.old }
+        ensures writes { writes_of self.new ≡ next_count (writes_of self.old) }
         ensures ok { OnOk result (faults_of self.new ≡ faults_of self.old) }
         ensures count { faults_of self.old ≤ faults_of self.new }
         ensures cause { OnErr result (Rose (faults_of self.old) (faults_of self.new)) }
@@ -96,6 +100,7 @@ impl<F: ImageFile> Store for HostDisk<F> {
         ensures size { size_of F.ImageFile self.new ≡ size_of F.ImageFile self.old }
         ensures calls { calls_of self.new ≡ next_count (calls_of self.old) }
         ensures flushes { flushes_of self.new ≡ next_count (flushes_of self.old) }
+        ensures writes { writes_of self.new ≡ writes_of self.old }
         ensures ok { OnOk result (faults_of self.new ≡ faults_of self.old) }
         ensures count { faults_of self.old ≤ faults_of self.new }
         ensures cause { OnErr result (Rose (faults_of self.old) (faults_of self.new)) }
@@ -164,6 +169,7 @@ impl<R: Files<File = File> + Drop> Host for StdHost<R> {
         ensures fresh { IfOk result (λ disk. faults_of disk ≡ 0) }
         ensures calls { IfOk result (λ disk. calls_of disk ≡ 0) }
         ensures flushes { IfOk result (λ disk. flushes_of disk ≡ 0) }
+        ensures writes { IfOk result (λ disk. writes_of disk ≡ 0) }
         ensures given { OnOk result (self.new.given ≡ next_given self.old.given) }
         ensures none { OnErr result (self.new.given ≡ self.old.given) }
         ensures ok { OnOk result (self.new.faults ≡ self.old.faults) }

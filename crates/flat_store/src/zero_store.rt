@@ -17,6 +17,7 @@ pub struct ZeroStore {
     size: usize,
     plan: FaultPlan,
     flushes: u64,
+    writes: u64,
 }
 
 impl Model for ZeroStore {
@@ -25,7 +26,7 @@ impl Model for ZeroStore {
 
     ghost Value = { MemStoreState };
 
-    ghost view = { λ s. record { bytes = take s.size s.pages; plan = s.plan; flushes = s.flushes } };
+    ghost view = { λ s. record { bytes = take s.size s.pages; plan = s.plan; flushes = s.flushes; writes = s.writes } };
 
     ghost invariant = { λ s. s.size ≤ length s.pages };
 }
@@ -34,13 +35,14 @@ impl ZeroStore {
     /// A store of so many zeros.
     #[tactic(auto, using(crate::proofs::ZeroSizes::size_zeros))]
     pub fn new(alloc: Global, size: usize) -> Result<Self, NoMemory>
-        ensures { IfOk result (λ s. s ≡ record { bytes = replicate size 0; plan = unused []; flushes = 0 }) }
+        ensures { IfOk result (λ s. s ≡ record { bytes = replicate size 0; plan = unused []; flushes = 0; writes = 0 }) }
     {
         Ok(ZeroStore {
             pages: ZeroPages::new(alloc, size.div_ceil(PAGE))?,
             size,
             plan: FaultPlan::new(alloc, &[])?,
             flushes: 0,
+            writes: 0,
         })
     }
 }
@@ -54,6 +56,8 @@ impl Store for ZeroStore {
     ghost calls = { λ s. s.plan.calls };
 
     ghost flushes = { λ s. s.flushes };
+
+    ghost writes = { λ s. s.writes };
 
     ghost faults = { λ s. s.plan.faults };
 
@@ -70,6 +74,7 @@ impl Store for ZeroStore {
         ensures size { length self.new.bytes ≡ length self.old.bytes }
         ensures calls { self.new.plan.calls ≡ next_count self.old.plan.calls }
         ensures flushes { self.new.flushes ≡ self.old.flushes }
+        ensures writes { self.new.writes ≡ self.old.writes }
         ensures ok { OnOk result (self.new.plan.faults ≡ self.old.plan.faults) }
         ensures count { self.old.plan.faults ≤ self.new.plan.faults }
         ensures cause { OnErr result (Rose self.old.plan.faults self.new.plan.faults) }
@@ -91,6 +96,7 @@ impl Store for ZeroStore {
         ensures size { length self.new.bytes ≡ length self.old.bytes }
         ensures calls { self.new.plan.calls ≡ next_count self.old.plan.calls }
         ensures flushes { self.new.flushes ≡ self.old.flushes }
+        ensures writes { self.new.writes ≡ next_count self.old.writes }
         ensures ok { OnOk result (self.new.plan.faults ≡ self.old.plan.faults) }
         ensures count { self.old.plan.faults ≤ self.new.plan.faults }
         ensures cause { OnErr result (Rose self.old.plan.faults self.new.plan.faults) }
@@ -100,6 +106,7 @@ impl Store for ZeroStore {
         ensures plan { self.new.plan ≡ after_call self.old.plan }
         ensures refused { OnErr result (self.new.bytes ≡ self.old.bytes) }
     {
+        self.writes = self.writes.saturating_add(1);
         self.plan.call()?;
         self.pages.write(at as usize, bytes);
         Ok(())
@@ -110,6 +117,7 @@ impl Store for ZeroStore {
         ensures size { length self.new.bytes ≡ length self.old.bytes }
         ensures calls { self.new.plan.calls ≡ next_count self.old.plan.calls }
         ensures flushes { self.new.flushes ≡ next_count self.old.flushes }
+        ensures writes { self.new.writes ≡ self.old.writes }
         ensures ok { OnOk result (self.new.plan.faults ≡ self.old.plan.faults) }
         ensures count { self.old.plan.faults ≤ self.new.plan.faults }
         ensures cause { OnErr result (Rose self.old.plan.faults self.new.plan.faults) }

@@ -5,8 +5,9 @@ pub record InfallibleDiskState : Type 0 where
   pub bytes : List ℕ
   -- reads, writes and flushes are counted together
   pub calls : ℕ
-  -- how many of them were flushes
+  -- how many of them were flushes, and how many writes
   pub flushes : ℕ
+  pub writes : ℕ
 
 pub record GrowingSinkState : Type 0 where
   pub written : List ℕ

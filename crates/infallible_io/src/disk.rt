@@ -15,7 +15,7 @@ pub struct InfallibleDisk {
 impl Model for InfallibleDisk {
     ghost Value = { InfallibleDiskState };
 
-    ghost view = { λ d. record { bytes = d.store.bytes; calls = d.store.plan.calls; flushes = d.store.flushes } };
+    ghost view = { λ d. record { bytes = d.store.bytes; calls = d.store.plan.calls; flushes = d.store.flushes; writes = d.store.writes } };
 
     ghost invariant = { λ d. d.store.plan.failing ≡ [] };
 }
@@ -23,7 +23,7 @@ impl Model for InfallibleDisk {
 impl InfallibleDisk {
     /// So many zeros.
     pub fn zeros(alloc: Global, length: usize) -> Result<Self, NoMemory>
-        ensures { IfOk result (λ d. d ≡ record { bytes = replicate length 0; calls = 0; flushes = 0 }) }
+        ensures { IfOk result (λ d. d ≡ record { bytes = replicate length 0; calls = 0; flushes = 0; writes = 0 }) }
     {
         Ok(InfallibleDisk {
             store: MemStore::zeros(alloc, length)?,
@@ -46,6 +46,9 @@ impl Store for InfallibleDisk {
     ghost calls = { λ d. d.calls };
 
     ghost flushes = { λ d. d.flushes };
+
+
+    ghost writes = { λ d. d.writes };
 
     ghost faults = { λ _. 0 };
 

@@ -1,13 +1,14 @@
 -- The lanes of a script's disks before anything was asked, and the image as it was attached.
 use Rattle.std.proofs.Common.{◌≡◌, ℕ, ◌+◌, List, [], ◌∷◌, length, map, refl, ap, ◌∙◌, Option, arith}
-use Rattle.disk_law.specs.ListState.{ImageState}
+use Rattle.disk_law.specs.ListState.{ImageState, as_image, attached}
+use Rattle.vio_io.specs.declared.store.Store.{Ghosts}
 use Rattle.domain_script.specs.NamesState.{NamesState}
 use Rattle.script_laws.specs.Replayed.{start_of}
 use Rattle.world_laws.specs.LaneState.{LaneState, Shape, fresh}
 use Rattle.world_laws.specs.World.{WorldState}
 use Rattle.domain_script.specs.declared.event.DiskDecl.{DiskDecl}
 use Rattle.world_laws.specs.Issued.{issued_on}
-use Rattle.world_parts.specs.Declared.{attached, image_of, shapes_of}
+use Rattle.world_parts.specs.Declared.{shapes_of}
 
 -- one for each disk
 pub as_many : (first : ℕ) (disks : List DiskDecl) → length (map fresh (shapes_of first disks)) ≡ length disks
@@ -19,20 +20,15 @@ pub none_issued : (shapes : List Shape) → issued_on (map fresh shapes) ≡ 0
 none_issued [] = refl
 none_issued (shape ∷ shapes) = omega (arith, none_issued shapes)
 
--- an image is what is told of it
-pub finished : (i : ImageState) (told : Option (List ℕ)) (faults calls flushes : ℕ) → told ≡ i.told → faults ≡ i.faults
-    → calls ≡ i.calls → flushes ≡ i.flushes → image_of told faults calls flushes ≡ i
-finished i told faults calls flushes told_is faults_are calls_are flushes_are =
-    ap (λ (o : Option (List ℕ)). image_of o faults calls flushes) told_is
-    ∙ ap (λ (n : ℕ). image_of i.told n calls flushes) faults_are
-    ∙ ap (λ (n : ℕ). image_of i.told i.faults n flushes) calls_are
-    ∙ ap (λ (n : ℕ). image_of i.told i.faults i.calls n) flushes_are
-
--- and one that was just attached
-pub just_attached : (told gives : Option (List ℕ)) (faults calls flushes : ℕ) → told ≡ gives → faults ≡ 0 → calls ≡ 0
-    → flushes ≡ 0 → image_of told faults calls flushes ≡ attached gives
-just_attached told gives faults calls flushes told_is none_failed none_called none_flushed =
-    finished (attached gives) told faults calls flushes told_is none_failed none_called none_flushed
+-- an image that was just attached
+pub just_attached : {D : Type 0} (store : Ghosts D) (disk : D) (gives : Option (List ℕ)) → store.content disk ≡ gives → store.faults disk ≡ 0
+    → store.calls disk ≡ 0 → store.flushes disk ≡ 0 → store.writes disk ≡ 0 → as_image store disk ≡ attached gives
+just_attached store disk gives told_is none_failed none_called none_flushed none_written =
+    ap (λ (o : Option (List ℕ)). record (as_image store disk) { told = o }) told_is
+    ∙ ap (λ (n : ℕ). record (record (as_image store disk) { told = gives }) { faults = n }) none_failed
+    ∙ ap (λ (n : ℕ). record (record (as_image store disk) { told = gives; faults = 0 }) { calls = n }) none_called
+    ∙ ap (λ (n : ℕ). record (record (as_image store disk) { told = gives; faults = 0; calls = 0 }) { flushes = n }) none_flushed
+    ∙ ap (λ (n : ℕ). record (attached gives) { writes = n }) none_written
 
 -- the world of both
 pub same_world : (names : NamesState) (gives : ℕ → Option (List ℕ)) (w : WorldState) (lanes : List LaneState) (i : ImageState)

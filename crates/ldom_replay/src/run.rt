@@ -16,7 +16,8 @@ ghost use Rattle.script_laws.specs.Replayed.{Replayed, attach_status, ended_stat
 ghost use Rattle.script_laws.specs.Sized.{SizeIs};
 ghost use Rattle.world_laws.specs.Issued.{issued_on};
 ghost use Rattle.world_laws.specs.LaneState.{fresh};
-ghost use Rattle.world_parts.specs.Declared.{as_image, bytes_needed, shapes_of};
+ghost use Rattle.disk_law.specs.ListState.{as_image};
+ghost use Rattle.world_parts.specs.Declared.{bytes_needed, shapes_of};
 ghost use Rattle.domain_script.specs.ScriptEvents.{no_names};
 ghost use Rattle.domain_script.specs.Limits.{most_lines};
 
@@ -143,7 +144,7 @@ pub fn run_script<H: Host, S: Source>(
     host: &mut H,
     source: &mut S,
 ) -> Run<H::Disk>
-    ensures replayed { Replayed (as_image H.Disk.content H.Disk.faults H.Disk.calls H.Disk.flushes)
+    ensures replayed { Replayed (as_image H.Disk.Store)
         (S.left source.old) (S.left source.new) (H.gives host.old name.now) result.status result.lines result.names
         result.journal.entries result.image result.lanes }
     ensures sized { SizeIs H.Disk.size result.status (bytes_needed result.names.disks)
@@ -187,7 +188,7 @@ fn attach<H: Host, S: Source>(
     requires journal { reader.journal.entries ≡ [] }
     ensures replayed { (start : Option (List ℕ))
         → Opened start reader.lines.held (S.left source.old) first reader.names reader.lines.number
-        → Replayed (as_image H.Disk.content H.Disk.faults H.Disk.calls H.Disk.flushes) start (S.left source.new)
+        → Replayed (as_image H.Disk.Store) start (S.left source.new)
         (H.gives host.old name.now) result.status result.lines result.names result.journal.entries result.image
         result.lanes }
     ensures sized { (start : Option (List ℕ))
@@ -232,12 +233,12 @@ fn run_over<D: Store, S: Source>(
     requires few_lanes { length lanes ≤ 8 }
     ensures replayed { (start : Option (List ℕ)) (gives : ℕ → Option (List ℕ))
         → Opened start reader.lines.held (S.left source.old) first reader.names reader.lines.number
-        → as_image D.content D.faults D.calls D.flushes image ≡ (start_of reader.names gives).image
-        → Replayed (as_image D.content D.faults D.calls D.flushes) start (S.left source.new) gives result.status
+        → as_image D.Store image ≡ (start_of reader.names gives).image
+        → Replayed (as_image D.Store) start (S.left source.new) gives result.status
         result.lines result.names result.journal.entries result.image result.lanes }
     ensures sized { (start : Option (List ℕ)) (gives : ℕ → Option (List ℕ))
         → Opened start reader.lines.held (S.left source.old) first reader.names reader.lines.number
-        → as_image D.content D.faults D.calls D.flushes image ≡ (start_of reader.names gives).image
+        → as_image D.Store image ≡ (start_of reader.names gives).image
         → SizeIs D.size result.status (bytes_needed result.names.disks)
         (gives (bytes_needed result.names.disks)) result.image }
     ensures source { Fails (result.status ≡ Status.SourceFault) (S.faults source.old) (S.faults source.new) }
@@ -269,7 +270,7 @@ fn run_world<S: Source, D: Store>(
     ensures replayed { (start : Option (List ℕ)) (gives : ℕ → Option (List ℕ))
         → Opened start reader.lines.held (S.left source.old) first reader.names reader.lines.number
         → world ≡ start_of reader.names gives
-        → Replayed (as_image D.content D.faults D.calls D.flushes) start (S.left source.new) gives result.status
+        → Replayed (as_image D.Store) start (S.left source.new) gives result.status
         result.lines result.names result.journal.entries result.image result.lanes }
     ensures sized { (start : Option (List ℕ)) (gives : ℕ → Option (List ℕ))
         → Opened start reader.lines.held (S.left source.old) first reader.names reader.lines.number

@@ -5,7 +5,8 @@ ghost use Rattle.ldom_sample.specs.Sample.{sample_text};
 ghost use Rattle.ldom_report.specs.Failing.{Fails};
 ghost use Rattle.ldom_words.specs.Words.{sample_count};
 ghost use Rattle.script_laws.specs.Sized.{SizeIs};
-ghost use Rattle.world_parts.specs.Declared.{as_image, bytes_needed};
+ghost use Rattle.disk_law.specs.ListState.{as_image};
+ghost use Rattle.world_parts.specs.Declared.{bytes_needed};
 ghost use Rattle.ldom_replay.specs.Sampled.{SampleReplayed};
 
 use crate::run::{Run, run_script};
@@ -19,7 +20,7 @@ use vio_io::Host;
 /// Runs the sample script of a number over zeros. The run has an image exactly where the host gave one.
 pub fn run_sample<H: Host>(alloc: Global, number: u32, host: &mut H) -> Run<H::Disk>
     requires { number < sample_count }
-    ensures replayed { SampleReplayed number (as_image H.Disk.content H.Disk.faults H.Disk.calls H.Disk.flushes)
+    ensures replayed { SampleReplayed number (as_image H.Disk.Store)
         (H.gives host.old (codes "-")) result.status result.lines result.names result.journal.entries result.image
         result.lanes }
     ensures sized { SizeIs H.Disk.size result.status (bytes_needed result.names.disks)

@@ -19,7 +19,7 @@ ghost use Rattle.ldom_report.specs.DiskEvents.{history};
 ghost use Rattle.script_laws.specs.Objects.{host_tells, run_leaves, tells};
 ghost use Rattle.script_laws.specs.Outcomes.{Reports, RunsScript};
 ghost use Rattle.script_laws.specs.Quiet.{IsQuietScript};
-ghost use Rattle.script_laws.specs.Stored.{flush_count, stored_count};
+ghost use Rattle.script_laws.specs.Stored.{flush_count, stored_count, write_count};
 ghost use Rattle.script_laws.specs.Whole.{RunsPlainly};
 ghost use Rattle.world_parts.specs.Declared.{bytes_needed};
 ghost use Rattle.ldom_words.specs.Words.{AsksDump, AsksRun, AsksSample};
@@ -66,7 +66,7 @@ pub fn replay<H: Host, S: Source, K: Sink>(
     // their parts.
     ensures runs { (mode : Mode) (image : List ℕ) → AsksFor mode (map string_bytes words.now) image
         → RunsScript mode
-        (host_tells (H.gives host.old image) H.Disk.content H.Disk.faults H.Disk.calls H.Disk.flushes H.Disk.size)
+        (host_tells (H.gives host.old image) H.Disk.Store)
         (tells (S.left script.old) (K.written out.old) (S.faults script.old) (H.faults host.old) (K.faults out.old))
         (tells (S.left script.new) (K.written out.new) (S.faults script.new) (H.faults host.new) (K.faults out.new))
         (run_leaves result.status result.journal.entries result.image result.lanes) }
@@ -84,7 +84,7 @@ pub fn replay<H: Host, S: Source, K: Sink>(
     // many entries.
     ensures samples { (number : ℕ) → AsksSample (map string_bytes words.now) number
         → RunsSample number
-        (host_tells (H.gives host.old (codes "-")) H.Disk.content H.Disk.faults H.Disk.calls H.Disk.flushes H.Disk.size)
+        (host_tells (H.gives host.old (codes "-")) H.Disk.Store)
         (tells (S.left script.old) (K.written out.old) (S.faults script.old) (H.faults host.old) (K.faults out.old))
         (tells (S.left script.new) (K.written out.new) (S.faults script.new) (H.faults host.new) (K.faults out.new))
         (run_leaves result.status result.journal.entries result.image result.lanes) }
@@ -117,10 +117,11 @@ pub fn replay<H: Host, S: Source, K: Sink>(
     ensures statuses { SucceedOrFail result.journal.entries }
     ensures failures { IfSome result.image (λ image. failed_count result.journal.entries ≤ H.Disk.faults image) }
 
-    // The image was called once for each entry `stored` of the journal, and asked to flush once for each of a flush:
-    // whether the call failed or not.
+    // The image was called once for each entry `stored` of the journal, and asked to flush or to write once for each of a
+    // flush or a write: whether the call failed or not.
     ensures calls { IfSome result.image (λ image. H.Disk.calls image ≡ stored_count result.journal.entries) }
     ensures flushes { IfSome result.image (λ image. H.Disk.flushes image ≡ flush_count result.journal.entries) }
+    ensures writes { IfSome result.image (λ image. H.Disk.writes image ≡ write_count result.journal.entries) }
 
     // For all words and every status: the image is the one disk that the host gave in this call, and there is none
     // exactly where it gave none, as attaching failed or wanted memory, or was never asked for.

@@ -29,7 +29,7 @@ use Rattle.descriptor_work.specs.Calling as server
 use Rattle.descriptor_work.specs.declared.answers.ServerOut.{ServerOut}
 use Rattle.descriptor_work.specs.declared.answers.ServerOut.TheVariants as server_out
 use Rattle.vio_tag.specs.declared.cause.Cause.{Cause}
-use Rattle.world_parts.specs.Declared.{as_image}
+use Rattle.disk_law.specs.ListState.{as_image}
 
 -- THE CLIENT: each answer is a step of its end, and leaves the image
 client_of_end : (answer : ClientOut) (last : List ℕ) → ResetsOwn answer → IsStep A (client_event answer last)
@@ -106,7 +106,7 @@ module _ (s t : LaneState) where
 
   module _ {D : Type 0} (g : Ghosts D) (old new : D) where
     abbrev image : D → ImageState
-    image d = as_image g.content g.faults g.calls g.flushes d
+    image d = as_image g d
 
     same_image : new ≡ old → image new ≡ image old
     same_image same = ap image same
@@ -123,6 +123,7 @@ module _ (s t : LaneState) where
       record {
         calls = called.calls;
         flushes = called.flushes;
+        writes = called.writes;
         faults = same_faults failed (g.faults old) (g.faults new) called.faults;
       },
     )

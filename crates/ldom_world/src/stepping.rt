@@ -10,7 +10,8 @@ ghost use Rattle.ldom_world.specs.OneLane.{EndSteps, LaneSteps};
 ghost use Rattle.ldom_world.specs.TurnsMade.{TurnsBegun, TurnsMade};
 ghost use Rattle.world_laws.specs.Issued.{issued_on};
 ghost use Rattle.vdisk_client.specs.Calls.{front_count};
-ghost use Rattle.world_parts.specs.Declared.{LiesWithin, as_image};
+ghost use Rattle.disk_law.specs.ListState.{as_image};
+ghost use Rattle.world_parts.specs.Declared.{LiesWithin};
 ghost use Rattle.world_parts.specs.Parts.{Fits, FitsSoFar, MakesQuietStep, MakesStep};
 
 use crate::entries::{leave_client, leave_server};
@@ -224,8 +225,8 @@ fn server_step<D: Store>(
     requires region { LiesWithin (D.size image.old) lane.old }
     requires ready { 0 < journal.old.room }
     ensures steps { LaneSteps in_settle disk B lane.old
-        (as_image D.content D.faults D.calls D.flushes image.old) journal.old result journal.new lane.new
-        (as_image D.content D.faults D.calls D.flushes image.new) }
+        (as_image D.Store image.old) journal.old result journal.new lane.new
+        (as_image D.Store image.new) }
     ensures size { D.size image.new ≡ D.size image.old }
     ensures shape { lane.new.shape ≡ lane.old.shape }
 {

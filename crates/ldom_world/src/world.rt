@@ -1,7 +1,8 @@
 ghost use Rattle.std.specs.Prelude.{◌≡◌, ◌≤◌, ◌<◌, ◌↔◌, IfErr, IfOk, IsTrue, length};
 ghost use Rattle.domain_script.specs.Declarations.{AreDisks};
 ghost use Rattle.world_laws.specs.Rounds.{Each};
-ghost use Rattle.world_parts.specs.Declared.{LiesWithin, as_image, bytes_needed, world_of};
+ghost use Rattle.disk_law.specs.ListState.{as_image};
+ghost use Rattle.world_parts.specs.Declared.{LiesWithin, bytes_needed, world_of};
 
 use crate::lanes::Lanes;
 use disk_lane::DiskLane;
@@ -28,13 +29,14 @@ impl<D: Store> Model for World<D> {
     ghost use Rattle.std.specs.Prelude.{[], ◌≡◌, ◌≤◌, length};
     ghost use Rattle.world_laws.specs.Rounds.{Each};
     ghost use Rattle.world_laws.specs.World.{WorldState};
-    ghost use Rattle.world_parts.specs.Declared.{LiesWithin, as_image};
+    ghost use Rattle.disk_law.specs.ListState.{as_image};
+    ghost use Rattle.world_parts.specs.Declared.{LiesWithin};
 
     ghost Value = { WorldState };
 
     ghost view = { λ w. record {
       lanes = w.disks.items;
-      image = as_image D.content D.faults D.calls D.flushes w.image;
+      image = as_image D.Store w.image;
     } };
 
     ghost invariant = { λ w. (length w.disks.items ≤ 8) × Each (LiesWithin (D.size w.image)) w.disks.items
@@ -48,7 +50,7 @@ impl<D: Store> World<D> {
         requires disks { AreDisks names.now.disks }
         requires image { bytes_needed names.now.disks ≤ D.size image }
         ensures made { IfOk result (λ w. w ≡ world_of names.now.disks
-            (as_image D.content D.faults D.calls D.flushes image)) }
+            (as_image D.Store image)) }
         ensures given_back { IfErr result (λ e. e.1 ≡ image) }
     {
         match Lanes::new(alloc, names) {
@@ -62,7 +64,7 @@ impl<D: Store> World<D> {
         requires few { length lanes ≤ 8 }
         requires image { Each (LiesWithin (D.size image)) lanes }
         ensures lanes { result.lanes ≡ lanes }
-        ensures image { result.image ≡ as_image D.content D.faults D.calls D.flushes image }
+        ensures image { result.image ≡ as_image D.Store image }
     {
         World {
             alloc,
@@ -89,10 +91,7 @@ impl<D: Store> World<D> {
 
     /// The image, and the lanes as they stand.
     pub fn finish(self) -> (D, Lanes)
-        ensures content { D.content result.0 ≡ self.image.told }
-        ensures faults { D.faults result.0 ≡ self.image.faults }
-        ensures calls { D.calls result.0 ≡ self.image.calls }
-        ensures flushes { D.flushes result.0 ≡ self.image.flushes }
+        ensures image { as_image D.Store result.0 ≡ self.image }
         ensures lanes { result.1 ≡ self.lanes }
         ensures size { Each (LiesWithin (D.size result.0)) self.lanes }
     {

@@ -18,9 +18,9 @@ use Rattle.script_laws.specs.Failures.{SucceedOrFail, failed_count}
 use Rattle.script_laws.specs.Headline.{Headline}
 use Rattle.script_laws.specs.Replayed.{FaultsAre, Replayed, start_of}
 use Rattle.script_laws.specs.Sized.{SizeIs}
-use Rattle.script_laws.specs.Stored.{flush_count, stored_count}
+use Rattle.script_laws.specs.Stored.{flush_count, stored_count, write_count}
 use Rattle.script_laws.proofs.HeadlineLaw.{headline_law}
-use Rattle.script_laws.proofs.ScriptLaws.{script_admits, script_calls, script_failed, script_flushes, script_once, script_statuses, script_worded}
+use Rattle.script_laws.proofs.ScriptLaws.{script_admits, script_calls, script_failed, script_flushes, script_once, script_statuses, script_worded, script_writes}
 use Rattle.script_laws.proofs.ReadLemmas.{read_disks, read_few}
 use Rattle.script_laws.proofs.Sizes.{lanes_long}
 use Rattle.world_parts.specs.Declared.{bytes_needed}
@@ -112,3 +112,10 @@ module _ {D : Type 0} (seen : D → ImageState) (script now : Option (List ℕ))
         (λ disk is. ap (λ (i : ImageState). i.flushes) is
         ∙ script_flushes names.disks start 0 run.parts run.final disks_are fits refl parts_short
         ∙ ap flush_count run.journal_is.is)
+
+    pub writes : IfSome image (λ disk. (seen disk).writes ≡ write_count journal)
+    writes =
+        IfSome_then image run.image_is
+        (λ disk is. ap (λ (i : ImageState). i.writes) is
+        ∙ script_writes names.disks start 0 run.parts run.final disks_are fits refl parts_short
+        ∙ ap write_count run.journal_is.is)

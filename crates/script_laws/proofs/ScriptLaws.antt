@@ -18,8 +18,8 @@ use Rattle.world_laws.specs.Along.{happened}
 use Rattle.world_laws.proofs.Along.{fresh_reached}
 use Rattle.lane_kinds.proofs.Places.{get_within}
 use Rattle.world_laws.specs.World.{IsWorld, WorldState, WorldStep}
-use Rattle.world_laws.specs.Failures.{in_entry, is_flush, is_store, is_store_that}
-use Rattle.world_laws.proofs.ImageFaults.{few_counted, run_calls, run_flushes}
+use Rattle.world_laws.specs.Failures.{in_entry, is_flush, is_store, is_store_that, is_write}
+use Rattle.world_laws.proofs.ImageFaults.{few_counted, run_calls, run_flushes, run_writes}
 use Rattle.ldom_report.specs.DiskEvents.{history}
 use Rattle.ldom_report.specs.HasWords.{HasWords}
 use Rattle.ldom_entries.specs.declared.entry.Entry.{Entry}
@@ -34,7 +34,7 @@ use Rattle.world_laws.specs.Requests.{requests_of}
 use Rattle.script_laws.specs.Admitting.{AdmitsAll}
 use Rattle.script_laws.specs.Failures.{SucceedOrFail, failed_count}
 use Rattle.script_laws.specs.Outside.{IsOutsideAll, IsOutsideDisks, KeepsOthers}
-use Rattle.script_laws.specs.Stored.{flush_count, is_stored_that, stored_count}
+use Rattle.script_laws.specs.Stored.{flush_count, is_stored_that, stored_count, write_count}
 use Rattle.script_laws.proofs.DiskHistory.{all_seen, history_kept, issued_kept, kept_once, nothing_once}
 use Rattle.script_laws.proofs.DeclaredWorlds.{declared_world}
 use Rattle.script_laws.proofs.DiskShapes.{are_shapes, many_shapes, shape_there}
@@ -179,6 +179,12 @@ module _ (disks : List DiskDecl) (image : ImageState) (entries : ℕ) (parts : S
       let means = means_of tells.tellings in
       run_flushes (world_of disks image) means v tells.run ∙ ap (λ (n : ℕ). count_after (count_by (in_entry is_flush) means) n) none
       ∙ counted (λ operation failed. operation == 3) short
+
+  pub script_writes : image.writes ≡ 0 → length journal < 2 ^ 63 → v.image.writes ≡ write_count journal
+  script_writes none short =
+      let means = means_of tells.tellings in
+      run_writes (world_of disks image) means v tells.run ∙ ap (λ (n : ℕ). count_after (count_by (in_entry is_write) means) n) none
+      ∙ counted (λ operation failed. operation == 2) short
 
   -- nothing happened where it has no entry
   pub script_nothing : journal ≡ [] → v ≡ world_of disks image

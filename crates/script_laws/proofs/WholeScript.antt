@@ -29,7 +29,8 @@ use Rattle.script_laws.specs.Replayed.{FaultsAre, Replayed}
 use Rattle.script_laws.specs.Script.{ReadSoFar}
 use Rattle.script_laws.specs.Sized.{SizeIs}
 use Rattle.script_laws.specs.Whole.{RunsPlainly, RunsWhole, SpellsAll}
-use Rattle.world_parts.specs.Declared.{attached, bytes_needed, world_of}
+use Rattle.disk_law.specs.ListState.{attached}
+use Rattle.world_parts.specs.Declared.{bytes_needed, world_of}
 use Rattle.world_parts.specs.Endings.{EndsSo, ending}
 use Rattle.world_parts.specs.Script.{FitsScript, ScriptParts, events_of, journal_of}
 use Rattle.ldom_report.specs.LinesEnd.{counted_lines}

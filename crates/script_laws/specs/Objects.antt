@@ -1,11 +1,11 @@
 -- What the objects that a run is given tell of themselves, and what the run leaves.
 use Rattle.std.specs.Prelude.{ℕ, List, Option}
-use Rattle.disk_law.specs.ListState.{ImageState}
+use Rattle.vio_io.specs.declared.store.Store.{Ghosts}
+use Rattle.disk_law.specs.ListState.{ImageState, as_image}
 use Rattle.disk_model.specs.LaneState.{LaneState}
 use Rattle.ldom_entries.specs.declared.entry.Entry.{Entry}
 use Rattle.ldom_report.specs.declared.status.Status.{Status}
 use Rattle.script_laws.specs.Counts.{Counts, counts}
-use Rattle.world_parts.specs.Declared.{as_image}
 
 -- At one moment: the bytes that the source has left and those that the sink was given, where they tell them, and how
 -- often each of them and the host failed.
@@ -23,8 +23,8 @@ pub record HostTells (D : Type 0) : Type 0 where
   pub seen : D → ImageState
   pub size : D → ℕ
 
-abbrev pub host_tells : {D : Type 0} → (ℕ → Option (List ℕ)) → (D → Option (List ℕ)) → (D → ℕ) → (D → ℕ) → (D → ℕ) → (D → ℕ) → HostTells D
-host_tells gives content faults calls flushes size = record { gives = gives; seen = as_image content faults calls flushes; size = size }
+abbrev pub host_tells : {D : Type 0} → (ℕ → Option (List ℕ)) → Ghosts D → HostTells D
+host_tells gives store = record { gives = gives; seen = as_image store; size = store.size }
 
 -- what a run leaves: its status, what happened in it, and the image and the lanes, where it had them
 pub record RunLeaves (D : Type 0) : Type 0 where

@@ -16,7 +16,8 @@ use Rattle.world_laws.specs.World.{WorldState}
 use Rattle.script_laws.specs.Reading.{StopsAt}
 use Rattle.script_laws.specs.LanesStand.{LanesStand}
 use Rattle.script_laws.specs.Script.{ReadSoFar}
-use Rattle.world_parts.specs.Declared.{attached, bytes_needed, world_of}
+use Rattle.disk_law.specs.ListState.{attached}
+use Rattle.world_parts.specs.Declared.{bytes_needed, world_of}
 use Rattle.world_parts.specs.Script.{ScriptParts, events_of}
 
 -- These events were read, and then no further line was taken up, where the journal has so many entries; the report counts

@@ -1,4 +1,4 @@
--- How often a journal says that the image was called, and that it was asked to flush.
+-- How often a journal says that the image was called, and that it was asked to flush and to write.
 use Rattle.std.specs.Prelude.{ℕ, Bool, true, false, ◌==◌, List}
 use Rattle.std.specs.List.{count_by}
 use Rattle.ldom_entries.specs.declared.entry.Entry.{Entry}
@@ -15,3 +15,7 @@ stored_count entries = count_by (is_stored_that (λ operation failed. true)) ent
 -- a flush is the operation 3
 abbrev pub flush_count : List Entry → ℕ
 flush_count entries = count_by (is_stored_that (λ operation failed. operation == 3)) entries
+
+-- and a write is 2
+abbrev pub write_count : List Entry → ℕ
+write_count entries = count_by (is_stored_that (λ operation failed. operation == 2)) entries

@@ -12,7 +12,7 @@ ghost use Rattle.ldom_report.specs.HasWords.{HasWords};
 ghost use Rattle.script_laws.specs.Admitting.{AdmitsAll};
 ghost use Rattle.script_laws.specs.Failures.{SucceedOrFail, failed_count};
 ghost use Rattle.script_laws.specs.Outside.{IsOutsideDisks, KeepsOthers};
-ghost use Rattle.script_laws.specs.Stored.{flush_count, stored_count};
+ghost use Rattle.script_laws.specs.Stored.{flush_count, stored_count, write_count};
 ghost use Rattle.world_parts.specs.Declared.{bytes_needed, world_of};
 ghost use Rattle.world_parts.specs.Script.{FitsScript, ScriptParts, all_lines, events_of, journal_of};
 
@@ -61,9 +61,9 @@ pub fn failed_completions_are_counted()
         → image.faults ≡ 0 → length (journal_of parts) < 2 ^ 63 → failed_count (journal_of parts) ≤ v.image.faults }
 {}
 
-/// Each call of the image is told. It was called as often as the journal says `stored`, and asked to flush as often as
-/// that says so of a flush, whether it failed or not. Where nothing was asked of it at first and its count can't have
-/// stopped at the last value. These are counts: so many flushes were asked of it as are told, and no more calls.
+/// Each call of the image is told. It was called as often as the journal says `stored`, and asked to flush or to write as
+/// often as that says so of a flush or a write, whether it failed or not. Where nothing was asked of it at first and its
+/// count can't have stopped at the last value. These are counts: so many of them were asked as are told, and no more.
 pub fn calls_of_the_image_are_told()
     ensures calls { (disks : List DiskDecl) (image : ImageState) (entries : ℕ) (parts : ScriptParts) (v : WorldState)
         → AreDisks disks → FitsScript entries (world_of disks image) parts v
@@ -72,6 +72,10 @@ pub fn calls_of_the_image_are_told()
         → AreDisks disks → FitsScript entries (world_of disks image) parts v
         → image.flushes ≡ 0 → length (journal_of parts) < 2 ^ 63
         → v.image.flushes ≡ flush_count (journal_of parts) }
+    ensures writes { (disks : List DiskDecl) (image : ImageState) (entries : ℕ) (parts : ScriptParts) (v : WorldState)
+        → AreDisks disks → FitsScript entries (world_of disks image) parts v
+        → image.writes ≡ 0 → length (journal_of parts) < 2 ^ 63
+        → v.image.writes ≡ write_count (journal_of parts) }
 {}
 
 /// Each completion has the status 0, or 5 where the image failed.

@@ -42,6 +42,7 @@ pub trait Host {
         ensures fresh { IfOk result (λ disk. Self.Disk.faults disk ≡ 0) }
         ensures calls { IfOk result (λ disk. Self.Disk.calls disk ≡ 0) }
         ensures flushes { IfOk result (λ disk. Self.Disk.flushes disk ≡ 0) }
+        ensures writes { IfOk result (λ disk. Self.Disk.writes disk ≡ 0) }
         ensures given { OnOk result (given self.new ≡ next_given (given self.old)) }
         ensures none { OnErr result (given self.new ≡ given self.old) }
         ensures ok { OnOk result (faults self.new ≡ faults self.old) }

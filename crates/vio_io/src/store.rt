@@ -18,6 +18,9 @@ pub trait Store: Drop {
     /// How often it was asked to flush, which `calls` counts too.
     ghost flushes: { Self → ℕ };
 
+    /// How often it was asked to write, which `calls` counts too.
+    ghost writes: { Self → ℕ };
+
     /// How often it failed: each call that fails counts one fault.
     ghost faults: { Self → ℕ };
 
@@ -33,6 +36,7 @@ pub trait Store: Drop {
         ensures size { size self.new ≡ size self.old }
         ensures calls { calls self.new ≡ next_count (calls self.old) }
         ensures flushes { flushes self.new ≡ flushes self.old }
+        ensures writes { writes self.new ≡ writes self.old }
         ensures ok { OnOk result (faults self.new ≡ faults self.old) }
         ensures count { faults self.old ≤ faults self.new }
         ensures cause { OnErr result (Rose (faults self.old) (faults self.new)) }
@@ -48,6 +52,7 @@ pub trait Store: Drop {
         ensures size { size self.new ≡ size self.old }
         ensures calls { calls self.new ≡ next_count (calls self.old) }
         ensures flushes { flushes self.new ≡ flushes self.old }
+        ensures writes { writes self.new ≡ next_count (writes self.old) }
         ensures ok { OnOk result (faults self.new ≡ faults self.old) }
         ensures count { faults self.old ≤ faults self.new }
         ensures cause { OnErr result (Rose (faults self.old) (faults self.new)) }
@@ -59,6 +64,7 @@ pub trait Store: Drop {
         ensures size { size self.new ≡ size self.old }
         ensures calls { calls self.new ≡ next_count (calls self.old) }
         ensures flushes { flushes self.new ≡ next_count (flushes self.old) }
+        ensures writes { writes self.new ≡ writes self.old }
         ensures ok { OnOk result (faults self.new ≡ faults self.old) }
         ensures count { faults self.old ≤ faults self.new }
         ensures cause { OnErr result (Rose (faults self.old) (faults self.new)) }

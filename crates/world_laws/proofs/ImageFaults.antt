@@ -9,7 +9,7 @@ use Rattle.disk_model.specs.LaneState.{LaneState}
 use Rattle.world_laws.specs.Settle.{OfLane, SettleEntry}
 use Rattle.world_laws.specs.World.{CalledOnce, LaneMoves, WorldState, WorldStep}
 use Rattle.world_laws.proofs.Counted.{count_more}
-use Rattle.world_laws.specs.Failures.{in_entry, is_failed_store, is_flush, is_store, is_store_that}
+use Rattle.world_laws.specs.Failures.{in_entry, is_failed_store, is_flush, is_store, is_store_that, is_write}
 
 -- A COUNT later
 one_before : (n count : ℕ) → count_after n (next_count count) ≡ next_count (count_after n count)
@@ -61,7 +61,7 @@ module _ (count : ImageState → ℕ) (says : ℕ → Bool → Bool) (counts : C
       ∙ more_before n (count w.image) (in_entry (is_store_that says) entry)
       ∙ ap (λ (k : ℕ). count_after k (count w.image)) (sym (count_more (in_entry (is_store_that says)) entry entries))
 
--- ITS FAULTS, its calls and its flushes
+-- ITS FAULTS, its calls, its flushes and its writes
 failed_counts : Counts (λ image. image.faults) (λ operation failed. failed)
 failed_counts operation true i j once = once.faults
 failed_counts operation false i j once = once.faults
@@ -76,6 +76,9 @@ one_if false before now is = is
 flushes_count : Counts (λ image. image.flushes) (λ operation failed. operation == 3)
 flushes_count operation failed i j once = one_if (operation == 3) i.flushes j.flushes once.flushes
 
+writes_count : Counts (λ image. image.writes) (λ operation failed. operation == 2)
+writes_count operation failed i j once = one_if (operation == 2) i.writes j.writes once.writes
+
 pub run_faults : (w : WorldState) (entries : List SettleEntry) (v : WorldState) → Run WorldStep w entries v
     → v.image.faults ≡ count_after (count_by (in_entry is_failed_store) entries) w.image.faults
 run_faults = run_counts (λ image. image.faults) (λ operation failed. failed) failed_counts
@@ -87,6 +90,10 @@ run_calls = run_counts (λ image. image.calls) (λ operation failed. true) all_c
 pub run_flushes : (w : WorldState) (entries : List SettleEntry) (v : WorldState) → Run WorldStep w entries v
     → v.image.flushes ≡ count_after (count_by (in_entry is_flush) entries) w.image.flushes
 run_flushes = run_counts (λ image. image.flushes) (λ operation failed. operation == 3) flushes_count
+
+pub run_writes : (w : WorldState) (entries : List SettleEntry) (v : WorldState) → Run WorldStep w entries v
+    → v.image.writes ≡ count_after (count_by (in_entry is_write) entries) w.image.writes
+run_writes = run_counts (λ image. image.writes) (λ operation failed. operation == 2) writes_count
 
 -- A COUNT of few is exact, and one of some isn't 0
 pub few_counted : (n : ℕ) → n ≤ last_count → count_after n 0 ≡ n

@@ -1,4 +1,4 @@
--- Which events tell of a call of the store, that it failed, or flushed it; and which that a request failed for it.
+-- Which events tell of a call of the store, that it failed, or flushed or wrote it; and which that a request failed for it.
 use Rattle.std.specs.Prelude.{◌≡◌, ℕ, ◌==◌, Bool, true, false}
 use Rattle.disk_model.specs.DiskEvent.{DiskEvent, Done, Stored, Works}
 use Rattle.disk_model.specs.LaneState.{LaneState}
@@ -9,7 +9,7 @@ abbrev pub is_store_that : (ℕ → Bool → Bool) → DiskEvent → Bool
 is_store_that says (Works (Stored operation block count failed)) = says operation failed
 is_store_that says _ = false
 
--- a call of the store, one that failed, and one that flushes it: that is the operation 3
+-- a call of the store, one that failed, one that flushes it and one that writes it: those are the operations 3 and 2
 abbrev pub is_store : DiskEvent → Bool
 is_store event = is_store_that (λ operation failed. true) event
 
@@ -18,6 +18,9 @@ is_failed_store event = is_store_that (λ operation failed. failed) event
 
 abbrev pub is_flush : DiskEvent → Bool
 is_flush event = is_store_that (λ operation failed. operation == 3) event
+
+abbrev pub is_write : DiskEvent → Bool
+is_write event = is_store_that (λ operation failed. operation == 2) event
 
 -- a completion with the status 5
 abbrev pub is_failed_done : DiskEvent → Bool

@@ -18,10 +18,12 @@ abbrev pub FaultsAfter : Bool → ℕ → ℕ → Type 0
 FaultsAfter true before now = now ≡ next_count before
 FaultsAfter false before now = now ≡ before
 
--- ONE CALL of the image, whether it failed or not; a flush, the operation 3, is one flush of it, and no other call flushes it
+-- ONE CALL of the image, whether it failed or not. The operation 2 is one write of it and 3 one flush, and no other call
+-- writes or flushes it.
 pub record CalledOnce (operation : ℕ) (failed : Bool) (i j : ImageState) : Type 0 where
   pub calls : j.calls ≡ next_count i.calls
   pub flushes : j.flushes ≡ (if operation == 3 then next_count i.flushes else i.flushes)
+  pub writes : j.writes ≡ (if operation == 2 then next_count i.writes else i.writes)
   pub faults : FaultsAfter failed i.faults j.faults
 
 -- AN EVENT OF A LANE over the image: a unit that is stored, or a flush, is one call of the image; by every other event the image stays

@@ -15,7 +15,7 @@ ghost use Rattle.world_laws.specs.Rounds.{Each};
 ghost use Rattle.world_laws.specs.Settle.{OfLane, SettleEntry};
 ghost use Rattle.world_laws.specs.Sums.{IsUnforged};
 ghost use Rattle.world_laws.specs.World.{AreShapes, fresh_world, WorldState, WorldStep};
-ghost use Rattle.world_laws.specs.Failures.{in_entry, is_failed_done, is_failed_store, is_flush, is_store, NeverFailed};
+ghost use Rattle.world_laws.specs.Failures.{in_entry, is_failed_done, is_failed_store, is_flush, is_store, is_write, NeverFailed};
 ghost use Rattle.world_laws.specs.Statuses.{CarriesAsAsked, StatusAt, TellsStore};
 
 /// On a lane that nobody forged, whether its store failed or not, whatever was lost, reset, stopped or restarted: each
@@ -58,14 +58,17 @@ pub fn failed_completions_are_counted()
 {}
 
 /// In a world the image's count of calls is that of the start, and one higher for each call of a store that its journal
-/// tells, of any lane. And its count of flushes is one higher for each that flushes. So it is called and flushed as
-/// often as that is told: also where somebody forges packets and memory and where the store fails.
+/// tells, of any lane. And its counts of flushes and of writes are one higher for each that flushes or writes. So it is
+/// called, flushed and written as often as that is told: also where somebody forges packets and memory and where the store fails.
 pub fn calls_of_the_image_are_told()
     ensures calls { (w : WorldState) (entries : List SettleEntry) (v : WorldState)
         → Run WorldStep w entries v → v.image.calls ≡ count_after (count_by (in_entry is_store) entries) w.image.calls }
     ensures flushes { (w : WorldState) (entries : List SettleEntry) (v : WorldState)
         → Run WorldStep w entries v
         → v.image.flushes ≡ count_after (count_by (in_entry is_flush) entries) w.image.flushes }
+    ensures writes { (w : WorldState) (entries : List SettleEntry) (v : WorldState)
+        → Run WorldStep w entries v
+        → v.image.writes ≡ count_after (count_by (in_entry is_write) entries) w.image.writes }
 {}
 
 /// Where the image of a world counts no faults, no call of the store failed, on no lane. And each completion on a lane

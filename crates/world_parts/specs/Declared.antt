@@ -27,18 +27,6 @@ bytes_needed disks = 512 * blocks_of disks
 abbrev pub world_of : List DiskDecl → ImageState → WorldState
 world_of disks image = fresh_world (shapes_of 0 disks) image
 
--- an image, by what it tells, and by how often it failed, was called and was asked to flush
-abbrev pub image_of : Option (List ℕ) → ℕ → ℕ → ℕ → ImageState
-image_of told faults calls flushes = record { told = told; faults = faults; calls = calls; flushes = flushes }
-
--- an image of a type, by what contracts see of it
-abbrev pub as_image : {D : Type 0} → (D → Option (List ℕ)) → (D → ℕ) → (D → ℕ) → (D → ℕ) → D → ImageState
-as_image content faults calls flushes disk = image_of (content disk) (faults disk) (calls disk) (flushes disk)
-
--- one that was just attached: nothing was asked of it
-abbrev pub attached : Option (List ℕ) → ImageState
-attached told = image_of told 0 0 0
-
 -- the lane's disk lies within an image of so many bytes
 abbrev pub LiesWithin : ℕ → LaneState → Type 0
 LiesWithin size s = 512 * (s.shape.first + s.shape.blocks) ≤ size

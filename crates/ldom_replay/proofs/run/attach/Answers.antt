@@ -2,7 +2,8 @@ use Rattle.std.proofs.Common.{◌≡◌, ◌*◌, ◌∙◌, [], ℕ, None, refl
 use Rattle.ldom_entries.specs.JournalState.{JournalState}
 use Rattle.script_laws.specs.Replayed.{attach_status}
 use Rattle.vio_io.specs.declared.host.AttachFault.TheVariants.{Memory}
-use Rattle.world_parts.specs.Declared.{as_image, blocks_of}
+use Rattle.disk_law.specs.ListState.{as_image}
+use Rattle.world_parts.specs.Declared.{blocks_of}
 use Rattle.script_laws.proofs.Assembly.{replayed_as, replayed_refused}
 use Rattle.script_laws.proofs.Sizes.{sized_as, sized_refused}
 use Rattle.ldom_replay.proofs.Beginning.{just_attached}
@@ -12,7 +13,7 @@ use Rattle.ldom_replay.proofs.run.attach.Goals as goal
 -- no memory for the lanes
 pub returns-in-Err-clause-replayed : goal.returns-in-Err-clause-replayed
 returns-in-Err-clause-replayed g c start opened =
-    let seen = as_image g.H.Disk.Store.content g.H.Disk.Store.faults g.H.Disk.Store.calls g.H.Disk.Store.flushes in
+    let seen = as_image g.H.Disk.Store in
     let gives = g.H.Host.gives c.args.host.now c.args.name.now in
     let now = g.S.Source.left c.args.source.now in
     let read = c.args.reader in
@@ -38,18 +39,16 @@ returns-in-Ok-attach-clause-replayed g c start opened =
     let gives = g.H.Host.gives c.args.host.now c.args.name.now in
     let told = subst (λ (n : ℕ). g.H.Disk.Store.content c.in-Ok-attach.image ≡ gives (512 * n)) c.blocks_declared.ensures.declared c.in-Ok-attach.ensures.gives in
     c.run_over.ensures.replayed start gives opened
-    (just_attached (g.H.Disk.Store.content c.in-Ok-attach.image) (gives (512 * blocks_of c.args.reader.names.disks)) (g.H.Disk.Store.faults c.in-Ok-attach.image)
-    (g.H.Disk.Store.calls c.in-Ok-attach.image) (g.H.Disk.Store.flushes c.in-Ok-attach.image) told c.in-Ok-attach.ensures.fresh
-    c.in-Ok-attach.ensures.calls c.in-Ok-attach.ensures.flushes)
+    (just_attached g.H.Disk.Store c.in-Ok-attach.image (gives (512 * blocks_of c.args.reader.names.disks)) told c.in-Ok-attach.ensures.fresh
+    c.in-Ok-attach.ensures.calls c.in-Ok-attach.ensures.flushes c.in-Ok-attach.ensures.writes)
 
 pub returns-in-Ok-attach-clause-sized : goal.returns-in-Ok-attach-clause-sized
 returns-in-Ok-attach-clause-sized g c start opened =
     let gives = g.H.Host.gives c.args.host.now c.args.name.now in
     let told = subst (λ (n : ℕ). g.H.Disk.Store.content c.in-Ok-attach.image ≡ gives (512 * n)) c.blocks_declared.ensures.declared c.in-Ok-attach.ensures.gives in
     c.run_over.ensures.sized start gives opened
-    (just_attached (g.H.Disk.Store.content c.in-Ok-attach.image) (gives (512 * blocks_of c.args.reader.names.disks)) (g.H.Disk.Store.faults c.in-Ok-attach.image)
-    (g.H.Disk.Store.calls c.in-Ok-attach.image) (g.H.Disk.Store.flushes c.in-Ok-attach.image) told c.in-Ok-attach.ensures.fresh
-    c.in-Ok-attach.ensures.calls c.in-Ok-attach.ensures.flushes)
+    (just_attached g.H.Disk.Store c.in-Ok-attach.image (gives (512 * blocks_of c.args.reader.names.disks)) told c.in-Ok-attach.ensures.fresh
+    c.in-Ok-attach.ensures.calls c.in-Ok-attach.ensures.flushes c.in-Ok-attach.ensures.writes)
 
 pub returns-in-Ok-attach-clause-image : goal.returns-in-Ok-attach-clause-image
 returns-in-Ok-attach-clause-image g c = gave_one _ _ c.run_over.result.image c.run_over.ensures.image c.in-Ok-attach.ensures.given
@@ -57,7 +56,7 @@ returns-in-Ok-attach-clause-image g c = gave_one _ _ c.run_over.result.image c.r
 -- none was
 pub returns-in-Err-attach-clause-replayed : goal.returns-in-Err-attach-clause-replayed
 returns-in-Err-attach-clause-replayed g c start opened =
-    let seen = as_image g.H.Disk.Store.content g.H.Disk.Store.faults g.H.Disk.Store.calls g.H.Disk.Store.flushes in
+    let seen = as_image g.H.Disk.Store in
     let gives = g.H.Host.gives c.args.host.now c.args.name.now in
     let now = g.S.Source.left c.args.source.now in
     let read = c.args.reader in

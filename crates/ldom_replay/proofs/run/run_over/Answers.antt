@@ -4,7 +4,8 @@ use Rattle.ldom_entries.specs.JournalState.{JournalState}
 use Rattle.ldom_report.specs.declared.status.Status.TheVariants as status
 use Rattle.world_laws.specs.LaneState.{LaneState}
 use Rattle.world_laws.specs.Issued.{issued_on}
-use Rattle.world_parts.specs.Declared.{as_image, blocks_of, shapes_of}
+use Rattle.disk_law.specs.ListState.{as_image}
+use Rattle.world_parts.specs.Declared.{blocks_of, shapes_of}
 use Rattle.ldom_replay.proofs.Beginning.{as_many, none_issued, same_world}
 use Rattle.ldom_world.proofs.Declaring.{all_within}
 use Rattle.script_laws.proofs.Assembly.{replayed_as, replayed_short}
@@ -13,7 +14,7 @@ use Rattle.ldom_replay.proofs.run.run_over.Goals as goal
 
 pub returns-then-have-need-clause-replayed : goal.returns-then-have-need-clause-replayed
 returns-then-have-need-clause-replayed g c start gives opened attached =
-    let seen = as_image g.D.Store.content g.D.Store.faults g.D.Store.calls g.D.Store.flushes in
+    let seen = as_image g.D.Store in
     let now = g.S.Source.left c.args.source.now in
     let read = c.args.reader in
     replayed_as seen start now gives (status.ImageSize (512 * c.blocks_declared-need.result) c.len-have.result) c.into_run.result.status read.lines.number c.into_run.result.lines
@@ -40,7 +41,7 @@ over-requires-clause-image g c =
 pub returns-clause-replayed : goal.returns-clause-replayed
 returns-clause-replayed g c start gives opened attached =
     c.run_world.ensures.replayed start gives opened
-    (same_world c.args.reader.names gives c.over.result c.args.lanes (as_image g.D.Store.content g.D.Store.faults g.D.Store.calls g.D.Store.flushes c.args.image)
+    (same_world c.args.reader.names gives c.over.result c.args.lanes (as_image g.D.Store c.args.image)
     c.over.ensures.lanes c.over.ensures.image c.requires.lanes attached)
 
 pub returns-clause-sized : goal.returns-clause-sized
@@ -49,7 +50,7 @@ returns-clause-sized g c start gives opened attached =
     let told : g.D.Store.content c.args.image ≡ gives least = ap (λ (i : ImageState). i.told) attached in
     let enough : least ≤ g.D.Store.size c.args.image = search rules in
     c.run_world.ensures.sized start gives opened
-    (same_world c.args.reader.names gives c.over.result c.args.lanes (as_image g.D.Store.content g.D.Store.faults g.D.Store.calls g.D.Store.flushes c.args.image)
+    (same_world c.args.reader.names gives c.over.result c.args.lanes (as_image g.D.Store c.args.image)
     c.over.ensures.lanes c.over.ensures.image c.requires.lanes attached)
     (subst (λ (o : Option (List ℕ)). IfSome o (λ bytes. least ≤ length bytes)) told (long_told (g.D.Store.content c.args.image) (g.D.Store.size c.args.image) least (g.met.D.Store.told_size c.args.image) enough))
 

@@ -9,14 +9,15 @@ use Rattle.ldom_report.specs.Stops.{stop_lines, stop_status}
 use Rattle.ldom_report.proofs.StopLemmas.{done_at_end, readers_of}
 use Rattle.script_laws.specs.Opening.{Opens, OpensAndStops}
 use Rattle.script_laws.proofs.Assembly.{from_start, replayed_as, replayed_none, replayed_unattached}
-use Rattle.world_parts.specs.Declared.{as_image, blocks_of}
+use Rattle.disk_law.specs.ListState.{as_image}
+use Rattle.world_parts.specs.Declared.{blocks_of}
 use Rattle.script_laws.proofs.Sizes.{sized_as, sized_none}
 use Rattle.ldom_replay.proofs.Holding.{gave_as}
 use Rattle.ldom_replay.proofs.run.run_script.Goals as goal
 
 pub returns-in-Err-clause-replayed : goal.returns-in-Err-clause-replayed
 returns-in-Err-clause-replayed g c =
-    let seen = as_image g.H.Disk.Store.content g.H.Disk.Store.faults g.H.Disk.Store.calls g.H.Disk.Store.flushes in
+    let seen = as_image g.H.Disk.Store in
     let left = g.S.Source.left c.args.source.now in
     let gives = g.H.Host.gives c.args.host.now c.args.name.now in
     replayed_as seen left left gives status.NoMemory c.without_memory.result.status 0 c.without_memory.result.lines no_names c.without_memory.result.names
@@ -33,11 +34,11 @@ returns-in_default g c =
     let lines : ℕ = stop_lines c.in-Err-read_opening.stop read.lines.number in
     record {
       replayed =
-          replayed_as (as_image g.H.Disk.Store.content g.H.Disk.Store.faults g.H.Disk.Store.calls g.H.Disk.Store.flushes) left (g.S.Source.left c.read_opening.new.source) gives why c.into_run.result.status lines c.into_run.result.lines
+          replayed_as (as_image g.H.Disk.Store) left (g.S.Source.left c.read_opening.new.source) gives why c.into_run.result.status lines c.into_run.result.lines
           read.names c.into_run.result.names [] c.into_run.result.journal.entries None c.into_run.result.image None c.into_run.result.lanes
           (c.into_run.ensures.status ∙ c.status-status.ensures) (c.into_run.ensures.lines ∙ c.counted-lines.ensures) c.into_run.ensures.names
           (ap (λ (j : JournalState). j.entries) (c.into_run.ensures.journal ∙ c.read_opening.ensures.journal ∙ c.in-Ok.ensures.journal)) c.into_run.ensures.image c.into_run.ensures.lanes
-          (replayed_unattached (as_image g.H.Disk.Store.content g.H.Disk.Store.faults g.H.Disk.Store.calls g.H.Disk.Store.flushes) left (g.S.Source.left c.read_opening.new.source) gives why read.names lines
+          (replayed_unattached (as_image g.H.Disk.Store) left (g.S.Source.left c.read_opening.new.source) gives why read.names lines
           (readers_of c.in-Err-read_opening.stop read.lines.number) (done_at_end c.in-Err-read_opening.stop read.lines.number c.in_default.not-End)
           (subst (λ (start : Option (List ℕ)). OpensAndStops start (g.S.Source.left c.read_opening.new.source) why read.names lines) (from_start c.in-Ok.reader.lines left (ap (λ (l : LinesState). l.held) c.in-Ok.ensures.lines)) c.in-Err-read_opening.ensures.stops));
       sized = sized_as g.H.Disk.Store.size gives why c.into_run.result.status read.names c.into_run.result.names None c.into_run.result.image

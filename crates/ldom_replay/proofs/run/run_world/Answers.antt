@@ -6,8 +6,7 @@ use Rattle.ldom_report.proofs.StopLemmas.{readers_of}
 use Rattle.script_laws.specs.Replayed.{ended_status}
 use Rattle.script_laws.proofs.Assembly.{replayed_as, replayed_of}
 use Rattle.script_laws.proofs.Sizes.{sized_as, sized_run}
-use Rattle.world_parts.specs.Declared.{as_image}
-use Rattle.ldom_replay.proofs.Beginning.{finished}
+use Rattle.disk_law.specs.ListState.{as_image}
 use Rattle.ldom_replay.proofs.run.run_world.Goals as goal
 
 pub returns-clause-replayed : goal.returns-clause-replayed
@@ -17,16 +16,13 @@ returns-clause-replayed g c start gives opened begins =
     let why : Status = stop_status c.run_first-stop.result read.lines.number in
     let ended_is : c.ended-status.result ≡ ended_status why c.faulty.result = c.ended-status.ensures ∙ ap (λ (w : Status). ended_status w c.faulty.result) c.status.ensures in
     let status_is : c.into_run.result.status ≡ ended_status why c.faulty.result = c.into_run.ensures.status ∙ ended_is in
-    replayed_as (as_image g.D.Store.content g.D.Store.faults g.D.Store.calls g.D.Store.flushes) start now gives (ended_status why c.faulty.result) c.into_run.result.status (stop_lines c.run_first-stop.result read.lines.number) c.into_run.result.lines
+    replayed_as (as_image g.D.Store) start now gives (ended_status why c.faulty.result) c.into_run.result.status (stop_lines c.run_first-stop.result read.lines.number) c.into_run.result.lines
     read.names c.into_run.result.names read.journal.entries c.into_run.result.journal.entries (Some c.finish-image.result.0) c.into_run.result.image (Some c.finish-image.result.1) c.into_run.result.lanes
     status_is (c.into_run.ensures.lines ∙ c.counted-lines.ensures) c.into_run.ensures.names
     (ap (λ (j : JournalState). j.entries) c.into_run.ensures.journal) c.into_run.ensures.image c.into_run.ensures.lanes
-    (replayed_of (as_image g.D.Store.content g.D.Store.faults g.D.Store.calls g.D.Store.flushes) start now gives why c.faulty.result c.args.reader.names read.names c.args.world c.run_first-stop.new.world
+    (replayed_of (as_image g.D.Store) start now gives why c.faulty.result c.args.reader.names read.names c.args.world c.run_first-stop.new.world
     read.journal.entries (stop_lines c.run_first-stop.result read.lines.number) c.finish-image.result.0 c.finish-image.result.1 (readers_of c.run_first-stop.result read.lines.number) (c.run_first-stop.ensures.runs start opened) begins
-    (finished c.run_first-stop.new.world.image (g.D.Store.content c.finish-image.result.0) (g.D.Store.faults c.finish-image.result.0)
-    (g.D.Store.calls c.finish-image.result.0) (g.D.Store.flushes c.finish-image.result.0)
-    c.finish-image.ensures.content c.finish-image.ensures.faults c.finish-image.ensures.calls c.finish-image.ensures.flushes)
-    c.finish-image.ensures.lanes c.faulty.ensures)
+    c.finish-image.ensures.image c.finish-image.ensures.lanes c.faulty.ensures)
 
 pub returns-clause-sized : goal.returns-clause-sized
 returns-clause-sized g c start gives opened begins long =

@@ -4,12 +4,12 @@ use Rattle.domain_script.specs.ScriptEvents.{no_names}
 use Rattle.ldom_sample.specs.Sample.{sample_text}
 use Rattle.script_laws.specs.Replayed.{Replayed}
 use Rattle.script_laws.proofs.Assembly.{replayed_as, replayed_none}
-use Rattle.world_parts.specs.Declared.{as_image}
+use Rattle.disk_law.specs.ListState.{as_image}
 use Rattle.ldom_replay.proofs.sample.run_sample.Goals as goal
 
 pub returns-in-Ok-clause-replayed : goal.returns-in-Ok-clause-replayed
 returns-in-Ok-clause-replayed g c =
-    let seen = as_image g.H.Disk.Store.content g.H.Disk.Store.faults g.H.Disk.Store.calls g.H.Disk.Store.flushes in
+    let seen = as_image g.H.Disk.Store in
     let gives = g.H.Host.gives c.args.host.now (codes "-") in
     record {
       left = Some c.run_script.new.source;
@@ -22,7 +22,7 @@ returns-in-Ok-clause-source g c failed = omega (arith, c.run_script.ensures.sour
 
 pub returns-in-Err-clause-replayed : goal.returns-in-Err-clause-replayed
 returns-in-Err-clause-replayed g c =
-    let seen = as_image g.H.Disk.Store.content g.H.Disk.Store.faults g.H.Disk.Store.calls g.H.Disk.Store.flushes in
+    let seen = as_image g.H.Disk.Store in
     let gives = g.H.Host.gives c.args.host.now (codes "-") in
     let text : Option (List ℕ) = Some (sample_text c.args.number) in
     record {

@@ -16,8 +16,8 @@ use Rattle.ldom_sample.specs.Sample.{sample_text}
 use Rattle.ldom_replay.proofs.Commands.{as_asked, no_sample_too, one_asked, one_sample}
 use Rattle.ldom_replay.proofs.Holding.{all_otherwise, gave_as, gave_none}
 use Rattle.script_laws.proofs.MoreFacts.{others_told}
-use Rattle.script_laws.proofs.RunFacts.{admits, calls, failures, flushes, headline, none_once, once, said_otherwise, statuses, worded}
-use Rattle.script_laws.specs.Stored.{flush_count, stored_count}
+use Rattle.script_laws.proofs.RunFacts.{admits, calls, failures, flushes, headline, none_once, once, said_otherwise, statuses, worded, writes}
+use Rattle.script_laws.specs.Stored.{flush_count, stored_count, write_count}
 use Rattle.script_laws.proofs.WholeScript.{runs_plainly, runs_whole}
 use Rattle.ldom_report.specs.declared.status.Mode.{Mode}
 use Rattle.ldom_report.specs.declared.status.Mode.TheVariants as mode
@@ -43,9 +43,9 @@ returns-in-Some-Script-clause-runs g c shown image asks =
     let own : AsksFor c.in-Some-Script.mode words c.in-Some-Script.image.now = subst (λ (x : Command). IsCommand words (Some x)) c.in-Some-Script.field-0-is c.in-Some-Script.ensures in
     let before = tells (g.S.Source.left c.args.script.now) (g.K.Sink.written c.args.out.now) (g.S.Source.faults c.args.script.now) (g.H.Host.faults c.args.host.now) (g.K.Sink.faults c.args.out.now) in
     let now = tells (g.S.Source.left c.run_script.new.source) (g.K.Sink.written c.report_run.new.out) (g.S.Source.faults c.run_script.new.source) (g.H.Host.faults c.run_script.new.host) (g.K.Sink.faults c.report_run.new.out) in
-    as_asked (λ (m : Mode) (name : List ℕ). RunsScript m (host_tells (g.H.Host.gives c.args.host.now name) g.H.Disk.Store.content g.H.Disk.Store.faults g.H.Disk.Store.calls g.H.Disk.Store.flushes g.H.Disk.Store.size) before now
+    as_asked (λ (m : Mode) (name : List ℕ). RunsScript m (host_tells (g.H.Host.gives c.args.host.now name) g.H.Disk.Store) before now
     (run_leaves c.report_run.result.status c.report_run.result.journal.entries c.report_run.result.image c.report_run.result.lanes)) words c.in-Some-Script.mode shown c.in-Some-Script.image.now image own asks
-    (all_otherwise (λ (j : JournalState) d l. RunsScript c.in-Some-Script.mode (host_tells (g.H.Host.gives c.args.host.now c.in-Some-Script.image.now) g.H.Disk.Store.content g.H.Disk.Store.faults g.H.Disk.Store.calls g.H.Disk.Store.flushes g.H.Disk.Store.size) before now
+    (all_otherwise (λ (j : JournalState) d l. RunsScript c.in-Some-Script.mode (host_tells (g.H.Host.gives c.args.host.now c.in-Some-Script.image.now) g.H.Disk.Store) before now
     (run_leaves c.report_run.result.status j.entries d l)) c.run_script.result.journal c.report_run.result.journal c.run_script.result.image c.report_run.result.image c.run_script.result.lanes c.report_run.result.lanes
     c.report_run.ensures.journal c.report_run.ensures.image c.report_run.ensures.lanes
     (record {
@@ -80,7 +80,7 @@ returns-in-Some-Sample-clause-samples g c number asks =
     let own : AsksSample words c.in-Some-Sample.number = subst (λ (x : Command). IsCommand words (Some x)) c.in-Some-Sample.field-0-is c.in-Some-Sample.ensures in
     let same : number ≡ c.in-Some-Sample.number = one_sample words c.in-Some-Sample.number number own asks in
     let run = c.run_sample.ensures.replayed in
-    let host = host_tells (g.H.Host.gives c.args.host.now (codes "-")) g.H.Disk.Store.content g.H.Disk.Store.faults g.H.Disk.Store.calls g.H.Disk.Store.flushes g.H.Disk.Store.size in
+    let host = host_tells (g.H.Host.gives c.args.host.now (codes "-")) g.H.Disk.Store in
     let before = tells (g.S.Source.left c.args.script.now) (g.K.Sink.written c.args.out.now) (g.S.Source.faults c.args.script.now) (g.H.Host.faults c.args.host.now) (g.K.Sink.faults c.args.out.now) in
     let now = tells (g.S.Source.left c.args.script.now) (g.K.Sink.written c.report_run-in-Some-Sample.new.out) (g.S.Source.faults c.args.script.now) (g.H.Host.faults c.run_sample.new.host) (g.K.Sink.faults c.report_run-in-Some-Sample.new.out) in
     subst (λ (n : ℕ). RunsSample n host before now
@@ -202,6 +202,18 @@ returns-in-Some-Sample-clause-flushes g c =
     said_otherwise (λ (j : JournalState) d. IfSome d (λ image. g.H.Disk.Store.flushes image ≡ flush_count j.entries)) c.run_sample.result.journal c.report_run-in-Some-Sample.result.journal c.run_sample.result.image c.report_run-in-Some-Sample.result.image
     c.report_run-in-Some-Sample.ensures.journal c.report_run-in-Some-Sample.ensures.image
     (flushes _ _ _ _ _ _ _ _ _ _ c.run_sample.ensures.replayed.replayed (subst (λ (j : JournalState). length j.entries < 2 ^ 63) c.report_run-in-Some-Sample.ensures.journal c.report_run-in-Some-Sample.ensures.small))
+
+pub returns-in-Some-Script-clause-writes : goal.returns-in-Some-Script-clause-writes
+returns-in-Some-Script-clause-writes g c =
+    said_otherwise (λ (j : JournalState) d. IfSome d (λ image. g.H.Disk.Store.writes image ≡ write_count j.entries)) c.run_script.result.journal c.report_run.result.journal c.run_script.result.image c.report_run.result.image
+    c.report_run.ensures.journal c.report_run.ensures.image
+    (writes _ _ _ _ _ _ _ _ _ _ c.run_script.ensures.replayed (subst (λ (j : JournalState). length j.entries < 2 ^ 63) c.report_run.ensures.journal c.report_run.ensures.small))
+
+pub returns-in-Some-Sample-clause-writes : goal.returns-in-Some-Sample-clause-writes
+returns-in-Some-Sample-clause-writes g c =
+    said_otherwise (λ (j : JournalState) d. IfSome d (λ image. g.H.Disk.Store.writes image ≡ write_count j.entries)) c.run_sample.result.journal c.report_run-in-Some-Sample.result.journal c.run_sample.result.image c.report_run-in-Some-Sample.result.image
+    c.report_run-in-Some-Sample.ensures.journal c.report_run-in-Some-Sample.ensures.image
+    (writes _ _ _ _ _ _ _ _ _ _ c.run_sample.ensures.replayed.replayed (subst (λ (j : JournalState). length j.entries < 2 ^ 63) c.report_run-in-Some-Sample.ensures.journal c.report_run-in-Some-Sample.ensures.small))
 
 pub returns-in-Some-Script-clause-quiet : goal.returns-in-Some-Script-clause-quiet
 returns-in-Some-Script-clause-quiet g c image asks bytes content disk events known quiet gives done =

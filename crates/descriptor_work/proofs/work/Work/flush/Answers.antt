@@ -14,6 +14,7 @@ pub returns-clause-store : goal.returns-clause-store
 returns-clause-store g c = record {
   calls = c.flush.ensures.calls;
   flushes = c.flush.ensures.flushes;
+  writes = c.flush.ensures.writes;
   faults = faults_after c.flush.result c.is_err-failed.result (g.D.Store.faults c.args.store.now) (g.D.Store.faults c.flush.new.self)
       c.is_err-failed.ensures.value c.flush.ensures.ok c.flush.ensures.once;
 }

@@ -38,6 +38,7 @@ pub returns-clause-store : goal.returns-clause-store
 returns-clause-store g c = record {
   calls = c.write_at.ensures.calls;
   flushes = c.write_at.ensures.flushes;
+  writes = c.write_at.ensures.writes;
   faults = faults_after c.write_at.result c.is_err-failed.result (g.D.Store.faults c.args.store.now) (g.D.Store.faults c.write_at.new.self)
       c.is_err-failed.ensures.value c.write_at.ensures.ok c.write_at.ensures.once;
 }

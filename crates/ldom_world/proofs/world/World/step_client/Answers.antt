@@ -6,13 +6,13 @@ use Rattle.ldc_queue.specs.declared.end.End.TheVariants.{A}
 use Rattle.ldom_world.proofs.Lifting.{end_steps}
 use Rattle.ldom_world.proofs.Opened.{lane_set, lane_there, over}
 use Rattle.ldom_world.specs.OneLane.{EndSteps, LaneSteps}
-use Rattle.world_parts.specs.Declared.{as_image}
+use Rattle.disk_law.specs.ListState.{as_image}
 use Rattle.ldom_world.proofs.world.World.step_client.Goals as goal
 
 pub returns-clause-steps : goal.returns-clause-steps
 returns-clause-steps g c =
     let image : ImageState =
-    as_image g.D.Store.content g.D.Store.faults g.D.Store.calls g.D.Store.flushes c.self.inside.image in
+    as_image g.D.Store c.self.inside.image in
     let lanes = c.self.inside.disks.items in
     let w : WorldState = c.args.self.now in
     let old = c.args.journal.now in

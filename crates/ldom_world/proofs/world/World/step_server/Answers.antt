@@ -5,15 +5,15 @@ use Rattle.ldc_queue.specs.declared.end.End.TheVariants.{B}
 use Rattle.ldom_world.proofs.Lifting.{end_steps}
 use Rattle.ldom_world.proofs.Opened.{image_there, lane_there, one_set, over}
 use Rattle.ldom_world.specs.OneLane.{LaneSteps}
-use Rattle.world_parts.specs.Declared.{as_image}
+use Rattle.disk_law.specs.ListState.{as_image}
 use Rattle.ldom_world.proofs.world.World.step_server.Goals as goal
 
 pub returns : goal.returns
 returns g c =
     let image : ImageState =
-    as_image g.D.Store.content g.D.Store.faults g.D.Store.calls g.D.Store.flushes c.self.inside.image in
+    as_image g.D.Store c.self.inside.image in
     let behind : ImageState =
-    as_image g.D.Store.content g.D.Store.faults g.D.Store.calls g.D.Store.flushes c.server_step.new.image in
+    as_image g.D.Store c.server_step.new.image in
     let lanes = c.self.inside.disks.items in
     let w : WorldState = c.args.self.now in
     let old = c.args.journal.now in
