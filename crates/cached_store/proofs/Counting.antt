@@ -1,11 +1,7 @@
 -- The calls of a store behind a cache: one higher by each call, also by one that the inner store is spared.
-use Rattle.std.proofs.Common.{◌≡◌, ℕ, zero, suc, ◌<◌, ◌≤◌, refl, sym, ap, ◌∙◌, inl, inr, arith}
+use Rattle.std.proofs.Common.{◌≡◌, ℕ, zero, suc, ◌<◌, ◌≤◌, sym, ap, ◌∙◌, inl, inr, arith}
 use Rattle.std.proofs.lemmas.Bool.{cases_lt}
 use Rattle.vio_io.specs.Causes.{count_after, last_count, next_count}
-
-pub asked_more : (spared calls : ℕ) → count_after spared (next_count calls) ≡ next_count (count_after spared calls)
-asked_more zero calls = refl
-asked_more (suc n) calls = ap next_count (asked_more n calls)
 
 at_least : (n calls : ℕ) → n ≤ last_count → n ≤ count_after n calls
 at_least zero calls few = omega arith

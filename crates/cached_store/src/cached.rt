@@ -1,5 +1,5 @@
-ghost use Rattle.std.specs.Prelude.{◌≡◌, ◌+◌, ◌/◌, ◌≤◌, ◌<◌, ◌↔◌, true, false, None, length, [], IfErr, IfOk, IsOk, IsTrue, OnErr, OnOk};
-ghost use Rattle.vio_io.specs.Causes.{Rose, next_count};
+ghost use Rattle.std.specs.Prelude.{◌≡◌, ◌+◌, ◌/◌, ◌≤◌, ◌<◌, ◌↔◌, true, false, None, length, [], IfErr, IfOk, IsOk, OnErr, OnOk, is_err};
+ghost use Rattle.vio_io.specs.Causes.{next_count, FaultsAfter};
 ghost use Rattle.vio_io.specs.Stores.{IsUnitRange, KeepsOutside, ReadsRange, WritesRange};
 ghost use Rattle.cached_store.specs.CachedState.{calls_of};
 ghost use Rattle.cached_store.specs.Kept.{MayPutRange, all_kept, bytes_kept, used_range, without_range};
@@ -82,7 +82,6 @@ impl<D: Store> Store for Cached<D> {
 
     ghost flushes = { λ c. D.flushes c.inner };
 
-
     ghost writes = { λ c. D.writes c.inner };
 
     ghost faults = { λ c. D.faults c.inner };
@@ -101,10 +100,7 @@ impl<D: Store> Store for Cached<D> {
         ensures calls { calls_of D.calls self.new ≡ next_count (calls_of D.calls self.old) }
         ensures flushes { D.flushes self.new.inner ≡ D.flushes self.old.inner }
         ensures writes { D.writes self.new.inner ≡ D.writes self.old.inner }
-        ensures ok { OnOk result (D.faults self.new.inner ≡ D.faults self.old.inner) }
-        ensures count { D.faults self.old.inner ≤ D.faults self.new.inner }
-        ensures cause { OnErr result (Rose (D.faults self.old.inner) (D.faults self.new.inner)) }
-        ensures once { OnErr result (D.faults self.new.inner ≡ next_count (D.faults self.old.inner)) }
+        ensures faults { FaultsAfter (is_err result) (D.faults self.old.inner) (D.faults self.new.inner) }
 
         // Where all its blocks are kept they are used in rising order, and the inner store is spared the call.
         ensures hit { all_kept (at / 512) (length buf.old / 512) self.old.kept ≡ true → IsOk result }
@@ -145,10 +141,7 @@ impl<D: Store> Store for Cached<D> {
         ensures calls { calls_of D.calls self.new ≡ next_count (calls_of D.calls self.old) }
         ensures flushes { D.flushes self.new.inner ≡ D.flushes self.old.inner }
         ensures writes { D.writes self.new.inner ≡ next_count (D.writes self.old.inner) }
-        ensures ok { OnOk result (D.faults self.new.inner ≡ D.faults self.old.inner) }
-        ensures count { D.faults self.old.inner ≤ D.faults self.new.inner }
-        ensures cause { OnErr result (Rose (D.faults self.old.inner) (D.faults self.new.inner)) }
-        ensures once { OnErr result (D.faults self.new.inner ≡ next_count (D.faults self.old.inner)) }
+        ensures faults { FaultsAfter (is_err result) (D.faults self.old.inner) (D.faults self.new.inner) }
 
         // It goes to the inner store at once. Its blocks are put in rising order, or taken out where it failed.
         ensures asked { D.calls self.new.inner ≡ next_count (D.calls self.old.inner) }
@@ -177,10 +170,7 @@ impl<D: Store> Store for Cached<D> {
         ensures calls { calls_of D.calls self.new ≡ next_count (calls_of D.calls self.old) }
         ensures flushes { D.flushes self.new.inner ≡ next_count (D.flushes self.old.inner) }
         ensures writes { D.writes self.new.inner ≡ D.writes self.old.inner }
-        ensures ok { OnOk result (D.faults self.new.inner ≡ D.faults self.old.inner) }
-        ensures count { D.faults self.old.inner ≤ D.faults self.new.inner }
-        ensures cause { OnErr result (Rose (D.faults self.old.inner) (D.faults self.new.inner)) }
-        ensures once { OnErr result (D.faults self.new.inner ≡ next_count (D.faults self.old.inner)) }
+        ensures faults { FaultsAfter (is_err result) (D.faults self.old.inner) (D.faults self.new.inner) }
 
         // It is handed on, and what is kept stays.
         ensures asked { D.calls self.new.inner ≡ next_count (D.calls self.old.inner) }

@@ -1,4 +1,4 @@
-ghost use Rattle.std.specs.Prelude.{◌≡◌, ◌≢◌, ℕ, ◌+◌, ◌*◌, ◌/◌, ◌%◌, ◌^◌, ◌<◌, ◌≤◌, [], true, Some, None, List, length, IfOk, IfSome, IsSome, Contains};
+ghost use Rattle.std.specs.Prelude.{◌≡◌, ◌≢◌, ◌+◌, ◌*◌, ◌/◌, ◌%◌, ◌^◌, ◌<◌, ◌≤◌, [], true, Some, None, length, IfOk, IsSome};
 ghost use Rattle.std.specs.Option.{unwrap_or};
 ghost use Rattle.vio_bytes.specs.Range.{range_at};
 ghost use Rattle.cached_store.specs.Kept.{KeepsNoneOf, KeepsNoneOfRange, KeepsOf, KeepsOfRange, MayPut, MayPutRange, all_kept, bytes_kept, kept_block, used, used_range, without, without_range};

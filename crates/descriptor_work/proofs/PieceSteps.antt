@@ -1,5 +1,5 @@
 -- What a piece of a descriptor is, by the calls that it made.
-use Rattle.std.proofs.Common.{◌≡◌, ℕ, Bool, ◌+◌, ◌-◌, ◌*◌, ◌/◌, ◌%◌, ◌^◌, ◌<◌, ◌≤◌, true, false, List, [], length, Option, Some, None, Result, Ok, Err, OnOk, OnErr, is_err, refl, sym, ap, ◌∙◌, subst, arith, nat_lt, IsTrue}
+use Rattle.std.proofs.Common.{◌≡◌, ℕ, Bool, ◌+◌, ◌-◌, ◌*◌, ◌/◌, ◌%◌, ◌^◌, ◌<◌, ◌≤◌, true, false, List, [], length, Option, Some, None, Result, Ok, Err, OnOk, is_err, refl, sym, ap, ◌∙◌, subst, arith, nat_lt, IsTrue}
 use Rattle.std.specs.Prelude.{min}
 use Rattle.std.proofs.lemmas.Bool.{ltb-true}
 use Rattle.cookie_copy.specs.declared.fault.Access.TheVariants.{Read, Write}
@@ -9,13 +9,11 @@ use Rattle.cookie_copy.specs.Moved.{moved_in, moved_out}
 use Rattle.vdisk_msg.specs.Check.{most_bytes}
 use Rattle.vdisk_msg.specs.Pieces.{unit_count}
 use Rattle.map_table.specs.declared.cookie.Cookie.{Cookie}
-use Rattle.vio_io.specs.Causes.{next_count}
 use Rattle.vio_io.specs.Stores.{IsUnitRange, KeepsOutside, ReadsRange, WritesRange}
 use Rattle.disk_model.specs.ServerState.{Ends, Flushes, Gathers, Gives, Progress, Reads, Work, Writes}
 use Rattle.cookie_copy.specs.Reach.{Reach}
 use Rattle.disk_model.specs.ServerWork.{MovesIn, data_cookies, desc_of, gathers_next, length_of, or_ends, reads_next, unit_block}
 use Rattle.descriptor_work.specs.declared.answers.ServerOut.TheVariants as out
-use Rattle.descriptor_work.specs.Calling.{FaultsAfter}
 use Rattle.descriptor_work.specs.Pieces.{PieceIn, PieceOn, StoredFor}
 
 given_fault : (work : Work) (unit : ℕ) (bytes shown : List ℕ) (cookies : List Cookie) (reach : Reach) (fault : Option CopyFault)
@@ -192,8 +190,3 @@ piece_flushed failed first next work told new goes is same = record {
 pub done_where : {U E : Type 0} (r : Result U E) (failed : Bool) (X : Type 0) → failed ≡ is_err r → OnOk r X → failed ≡ false → X
 done_where (Ok done) failed X is x succeeded = x
 done_where (Err why) failed X is x succeeded = let never : true ≡ false = sym is ∙ succeeded in absurd (cc never)
-
-pub faults_after : {U E : Type 0} (r : Result U E) (failed : Bool) (old new : ℕ) → failed ≡ is_err r → OnOk r (new ≡ old) → OnErr r (new ≡ next_count old)
-    → FaultsAfter failed old new
-faults_after (Ok done) failed old new is same once = subst (λ (b : Bool). FaultsAfter b old new) (sym is) same
-faults_after (Err why) failed old new is same once = subst (λ (b : Bool). FaultsAfter b old new) (sym is) once

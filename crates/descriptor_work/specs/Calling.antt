@@ -1,9 +1,9 @@
 -- What a step of a disk's server reaches by its channel, and what it does to the store.
-use Rattle.std.specs.Prelude.{◌≡◌, ℕ, ◌+◌, ◌≤◌, ◌==◌, Bool, true, false, if◌then◌else◌, List, Option, ⊤}
+use Rattle.std.specs.Prelude.{◌≡◌, ℕ, ◌+◌, ◌≤◌, ◌==◌, Bool, if◌then◌else◌, List, Option, ⊤}
 use Rattle.cookie_copy.specs.Faults.{both_up}
 use Rattle.ldc_queue.specs.ChannelView.{ChannelView}
 use Rattle.map_table.specs.declared.table.Entry.{Entry}
-use Rattle.vio_io.specs.Causes.{next_count}
+use Rattle.vio_io.specs.Causes.{FaultsAfter, next_count}
 use Rattle.vio_io.specs.declared.store.Store.{Ghosts}
 use Rattle.cookie_copy.specs.Reach.{Reach}
 use Rattle.descriptor_work.specs.declared.answers.ServerOut.{ServerOut}
@@ -12,11 +12,6 @@ use Rattle.descriptor_work.specs.declared.answers.ServerOut.TheVariants as out
 -- what the server reaches by the channel: the client's memory, by its table
 abbrev pub reach_over : ChannelView → List (Option Entry) → List ℕ → Reach
 reach_over c table memory = record { both = both_up c.wire; table = table; memory = memory }
-
--- the count of faults after a call
-abbrev pub FaultsAfter : Bool → ℕ → ℕ → Type 0
-FaultsAfter true before now = now ≡ next_count before
-FaultsAfter false before now = now ≡ before
 
 -- ONE CALL of a store, which failed exactly where this says so. The operation 2 is one write of it and 3 one flush, and
 -- no other writes or flushes it.

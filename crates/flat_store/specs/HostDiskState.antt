@@ -1,6 +1,5 @@
 -- An image of the program is a store as its variant is: zeros in memory, or a file, whose bytes are told where it tells them.
-use Rattle.std.specs.Prelude.{◌≡◌, ℕ, List, Option, Some, None, IfSome, length, refl, ⊤}
-use Rattle.vio_io.specs.FaultPlan.{Plan}
+use Rattle.std.specs.Prelude.{◌≡◌, ℕ, Bool, true, false, List, Option, Some, IfSome, length, refl, ⊤}
 use Rattle.flat_store.specs.Files.{FileCalls, no_call}
 use Rattle.flat_store.specs.declared.image_file.ImageFile.{Ghosts}
 use Rattle.flat_store.specs.declared.std_host.HostDisk.{HostDisk}
@@ -16,7 +15,7 @@ size_of g (File store) = g.size store.file
 
 -- how often it was called
 abbrev pub calls_of : {F : Type 0} → HostDisk F → ℕ
-calls_of (Memory store) = store.plan.calls
+calls_of (Memory store) = store.calls
 calls_of (File store) = store.calls
 
 -- how often it was asked to flush
@@ -31,13 +30,13 @@ writes_of (File store) = store.writes
 
 -- how often it failed
 abbrev pub faults_of : {F : Type 0} → HostDisk F → ℕ
-faults_of (Memory store) = store.plan.faults
+faults_of (Memory store) = 0
 faults_of (File store) = store.faults
 
--- which calls of zeros fail
-abbrev pub plan_of : {F : Type 0} → HostDisk F → Option Plan
-plan_of (Memory store) = Some store.plan
-plan_of (File store) = None
+-- an image in memory, whose calls never fail
+abbrev pub is_in_memory : {F : Type 0} → HostDisk F → Bool
+is_in_memory (Memory store) = true
+is_in_memory (File store) = false
 
 -- no call of the file below it was made; of an image in memory the store's own counts tell it
 abbrev pub IsUncalled : {F : Type 0} → Ghosts F → HostDisk F → Type 0

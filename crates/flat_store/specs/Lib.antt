@@ -3,3 +3,4 @@ pub mod HostDiskState
 pub mod Hosts
 pub mod ListHostState
 pub mod MemStoreState
+pub mod ZeroStoreState

@@ -1,5 +1,5 @@
-ghost use Rattle.std.specs.Prelude.{◌≡◌, ◌≢◌, ◌≤◌, None, length, OnErr, OnOk};
-ghost use Rattle.vio_io.specs.Causes.{Rose, next_count};
+ghost use Rattle.std.specs.Prelude.{◌≡◌, ◌≢◌, ◌≤◌, None, length, OnErr, OnOk, is_err};
+ghost use Rattle.vio_io.specs.Causes.{Rose, next_count, FaultsAfter};
 ghost use Rattle.vio_io.specs.Stores.{IsUnitRange, KeepsOutside, ReadsRange, WritesRange};
 ghost use Rattle.flat_store.specs.Files.{Lacked, MovedOnce, SyncedOnce};
 
@@ -66,10 +66,7 @@ impl<F: ImageFile> Store for FileStore<F> {
         ensures calls { self.new.calls ≡ next_count self.old.calls }
         ensures flushes { self.new.flushes ≡ self.old.flushes }
         ensures writes { self.new.writes ≡ self.old.writes }
-        ensures ok { OnOk result (self.new.faults ≡ self.old.faults) }
-        ensures count { self.old.faults ≤ self.new.faults }
-        ensures cause { OnErr result (Rose self.old.faults self.new.faults) }
-        ensures once { OnErr result (self.new.faults ≡ next_count self.old.faults) }
+        ensures faults { FaultsAfter (is_err result) self.old.faults self.new.faults }
 
         ensures succeeded { OnOk result (MovedOnce (F.calls self.old.file) (F.calls self.new.file)) }
         ensures lacked { OnErr result (Lacked (F.calls self.old.file) (F.calls self.new.file)) }
@@ -87,10 +84,7 @@ impl<F: ImageFile> Store for FileStore<F> {
         ensures calls { self.new.calls ≡ next_count self.old.calls }
         ensures flushes { self.new.flushes ≡ self.old.flushes }
         ensures writes { self.new.writes ≡ next_count self.old.writes }
-        ensures ok { OnOk result (self.new.faults ≡ self.old.faults) }
-        ensures count { self.old.faults ≤ self.new.faults }
-        ensures cause { OnErr result (Rose self.old.faults self.new.faults) }
-        ensures once { OnErr result (self.new.faults ≡ next_count self.old.faults) }
+        ensures faults { FaultsAfter (is_err result) self.old.faults self.new.faults }
 
         ensures succeeded { OnOk result (MovedOnce (F.calls self.old.file) (F.calls self.new.file)) }
         ensures lacked { OnErr result (Lacked (F.calls self.old.file) (F.calls self.new.file)) }
@@ -106,10 +100,7 @@ impl<F: ImageFile> Store for FileStore<F> {
         ensures calls { self.new.calls ≡ next_count self.old.calls }
         ensures flushes { self.new.flushes ≡ next_count self.old.flushes }
         ensures writes { self.new.writes ≡ self.old.writes }
-        ensures ok { OnOk result (self.new.faults ≡ self.old.faults) }
-        ensures count { self.old.faults ≤ self.new.faults }
-        ensures cause { OnErr result (Rose self.old.faults self.new.faults) }
-        ensures once { OnErr result (self.new.faults ≡ next_count self.old.faults) }
+        ensures faults { FaultsAfter (is_err result) self.old.faults self.new.faults }
 
         ensures succeeded { OnOk result (SyncedOnce (F.calls self.old.file) (F.calls self.new.file)) }
         ensures lacked { OnErr result (Lacked (F.calls self.old.file) (F.calls self.new.file)) }

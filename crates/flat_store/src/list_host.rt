@@ -1,5 +1,5 @@
 ghost use Rattle.std.specs.Prelude.{◌≡◌, ◌≤◌, ◌↔◌, Some, IfOk, OnErr, OnOk, IsTrue, string_bytes, refl};
-ghost use Rattle.vio_io.specs.Causes.{Rose, next_count};
+ghost use Rattle.vio_io.specs.Causes.{Rose, next_count, Fails};
 ghost use Rattle.vio_io.specs.Given.{next_given};
 ghost use Rattle.flat_store.specs.Hosts.{one_image};
 ghost use Rattle.flat_store.specs.ListHostState.{ListHostState, after_giving, after_none, disk_plan, refuses};
@@ -108,10 +108,7 @@ impl Host for ListHost {
         ensures writes { IfOk result (λ disk. disk.writes ≡ 0) }
         ensures given { OnOk result (self.new.given ≡ next_given self.old.given) }
         ensures none { OnErr result (self.new.given ≡ self.old.given) }
-        ensures ok { OnOk result (self.new.faults ≡ self.old.faults) }
-        ensures memory { result ≡ Err AttachFault.Memory → self.new.faults ≡ self.old.faults }
-        ensures count { self.old.faults ≤ self.new.faults }
-        ensures cause { result ≡ Err AttachFault.Failed → Rose self.old.faults self.new.faults }
+        ensures faults { Fails (result ≡ Err AttachFault.Failed) self.old.faults self.new.faults }
 
         ensures refuses { result ≡ Err AttachFault.Failed ↔ IsTrue (refuses self.old name.now) }
         ensures gave { OnOk result (self.new ≡ after_giving self.old) }

@@ -1,6 +1,6 @@
-ghost use Rattle.std.specs.Prelude.{◌≡◌, ◌+◌, ◌≤◌, ◌↔◌, Some, None, length, [], replicate, refl, IsErr, IsTrue, IfOk, OnErr, OnOk};
+ghost use Rattle.std.specs.Prelude.{◌≡◌, ◌+◌, ◌≤◌, ◌↔◌, Some, None, length, [], replicate, refl, IsErr, IsTrue, IfOk, OnErr, OnOk, is_err};
 ghost use Rattle.vio_bytes.specs.Place.{put_at};
-ghost use Rattle.vio_io.specs.Causes.{Rose, next_count};
+ghost use Rattle.vio_io.specs.Causes.{next_count, FaultsAfter};
 ghost use Rattle.vio_io.specs.FaultPlan.{after_call, fails_next, unused};
 ghost use Rattle.vio_io.specs.Stores.{IsUnitRange, KeepsOutside, ReadsRange, WritesRange};
 ghost use Rattle.flat_store.specs.MemStoreState.{MemStoreState};
@@ -88,10 +88,7 @@ impl Store for MemStore {
         ensures calls { self.new.plan.calls ≡ next_count self.old.plan.calls }
         ensures flushes { self.new.flushes ≡ self.old.flushes }
         ensures writes { self.new.writes ≡ self.old.writes }
-        ensures ok { OnOk result (self.new.plan.faults ≡ self.old.plan.faults) }
-        ensures count { self.old.plan.faults ≤ self.new.plan.faults }
-        ensures cause { OnErr result (Rose self.old.plan.faults self.new.plan.faults) }
-        ensures once { OnErr result (self.new.plan.faults ≡ next_count self.old.plan.faults) }
+        ensures faults { FaultsAfter (is_err result) self.old.plan.faults self.new.plan.faults }
 
         ensures fails { IsErr result ↔ IsTrue (fails_next self.old.plan) }
         ensures plan { self.new.plan ≡ after_call self.old.plan }
@@ -111,10 +108,7 @@ impl Store for MemStore {
         ensures calls { self.new.plan.calls ≡ next_count self.old.plan.calls }
         ensures flushes { self.new.flushes ≡ self.old.flushes }
         ensures writes { self.new.writes ≡ next_count self.old.writes }
-        ensures ok { OnOk result (self.new.plan.faults ≡ self.old.plan.faults) }
-        ensures count { self.old.plan.faults ≤ self.new.plan.faults }
-        ensures cause { OnErr result (Rose self.old.plan.faults self.new.plan.faults) }
-        ensures once { OnErr result (self.new.plan.faults ≡ next_count self.old.plan.faults) }
+        ensures faults { FaultsAfter (is_err result) self.old.plan.faults self.new.plan.faults }
 
         ensures fails { IsErr result ↔ IsTrue (fails_next self.old.plan) }
         ensures plan { self.new.plan ≡ after_call self.old.plan }
@@ -132,10 +126,7 @@ impl Store for MemStore {
         ensures calls { self.new.plan.calls ≡ next_count self.old.plan.calls }
         ensures flushes { self.new.flushes ≡ next_count self.old.flushes }
         ensures writes { self.new.writes ≡ self.old.writes }
-        ensures ok { OnOk result (self.new.plan.faults ≡ self.old.plan.faults) }
-        ensures count { self.old.plan.faults ≤ self.new.plan.faults }
-        ensures cause { OnErr result (Rose self.old.plan.faults self.new.plan.faults) }
-        ensures once { OnErr result (self.new.plan.faults ≡ next_count self.old.plan.faults) }
+        ensures faults { FaultsAfter (is_err result) self.old.plan.faults self.new.plan.faults }
 
         ensures fails { IsErr result ↔ IsTrue (fails_next self.old.plan) }
         ensures plan { self.new.plan ≡ after_call self.old.plan }

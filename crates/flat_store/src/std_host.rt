@@ -1,11 +1,10 @@
-ghost use Rattle.std.specs.Prelude.{◌≡◌, ◌≢◌, ◌≤◌, ◌↔◌, Some, None, [], length, IsErr, IsTrue, IfOk, IfSome, OnErr, OnOk, codes, refl, if◌then◌else◌};
+ghost use Rattle.std.specs.Prelude.{◌≡◌, ◌≢◌, ◌≤◌, ◌↔◌, None, length, IsTrue, IfOk, OnErr, OnOk, codes, refl, true, is_err, IsOk};
 ghost use Rattle.std.specs.Str.{bytes_eq};
-ghost use Rattle.vio_io.specs.Causes.{Rose, next_count};
+ghost use Rattle.vio_io.specs.Causes.{next_count, Fails, FaultsAfter};
 ghost use Rattle.vio_io.specs.Given.{next_given};
-ghost use Rattle.vio_io.specs.FaultPlan.{after_call, fails_next, unused};
 ghost use Rattle.vio_io.specs.Stores.{IsUnitRange, KeepsOutside, ReadsRange, WritesRange};
 ghost use Rattle.flat_store.specs.Files.{Lacked, MovedOnce, SyncedOnce};
-ghost use Rattle.flat_store.specs.HostDiskState.{FileCalled, IsUncalled, calls_of, content_of, faults_of, flushes_of, plan_of, size_of, writes_of};
+ghost use Rattle.flat_store.specs.HostDiskState.{FileCalled, IsUncalled, calls_of, content_of, faults_of, flushes_of, is_in_memory, size_of, writes_of};
 ghost use Rattle.flat_store.specs.Hosts.{zeros_alone};
 
 use crate::{FileStore, ImageFile, StdFile, ZeroStore};
@@ -53,15 +52,11 @@ impl<F: ImageFile> Store for HostDisk<F> {
         ensures calls { calls_of self.new ≡ next_count (calls_of self.old) }
         ensures flushes { flushes_of self.new ≡ flushes_of self.old }
         ensures writes { writes_of self.new ≡ writes_of self.old }
-        ensures ok { OnOk result (faults_of self.new ≡ faults_of self.old) }
-        ensures count { faults_of self.old ≤ faults_of self.new }
-        ensures cause { OnErr result (Rose (faults_of self.old) (faults_of self.new)) }
-        ensures once { OnErr result (faults_of self.new ≡ next_count (faults_of self.old)) }
+        ensures faults { FaultsAfter (is_err result) (faults_of self.old) (faults_of self.new) }
 
         ensures succeeded { OnOk result (FileCalled F.ImageFile MovedOnce self.old self.new) }
         ensures lacked { OnErr result (FileCalled F.ImageFile Lacked self.old self.new) }
-        ensures fails { IfSome (plan_of self.old) (λ plan. IsErr result ↔ IsTrue (fails_next plan)) }
-        ensures plan { IfSome (plan_of self.old) (λ plan. plan_of self.new ≡ Some (after_call plan)) }
+        ensures memory { is_in_memory self.old ≡ true → IsOk result }
     {
         match self {
             HostDisk::Memory(store) => store.read_at(at, buf),
@@ -78,16 +73,11 @@ impl<F: ImageFile> Store for HostDisk<F> {
         ensures calls { calls_of self.new ≡ next_count (calls_of self.old) }
         ensures flushes { flushes_of self.new ≡ flushes_of self.old }
         ensures writes { writes_of self.new ≡ next_count (writes_of self.old) }
-        ensures ok { OnOk result (faults_of self.new ≡ faults_of self.old) }
-        ensures count { faults_of self.old ≤ faults_of self.new }
-        ensures cause { OnErr result (Rose (faults_of self.old) (faults_of self.new)) }
-        ensures once { OnErr result (faults_of self.new ≡ next_count (faults_of self.old)) }
+        ensures faults { FaultsAfter (is_err result) (faults_of self.old) (faults_of self.new) }
 
         ensures succeeded { OnOk result (FileCalled F.ImageFile MovedOnce self.old self.new) }
         ensures lacked { OnErr result (FileCalled F.ImageFile Lacked self.old self.new) }
-        ensures fails { IfSome (plan_of self.old) (λ plan. IsErr result ↔ IsTrue (fails_next plan)) }
-        ensures plan { IfSome (plan_of self.old) (λ plan. plan_of self.new ≡ Some (after_call plan)) }
-        ensures refused { OnErr result (IfSome (plan_of self.old) (λ _. content_of F.ImageFile self.new ≡ content_of F.ImageFile self.old)) }
+        ensures memory { is_in_memory self.old ≡ true → IsOk result }
     {
         match self {
             HostDisk::Memory(store) => store.write_at(at, bytes),
@@ -101,15 +91,11 @@ impl<F: ImageFile> Store for HostDisk<F> {
         ensures calls { calls_of self.new ≡ next_count (calls_of self.old) }
         ensures flushes { flushes_of self.new ≡ next_count (flushes_of self.old) }
         ensures writes { writes_of self.new ≡ writes_of self.old }
-        ensures ok { OnOk result (faults_of self.new ≡ faults_of self.old) }
-        ensures count { faults_of self.old ≤ faults_of self.new }
-        ensures cause { OnErr result (Rose (faults_of self.old) (faults_of self.new)) }
-        ensures once { OnErr result (faults_of self.new ≡ next_count (faults_of self.old)) }
+        ensures faults { FaultsAfter (is_err result) (faults_of self.old) (faults_of self.new) }
 
         ensures succeeded { OnOk result (FileCalled F.ImageFile SyncedOnce self.old self.new) }
         ensures lacked { OnErr result (FileCalled F.ImageFile Lacked self.old self.new) }
-        ensures fails { IfSome (plan_of self.old) (λ plan. IsErr result ↔ IsTrue (fails_next plan)) }
-        ensures plan { IfSome (plan_of self.old) (λ plan. plan_of self.new ≡ Some (after_call plan)) }
+        ensures memory { is_in_memory self.old ≡ true → IsOk result }
     {
         match self {
             HostDisk::Memory(store) => store.flush(),
@@ -172,15 +158,12 @@ impl<R: Files<File = File> + Drop> Host for StdHost<R> {
         ensures writes { IfOk result (λ disk. writes_of disk ≡ 0) }
         ensures given { OnOk result (self.new.given ≡ next_given self.old.given) }
         ensures none { OnErr result (self.new.given ≡ self.old.given) }
-        ensures ok { OnOk result (self.new.faults ≡ self.old.faults) }
-        ensures memory { result ≡ Err AttachFault.Memory → self.new.faults ≡ self.old.faults }
-        ensures count { self.old.faults ≤ self.new.faults }
-        ensures cause { result ≡ Err AttachFault.Failed → Rose self.old.faults self.new.faults }
+        ensures faults { Fails (result ≡ Err AttachFault.Failed) self.old.faults self.new.faults }
 
         ensures once { result ≡ Err AttachFault.Failed → self.new.faults ≡ next_count self.old.faults }
         ensures zeros { IsTrue (bytes_eq name.now (codes "-")) → result ≢ Err AttachFault.Failed }
         ensures files { result ≡ Err AttachFault.Memory → IsTrue (bytes_eq name.now (codes "-")) }
-        ensures plan { IfOk result (λ disk. plan_of disk ≡ (if bytes_eq name.now (codes "-") then Some (unused []) else None)) }
+        ensures memory_image { IfOk result (λ disk. is_in_memory disk ≡ bytes_eq name.now (codes "-")) }
         ensures uncalled { IfOk result (λ disk. IsUncalled ⟦<StdFile as ImageFile>⟧ disk) }
     {
         if name == "-" {

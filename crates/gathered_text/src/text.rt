@@ -1,7 +1,7 @@
-ghost use Rattle.std.specs.Prelude.{◌≡◌, ◌+◌, ◌*◌, ◌≤◌, [], ◌++◌, length, take, decimal, OnOk, OnErr};
+ghost use Rattle.std.specs.Prelude.{◌≡◌, ◌+◌, ◌*◌, ◌≤◌, [], ◌++◌, length, take, decimal, OnOk, OnErr, IsErr};
+ghost use Rattle.vio_io.specs.Causes.{Fails};
 ghost use Rattle.std.specs.Io.KnownBytes.{Appends};
 ghost use Rattle.hex.specs.Hex.{encode_lower};
-ghost use Rattle.vio_io.specs.Causes.{Rose};
 ghost use Rattle.gathered_text.specs.Gathered.{Gathers, WroteFront};
 
 use crate::digits::write_hex;
@@ -96,9 +96,7 @@ impl Text {
         ensures kept { OnErr result (self.new ≡ self.old) }
         ensures told { OnOk result (Gathers (K.written out.old) (K.written out.new) self.new self.old) }
         ensures front { OnErr result (WroteFront (K.written out.old) (K.written out.new) self.old) }
-        ensures ok { OnOk result (K.faults out.new ≡ K.faults out.old) }
-        ensures count { K.faults out.old ≤ K.faults out.new }
-        ensures cause { OnErr result (Rose (K.faults out.old) (K.faults out.new)) }
+        ensures faults { Fails (IsErr result) (K.faults out.old) (K.faults out.new) }
     {
         if TEXT_ROOM - self.len < n {
             self.flush(out)?;
@@ -112,9 +110,7 @@ impl Text {
         ensures kept { OnErr result (self.new ≡ self.old) }
         ensures told { OnOk result (Appends (K.written out.old) (K.written out.new) self.old) }
         ensures front { OnErr result (WroteFront (K.written out.old) (K.written out.new) self.old) }
-        ensures ok { OnOk result (K.faults out.new ≡ K.faults out.old) }
-        ensures count { K.faults out.old ≤ K.faults out.new }
-        ensures cause { OnErr result (Rose (K.faults out.old) (K.faults out.new)) }
+        ensures faults { Fails (IsErr result) (K.faults out.old) (K.faults out.new) }
     {
         write_all(out, &self.buffer[..self.len])?;
         self.len = 0;
@@ -146,9 +142,7 @@ impl fmt::Write for Text {
 fn write_all<K: Sink>(out: &mut K, bytes: &[u8]) -> Result<(), Failed>
     ensures told { OnOk result (Appends (K.written out.old) (K.written out.new) bytes.now) }
     ensures front { OnErr result (WroteFront (K.written out.old) (K.written out.new) bytes.now) }
-    ensures ok { OnOk result (K.faults out.new ≡ K.faults out.old) }
-    ensures count { K.faults out.old ≤ K.faults out.new }
-    ensures cause { OnErr result (Rose (K.faults out.old) (K.faults out.new)) }
+    ensures faults { Fails (IsErr result) (K.faults out.old) (K.faults out.new) }
 {
     let mut at = 0;
     while at < bytes.len() {

@@ -47,7 +47,6 @@ impl Store for InfallibleDisk {
 
     ghost flushes = { λ d. d.flushes };
 
-
     ghost writes = { λ d. d.writes };
 
     ghost faults = { λ _. 0 };

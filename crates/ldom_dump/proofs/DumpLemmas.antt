@@ -9,7 +9,7 @@ use Rattle.domain_script.proofs.ScriptLemmas.{taken_more, taken_none}
 use Rattle.ldom_report.specs.declared.status.Status.{Status}
 use Rattle.ldom_report.specs.declared.status.Status.TheVariants as the_status
 use Rattle.gathered_text.specs.Gathered.{Gathers, WroteFront}
-use Rattle.ldom_report.specs.Failing.{Fails}
+use Rattle.vio_io.specs.Causes.{Fails}
 use Rattle.ldom_report.specs.LinesEnd.{counted_lines}
 use Rattle.gathered_text.proofs.GatheredText.{appends_last, gathers_all, gathers_more, gathers_then, wrote_front_last}
 use Rattle.ldom_dump.specs.Decoded.{AreOfLines, Decoded, IsOfLine, decoded_lines, decoded_text, is_fault, is_ok, is_packet}

@@ -6,7 +6,7 @@ use Rattle.domain_script.specs.ScriptLines.{LinesTaken}
 use Rattle.ldom_report.specs.declared.status.Status.{Status}
 use Rattle.ldom_report.specs.declared.status.Status.TheVariants.{SinkFault, SourceFault}
 use Rattle.gathered_text.specs.Gathered.{WroteFront}
-use Rattle.ldom_report.specs.Failing.{Fails}
+use Rattle.vio_io.specs.Causes.{Fails}
 use Rattle.ldom_report.specs.LinesEnd.{counted_lines}
 use Rattle.ldom_report.specs.Report.{cause_text}
 use Rattle.ldom_report.specs.Status.{status_number}

@@ -4,7 +4,7 @@ ghost use Rattle.script_reader.specs.declared.lines.LinesStop.TheVariants.{Going
 ghost use Rattle.script_reader.specs.LinesState.{to_come};
 ghost use Rattle.ldom_report.specs.LinesEnd.{counted_lines};
 ghost use Rattle.ldom_dump.specs.Decoded.{SpellsBytes};
-ghost use Rattle.ldom_report.specs.Failing.{Fails};
+ghost use Rattle.vio_io.specs.Causes.{Fails};
 ghost use Rattle.ldom_report.specs.Stops.{stop_status};
 ghost use Rattle.ldom_dump.specs.Reading.{ReadsBytes, DumpStopsAt};
 ghost use Rattle.domain_script.specs.Limits.{most_lines};

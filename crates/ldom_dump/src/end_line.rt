@@ -1,7 +1,7 @@
 // The line that ends a dump.
-ghost use Rattle.std.specs.Prelude.{◌≡◌, ◌≢◌, ◌+◌, ◌≤◌, ◌++◌, length, OnErr, OnOk};
+ghost use Rattle.std.specs.Prelude.{◌≡◌, ◌≢◌, ◌+◌, ◌≤◌, ◌++◌, length, OnErr, OnOk, IsErr};
 ghost use Rattle.std.specs.Io.KnownBytes.{Appends};
-ghost use Rattle.vio_io.specs.Causes.{Rose};
+ghost use Rattle.vio_io.specs.Causes.{Rose, Fails};
 ghost use Rattle.gathered_text.specs.Gathered.{WroteFront};
 ghost use Rattle.ldom_dump.specs.DumpReport.{counts_text, end_line};
 ghost use Rattle.ldom_dump.specs.Going.{Finishes};
@@ -39,9 +39,7 @@ fn push_end(text: &mut Text, ended: &Ended)
 fn put_end<K: Sink>(text: &mut Text, ended: &Ended, out: &mut K) -> Result<(), Failed>
     ensures told { OnOk result (Appends (K.written out.old) (K.written out.new) (text.old ++ end_line ended.now.lines ended.now.packets ended.now.faults ended.now.why)) }
     ensures front { OnErr result (WroteFront (K.written out.old) (K.written out.new) (text.old ++ end_line ended.now.lines ended.now.packets ended.now.faults ended.now.why)) }
-    ensures ok { OnOk result (K.faults out.new ≡ K.faults out.old) }
-    ensures count { K.faults out.old ≤ K.faults out.new }
-    ensures cause { OnErr result (Rose (K.faults out.old) (K.faults out.new)) }
+    ensures faults { Fails (IsErr result) (K.faults out.old) (K.faults out.new) }
 {
     text.make_room(END_ROOM, out)?;
     push_end(text, ended);

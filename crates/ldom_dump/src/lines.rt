@@ -1,9 +1,8 @@
 // The lines of a dump, one after another.
-ghost use Rattle.std.specs.Prelude.{◌≡◌, ◌+◌, ◌≤◌, [], length, IfOk, OnErr, OnOk};
-ghost use Rattle.vio_io.specs.Causes.{Rose};
+ghost use Rattle.std.specs.Prelude.{◌≡◌, ◌+◌, ◌≤◌, [], length, IfOk, OnErr, IsErr};
 ghost use Rattle.script_reader.specs.declared.lines.LinesStop.TheVariants.{Going};
 ghost use Rattle.script_reader.specs.LinesState.{to_come};
-ghost use Rattle.ldom_report.specs.Failing.{Fails};
+ghost use Rattle.vio_io.specs.Causes.{Fails};
 ghost use Rattle.gathered_text.specs.Gathered.{Gathers, WroteFront};
 ghost use Rattle.ldc_packet.specs.Form.{IsWellFormed};
 ghost use Rattle.ldom_dump.specs.Decoded.{carried_bytes};
@@ -68,9 +67,7 @@ fn push_packet_of(text: &mut Text, bytes: &[u8; 64]) -> bool
 fn put_packet<K: Sink>(text: &mut Text, bytes: &[u8; 64], out: &mut K) -> Result<bool, Failed>
     ensures told { IfOk result (PutsPacket bytes.now (K.written out.old) (K.written out.new) text.old text.new) }
     ensures front { OnErr result (WroteFront (K.written out.old) (K.written out.new) text.old) }
-    ensures ok { OnOk result (K.faults out.new ≡ K.faults out.old) }
-    ensures count { K.faults out.old ≤ K.faults out.new }
-    ensures cause { OnErr result (Rose (K.faults out.old) (K.faults out.new)) }
+    ensures faults { Fails (IsErr result) (K.faults out.old) (K.faults out.new) }
 {
     text.make_room(LINES_ROOM, out)?;
     Ok(push_packet_of(text, bytes))

@@ -3,7 +3,7 @@ use Rattle.std.proofs.Common.{◌≡◌, ◌≢◌, refl, ℕ, arith, true}
 use Rattle.ldom_sample.specs.Sample.{SpellSample, sample_events, sample_names, sample_text}
 use Rattle.ldom_sample.proofs.Sampling.{text_spells}
 use Rattle.domain_script.specs.ScriptLines.{script_lines}
-use Rattle.ldom_report.specs.Failing.{Fails}
+use Rattle.vio_io.specs.Causes.{Fails}
 use Rattle.ldom_report.specs.declared.status.Status.{Status}
 use Rattle.ldom_report.specs.declared.status.Status.TheVariants as status
 use Rattle.script_laws.specs.Clean.{IsCleanScript}

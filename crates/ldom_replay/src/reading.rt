@@ -6,7 +6,7 @@ ghost use Rattle.domain_script.specs.ScriptEvents.{no_names};
 ghost use Rattle.domain_script.specs.Spells.{IsDeclared};
 ghost use Rattle.ldom_report.specs.LinesEnd.{counted_lines, most_entries};
 ghost use Rattle.ldom_report.specs.Stops.{stop_lines, stop_status};
-ghost use Rattle.ldom_report.specs.Failing.{Fails};
+ghost use Rattle.vio_io.specs.Causes.{Fails};
 ghost use Rattle.script_laws.specs.Reading.{ReadsEvent, StopsAt};
 ghost use Rattle.domain_script.specs.Limits.{most_lines};
 

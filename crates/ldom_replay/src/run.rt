@@ -8,7 +8,7 @@ ghost use Rattle.script_reader.specs.LinesState.{to_come};
 ghost use Rattle.domain_script.specs.Spells.{IsDeclared};
 ghost use Rattle.ldom_report.specs.Report.{accepted_count};
 ghost use Rattle.ldom_report.specs.Stops.{stop_lines, stop_status};
-ghost use Rattle.ldom_report.specs.Failing.{Fails};
+ghost use Rattle.vio_io.specs.Causes.{Fails};
 ghost use Rattle.script_laws.specs.Going.{RunsAll, RunsLines};
 ghost use Rattle.script_laws.specs.Attached.{AreOpening};
 ghost use Rattle.script_laws.specs.Opening.{Opened, Opens, OpensAndStops};

@@ -2,7 +2,7 @@
 ghost use Rattle.std.specs.Prelude.{◌≡◌, ◌≢◌, ◌<◌, codes, IfOk};
 ghost use Rattle.vio_io.specs.Given.{Gave};
 ghost use Rattle.ldom_sample.specs.Sample.{sample_text};
-ghost use Rattle.ldom_report.specs.Failing.{Fails};
+ghost use Rattle.vio_io.specs.Causes.{Fails};
 ghost use Rattle.ldom_words.specs.Words.{sample_count};
 ghost use Rattle.script_laws.specs.Sized.{SizeIs};
 ghost use Rattle.disk_law.specs.ListState.{as_image};

@@ -1,6 +1,5 @@
 pub mod DiskEvents
 pub mod EntryText
-pub mod Failing
 pub mod HasWords
 pub mod LaneEvents
 pub mod LeftOut

@@ -1,8 +1,8 @@
-ghost use Rattle.std.specs.Prelude.{◌≡◌, ◌+◌, ◌≤◌, ◌++◌, length, OnOk, OnErr};
+ghost use Rattle.std.specs.Prelude.{◌≡◌, ◌+◌, ◌≤◌, ◌++◌, length, OnOk, OnErr, IsErr};
+ghost use Rattle.vio_io.specs.Causes.{Fails};
 ghost use Rattle.std.specs.Io.KnownBytes.{Appends};
 ghost use Rattle.gathered_text.specs.Gathered.{WroteFront};
 ghost use Rattle.ldom_report.specs.Report.{cause_text, counts_text, end_line, fault_text, last_line, limit_text, resets_text};
-ghost use Rattle.vio_io.specs.Causes.{Rose};
 
 use crate::{Journal, LimitKind, Status};
 use domain_script::LineFault;
@@ -129,9 +129,7 @@ pub fn write_end<K: Sink>(
 ) -> Result<(), Failed>
     ensures told { OnOk result (Appends (K.written out.old) (K.written out.new) (last_line lines journal.now.entries status.now)) }
     ensures front { OnErr result (WroteFront (K.written out.old) (K.written out.new) (last_line lines journal.now.entries status.now)) }
-    ensures ok { OnOk result (K.faults out.new ≡ K.faults out.old) }
-    ensures count { K.faults out.old ≤ K.faults out.new }
-    ensures cause { OnErr result (Rose (K.faults out.old) (K.faults out.new)) }
+    ensures faults { Fails (IsErr result) (K.faults out.old) (K.faults out.new) }
 {
     let mut text = Text::new();
     push_last_line(&mut text, journal, lines, status);

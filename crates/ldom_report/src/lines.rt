@@ -1,5 +1,6 @@
 // The lines of a report.
-ghost use Rattle.std.specs.Prelude.{◌≡◌, ◌+◌, ◌≤◌, ◌<◌, true, [], ◌∷◌, ◌++◌, length, codes};
+ghost use Rattle.std.specs.Prelude.{◌≡◌, ◌+◌, ◌≤◌, ◌<◌, true, [], ◌∷◌, ◌++◌, length, codes, IsErr};
+ghost use Rattle.vio_io.specs.Causes.{Fails};
 ghost use Rattle.std.specs.Prelude.{All, IfSome, IsNone, OnOk, OnErr};
 ghost use Rattle.std.specs.Io.KnownBytes.{Appends};
 ghost use Rattle.ldom_report.specs.EntryText.{entry_lines, may_be_seen, may_show, report_entries};
@@ -10,7 +11,6 @@ ghost use Rattle.ldom_report.specs.LineParts.{front_text, rest_text};
 ghost use Rattle.ldom_entries.specs.Seen.{PassesUnseen};
 ghost use Rattle.ldom_entries.specs.Told.{told};
 ghost use Rattle.kept_requests.specs.BlockWord.{blocks_text};
-ghost use Rattle.vio_io.specs.Causes.{Rose};
 
 use crate::request_lines::{push_about, push_accepted, push_done, push_of_disk, push_refused};
 use crate::step_lines::{
@@ -97,9 +97,7 @@ fn put_words<K: Sink>(text: &mut Text, bytes: &Bytes, out: &mut K) -> Result<(),
         (text.old ++ (blocks_text bytes.now.items ++ codes "\n"))) }
     ensures front { OnErr result (WroteFront (K.written out.old) (K.written out.new)
         (text.old ++ (blocks_text bytes.now.items ++ codes "\n"))) }
-    ensures ok { OnOk result (K.faults out.new ≡ K.faults out.old) }
-    ensures count { K.faults out.old ≤ K.faults out.new }
-    ensures cause { OnErr result (Rose (K.faults out.old) (K.faults out.new)) }
+    ensures faults { Fails (IsErr result) (K.faults out.old) (K.faults out.new) }
 {
     put_blocks(text, bytes, out)?;
     text.push(b"\n");
@@ -114,9 +112,7 @@ fn put_rest<K: Sink>(text: &mut Text, entry: &EntryRef<'_>, out: &mut K) -> Resu
         (text.old ++ rest_text entry.now)) }
     ensures front { OnErr result (WroteFront (K.written out.old) (K.written out.new)
         (text.old ++ rest_text entry.now)) }
-    ensures ok { OnOk result (K.faults out.new ≡ K.faults out.old) }
-    ensures count { K.faults out.old ≤ K.faults out.new }
-    ensures cause { OnErr result (Rose (K.faults out.old) (K.faults out.new)) }
+    ensures faults { Fails (IsErr result) (K.faults out.old) (K.faults out.new) }
 {
     match entry {
         EntryRef::Whole(_) => Ok(()),
@@ -147,9 +143,7 @@ fn put_line<K: Sink>(
         (text.old ++ entry_lines mode names.now.disks (told entry.now))) }
     ensures front { OnErr result (WroteFront (K.written out.old) (K.written out.new)
         (text.old ++ entry_lines mode names.now.disks (told entry.now))) }
-    ensures ok { OnOk result (K.faults out.new ≡ K.faults out.old) }
-    ensures count { K.faults out.old ≤ K.faults out.new }
-    ensures cause { OnErr result (Rose (K.faults out.old) (K.faults out.new)) }
+    ensures faults { Fails (IsErr result) (K.faults out.old) (K.faults out.new) }
 {
     text.make_room(LINE_ROOM, out)?;
     push_front(text, mode, entry, names);
@@ -192,9 +186,7 @@ fn write_lines<K: Sink>(
         (report_entries mode names.now.disks journal.now.entries)) }
     ensures front { OnErr result (WroteFront (K.written out.old) (K.written out.new)
         (report_entries mode names.now.disks journal.now.entries)) }
-    ensures ok { OnOk result (K.faults out.new ≡ K.faults out.old) }
-    ensures count { K.faults out.old ≤ K.faults out.new }
-    ensures cause { OnErr result (Rose (K.faults out.old) (K.faults out.new)) }
+    ensures faults { Fails (IsErr result) (K.faults out.old) (K.faults out.new) }
 {
     let mut text = Text::new();
     let mut rest = journal.entries();
@@ -216,9 +208,7 @@ pub fn write_text<K: Sink>(
         (report_entries mode names.now.disks journal.now.entries)) }
     ensures front { OnErr result (WroteFront (K.written out.old) (K.written out.new)
         (report_entries mode names.now.disks journal.now.entries)) }
-    ensures ok { OnOk result (K.faults out.new ≡ K.faults out.old) }
-    ensures count { K.faults out.old ≤ K.faults out.new }
-    ensures cause { OnErr result (Rose (K.faults out.old) (K.faults out.new)) }
+    ensures faults { Fails (IsErr result) (K.faults out.old) (K.faults out.new) }
 {
     let lanes = names_of_lanes(names);
     write_lines(journal, mode, &LineNames::new(names, &lanes), out)

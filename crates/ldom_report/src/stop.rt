@@ -2,7 +2,7 @@
 ghost use Rattle.std.specs.Prelude.{◌≡◌, ◌-◌, ◌^◌, ◌<◌, IfErr, OnOk};
 ghost use Rattle.script_reader.specs.declared.lines.LinesStop.TheVariants.{Going};
 ghost use Rattle.script_reader.specs.LinesState.{GivesLine, to_come};
-ghost use Rattle.ldom_report.specs.Failing.{Fails};
+ghost use Rattle.vio_io.specs.Causes.{Fails};
 ghost use Rattle.ldom_report.specs.Stops.{StopsReading, stop_lines, stop_of, stop_status};
 
 use crate::status::{LimitKind, Status};

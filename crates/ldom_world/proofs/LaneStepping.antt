@@ -13,7 +13,7 @@ use Rattle.disk_model.specs.ServerRule.{server_rule}
 use Rattle.channel_model.specs.WireEvent as wire
 use Rattle.channel_model.specs.WireEvent.{ByStep, Giver, giver}
 use Rattle.world_laws.specs.CalmEnds.{IsStep}
-use Rattle.world_laws.specs.World.{FaultsAfter, LaneMoves}
+use Rattle.world_laws.specs.World.{LaneMoves}
 use Rattle.ldc_queue.specs.declared.end.End.TheVariants.{A, B}
 use Rattle.ldom_entries.specs.JournalState.{JournalState}
 use Rattle.ldom_world.specs.Fitting.{HasRoomFor}
@@ -25,7 +25,6 @@ use Rattle.vdisk_msg.specs.Requested.{buffer_of, buffer_place}
 use Rattle.vdisk_msg.specs.Requests.{given_count}
 use Rattle.vdisk_msg.specs.declared.request.Request.{Request}
 use Rattle.vio_io.specs.declared.store.Store.{Ghosts}
-use Rattle.descriptor_work.specs.Calling as server
 use Rattle.descriptor_work.specs.declared.answers.ServerOut.{ServerOut}
 use Rattle.descriptor_work.specs.declared.answers.ServerOut.TheVariants as server_out
 use Rattle.vio_tag.specs.declared.cause.Cause.{Cause}
@@ -99,11 +98,6 @@ module _ (s t : LaneState) where
       subst (λ (who : Giver). ResetBy who B s cause packet 0 t) (sym (server_of_end gave cause packet step))
       (gave, step)
 
-  -- what the store counts, as the image does
-  same_faults : (failed : Bool) (old new : ℕ) → server.FaultsAfter failed old new → FaultsAfter failed old new
-  same_faults true old new after = after
-  same_faults false old new after = after
-
   module _ {D : Type 0} (g : Ghosts D) (old new : D) where
     abbrev image : D → ImageState
     image d = as_image g d
@@ -124,7 +118,7 @@ module _ (s t : LaneState) where
         calls = called.calls;
         flushes = called.flushes;
         writes = called.writes;
-        faults = same_faults failed (g.faults old) (g.faults new) called.faults;
+        faults = called.faults;
       },
     )
     server_moves (Some (server_out.Reset cause packet)) served stays =

@@ -1,8 +1,8 @@
-ghost use Rattle.std.specs.Prelude.{◌≡◌, ◌+◌, ◌<◌, ◌≤◌, ◌++◌, codes, length, OnOk, OnErr};
+ghost use Rattle.std.specs.Prelude.{◌≡◌, ◌+◌, ◌<◌, ◌≤◌, ◌++◌, codes, length, OnOk, OnErr, IsErr};
+ghost use Rattle.vio_io.specs.Causes.{Fails};
 ghost use Rattle.hex.specs.Hex.{encode_lower};
 ghost use Rattle.kept_requests.specs.BlockWord.{blocks_text};
 ghost use Rattle.gathered_text.specs.Gathered.{Gathers, WroteFront};
-ghost use Rattle.vio_io.specs.Causes.{Rose};
 
 use gathered_text::{TEXT_ROOM, Text};
 use ldom_entries::{Bytes, shortest_word};
@@ -17,9 +17,7 @@ fn put_word<K: Sink>(text: &mut Text, word: &[u8], out: &mut K) -> Result<(), Fa
     ensures room { OnOk result (length text.new < TEXT_ROOM) }
     ensures told { OnOk result (Gathers (K.written out.old) (K.written out.new) text.new (text.old ++ (codes " *" ++ encode_lower word.now))) }
     ensures front { OnErr result (WroteFront (K.written out.old) (K.written out.new) text.old) }
-    ensures ok { OnOk result (K.faults out.new ≡ K.faults out.old) }
-    ensures count { K.faults out.old ≤ K.faults out.new }
-    ensures cause { OnErr result (Rose (K.faults out.old) (K.faults out.new)) }
+    ensures faults { Fails (IsErr result) (K.faults out.old) (K.faults out.new) }
 {
     text.make_room(WORD_ROOM, out)?;
     text.push(b" *");
@@ -33,9 +31,7 @@ pub fn put_blocks<K: Sink>(text: &mut Text, bytes: &Bytes, out: &mut K) -> Resul
     ensures room { OnOk result (length text.new < TEXT_ROOM) }
     ensures told { OnOk result (Gathers (K.written out.old) (K.written out.new) text.new (text.old ++ blocks_text bytes.now.items)) }
     ensures front { OnErr result (WroteFront (K.written out.old) (K.written out.new) (text.old ++ blocks_text bytes.now.items)) }
-    ensures ok { OnOk result (K.faults out.new ≡ K.faults out.old) }
-    ensures count { K.faults out.old ≤ K.faults out.new }
-    ensures cause { OnErr result (Rose (K.faults out.old) (K.faults out.new)) }
+    ensures faults { Fails (IsErr result) (K.faults out.old) (K.faults out.new) }
 {
     let (lengths, mut kept) = bytes.words();
     for n in lengths {
@@ -52,9 +48,7 @@ fn put_plain<K: Sink>(text: &mut Text, bytes: &[u8], out: &mut K) -> Result<(), 
     ensures room { OnOk result (length text.new < TEXT_ROOM) }
     ensures told { OnOk result (Gathers (K.written out.old) (K.written out.new) text.new (text.old ++ blocks_text bytes.now)) }
     ensures front { OnErr result (WroteFront (K.written out.old) (K.written out.new) (text.old ++ blocks_text bytes.now)) }
-    ensures ok { OnOk result (K.faults out.new ≡ K.faults out.old) }
-    ensures count { K.faults out.old ≤ K.faults out.new }
-    ensures cause { OnErr result (Rose (K.faults out.old) (K.faults out.new)) }
+    ensures faults { Fails (IsErr result) (K.faults out.old) (K.faults out.new) }
 {
     let mut rest = bytes;
     while let Some((block, behind)) = rest.split_first_chunk::<512>() {

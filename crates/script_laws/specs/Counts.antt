@@ -1,7 +1,7 @@
 -- How often the objects outside of a call failed, before it and after it.
 use Rattle.std.specs.Prelude.{◌≡◌, ◌≢◌, ℕ, ◌≤◌}
 use Rattle.vio_io.specs.Causes.{Rose}
-use Rattle.ldom_report.specs.Failing.{Fails}
+use Rattle.vio_io.specs.Causes.{Fails}
 use Rattle.ldom_report.specs.declared.status.Status.{Status}
 use Rattle.ldom_report.specs.declared.status.Status.TheVariants.{HostFault, SinkFault, SourceFault}
 use Rattle.script_laws.specs.Clean.{StandsStill}

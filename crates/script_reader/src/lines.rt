@@ -1,5 +1,5 @@
-ghost use Rattle.std.specs.Prelude.{◌≡◌, ◌≢◌, ℕ, ◌<◌, [], true, IfOk};
-ghost use Rattle.vio_io.specs.Causes.{Rose};
+ghost use Rattle.std.specs.Prelude.{◌≡◌, ◌≢◌, ◌<◌, [], true, IfOk};
+ghost use Rattle.vio_io.specs.Causes.{Fails};
 ghost use Rattle.domain_script.specs.Limits.{most_lines};
 
 use crate::piece::Piece;
@@ -115,9 +115,7 @@ impl Lines {
 
         // After a stop the source isn't asked.
         ensures stays { self.old.stop ≢ LinesStop.Going → source.new ≡ source.old }
-        ensures unfailed { result ≢ Err LinesFault.Source → S.faults source.new ≡ S.faults source.old }
-        ensures count { S.faults source.old ≤ S.faults source.new }
-        ensures cause { result ≡ Err LinesFault.Source → Rose (S.faults source.old) (S.faults source.new) }
+        ensures faults { Fails (result ≡ Err LinesFault.Source) (S.faults source.old) (S.faults source.new) }
     {
         match self.stop {
             LinesStop::Going => self.go_on(source),
@@ -145,9 +143,7 @@ impl Lines {
     fn go_on<S: Source>(&mut self, source: &mut S) -> Result<bool, LinesFault>
         requires { self.old.stop ≡ LinesStop.Going }
         ensures reads { Reads (to_come self.old (S.left source.old)) (to_come self.new (S.left source.new)) self.old result self.new }
-        ensures unfailed { result ≢ Err LinesFault.Source → S.faults source.new ≡ S.faults source.old }
-        ensures count { S.faults source.old ≤ S.faults source.new }
-        ensures cause { result ≡ Err LinesFault.Source → Rose (S.faults source.old) (S.faults source.new) }
+        ensures faults { Fails (result ≡ Err LinesFault.Source) (S.faults source.old) (S.faults source.new) }
     {
         self.forget_line();
         if self.number < MOST_LINES {
@@ -173,9 +169,7 @@ impl Lines {
         requires forgotten { self.old.line ≡ [] }
         requires few { self.old.number < most_lines }
         ensures reads { Reads (to_come self.old (S.left source.old)) (to_come self.new (S.left source.new)) self.old result self.new }
-        ensures unfailed { result ≢ Err LinesFault.Source → S.faults source.new ≡ S.faults source.old }
-        ensures count { S.faults source.old ≤ S.faults source.new }
-        ensures cause { result ≡ Err LinesFault.Source → Rose (S.faults source.old) (S.faults source.new) }
+        ensures faults { Fails (result ≡ Err LinesFault.Source) (S.faults source.old) (S.faults source.new) }
     {
         self.given = false;
         match read_line(&mut self.piece, &mut self.line, source) {
@@ -202,9 +196,7 @@ impl Lines {
         requires forgotten { self.old.line ≡ [] }
         requires all { self.old.number ≡ most_lines }
         ensures reads { Reads (to_come self.old (S.left source.old)) (to_come self.new (S.left source.new)) self.old result self.new }
-        ensures unfailed { result ≢ Err LinesFault.Source → S.faults source.new ≡ S.faults source.old }
-        ensures count { S.faults source.old ≤ S.faults source.new }
-        ensures cause { result ≡ Err LinesFault.Source → Rose (S.faults source.old) (S.faults source.new) }
+        ensures faults { Fails (result ≡ Err LinesFault.Source) (S.faults source.old) (S.faults source.new) }
     {
         self.given = false;
         if self.piece.fill(source)? {

@@ -1,6 +1,6 @@
-ghost use Rattle.std.specs.Prelude.{◌≡◌, ◌≢◌, ◌↔◌, ℕ, ◌<◌, ◌≤◌, [], ◌++◌, length, drop, IfOk, IsTrue, OnErr, OnOk};
+ghost use Rattle.std.specs.Prelude.{◌≡◌, ◌≢◌, ◌↔◌, ℕ, ◌<◌, ◌≤◌, [], ◌++◌, length, drop, IfOk, IsTrue, OnErr, IsErr};
+ghost use Rattle.vio_io.specs.Causes.{Fails};
 ghost use Rattle.std.specs.Io.KnownBytes.{IsAtEnd, Keeps, prepend_known};
-ghost use Rattle.vio_io.specs.Causes.{Rose};
 
 use std::alloc::Global;
 use std::marker::Model;
@@ -76,9 +76,7 @@ impl Piece {
         ensures end { IfOk result (λ more. self.new ≡ [] → IsAtEnd (S.left source.new)) }
         ensures drained { OnErr result (self.old ≡ []) }
         ensures same { OnErr result (self.new ≡ []) }
-        ensures ok { OnOk result (S.faults source.new ≡ S.faults source.old) }
-        ensures count { S.faults source.old ≤ S.faults source.new }
-        ensures cause { OnErr result (Rose (S.faults source.old) (S.faults source.new)) }
+        ensures faults { Fails (IsErr result) (S.faults source.old) (S.faults source.new) }
     {
         if self.start < self.end {
             return Ok(true);
@@ -93,9 +91,7 @@ impl Piece {
         ensures some { IfOk result (λ more. IsTrue more ↔ (self.new ≢ [])) }
         ensures end { IfOk result (λ more. self.new ≡ [] → IsAtEnd (S.left source.new)) }
         ensures same { OnErr result (self.new ≡ []) }
-        ensures ok { OnOk result (S.faults source.new ≡ S.faults source.old) }
-        ensures count { S.faults source.old ≤ S.faults source.new }
-        ensures cause { OnErr result (Rose (S.faults source.old) (S.faults source.new)) }
+        ensures faults { Fails (IsErr result) (S.faults source.old) (S.faults source.new) }
     {
         self.start = 0;
         self.end = 0;

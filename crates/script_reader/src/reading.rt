@@ -1,6 +1,6 @@
-ghost use Rattle.std.specs.Prelude.{◌≡◌, ◌≢◌, ℕ, ◌≤◌, ◌++◌, length};
+ghost use Rattle.std.specs.Prelude.{◌≡◌, ◌≢◌, ◌≤◌, ◌++◌, length};
+ghost use Rattle.vio_io.specs.Causes.{Fails};
 ghost use Rattle.std.specs.Io.KnownBytes.{prepend_known};
-ghost use Rattle.vio_io.specs.Causes.{Rose};
 ghost use Rattle.domain_script.specs.Pieces.{HasNoFeed};
 ghost use Rattle.script_reader.specs.Parts.{Extends, MovesPart, ReadsLine};
 ghost use Rattle.domain_script.specs.Limits.{most_line_bytes};
@@ -58,9 +58,7 @@ pub fn read_line<S: Source>(
     ensures reads { ReadsLine (prepend_known (line.old.items ++ piece.old) (S.left source.old)) result line.new.items piece.new (S.left source.new) }
     ensures short { length line.new.items ≤ most_line_bytes }
     ensures no_feed { HasNoFeed line.new.items }
-    ensures unfailed { result ≢ Err LinesFault.Source → S.faults source.new ≡ S.faults source.old }
-    ensures count { S.faults source.old ≤ S.faults source.new }
-    ensures cause { result ≡ Err LinesFault.Source → Rose (S.faults source.old) (S.faults source.new) }
+    ensures faults { Fails (result ≡ Err LinesFault.Source) (S.faults source.old) (S.faults source.new) }
 {
     while piece.fill(source)? {
         if take_part(piece, line)? {

@@ -1,5 +1,5 @@
-ghost use Rattle.std.specs.Prelude.{◌≡◌, ◌↔◌, ◌≤◌, IsErr, IfOk, IsTrue, OnErr, OnOk};
-ghost use Rattle.vio_io.specs.Causes.{Rose, next_count};
+ghost use Rattle.std.specs.Prelude.{◌≡◌, ◌↔◌, ◌≤◌, IsErr, IfOk, IsTrue, is_err};
+ghost use Rattle.vio_io.specs.Causes.{Fails, FaultsAfter, Rose, next_count};
 ghost use Rattle.vio_io.specs.FaultPlan.{Plan, after_call, fails_next, unused};
 
 use crate::{Failed, NoMemory};
@@ -36,10 +36,8 @@ impl FaultPlan {
     pub fn call(&mut self) -> Result<(), Failed>
         ensures fails { IsErr result ↔ IsTrue (fails_next self.old) }
         ensures after { self.new ≡ after_call self.old }
-        ensures count { self.old.faults ≤ self.new.faults }
-        ensures cause { OnErr result (Rose self.old.faults self.new.faults) }
-        ensures once { OnErr result (self.new.faults ≡ next_count self.old.faults) }
-        ensures ok { OnOk result (self.new.faults ≡ self.old.faults) }
+        ensures faults { Fails (IsErr result) self.old.faults self.new.faults }
+        ensures once { FaultsAfter (is_err result) self.old.faults self.new.faults }
     {
         let fails = self.failing.contains(&self.calls);
         self.calls = self.calls.saturating_add(1);

@@ -1,5 +1,5 @@
-ghost use Rattle.std.specs.Prelude.{◌≡◌, ℕ, ◌≤◌, List, Option, Some, IfOk, OnErr, OnOk, replicate, codes};
-ghost use Rattle.vio_io.specs.Causes.{Rose};
+ghost use Rattle.std.specs.Prelude.{◌≡◌, ℕ, List, Option, Some, IfOk, OnErr, OnOk, replicate, codes};
+ghost use Rattle.vio_io.specs.Causes.{Fails};
 ghost use Rattle.vio_io.specs.Given.{next_given};
 ghost use Rattle.vio_io.specs.declared.host.AttachFault.TheVariants.{Memory};
 
@@ -45,10 +45,7 @@ pub trait Host {
         ensures writes { IfOk result (λ disk. Self.Disk.writes disk ≡ 0) }
         ensures given { OnOk result (given self.new ≡ next_given (given self.old)) }
         ensures none { OnErr result (given self.new ≡ given self.old) }
-        ensures ok { OnOk result (faults self.new ≡ faults self.old) }
-        ensures memory { result ≡ Err AttachFault.Memory → faults self.new ≡ faults self.old }
-        ensures count { faults self.old ≤ faults self.new }
-        ensures cause { result ≡ Err AttachFault.Failed → Rose (faults self.old) (faults self.new) };
+        ensures faults { Fails (result ≡ Err AttachFault.Failed) (faults self.old) (faults self.new) };
 
     /// The name `-` gives zeros.
     ghost dash: { (host : Self) (least : ℕ) → gives host (codes "-") least ≡ Some (replicate least 0) };

@@ -1,6 +1,6 @@
-ghost use Rattle.std.specs.Prelude.{◌≡◌, ℕ, ◌<◌, ◌≤◌, ◌+◌, ◌↔◌, List, [], Option, Some, length, min, vec_capacity, IsErr, IsTrue, OnErr, OnOk, IfOk};
+ghost use Rattle.std.specs.Prelude.{◌≡◌, ℕ, ◌<◌, ◌≤◌, ◌+◌, ◌↔◌, List, [], Option, Some, length, min, vec_capacity, IsErr, IsTrue, OnErr, IfOk};
+ghost use Rattle.vio_io.specs.Causes.{Fails};
 ghost use Rattle.std.specs.Io.KnownBytes.{WriteAppends};
-ghost use Rattle.vio_io.specs.Causes.{Rose};
 ghost use Rattle.vio_io.specs.FaultPlan.{unused};
 ghost use Rattle.vio_io.specs.Lists.{ListSinkState, after_write, refuses_next};
 
@@ -22,9 +22,7 @@ pub trait Sink {
         ensures some { IfOk result (λ n. 0 < n) }
         ensures within { IfOk result (λ n. n ≤ length buf.now) }
         ensures told { WriteAppends (written self.old) (written self.new) result buf.now }
-        ensures ok { OnOk result (faults self.new ≡ faults self.old) }
-        ensures count { faults self.old ≤ faults self.new }
-        ensures cause { OnErr result (Rose (faults self.old) (faults self.new)) };
+        ensures faults { Fails (IsErr result) (faults self.old) (faults self.new) };
 }
 
 /// A list of bytes as a sink with a room, some of whose calls fail.
@@ -86,9 +84,7 @@ impl Sink for ListSink {
         ensures some { IfOk result (λ n. 0 < n) }
         ensures within { IfOk result (λ n. n ≤ length buf.now) }
         ensures told { WriteAppends (Some self.old.written) (Some self.new.written) result buf.now }
-        ensures ok { OnOk result (self.new.plan.faults ≡ self.old.plan.faults) }
-        ensures count { self.old.plan.faults ≤ self.new.plan.faults }
-        ensures cause { OnErr result (Rose self.old.plan.faults self.new.plan.faults) }
+        ensures faults { Fails (IsErr result) self.old.plan.faults self.new.plan.faults }
 
         ensures fails { IsErr result ↔ IsTrue (refuses_next self.old) }
         ensures takes { IfOk result (λ n. n ≡ min (length buf.now) self.old.room) }

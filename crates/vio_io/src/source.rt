@@ -1,6 +1,6 @@
-ghost use Rattle.std.specs.Prelude.{◌≡◌, ℕ, ◌<◌, ◌≤◌, ◌↔◌, List, Option, Some, length, min, drop, IsErr, IsTrue, OnErr, OnOk, IfOk};
+ghost use Rattle.std.specs.Prelude.{◌≡◌, ℕ, ◌<◌, ◌≤◌, ◌↔◌, List, Option, Some, length, min, drop, IsErr, IsTrue, IfOk};
+ghost use Rattle.vio_io.specs.Causes.{Fails};
 ghost use Rattle.std.specs.Io.KnownBytes.{ReadConsumes};
-ghost use Rattle.vio_io.specs.Causes.{Rose};
 ghost use Rattle.vio_io.specs.FaultPlan.{after_call, fails_next, unused};
 ghost use Rattle.vio_io.specs.Lists.{ListSourceState};
 
@@ -27,9 +27,7 @@ pub trait Source {
         requires { 0 < length buf.old }
         ensures within { IfOk result (λ n. n ≤ length buf.old) }
         ensures told { ReadConsumes (left self.old) (left self.new) result buf.new }
-        ensures ok { OnOk result (faults self.new ≡ faults self.old) }
-        ensures count { faults self.old ≤ faults self.new }
-        ensures cause { OnErr result (Rose (faults self.old) (faults self.new)) };
+        ensures faults { Fails (IsErr result) (faults self.old) (faults self.new) };
 }
 
 /// A list of bytes as a source, some of whose calls fail.
@@ -85,9 +83,7 @@ impl Source for ListSource {
         requires { 0 < length buf.old }
         ensures within { IfOk result (λ n. n ≤ length buf.old) }
         ensures told { ReadConsumes (Some self.old.left) (Some self.new.left) result buf.new }
-        ensures ok { OnOk result (self.new.plan.faults ≡ self.old.plan.faults) }
-        ensures count { self.old.plan.faults ≤ self.new.plan.faults }
-        ensures cause { OnErr result (Rose self.old.plan.faults self.new.plan.faults) }
+        ensures faults { Fails (IsErr result) self.old.plan.faults self.new.plan.faults }
 
         ensures fails { IsErr result ↔ IsTrue (fails_next self.old.plan) }
         ensures gives { IfOk result (λ n. n ≡ min (min self.old.piece (length buf.old)) (length self.old.left)) }

@@ -1,6 +1,6 @@
-ghost use Rattle.std.specs.Prelude.{◌≡◌, ◌<◌, ◌≤◌, length, IfOk, OnErr, OnOk};
+ghost use Rattle.std.specs.Prelude.{◌≡◌, ◌<◌, ◌≤◌, length, IfOk, IsErr, is_err};
 ghost use Rattle.std.specs.Io.KnownBytes.{ReadConsumes, WriteAppends};
-ghost use Rattle.vio_io.specs.Causes.{Rose, next_count};
+ghost use Rattle.vio_io.specs.Causes.{Fails, FaultsAfter};
 
 use crate::{Failed, Sink, Source};
 use std::io::{ErrorKind, Read, Write};
@@ -35,11 +35,9 @@ impl<R: Read> Source for StdSource<R> {
         requires { 0 < length buf.old }
         ensures within { IfOk result (λ n. n ≤ length buf.old) }
         ensures told { ReadConsumes (R.remaining self.old.reader) (R.remaining self.new.reader) result buf.new }
-        ensures ok { OnOk result (self.new.faults ≡ self.old.faults) }
-        ensures count { self.old.faults ≤ self.new.faults }
-        ensures cause { OnErr result (Rose self.old.faults self.new.faults) }
+        ensures faults { Fails (IsErr result) self.old.faults self.new.faults }
 
-        ensures once { OnErr result (self.new.faults ≡ next_count self.old.faults) }
+        ensures once { FaultsAfter (is_err result) self.old.faults self.new.faults }
     {
         match try_read(&mut self.reader, buf) {
             Ok(taken) => Ok(taken),
@@ -93,11 +91,9 @@ impl<W: Write> Sink for StdSink<W> {
         ensures some { IfOk result (λ n. 0 < n) }
         ensures within { IfOk result (λ n. n ≤ length buf.now) }
         ensures told { WriteAppends (W.contents self.old.writer) (W.contents self.new.writer) result buf.now }
-        ensures ok { OnOk result (self.new.faults ≡ self.old.faults) }
-        ensures count { self.old.faults ≤ self.new.faults }
-        ensures cause { OnErr result (Rose self.old.faults self.new.faults) }
+        ensures faults { Fails (IsErr result) self.old.faults self.new.faults }
 
-        ensures once { OnErr result (self.new.faults ≡ next_count self.old.faults) }
+        ensures once { FaultsAfter (is_err result) self.old.faults self.new.faults }
     {
         match try_write(&mut self.writer, buf) {
             Ok(taken) => Ok(taken),

@@ -1,5 +1,5 @@
-ghost use Rattle.std.specs.Prelude.{◌≡◌, ℕ, ◌<◌, ◌≤◌, ◌↔◌, List, Option, None, length, IsTrue, OnErr, OnOk, IfSome};
-ghost use Rattle.vio_io.specs.Causes.{Rose, next_count};
+ghost use Rattle.std.specs.Prelude.{◌≡◌, ℕ, ◌<◌, ◌≤◌, ◌↔◌, List, Option, None, length, IsTrue, OnOk, IfSome, is_err};
+ghost use Rattle.vio_io.specs.Causes.{next_count, FaultsAfter};
 ghost use Rattle.vio_io.specs.Stores.{IsUnitRange, KeepsOutside, ReadsRange, WritesRange};
 
 use crate::Failed;
@@ -37,10 +37,7 @@ pub trait Store: Drop {
         ensures calls { calls self.new ≡ next_count (calls self.old) }
         ensures flushes { flushes self.new ≡ flushes self.old }
         ensures writes { writes self.new ≡ writes self.old }
-        ensures ok { OnOk result (faults self.new ≡ faults self.old) }
-        ensures count { faults self.old ≤ faults self.new }
-        ensures cause { OnErr result (Rose (faults self.old) (faults self.new)) }
-        ensures once { OnErr result (faults self.new ≡ next_count (faults self.old)) };
+        ensures faults { FaultsAfter (is_err result) (faults self.old) (faults self.new) };
 
     /// Writes exactly the range from the place `at`. After `Failed` the bytes outside it stay.
     /// What isn't told before isn't told after it.
@@ -53,10 +50,7 @@ pub trait Store: Drop {
         ensures calls { calls self.new ≡ next_count (calls self.old) }
         ensures flushes { flushes self.new ≡ flushes self.old }
         ensures writes { writes self.new ≡ next_count (writes self.old) }
-        ensures ok { OnOk result (faults self.new ≡ faults self.old) }
-        ensures count { faults self.old ≤ faults self.new }
-        ensures cause { OnErr result (Rose (faults self.old) (faults self.new)) }
-        ensures once { OnErr result (faults self.new ≡ next_count (faults self.old)) };
+        ensures faults { FaultsAfter (is_err result) (faults self.old) (faults self.new) };
 
     /// What was written before is to last. It changes no byte.
     fn flush(&mut self) -> Result<(), Failed>
@@ -65,10 +59,7 @@ pub trait Store: Drop {
         ensures calls { calls self.new ≡ next_count (calls self.old) }
         ensures flushes { flushes self.new ≡ next_count (flushes self.old) }
         ensures writes { writes self.new ≡ writes self.old }
-        ensures ok { OnOk result (faults self.new ≡ faults self.old) }
-        ensures count { faults self.old ≤ faults self.new }
-        ensures cause { OnErr result (Rose (faults self.old) (faults self.new)) }
-        ensures once { OnErr result (faults self.new ≡ next_count (faults self.old)) };
+        ensures faults { FaultsAfter (is_err result) (faults self.old) (faults self.new) };
 
     /// Whether it ever failed.
     fn faulty(&self) -> bool

@@ -3,6 +3,7 @@ use Rattle.std.proofs.Common.{◌≡◌, ◌≤◌, ℕ, zero, suc, ◌+◌, ◌
 use Rattle.std.specs.List.{count_by}
 use Rattle.runs.specs.Run.{Run}
 use Rattle.vio_io.specs.Causes.{count_after, last_count, next_count}
+use Rattle.vio_io.proofs.Counts.{one_before}
 use Rattle.disk_law.specs.ListState.{ImageState}
 use Rattle.disk_model.specs.DiskEvent.{Asks, Desc, DiskEvent, Done, Finished, Misplaced, Moved, OnWire, Published, Calms, Stored, Switches, Works}
 use Rattle.disk_model.specs.LaneState.{LaneState}
@@ -12,10 +13,6 @@ use Rattle.world_laws.proofs.Counted.{count_more}
 use Rattle.world_laws.specs.Failures.{in_entry, is_failed_store, is_flush, is_store, is_store_that, is_write}
 
 -- A COUNT later
-one_before : (n count : ℕ) → count_after n (next_count count) ≡ next_count (count_after n count)
-one_before zero count = refl
-one_before (suc n) count = ap next_count (one_before n count)
-
 more_before : (n count : ℕ) (b : Bool) → count_after n (count_after (cond b 1 0) count) ≡ count_after (cond b 1 0 + n) count
 more_before n count true =
     let one : suc n ≡ 1 + n = omega arith in

@@ -7,7 +7,8 @@ use Rattle.disk_model.specs.DiskEvent.{Asks, Desc, DiskEvent, Done, Finished, Mi
 use Rattle.disk_model.specs.LaneState.{LaneState}
 use Rattle.world_laws.specs.Settle.{OfLane, SettleEntry}
 use Rattle.world_laws.specs.Lines.{Line, LineStep}
-use Rattle.world_laws.specs.World.{FaultsAfter, LaneMoves, WorldState, WorldStep}
+use Rattle.vio_io.specs.Causes.{FaultsAfter}
+use Rattle.world_laws.specs.World.{LaneMoves, WorldState, WorldStep}
 
 never_none : (n : ℕ) → next_count n ≡ 0 → ⊥
 never_none n is = omega (arith, is)

@@ -1,7 +1,7 @@
 -- A WORLD: the lanes of disks, by their numbers, and the one image that all of them are served from; and what each entry of its journal does.
-use Rattle.std.specs.Prelude.{◌≡◌, ℕ, ◌+◌, ◌*◌, ◌≤◌, ◌==◌, if◌then◌else◌, Bool, true, false, List, [], ◌∷◌, length, map, Some, slice_get, slice_set, IfSome, ⊤}
+use Rattle.std.specs.Prelude.{◌≡◌, ℕ, ◌+◌, ◌*◌, ◌≤◌, ◌==◌, if◌then◌else◌, Bool, List, [], ◌∷◌, length, map, Some, slice_get, slice_set, IfSome, ⊤}
 use Rattle.runs.specs.Run.{Run}
-use Rattle.vio_io.specs.Causes.{next_count}
+use Rattle.vio_io.specs.Causes.{FaultsAfter, next_count}
 use Rattle.disk_law.specs.ListState.{ImageState}
 use Rattle.disk_model.specs.DiskEvent.{DiskEvent, Stored, Works}
 use Rattle.disk_model.specs.LaneState.{IsShape, LaneState, Shape, fresh}
@@ -12,11 +12,6 @@ use Rattle.world_laws.specs.Settle.{OfLane, SettleEntry}
 pub record WorldState : Type 0 where
   pub lanes : List LaneState
   pub image : ImageState
-
--- the image's count of faults after a call of the store
-abbrev pub FaultsAfter : Bool → ℕ → ℕ → Type 0
-FaultsAfter true before now = now ≡ next_count before
-FaultsAfter false before now = now ≡ before
 
 -- ONE CALL of the image, whether it failed or not. The operation 2 is one write of it and 3 one flush, and no other call
 -- writes or flushes it.

@@ -12,5 +12,5 @@ loop-at-preserved g c =
     record {
       within = omega (arith, c.in_ok-at.ensures.within, length-take (length c.args.bytes.now - c.loop-at.at) (drop c.loop-at.at c.args.bytes.now), length-drop c.loop-at.at c.args.bytes.now);
       written = appends_piece _ _ _ c.args.bytes.now _ c.loop-at.at c.in_ok-at.field-0 (take_rest c.args.bytes.now c.loop-at.at) c.loop-at.invariant.written c.in_ok-at.ensures.told;
-      unfailed = c.in_ok-at.ensures.ok ∙ c.loop-at.invariant.unfailed;
+      unfailed = c.in_ok-at.ensures.faults.unfailed (λ is. cc) ∙ c.loop-at.invariant.unfailed;
     }

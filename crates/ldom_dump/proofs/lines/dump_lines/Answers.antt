@@ -16,7 +16,7 @@ loop-bytes-preserved-in-Ok-true g c =
           c.in-Ok.bytes c.loop-bytes.text c.put_packet.new.text _ c.loop-bytes.lines.number c.read_bytes.new.lines.number c.loop-bytes.packets c.loop-bytes.faults
           c.loop-bytes.invariant.so_far c.in-Ok.ensures.bytes c.in-Ok.ensures.next.0 c.in-Ok.ensures.next.1 c.in-Ok-true.ensures.told c.in-Ok-true.field-0-test;
       source = c.in-Ok.ensures.source.unfailed (λ is. cc) ∙ c.loop-bytes.invariant.source;
-      sink = c.in-Ok-true.ensures.ok ∙ c.loop-bytes.invariant.sink;
+      sink = c.in-Ok-true.ensures.faults.unfailed (λ is. cc) ∙ c.loop-bytes.invariant.sink;
     }
 
 pub loop-bytes-preserved : goal.loop-bytes-preserved
@@ -32,5 +32,5 @@ loop-bytes-preserved g c =
           c.in-Ok.bytes c.loop-bytes.text c.put_packet.new.text _ c.loop-bytes.lines.number c.read_bytes.new.lines.number c.loop-bytes.packets c.loop-bytes.faults
           c.loop-bytes.invariant.so_far c.in-Ok.ensures.bytes c.in-Ok.ensures.next.0 c.in-Ok.ensures.next.1 c.in-Ok-false.ensures.told c.in-Ok-false.field-0-test;
       source = c.in-Ok.ensures.source.unfailed (λ is. cc) ∙ c.loop-bytes.invariant.source;
-      sink = c.in-Ok-false.ensures.ok ∙ c.loop-bytes.invariant.sink;
+      sink = c.in-Ok-false.ensures.faults.unfailed (λ is. cc) ∙ c.loop-bytes.invariant.sink;
     }

@@ -51,7 +51,7 @@ loop-entry-preserved g c =
       whole = next_lines mode disks whole i.so_far c.loop-entry.rest c.next_to_show.new.entries (told c.in-Some.entry) i.whole c.in-Some.ensures.some;
       words = All-tail P (told c.in-Some.entry) c.next_to_show.new.entries (all_left P mode c.loop-entry.rest (told c.in-Some.entry ∷ c.next_to_show.new.entries) c.in-Some.ensures.some i.words);
       gathers = gathers_then _ _ _ c.loop-entry.text c.put_line.new.text i.so_far line i.gathers c.in_ok-put_line.ensures.told;
-      unfailed = c.in_ok-put_line.ensures.ok ∙ i.unfailed;
+      unfailed = c.in_ok-put_line.ensures.faults.unfailed (λ is. cc) ∙ i.unfailed;
     }
 
 pub loop-entry-smaller : goal.loop-entry-smaller

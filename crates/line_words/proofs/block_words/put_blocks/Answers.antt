@@ -34,7 +34,7 @@ loop-n-preserved g c =
       gathers = gathers_behind _ _ _ c.loop-n.text c.put_word.new.text c.args.text.now i.so_far word i.gathers
           (subst (λ (l : List ℕ). Gathers (g.K.Sink.written c.loop-n.out) (g.K.Sink.written c.put_word.new.out) c.put_word.new.text (c.loop-n.text ++ (codes " *" ++ encode_lower l))) front c.in_ok-put_word.ensures.told);
       room = c.in_ok-put_word.ensures.room;
-      unfailed = c.in_ok-put_word.ensures.ok ∙ i.unfailed;
+      unfailed = c.in_ok-put_word.ensures.faults.unfailed (λ is. cc) ∙ i.unfailed;
     }
 
 pub returns-clause-told : goal.returns-clause-told

@@ -24,7 +24,7 @@ loop-block-preserved g c =
       whole = blocks_text_more i.so_far (blocks_text c.args.bytes.now) c.loop-block.rest.now c.in-Some.block.now c.in-Some.behind.now i.whole cut.0 cut.1 cut.2;
       gathers = gathers_behind _ _ _ c.loop-block.text c.put_word.new.text c.args.text.now i.so_far word i.gathers told;
       room = c.in_ok-put_word.ensures.room;
-      unfailed = c.in_ok-put_word.ensures.ok ∙ i.unfailed;
+      unfailed = c.in_ok-put_word.ensures.faults.unfailed (λ is. cc) ∙ i.unfailed;
     }
 
 pub returns-clause-told : goal.returns-clause-told

@@ -4,7 +4,8 @@ use Rattle.vio_io.specs.Stores.{ReadsRange}
 use Rattle.cached_store.specs.CachedState.{CachedState, calls_of}
 use Rattle.cached_store.specs.Kept.{Agrees}
 use Rattle.cached_store.proofs.Agreeing.{agrees_read, agrees_used, reads_kept}
-use Rattle.cached_store.proofs.Counting.{asked_more, spared_more}
+use Rattle.vio_io.proofs.Counts.{one_before}
+use Rattle.cached_store.proofs.Counting.{spared_more}
 use Rattle.cached_store.proofs.cached.CachedStore.read_at.Goals as goal
 
 pub invariant_of-self : goal.invariant_of-self
@@ -35,7 +36,7 @@ returns-then-holds-clause-calls g c =
 pub returns-in_err-read_at-clause-calls : goal.returns-in_err-read_at-clause-calls
 returns-in_err-read_at-clause-calls g c =
     ap (count_after c.self.inside.spared) c.read_at.ensures.calls
-    ∙ asked_more c.self.inside.spared (g.D.Store.calls c.self.inside.inner)
+    ∙ one_before c.self.inside.spared (g.D.Store.calls c.self.inside.inner)
     ∙ ap (λ (s : CachedState _). next_count (calls_of g.D.Store.calls s)) c.self.view_is
 
 pub invariant_of-self-2 : goal.invariant_of-self-2
@@ -52,5 +53,5 @@ invariant_of-self-2 g c =
 pub returns-clause-calls : goal.returns-clause-calls
 returns-clause-calls g c =
     ap (count_after c.self.inside.spared) c.read_at.ensures.calls
-    ∙ asked_more c.self.inside.spared (g.D.Store.calls c.self.inside.inner)
+    ∙ one_before c.self.inside.spared (g.D.Store.calls c.self.inside.inner)
     ∙ ap (λ (s : CachedState _). next_count (calls_of g.D.Store.calls s)) c.self.view_is

@@ -2,7 +2,7 @@ use Rattle.std.proofs.Common.{◌≡◌, ◌+◌, ◌*◌, ◌/◌, ◌≤◌, l
 use Rattle.vio_io.specs.Causes.{count_after, next_count}
 use Rattle.cached_store.specs.CachedState.{CachedState, calls_of}
 use Rattle.cached_store.proofs.Agreeing.{agrees_failed, agrees_written}
-use Rattle.cached_store.proofs.Counting.{asked_more}
+use Rattle.vio_io.proofs.Counts.{one_before}
 use Rattle.cached_store.proofs.cached.CachedStore.write_at.Goals as goal
 
 pub invariant_of-self : goal.invariant_of-self
@@ -29,11 +29,11 @@ invariant_of-self-in-Err g c =
 pub returns-in-Ok-clause-calls : goal.returns-in-Ok-clause-calls
 returns-in-Ok-clause-calls g c =
     ap (count_after c.self.inside.spared) c.write_at.ensures.calls
-    ∙ asked_more c.self.inside.spared (g.D.Store.calls c.self.inside.inner)
+    ∙ one_before c.self.inside.spared (g.D.Store.calls c.self.inside.inner)
     ∙ ap (λ (s : CachedState _). next_count (calls_of g.D.Store.calls s)) c.self.view_is
 
 pub returns-in-Err-clause-calls : goal.returns-in-Err-clause-calls
 returns-in-Err-clause-calls g c =
     ap (count_after c.self.inside.spared) c.write_at.ensures.calls
-    ∙ asked_more c.self.inside.spared (g.D.Store.calls c.self.inside.inner)
+    ∙ one_before c.self.inside.spared (g.D.Store.calls c.self.inside.inner)
     ∙ ap (λ (s : CachedState _). next_count (calls_of g.D.Store.calls s)) c.self.view_is

@@ -1,7 +1,8 @@
-use Rattle.std.proofs.Common.{ℕ, List, ap}
+use Rattle.std.proofs.Common.{ℕ, Bool, List, ap, sym, subst}
+use Rattle.vio_io.specs.Causes.{FaultsAfter}
 use Rattle.descriptor_work.specs.declared.work.Progress.{Progress as KeptProgress}
 use Rattle.descriptor_work.specs.Fields.{progress_of, work_with}
-use Rattle.descriptor_work.proofs.PieceSteps.{faults_after, piece_flushed}
+use Rattle.descriptor_work.proofs.PieceSteps.{piece_flushed}
 use Rattle.descriptor_work.proofs.work.Work.flush.Goals as goal
 
 pub returns-clause-piece : goal.returns-clause-piece
@@ -15,6 +16,6 @@ returns-clause-store g c = record {
   calls = c.flush.ensures.calls;
   flushes = c.flush.ensures.flushes;
   writes = c.flush.ensures.writes;
-  faults = faults_after c.flush.result c.is_err-failed.result (g.D.Store.faults c.args.store.now) (g.D.Store.faults c.flush.new.self)
-      c.is_err-failed.ensures.value c.flush.ensures.ok c.flush.ensures.once;
+  faults = subst (λ (failed : Bool). FaultsAfter failed (g.D.Store.faults c.args.store.now) (g.D.Store.faults c.flush.new.self)) (sym c.is_err-failed.ensures.value)
+      c.flush.ensures.faults;
 }

@@ -1,11 +1,12 @@
-use Rattle.std.proofs.Common.{◌≡◌, ℕ, ◌+◌, ◌-◌, ◌*◌, ◌≤◌, List, [], length, ap, ◌∙◌, sym, subst}
+use Rattle.std.proofs.Common.{◌≡◌, ℕ, ◌+◌, ◌-◌, ◌*◌, ◌≤◌, Bool, List, [], length, ap, ◌∙◌, sym, subst}
 use Rattle.std.specs.Prelude.{min}
 use Rattle.vdisk_msg.specs.Descriptor.{disk_desc_of}
+use Rattle.vio_io.specs.Causes.{FaultsAfter}
 use Rattle.vio_io.specs.Stores.{WritesRange}
 use Rattle.disk_model.specs.ServerWork.{or_ends}
 use Rattle.descriptor_work.specs.declared.work.Progress.{Progress as KeptProgress}
 use Rattle.descriptor_work.specs.Fields.{progress_of, work_with}
-use Rattle.descriptor_work.proofs.PieceSteps.{done_where, faults_after, piece_written, unit_place, unit_range, unit_within}
+use Rattle.descriptor_work.proofs.PieceSteps.{done_where, piece_written, unit_place, unit_range, unit_within}
 use Rattle.descriptor_work.proofs.work.Work.write_unit.Goals as goal
 
 pub store_place-at-requires : goal.store_place-at-requires
@@ -39,8 +40,8 @@ returns-clause-store g c = record {
   calls = c.write_at.ensures.calls;
   flushes = c.write_at.ensures.flushes;
   writes = c.write_at.ensures.writes;
-  faults = faults_after c.write_at.result c.is_err-failed.result (g.D.Store.faults c.args.store.now) (g.D.Store.faults c.write_at.new.self)
-      c.is_err-failed.ensures.value c.write_at.ensures.ok c.write_at.ensures.once;
+  faults = subst (λ (failed : Bool). FaultsAfter failed (g.D.Store.faults c.args.store.now) (g.D.Store.faults c.write_at.new.self)) (sym c.is_err-failed.ensures.value)
+      c.write_at.ensures.faults;
 }
 
 pub returns-clause-within : goal.returns-clause-within
