@@ -183,17 +183,17 @@ move_fits role c (Says packet opens) t turns end step = says_fits role c t turns
 move_fits role c Waits t turns end step = same_fits role c.offer c.handshake t.handshake end.fits (held_handshake c t step.what step.holds)
 move_fits role c Stays t turns end step = same_fits role c.offer c.handshake t.handshake end.fits step.handshake
 
+-- what an end offers is what its handshake does
+pub fits_step : (role : Role) (c : EndCore) (move : EndMove) (t : EndCore) (turns : List Turn) → EndFits role c turns → EndStep role c move t → EndFits role t (turns_after turns move)
+fits_step role c move t turns end step =
+    let now : EndStands role t (turns_after turns move) = stands_step role c move t turns end.stands step in
+    let fits = move_fits role c move t turns end step in
+    record { stands = now; fits = subst (λ (o : Offer). HandshakeFits role o t.handshake) (sym fits.offer_is ∙ now.handshake.offer_is) fits }
+
 -- ALONG EVERY RUN
 pub fits_run : (entries : ℕ) (asks answers : Offer) (events : List CoreEvent) (s : LaneCore) → CoreFits entries asks answers
     → Run CoreStep (fresh_core entries asks answers) events s → EndsAll EndFits s (transcript_behind events)
 fits_run entries asks answers events s fits run =
-    ends_run EndFits (λ role c move t turns end step.
-    let now : EndStands role t (turns_after turns move) = stands_step role c move t turns end.stands step in
-    record { stands = now; fits = offer_fits role c t now.handshake.offer_is (move_fits role c move t turns end step) })
-    entries asks answers events s
+    ends_run EndFits fits_step entries asks answers events s
     (record { stands = fresh_end_stands Initiator asks fits.asks_fit.form.most; fits = fresh_fits Initiator asks })
     (record { stands = fresh_end_stands Responder answers fits.answers_fit.form.most; fits = fresh_fits Responder answers }) run
-  where
-    -- what an end offers is what its handshake does
-    offer_fits : (role : Role) (c t : EndCore) → t.handshake.offer ≡ t.offer → HandshakeFits role c.offer t.handshake → HandshakeFits role t.offer t.handshake
-    offer_fits role c t offers fits = subst (λ (o : Offer). HandshakeFits role o t.handshake) (sym fits.offer_is ∙ offers) fits

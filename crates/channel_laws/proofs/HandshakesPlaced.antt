@@ -253,7 +253,7 @@ put_handshakes asks answers role s t packet opens fits stands up says links at =
     whole : SaysLast held.link s.mine.turns packet → held.link.phase ≡ phase.Established → Carries held.own held.handshake (half_said s.mine.turns ++ held.link.to_send)
     whole last_part est = held_stands_so.carries (holds_some held.link (ap is_established est) last_part.some)
 
-    carried_owed : (b : Bool) (bytes : List ℕ) → b ≡ false → Carries b held.handshake bytes → CarriesOwed held.handshake bytes
+    carried_owed : (b : Bool) (bytes : List ℕ) → b ≡ false → Carries b held.handshake bytes → CarriesOwed held.handshake.owed bytes
     carried_owed false bytes is carries = carries
     carried_owed true bytes is carries = true_is_false is
 

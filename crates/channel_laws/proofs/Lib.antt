@@ -44,6 +44,7 @@ pub mod WhoseTurn
 pub mod AtRest
 pub mod EndFolding
 pub mod EndsAtRest
+pub mod EndsResting
 pub mod KnownAttributes
 pub mod PacketCauses
 pub mod CausesSaid

@@ -14,7 +14,7 @@ some_up k true is idle some = is
 some_up k false is idle some = absurd (omega (arith, some, ap length (idle is)))
 
 pub owed_held : (role : Role) (c : EndCore) (turns : List Turn) → EndStands role c turns → c.own ≡ false → 1 ≤ length c.link.to_send
-    → CarriesOwed c.handshake (half_said turns ++ c.link.to_send)
+    → CarriesOwed c.handshake.owed (half_said turns ++ c.link.to_send)
 owed_held role c turns stands own some =
     let up : is_up c.link ≡ true = some_up c.link (is_up c.link) refl (λ down. (stands.below down).left) some in
     subst (λ (b : Bool). Carries b c.handshake (half_said turns ++ c.link.to_send)) own (stands.carries (holds_some c.link up some))

@@ -365,7 +365,7 @@ hears_order role c t turns packet opens all hears = by_what took.what
         by_came (inr comes) = by_on role t opens now (link_up ∙ took_message.stays) (by_role role refl message took_message handshake.row handshake.sid comes)
 
 -- IT SAYS a packet
-carried_owed : (own : Bool) (h : Handshake) (bytes : List ℕ) → own ≡ false → Carries own h bytes → CarriesOwed h bytes
+carried_owed : (own : Bool) (h : Handshake) (bytes : List ℕ) → own ≡ false → Carries own h bytes → CarriesOwed h.owed bytes
 carried_owed false h bytes is carries = carries
 carried_owed true h bytes is carries = absurd (cc is)
 

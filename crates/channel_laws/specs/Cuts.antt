@@ -1,5 +1,5 @@
 -- How a link stands to what its end said since it last began, and whose message it holds.
-use Rattle.std.specs.Prelude.{◌≡◌, ◌+◌, ◌≤◌, Bool, true, false, not, List, [], ◌++◌, ℕ, length, Some}
+use Rattle.std.specs.Prelude.{◌≡◌, ◌+◌, ◌≤◌, Bool, true, false, not, List, [], ◌++◌, ℕ, length, Option, Some}
 use Rattle.ldc_link.specs.LinkState.{LinkState}
 use Rattle.ldc_queue.specs.Messages.{is_empty}
 use Rattle.ldc_queue.specs.Transcript.{Turn}
@@ -19,9 +19,9 @@ pub record Cuts (k : LinkState) (turns : List Turn) : Type 0 where
   pub free : k.to_send ≡ [] → half_said turns ≡ []
 
 -- what was put of a message and what is left of it: one of the end's session, which is open, or the message that its handshake owes
-pub record CarriesOwed (h : Handshake) (bytes : List ℕ) : Type 0 where
+pub record CarriesOwed (owing : Option Message) (bytes : List ℕ) : Type 0 where
   pub message : Message
-  pub owed : h.owed ≡ Some message
+  pub owed : owing ≡ Some message
   pub is : bytes ≡ canonical message
 
 pub record CarriesOwn (h : Handshake) (bytes : List ℕ) : Type 0 where
@@ -32,7 +32,7 @@ pub record CarriesOwn (h : Handshake) (bytes : List ℕ) : Type 0 where
   pub is : bytes ≡ canonical message
 
 abbrev pub Carries : Bool → Handshake → List ℕ → Type 0
-Carries false h bytes = CarriesOwed h bytes
+Carries false h bytes = CarriesOwed h.owed bytes
 Carries true h bytes = CarriesOwn h bytes
 
 abbrev pub HoldsIts : Bool → LinkState → Handshake → List Turn → Type 0

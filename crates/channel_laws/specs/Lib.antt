@@ -20,3 +20,4 @@ pub mod EndsAtRest
 pub mod KnownAttributes
 pub mod PacketCauses
 pub mod LossStands
+pub mod EndRests

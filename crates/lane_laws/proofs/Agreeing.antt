@@ -159,17 +159,16 @@ one_ring shape events s sound run clean up d is =
     let asked : d.asked ≤ k.counts.published =
     published_most d.asked k.session.announced k.counts.announced k.session.published k.counts.published named order.announced k.agree.announced k.agree.published in
     let one : AreOneSession s.client.handshake s.server.handshake = one_session shape events s sound run clean c_open v_open in
-    let offer = client.handshake.offer_is in
-    let few : l.shape.slots ≤ 256 = subst (λ (n : ℕ). n ≤ 256) client.slots knows.all.sound.slots in
+    let offer = knows.rests.client.fits.offer_is in
     let all : length s.client.pending + l.work.done ≡ length l.work.issued =
     omega (arith, ap length knows.all.stands.requests.pending, length-drop l.work.done l.work.issued, knows.all.stands.requests.done) in
     record {
       client = k.counts;
       open_is = k.counts_are;
-      slots = one.slots ∙ ap (λ (o : Offer). o.slots) offer ∙ sym client.slots;
+      slots = one.slots ∙ ap (λ (o : Offer). o.slots) offer;
       cookies = ap (λ (n : ℕ). take n s.server.handshake.draft.peer_cookies) (one.count ∙ ap (λ (o : Offer). o.count) offer)
-          ∙ ap (take (length (own_cookies l.shape.slots))) (one.cookies ∙ ap (λ (o : Offer). o.cookies) offer)
-          ∙ filled_front 14 (own_cookies l.shape.slots) (few_cookies l.shape.slots few) ∙ ap own_cookies (sym client.slots);
+          ∙ ap (take (length (own_cookies s.client.slots))) (one.cookies ∙ ap (λ (o : Offer). o.cookies) offer)
+          ∙ filled_front 14 (own_cookies s.client.slots) (few_cookies s.client.slots knows.all.sound.slots);
       done =
           done_most l.work.done k.counts.base k.session.completed k.session.acked (range_sum l.shape.slots 2 heard_c) d.answered (range_sum l.shape.slots 2 said_v) d.finished k.agree.completed order.completed
           acked acked_said v_order.answered v_order.finished;
@@ -211,12 +210,7 @@ server_counts shape events s sound run = (run_knows shape events s sound run).co
 -- and what the client offers
 pub client_offers : (shape : Shape) (events : List DiskEvent) (s : LaneState) → IsShape shape → Run LaneStep (fresh shape) events s
     → s.client.handshake.offer ≡ client_offer s.client.blocks s.client.slots
-client_offers shape events s sound run =
-    let knows = run_knows shape events s sound run in
-    let l = log_of after (nothing_yet shape) events in
-    knows.counted.client.handshake.offer_is
-    ∙ ap (λ (n : ℕ). client_offer n l.shape.slots) (ap (λ (x : Shape). x.blocks) (sym knows.all.stands.shape) ∙ sym knows.all.stands.blocks)
-    ∙ ap (client_offer s.client.blocks) (sym knows.counted.client.slots)
+client_offers shape events s sound run = (run_knows shape events s sound run).rests.client.fits.offer_is
 
 -- what a server whose end is up has answered
 pub range_answered : (slots : ℕ) (range : Option SlotRange) (d : ServerCounts) → RangeStands slots range d → d.answered ≤ d.asked

@@ -34,7 +34,7 @@ use Rattle.lane_laws.proofs.RulesFree.{ServerFree, puts_owe, server_free}
 use Rattle.lane_laws.proofs.Ruling.{client_may}
 use Rattle.lane_laws.proofs.ServerPutCounting.{all_finished}
 use Rattle.lane_laws.proofs.Sharing.{in_order}
-use Rattle.lane_laws.proofs.Speaking.{holds_owed}
+use Rattle.channel_laws.proofs.MessagesHeld.{owed_held}
 use Rattle.lane_laws.proofs.WorkNumbers.{Grounded, at_client, at_server, in_client, in_server, order_of}
 
 -- what is known of both ends
@@ -68,8 +68,8 @@ client_left s l true told own some =
     in_order (length s.client.pending) s.client.session info.session info.is grounded.knows.all.sound.counts in
     more_published s l info.session grounded info.is (order.own info.announcing)
 client_left s l false told own some =
-    let holds = holds_owed Initiator (client_core s.client) l.transcript.client told.grounded.knows.rests.client.stands own some in
-    inr (inl (some_owed s.client.handshake (client_handshake l) holds.message told.are.client holds.owed_is))
+    let holds = owed_held Initiator (client_core s.client) l.transcript.client told.grounded.knows.rests.client.stands own some in
+    inr (inl (some_owed s.client.handshake (client_handshake l) holds.message told.are.client holds.owed))
 
 client_puts : (s : LaneState) (l : DiskLog) (rule : client.ClientRule) (held : ClientState) → Told s l → client.client_rule s.client (at_client s) ≡ rule
     → client_holds rule s.client ≡ Some held → ClientMay s.client (at_client s) rule → HasToPut A l

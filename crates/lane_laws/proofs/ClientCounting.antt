@@ -1,7 +1,6 @@
 -- Each step of a client leaves its session counting what it said and heard.
 use Rattle.std.proofs.Common.{◌≡◌, ℕ, ◌+◌, inl, inr, Option, Some, None, List, [], ◌∷◌, ◌++◌, refl, sym, ap, ◌∙◌, subst, arith}
 use Rattle.std.specs.Prelude.{is_some, ⊤}
-use Rattle.ldc_link.specs.declared.phase.Role.TheVariants.{Initiator}
 use Rattle.ldc_packet.specs.Spelling.{subtype_code}
 use Rattle.ldc_queue.specs.Transcript.{Heard as Heard_, Turn}
 use Rattle.vio_tag.specs.Spelling.{canonical}
@@ -15,12 +14,10 @@ use Rattle.disk_model.specs.ClientPutting.{announcement}
 use Rattle.disk_model.specs.ClientState.{ClientSession, ClientState, joined_client}
 use Rattle.disk_model.specs.ClientTaking.{acknowledged}
 use Rattle.disk_model.specs.LaneState.{Shape}
-use Rattle.disk_model.specs.Offering.{client_offer}
 use Rattle.dring.specs.Slots.{range_length}
 use Rattle.lane_laws.proofs.ClientTaken.{ClientAcked, ClientHearsPart, ClientHandshakes, ClientTook}
 use Rattle.channel_laws.proofs.Apart.{some_is_none, some_same}
 use Rattle.channel_laws.proofs.EndStanding.{open_declines}
-use Rattle.channel_laws.proofs.HandshakeFitting.{joined_fits, row_fits}
 use Rattle.lane_laws.proofs.RangeSums.{sum_heard, sum_more}
 use Rattle.lane_laws.proofs.RangesSaid.{IsNoData, heard_no_range, heard_range, no_data}
 use Rattle.lane_laws.specs.Counted.{ClientCounted, acked_of, announced_of, infos_of, range_sum}
@@ -31,7 +28,6 @@ pub client_begins_counting : (shape : Shape) (c : ClientState) (turns : List Tur
     → ClientCounted shape (joined_client c) [] done None
 client_begins_counting shape c turns done k counted = record {
   slots = counted.slots;
-  handshake = joined_fits Initiator (client_offer shape.blocks shape.slots) c.handshake counted.handshake;
   holds = λ session is on. absurd (cc);
   announced = refl;
   infos = refl;
@@ -93,7 +89,6 @@ takes_part shape c t turns packet done k counted part =
     let acked : acked_of c.session ≡ range_sum shape.slots 2 (heard (Heard_ packet ∷ turns)) = counted.acked ∙ ap (range_sum shape.slots 2) (sym part.messages) in
     subst (Behind shape turns packet done k) (sym part.is) (record {
       slots = counted.slots;
-      handshake = counted.handshake;
       holds = λ session is on. ap (λ (xs : List ℕ). half_said turns ++ xs) part.left ∙ counted.holds session is on;
       announced = counted.announced;
       infos = counted.infos;
@@ -118,8 +113,6 @@ takes_handshake shape c t turns packet done k rests none counted handshakes =
     ) in
     subst (Behind shape turns packet done k) (sym handshakes.is) (record {
       slots = counted.slots;
-      handshake = row_fits Initiator (client_offer shape.blocks shape.slots) c.handshake handshakes.handshake handshakes.message handshakes.opens none counted.handshake
-          handshakes.took.row;
       holds = λ session is on.
           let draft : handshakes.handshake.draft ≡ c.handshake.draft = ap (λ (h : Handshake). h.draft)
           (open_declines c.handshake handshakes.handshake handshakes.message handshakes.opens (rests.opened (ap is_some is)) handshakes.took.row).0 in
@@ -153,7 +146,6 @@ takes_ack shape c t turns packet done k counted acks =
     acked_more _ _ _ _ _ n before (ap (range_sum shape.slots 2) acks.hears.messages) (sum_more shape.slots 2 (heard turns) bytes) adds in
     subst (Behind shape turns packet done k) (sym acks.is) (record {
       slots = counted.slots;
-      handshake = counted.handshake;
       holds = λ other is on.
           let same : record session { acked = session.acked + n } ≡ other = some_same is in
           ap (λ (xs : List ℕ). half_said turns ++ xs) acks.left

@@ -14,7 +14,7 @@ use Rattle.vio_tag.specs.declared.message.Message.{Message}
 use Rattle.vio_tag.specs.Spelling.{canonical}
 use Rattle.vio_handshake.specs.declared.handshake.Handshake.{Handshake}
 use Rattle.vio_handshake.specs.State.{handshake_up}
-use Rattle.lane_laws.proofs.Speaking.{holds_owed}
+use Rattle.channel_laws.proofs.MessagesHeld.{owed_held}
 use Rattle.lane_laws.specs.BlockLog.{Blockage, Clear, Stuck, StuckBefore, hearing, is_stuck, stuck}
 use Rattle.disk_model.specs.ClientPutting.{announcement, announced, announcing, client_holds, client_kind, holding, is_announcing, opened_if, session_behind}
 use Rattle.disk_model.specs.ClientRule.{Announces, ClientRule, Completes, Publishes, Puts, Says, client_rule}
@@ -36,7 +36,8 @@ use Rattle.channel_laws.proofs.EndStanding.{SameSending}
 use Rattle.lane_laws.proofs.RulesFree.{puts_owe}
 use Rattle.lane_laws.proofs.Ruling.{client_may}
 use Rattle.channel_laws.proofs.Short.{some_bytes}
-use Rattle.lane_laws.specs.Counted.{ClientHolds, HoldsOwed}
+use Rattle.channel_laws.specs.Cuts.{CarriesOwed}
+use Rattle.lane_laws.specs.Counted.{ClientHolds}
 use Rattle.lane_laws.specs.LaneRests.{ClientRests, ClientUtters}
 use Rattle.lane_laws.specs.RuleFacts.{ClientMay}
 use Rattle.lane_laws.specs.ChannelEnds.{client_core}
@@ -249,8 +250,8 @@ first_stuck c turns None owed is owes_is rests owing quiet = refl
 first_stuck c turns (Some session) (Some message) is owes_is rests owing quiet = refl
 first_stuck c turns (Some session) None is owes_is rests owing quiet =
     let up : is_up c.link ≡ true = open_up Initiator (client_core c) turns rests.stands (ap is_some is) in
-    let some : HoldsOwed c.handshake.owed (half_said turns ++ c.link.to_send) = holds_owed Initiator (client_core c) turns rests.stands quiet (sends_some c.link up owing) in
-    some_is_none (sym some.owed_is ∙ owes_is)
+    let some : CarriesOwed c.handshake.owed (half_said turns ++ c.link.to_send) = owed_held Initiator (client_core c) turns rests.stands quiet (sends_some c.link up owing) in
+    some_is_none (sym some.owed ∙ owes_is)
 
 says_owes : (k : LinkState) (message : Message) → is_up k ≡ true → owes (offered (canonical message) k) ≡ true
 says_owes k message up = owes_up (offered (canonical message) k) up (some_bytes message)

@@ -17,13 +17,11 @@ use Rattle.disk_model.specs.ClientPutting.{announcement, announced, is_announcin
 use Rattle.disk_model.specs.ClientState.{ClientSession, ClientState, slot_in}
 use Rattle.channel_model.specs.EndPuts.{ComesUp, EndsOwn, Goes, PutKind, handshake_behind}
 use Rattle.disk_model.specs.LaneState.{Shape}
-use Rattle.disk_model.specs.Offering.{client_offer}
 use Rattle.channel_model.specs.Ranges.{wrapped}
 use Rattle.dring.specs.Slots.{range_length}
 use Rattle.channel_laws.proofs.Apart.{false_is_true, some_is_none, some_same}
 use Rattle.channel_laws.proofs.PutSayings.{SaysWhole, SaysOn}
 use Rattle.channel_laws.proofs.EndStanding.{open_up}
-use Rattle.channel_laws.proofs.HandshakeFitting.{up_fits}
 use Rattle.lane_laws.proofs.RangeSums.{count_more, count_said, sum_more, sum_said}
 use Rattle.lane_laws.proofs.RangeTurns.{range_turns}
 use Rattle.lane_laws.proofs.RangesSaid.{said_one, said_range}
@@ -95,7 +93,6 @@ goes_counting shape c turns packet sid done k on counted =
     let infos : infos_of c.session ≡ range_count 1 (said (Said packet ∷ turns)) = counted.infos ∙ ap (range_count 1) (sym on.messages) in
     record {
       slots = counted.slots;
-      handshake = counted.handshake;
       holds = on_holds c turns packet on counted.holds;
       announced = announced;
       infos = infos;
@@ -113,7 +110,6 @@ comes_counting shape c turns packet sid done k rests utters down on counted =
     let infos : infos_of c.session ≡ range_count 1 (said (Said packet ∷ turns)) = counted.infos ∙ ap (range_count 1) (sym on.messages) in
     record {
       slots = counted.slots;
-      handshake = up_fits Initiator (client_offer shape.blocks shape.slots) c.handshake counted.handshake;
       holds = λ session is now.
           let up : is_up c.link ≡ true = open_up Initiator (client_core c) turns rests.stands (ap is_some is) in
           false_is_true (sym down ∙ up);
@@ -180,7 +176,6 @@ own_counting shape c turns packet sid done k sound own last counted =
     subst (λ (o : Option ClientSession). ClientCounted shape (record c { link = behind_put c.link; session = o }) (Said packet ∷ turns) done (counts_as shape false turns packet sid done k)) (sym becomes)
     (record {
       slots = counted.slots;
-      handshake = counted.handshake;
       holds = none_left c turns packet c.handshake behind last (λ x is now.
           let here : record s { announced = s.published; infos = s.infos + 1; announcing = false } ≡ x = some_same is in
           false_is_true (ap (λ (y : ClientSession). y.announcing) here ∙ now));

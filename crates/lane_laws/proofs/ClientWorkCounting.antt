@@ -13,7 +13,7 @@ use Rattle.vio_handshake.specs.declared.handshake.Phase.{Phase}
 use Rattle.vio_handshake.specs.declared.handshake.Phase.TheVariants.{Open, PeerReadyTaken}
 use Rattle.vio_handshake.specs.Rules.{opens_by_put, handshake_sent}
 use Rattle.channel_model.specs.Sayings.{half_said, said}
-use Rattle.lane_laws.proofs.Speaking.{holds_owed}
+use Rattle.channel_laws.proofs.MessagesHeld.{owed_held}
 use Rattle.lane_laws.specs.Agreement.{ClientAgrees, ClientCountsAgree}
 use Rattle.channel_model.specs.Messages.{range_in}
 use Rattle.lane_laws.specs.WorkLog.{ClientCounts, change_client, length_in, one_in}
@@ -23,13 +23,11 @@ use Rattle.disk_model.specs.ClientState.{ClientSession, ClientState, first_id, o
 use Rattle.disk_model.specs.ClientStep.{ClientAdmits, ClientCompletes, ClientPublishes}
 use Rattle.disk_model.specs.DiskEvent.{Accepted, Admitted, Full, Refused}
 use Rattle.disk_model.specs.LaneState.{Shape}
-use Rattle.disk_model.specs.Offering.{client_offer}
 use Rattle.channel_model.specs.Seeing.{Seen}
 use Rattle.lane_laws.proofs.ClientPutCounting.{counts_as, none_left, put_as, same_said, says_agrees}
 use Rattle.channel_laws.proofs.Apart.{false_is_true, none_is_some, some_is_none, some_same}
 use Rattle.channel_laws.proofs.PutSayings.{SaysWhole}
 use Rattle.channel_laws.proofs.EndStanding.{open_up, owing_up, up_empty}
-use Rattle.channel_laws.proofs.HandshakeFitting.{sent_fits}
 use Rattle.lane_laws.proofs.RangeSums.{count_more, ready_more, sum_more}
 use Rattle.lane_laws.proofs.RangesSaid.{canonical_ready, owed_no_range}
 use Rattle.lane_laws.proofs.RulesFree.{publishes_free}
@@ -62,13 +60,13 @@ record PutsOwed (c : ClientState) (bytes : List ℕ) : Type 0 where
 puts_owed : (shape : Shape) (c : ClientState) (turns : List Turn) (packet : List ℕ) (done : ℕ) (k : Option ClientCounts) → ClientRests c turns → is_announcing c.session ≡ false → SaysWhole c.link turns packet
     → ClientCounted shape c turns done k → PutsOwed c (half_said turns ++ c.link.to_send)
 puts_owed shape c turns packet done k rests own last counted =
-    let holds = holds_owed Initiator (client_core c) turns rests.stands own last.some in
-    let may : MayOwe c.handshake.phase holds.message.subtype holds.message.body = subst (OwedFits c.handshake.phase) holds.owed_is counted.handshake.owed in
+    let holds = owed_held Initiator (client_core c) turns rests.stands own last.some in
+    let may : MayOwe c.handshake.phase holds.message.subtype holds.message.body = subst (OwedFits c.handshake.phase) holds.owed rests.fits.owed in
     record {
       message = holds.message;
-      bytes_are = holds.bytes_are;
+      bytes_are = holds.is;
       may = may;
-      none = ap (λ (xs : List ℕ). range_in 1 (Some xs)) holds.bytes_are ∙ owed_no_range c.handshake.phase 1 holds.message (inl refl) may;
+      none = ap (λ (xs : List ℕ). range_in 1 (Some xs)) holds.is ∙ owed_no_range c.handshake.phase 1 holds.message (inl refl) may;
     }
 
 record SumsSame (shape : Shape) (turns : List Turn) (packet : List ℕ) : Type 0 where
@@ -98,7 +96,6 @@ handshake_as true shape c turns packet sid done k is rests first own last counte
     let same = sums_same shape c turns packet last (puts_owed shape c turns packet done k rests own last counted) in
     record {
       slots = counted.slots;
-      handshake = sent_fits Initiator (client_offer shape.blocks shape.slots) c.handshake counted.handshake;
       holds = none_left c turns packet (handshake_sent c.handshake) (Some (opened_session (first_id c))) last (λ s now announces.
           let here : opened_session (first_id c) ≡ s = some_same now in
           false_is_true (ap (λ (x : ClientSession). x.announcing) here ∙ announces));
@@ -116,11 +113,10 @@ handshake_as false shape c turns packet sid done k is rests first own last count
     let bytes = half_said turns ++ c.link.to_send in
     let unready : one_where (is_ready bytes) ≡ 0 = not_ready (is_ready bytes) bytes refl (λ test.
     let phase : c.handshake.phase ≡ PeerReadyTaken = canonical_ready c.handshake.phase owed.message owed.may (ap is_ready (sym owed.bytes_are) ∙ test) in
-    let now : opens_by_put c.handshake.role c.handshake.phase ≡ true = ap (λ (r : Role). opens_by_put r c.handshake.phase) counted.handshake.role_is ∙ ap (λ (p : Phase). opens_by_put Initiator p) phase in
+    let now : opens_by_put c.handshake.role c.handshake.phase ≡ true = ap (λ (r : Role). opens_by_put r c.handshake.phase) rests.fits.role_is ∙ ap (λ (p : Phase). opens_by_put Initiator p) phase in
     false_is_true (sym is ∙ now)) in
     record {
       slots = counted.slots;
-      handshake = sent_fits Initiator (client_offer shape.blocks shape.slots) c.handshake counted.handshake;
       holds = none_left c turns packet (handshake_sent c.handshake) c.session last (λ s now announces.
           false_is_true (sym own ∙ ap is_announcing now ∙ announces));
       announced = announced;
@@ -155,7 +151,6 @@ says_counting shape c turns message done k known free owed counted =
     let empty : c.link.to_send ≡ [] = up_empty c.link (owing_up Initiator (client_core c) turns message known.rests.stands owed) free in
     record {
       slots = counted.slots;
-      handshake = counted.handshake;
       holds = λ session is announces. absurd (no_own c session known.sound empty is announces);
       announced = counted.announced;
       infos = counted.infos;
@@ -180,7 +175,6 @@ announces_counting shape c turns session done k known free is counted =
     let half = free_half c turns known.utters empty in
     record {
       slots = counted.slots;
-      handshake = counted.handshake;
       holds = λ other now announces.
           let same : record session { announcing = true } ≡ other = cc is in
           ap (λ (xs : List ℕ). xs ++ canonical (announcement c session)) half ∙ ap (λ (x : ClientSession). canonical (announcement c x)) same;
@@ -225,7 +219,6 @@ client_publishes_counting shape c at memory id t new turns done k sound rests st
     let empty : c.link.to_send ≡ [] = up_empty c.link up (publishes_free c at step.session step.request step.rule) in
     subst (λ (x : ClientState). ClientCounted shape x turns done (change_client (λ (y : ClientCounts). record y { published = y.published + 1 }) k)) (sym step.is) (record {
       slots = counted.slots;
-      handshake = counted.handshake;
       holds = λ other now announces.
           let same : record step.session { published = step.session.published + 1 } ≡ other = cc in
           absurd (no_own c step.session sound empty may.1 (ap (λ (x : ClientSession). x.announcing) same ∙ announces));
@@ -259,7 +252,6 @@ client_completes_counting shape c at memory id operation status bytes t new turn
     let may : ClientMay c at (Completes step.session) = subst (ClientMay c at) step.rule (client_may c at) in
     subst (λ (x : ClientState). ClientCounted shape x turns (done + 1) k) (sym step.is) (record {
       slots = counted.slots;
-      handshake = counted.handshake;
       holds = λ other now announces.
           let same : record step.session { completed = step.session.completed + 1 } ≡ other = cc in
           counted.holds step.session may.1 (ap (λ (x : ClientSession). x.announcing) same ∙ announces) ∙ ap (λ (x : ClientSession). canonical (announcement c x)) same;
@@ -277,7 +269,6 @@ client_admits_counting shape c (Refused why request) t turns done k admits count
 client_admits_counting shape c (Full request) t turns done k admits counted = subst (λ (x : ClientState). ClientCounted shape x turns done k) (sym admits.2) counted
 client_admits_counting shape c (Accepted id request) t turns done k admits counted = subst (λ (x : ClientState). ClientCounted shape x turns done k) (sym admits.5) (record {
   slots = counted.slots;
-  handshake = counted.handshake;
   holds = counted.holds;
   announced = counted.announced;
   infos = counted.infos;

@@ -36,7 +36,8 @@ use Rattle.disk_model.specs.ServerStep.{ServerSends}
 use Rattle.channel_model.specs.WireEvent.{Blocked, ByRestart, ByScript, ByStep, ByTick, Declines, Giver, Idle, Injected, Joined, Lost, Poked, Reset, Sent, Took, WireEvent, giver}
 use Rattle.lane_laws.specs.WorkLog.{ServerCounts}
 use Rattle.lane_laws.proofs.ClientFolds.{ClientIs, client_admits_so, client_begins, client_blocks_so, client_completes_so, client_publishes_so, client_puts_so, client_takes_so, sends_some}
-use Rattle.lane_laws.proofs.Speaking.{client_blocked_rests, holds_owed}
+use Rattle.channel_laws.proofs.MessagesHeld.{owed_held}
+use Rattle.lane_laws.proofs.Speaking.{client_blocked_rests}
 use Rattle.lane_laws.proofs.ClientTaken.{client_took_what}
 use Rattle.lane_laws.proofs.Speaking.{client_blocked_utters}
 use Rattle.channel_laws.proofs.Apart.{false_is_true, none_is_some, some_is_none, some_same}
@@ -54,11 +55,11 @@ use Rattle.lane_laws.proofs.ServerFolds.{ServerIs, ranged, server_begins, server
 use Rattle.lane_laws.proofs.ServerPutCounting.{server_holds_counting}
 use Rattle.lane_laws.proofs.ServerTaken.{server_took_what}
 use Rattle.lane_laws.proofs.Speaking.{server_blocked_rests, server_blocked_utters, server_holds_owed}
-use Rattle.lane_laws.specs.Counted.{HoldsAnswer, HoldsOwed, ServerOrder, range_count}
+use Rattle.channel_laws.specs.Cuts.{CarriesOwed, Cuts}
+use Rattle.lane_laws.specs.Counted.{HoldsAnswer, ServerOrder, range_count}
 use Rattle.lane_laws.specs.ChannelEnds.{client_core, server_core}
 use Rattle.channel_laws.proofs.EndFolding.{FoldsSo}
 use Rattle.channel_laws.specs.EndFold.{handshake_of}
-use Rattle.channel_laws.specs.Cuts.{Cuts}
 
 -- BOTH ENDS, and the log
 abbrev pub ClientStands : LaneState → DiskLog → Type 0
@@ -177,7 +178,7 @@ server_puts_packet s l packet opens t both step =
     subst (λ (x : ServerState). ServerIs x (Said packet ∷ l.transcript.server) Clear) (sym sends.is)
     (server_puts_so l.transcript.server packet (server_kind held) held (record {
       range = ap ranged (held_session s.server rule held sends.holds) ∙ both.server.range;
-      owed = counted.handshake.owed;
+      owed = rests.fits.owed;
       rests = rests;
       utters = server_blocked_utters s.server at held l.transcript.server sends.holds knows.rests.server;
       holds = counted.holds;
@@ -364,21 +365,21 @@ none_left k half message b known up none =
     none ∙ sym (ap (λ (x : Bool). left_if x half message) (has_none k half b (is_stuck b) known up none refl))
 
 -- a message that is owed
-owed_is_left : (k : LinkState) (half : List ℕ) (b : Blockage) (owed : Option Message) (left : List ℕ) → Left k half b → k.to_send ≡ left → (1 ≤ length left → HoldsOwed owed (half ++ left))
+owed_is_left : (k : LinkState) (half : List ℕ) (b : Blockage) (owed : Option Message) (left : List ℕ) → Left k half b → k.to_send ≡ left → (1 ≤ length left → CarriesOwed owed (half ++ left))
     → (is_up k ≡ false → owed ≡ None) → k.to_send ≡ owed_left half b owed
 owed_is_left k half b None [] known is holds free = is
 owed_is_left k half b None (byte ∷ left) known is holds free =
-    let some : HoldsOwed None (half ++ byte ∷ left) = holds (omega arith) in
-    none_is_some (some.owed_is)
+    let some : CarriesOwed None (half ++ byte ∷ left) = holds (omega arith) in
+    none_is_some (some.owed)
 owed_is_left k half b (Some message) [] known is holds free = none_left k half (canonical message) b known (awake (is_up k) refl) is
   where
     awake : (up : Bool) → is_up k ≡ up → is_up k ≡ true
     awake true at = at
     awake false at = some_is_none (free at)
 owed_is_left k half b (Some message) (byte ∷ left) known is holds free =
-    let some : HoldsOwed (Some message) (half ++ byte ∷ left) = holds (omega arith) in
-    let same : some.message ≡ message = (let mine : Some message ≡ Some some.message = some.owed_is in cc) in
-    held_left k half (canonical message) b known (ap (λ (xs : List ℕ). half ++ xs) is ∙ some.bytes_are ∙ ap canonical same) (omega (arith, ap length is))
+    let some : CarriesOwed (Some message) (half ++ byte ∷ left) = holds (omega arith) in
+    let same : some.message ≡ message = (let mine : Some message ≡ Some some.message = some.owed in cc) in
+    held_left k half (canonical message) b known (ap (λ (xs : List ℕ). half ++ xs) is ∙ some.is ∙ ap canonical same) (omega (arith, ap length is))
 
 -- THE CLIENT
 of_client : (s : LaneState) (l : DiskLog) → BothAre s l → Cuts s.client.link l.transcript.client → Left s.client.link (half_said l.transcript.client) l.blocked.client
@@ -388,7 +389,7 @@ client_owed : (s : LaneState) (l : DiskLog) → BothAre s l → Cuts s.client.li
     → s.client.link.to_send ≡ owed_left (half_said l.transcript.client) l.blocked.client s.client.handshake.owed
 client_owed s l both cuts quiet =
     owed_is_left s.client.link (half_said l.transcript.client) l.blocked.client s.client.handshake.owed s.client.link.to_send (of_client s l both cuts) refl
-    (holds_owed Initiator (client_core s.client) l.transcript.client both.knows.rests.client.stands quiet) both.knows.utters.client.free
+    (owed_held Initiator (client_core s.client) l.transcript.client both.knows.rests.client.stands quiet) both.knows.utters.client.free
 
 client_left_is : (s : LaneState) (l : DiskLog) (o : Option ClientSession) → BothAre s l → Cuts s.client.link l.transcript.client → s.client.session ≡ o
     → s.client.link.to_send ≡ client_left s.client o (half_said l.transcript.client) l.blocked.client
@@ -475,7 +476,7 @@ module _ (s : LaneState) (l : DiskLog) (both : BothAre s l) (cuts : Cuts s.serve
   server_left_is None is = answer_is s.server.session is refl
   server_left_is (Some message) is =
       owed_is_left s.server.link (half_said l.transcript.server) l.blocked.server (Some message) s.server.link.to_send (of_server s l both cuts) refl
-      (λ some. subst (λ (o : Option Message). HoldsOwed o (half_said l.transcript.server ++ s.server.link.to_send)) is
+      (λ some. subst (λ (o : Option Message). CarriesOwed o (half_said l.transcript.server ++ s.server.link.to_send)) is
       (server_holds_owed s.server l.transcript.server both.knows.rests.server.stands (ap is_none is) some)) (λ down. sym is ∙ both.knows.utters.server.free down)
 
 pub server_end : (s : LaneState) (l : DiskLog) → BothAre s l → FoldsSo Responder (server_core s.server) l.transcript.server → s.server.handshake.last_sid ≡ 0

@@ -320,7 +320,6 @@ pub fresh_counted : (shape : Shape) → LaneCounted (fresh shape) (nothing_yet s
 fresh_counted shape = record {
   client = record {
     slots = refl;
-    handshake = record { role_is = refl; offer_is = refl; owed = tt; ring = λ takes named. absurd (cc named) };
     holds = λ session is on. absurd (cc);
     announced = refl;
     infos = refl;
@@ -331,7 +330,6 @@ fresh_counted shape = record {
   server = record {
     slots = refl;
     blocks = refl;
-    handshake = record { role_is = refl; offer_is = refl; owed = tt; ring = λ takes named. absurd (cc named) };
     holds = λ owing some. absurd (omega (arith, some));
     order = record { asked = refl; answered = refl; infos = refl };
     unit = tt;

@@ -22,7 +22,7 @@ use Rattle.channel_laws.proofs.ManyWait.{owes_some}
 use Rattle.lane_laws.proofs.RulesFree.{ServerFree, server_free}
 use Rattle.channel_laws.proofs.Apart.{none_is_some}
 use Rattle.channel_laws.specs.Standing.{EndStands}
-use Rattle.lane_laws.proofs.Speaking.{holds_owed}
+use Rattle.channel_laws.proofs.MessagesHeld.{owed_held}
 use Rattle.lane_laws.specs.ChannelEnds.{client_core}
 use Rattle.lane_laws.specs.Counted.{ServerCounted}
 
@@ -74,7 +74,7 @@ pub client_owes : (s : ClientState) (turns : List Turn) → EndStands Initiator 
 client_owes s turns stands at urgent =
     elim (by_parts (owes_control s.link) (is_some s.handshake.owed) (is_none s.session) (owes s.link) urgent (no_control s.link at)) [
       | inl owed ↦ owed
-      | inr both ↦ ap is_some (holds_owed Initiator (client_core s) turns stands (not_announcing s.session both.0) (owes_some s.link at both.1)).owed_is
+      | inr both ↦ ap is_some (owed_held Initiator (client_core s) turns stands (not_announcing s.session both.0) (owes_some s.link at both.1)).owed
     ]
 
 -- A SERVER that holds a message owes one of its handshake, or its session is open

@@ -1,5 +1,5 @@
 -- An end does what its session has to do before it takes a packet, and a client takes before it publishes.
-use Rattle.std.proofs.Common.{◌≡◌, ℕ, ◌+◌, ◌-◌, ◌≤◌, Bool, true, false, Option, Some, None, List, refl, sym, ap, ◌∙◌, subst, arith, length, length-drop, []}
+use Rattle.std.proofs.Common.{◌≡◌, ℕ, ◌+◌, ◌-◌, ◌≤◌, Bool, true, false, Option, Some, None, List, refl, sym, ap, ◌∙◌, subst, arith, length, length-drop}
 use Rattle.std.specs.Prelude.{◌&&◌, ◌||◌, is_none, is_some}
 use Rattle.cookie_copy.specs.Reach.{Reach}
 use Rattle.ldc_link.specs.LinkState.{LinkState}
@@ -43,7 +43,7 @@ use Rattle.lane_laws.proofs.RangeLaw.{never_own}
 use Rattle.lane_laws.proofs.Ruling.{client_may}
 use Rattle.lane_laws.proofs.RulesFree.{ServerFree, TakesFree, owes_nothing, puts_calm, puts_owe, server_free, takes_calm}
 use Rattle.lane_laws.proofs.Sharing.{in_order}
-use Rattle.lane_laws.proofs.Speaking.{holds_owed}
+use Rattle.channel_laws.proofs.MessagesHeld.{owed_held}
 use Rattle.lane_laws.proofs.WorkNumbers.{Grounded, at_client, at_server, order_of}
 
 -- THE CLIENT
@@ -122,8 +122,8 @@ quiet_link s l (Some session) b told calm none is owing = refl
 quiet_link s l None false told calm none is owing = refl
 quiet_link s l None true told calm none is owing =
     let some = sends_some s.client.link (calm_up s.client.link calm owing) owing in
-    let holds = holds_owed Initiator (client_core s.client) l.transcript.client told.grounded.knows.rests.client.stands (ap is_announcing is) some in
-    let never : Some holds.message ≡ None = sym holds.owed_is ∙ none in absurd (cc)
+    let holds = owed_held Initiator (client_core s.client) l.transcript.client told.grounded.knows.rests.client.stands (ap is_announcing is) some in
+    let never : Some holds.message ≡ None = sym holds.owed ∙ none in absurd (cc)
 
 all_false : (a b c : Bool) → a ≡ false → b ≡ false → c ≡ false → (a || b || c) ≡ false
 all_false false false false no_a no_b no_c = refl
@@ -141,8 +141,8 @@ client_calm s l told nothing =
 announcing_own : (s : LaneState) (l : DiskLog) (own : Bool) → Told s l → s.client.handshake.owed ≡ None → 1 ≤ length s.client.link.to_send → is_announcing s.client.session ≡ own → own ≡ true
 announcing_own s l true told none some is = refl
 announcing_own s l false told none some is =
-    let holds = holds_owed Initiator (client_core s.client) l.transcript.client told.grounded.knows.rests.client.stands is some in
-    let never : Some holds.message ≡ None = sym holds.owed_is ∙ none in absurd (cc)
+    let holds = owed_held Initiator (client_core s.client) l.transcript.client told.grounded.knows.rests.client.stands is some in
+    let never : Some holds.message ≡ None = sym holds.owed ∙ none in absurd (cc)
 
 holds_published : (s : LaneState) (l : DiskLog) (rule : client.ClientRule) (held : ClientState) (session : ClientSession) → Told s l → OwesNothing A l
     → client.client_rule s.client (at_client s) ≡ rule → client_holds rule s.client ≡ Some held → s.client.session ≡ Some session → l.blocked.client ≡ Clear → PublishedAll s.client session

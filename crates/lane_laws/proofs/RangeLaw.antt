@@ -66,9 +66,11 @@ use Rattle.lane_laws.proofs.Sharing.{in_order}
 use Rattle.lane_laws.proofs.WorkNumbers.{in_client, in_server}
 use Rattle.ldc_link.specs.declared.phase.Role.TheVariants.{Initiator}
 use Rattle.lane_laws.specs.ChannelEnds.{client_core}
-use Rattle.lane_laws.specs.Counted.{ClientCounted, HoldsAnswer, HoldsOwed, InServerOrder, RangeStands, ServerCounted, ServerOrder}
+use Rattle.channel_laws.specs.Cuts.{CarriesOwed}
+use Rattle.lane_laws.specs.Counted.{ClientCounted, HoldsAnswer, InServerOrder, RangeStands, ServerCounted, ServerOrder}
 use Rattle.channel_laws.specs.HandshakeFits.{MayOwe, OwedFits}
-use Rattle.lane_laws.proofs.Speaking.{holds_owed, server_blocked_rests, server_holds_owed}
+use Rattle.channel_laws.proofs.MessagesHeld.{owed_held}
+use Rattle.lane_laws.proofs.Speaking.{server_blocked_rests, server_holds_owed}
 use Rattle.lane_laws.specs.LaneRests.{ClientRests, ServerRests}
 use Rattle.lane_laws.specs.Sound.{ClientSound, InOrder}
 use Rattle.lane_laws.proofs.Counting.{OfClient, OfServer, of_client, of_server, slot_of_count}
@@ -89,11 +91,11 @@ goes_none : (k : ℕ) (turns : List Turn) (packet : List ℕ) → said (turn.Sai
 goes_none k turns packet same = ap (range_in k) (said_none turns packet same)
 
 owed_none : (k : ℕ) (phase : Phase) (owed : Option Message) (link : LinkState) (turns : List Turn) (packet : List ℕ) → (k ≡ 1) ⊎ (k ≡ 2) → OwedFits phase owed
-    → HoldsOwed owed (half_said turns ++ link.to_send) → SaysWhole link turns packet → range_ended k (half_said turns) packet ≡ None
+    → CarriesOwed owed (half_said turns ++ link.to_send) → SaysWhole link turns packet → range_ended k (half_said turns) packet ≡ None
 owed_none k phase owed link turns packet kind fits holds last =
     let bytes = half_said turns ++ link.to_send in
-    let may : MayOwe phase holds.message.subtype holds.message.body = subst (OwedFits phase) holds.owed_is fits in
-    ap (range_in k) (said_some turns packet bytes last.messages) ∙ ap (λ (xs : List ℕ). range_in k (Some xs)) holds.bytes_are ∙ owed_no_range phase k holds.message kind may
+    let may : MayOwe phase holds.message.subtype holds.message.body = subst (OwedFits phase) holds.owed fits in
+    ap (range_in k) (said_some turns packet bytes last.messages) ∙ ap (λ (xs : List ℕ). range_in k (Some xs)) holds.is ∙ owed_no_range phase k holds.message kind may
 
 -- the end's own range, as it is said
 record SaysRange (k : ℕ) (turns : List Turn) (packet bytes : List ℕ) (sid seq ident start end state : ℕ) : Type 0 where
@@ -232,8 +234,8 @@ by_kind Goes l packet held stand rests sound counted says = if_none _ _ (goes_no
 by_kind ComesUp l packet held stand rests sound counted says = if_none _ _ (goes_none 1 l.transcript.client packet says.0.messages)
 by_kind EndsOwn l packet held stand rests sound counted says = announces l packet held (own_info held l.transcript.client held.session refl says.1 counted.holds) stand sound counted says.0
 by_kind EndsHandshake l packet held stand rests sound counted says =
-    if_none _ _ (owed_none 1 held.handshake.phase held.handshake.owed held.link l.transcript.client packet (inl refl) counted.handshake.owed
-    (holds_owed Initiator (client_core held) l.transcript.client rests.stands says.1 says.0.some) says.0)
+    if_none _ _ (owed_none 1 held.handshake.phase held.handshake.owed held.link l.transcript.client packet (inl refl) rests.fits.owed
+    (owed_held Initiator (client_core held) l.transcript.client rests.stands says.1 says.0.some) says.0)
 
 said_info : (s : LaneState) (l : DiskLog) (packet : List ℕ) (opens : Bool) (t : ClientState) (new : List ℕ) → BothAre s l → AreTold s l
     → ClientSends s.client (seen A s.shape.entries s.wire.wire) s.memory packet opens t new → SaysInfo l packet
@@ -374,7 +376,7 @@ answers_by ComesUp l packet held shaken rests sound in_work counted says = if_no
 answers_by EndsOwn l packet held shaken rests sound in_work counted says =
     answers l packet held shaken sound in_work (counted.holds (none_is held.handshake.owed says.1) says.0.some) counted says.0
 answers_by EndsHandshake l packet held shaken rests sound in_work counted says =
-    if_none _ _ (owed_none 2 held.handshake.phase held.handshake.owed held.link l.transcript.server packet (inr refl) counted.handshake.owed
+    if_none _ _ (owed_none 2 held.handshake.phase held.handshake.owed held.link l.transcript.server packet (inr refl) rests.fits.owed
     (server_holds_owed held l.transcript.server rests.stands says.1 says.0.some) says.0)
 
 said_ack : (s : LaneState) (l : DiskLog) (packet : List ℕ) (opens : Bool) (t : ServerState) → IsShape l.shape → BothAre s l → AreTold s l

@@ -59,11 +59,13 @@ use Rattle.lane_laws.proofs.ClientPuts.{Putting, putting}
 use Rattle.lane_laws.proofs.RangesSaid.{IsNoPlain, envelope_reads}
 use Rattle.lane_laws.proofs.RingRuns.{before}
 use Rattle.lane_laws.proofs.RulesFree.{server_free}
-use Rattle.lane_laws.proofs.Speaking.{holds_owed, server_blocked_rests, server_holds_owed}
+use Rattle.channel_laws.proofs.MessagesHeld.{owed_held}
+use Rattle.lane_laws.proofs.Speaking.{server_blocked_rests, server_holds_owed}
 use Rattle.lane_laws.proofs.ServerMoves.{server_waits}
 use Rattle.lane_laws.proofs.ServerPutCounting.{server_holds_counting, none_is}
 use Rattle.lane_laws.specs.ChannelEnds.{client_core, server_core}
-use Rattle.lane_laws.specs.Counted.{ClientCounted, HoldsAnswer, HoldsOwed, InServerOrder, RangeStands, ServerCounted, ServerOrder, announced_of, infos_of, range_count, range_sum}
+use Rattle.channel_laws.specs.Cuts.{CarriesOwed}
+use Rattle.lane_laws.specs.Counted.{ClientCounted, HoldsAnswer, InServerOrder, RangeStands, ServerCounted, ServerOrder, announced_of, infos_of, range_count, range_sum}
 use Rattle.lane_laws.specs.DiskLog.{DiskLog, after, nothing_yet}
 use Rattle.lane_laws.specs.WorkLog.{ServerCounts, length_in, one_in}
 
@@ -170,17 +172,17 @@ held_at role d c held turns stands waits at = record {
       (held_handshake c held waits.what waits.holds) refl refl;
 }
 
-owed_apart : (role : Role) (d : Deal) (held : EndCore) (turns : List Turn) (bytes : List ℕ) → HeldAt role d held turns → HoldsOwed held.handshake.owed bytes → IsApart bytes
-owed_apart role d held turns bytes here holds = by_turn (here.at (owing_up role held turns holds.message here.stands holds.owed_is))
+owed_apart : (role : Role) (d : Deal) (held : EndCore) (turns : List Turn) (bytes : List ℕ) → HeldAt role d held turns → CarriesOwed held.handshake.owed bytes → IsApart bytes
+owed_apart role d held turns bytes here holds = by_turn (here.at (owing_up role held turns holds.message here.stands holds.owed))
   where
     by_turn : AtPlace false d role held.handshake turns → IsApart bytes
     by_turn at =
-        let owed : Some holds.message ≡ (handshake_at false d role at.place).owed = sym holds.owed_is ∙ ap (λ (h : Handshake). h.owed) at.is in
+        let owed : Some holds.message ≡ (handshake_at false d role at.place).owed = sym holds.owed ∙ ap (λ (h : Handshake). h.owed) at.is in
         elim (who role at.place) [
           | inl own ↦ (
               let both : Some holds.message ≡ Some (message_at d at.place) = owed ∙ owes_at false d role at.place own in
               let same : holds.message ≡ message_at d at.place = cc both in
-              subst IsApart (sym (holds.bytes_are ∙ ap canonical same)) (other_apart (message_at d at.place) (place_other d at.place)))
+              subst IsApart (sym (holds.is ∙ ap canonical same)) (other_apart (message_at d at.place) (place_other d at.place)))
           | inr (inl turn) ↦ (some_is_none (owed ∙ owes_not false d role at.place turn))
           | inr (inr last) ↦ (some_is_none (owed ∙ owes_none false d role at.place last))
         ]
@@ -268,7 +270,7 @@ client_tells EndsHandshake l d held packet some small here counted says =
     inr (record {
       bytes = bytes;
       is = says.0.messages;
-      what = inr (owed_apart Initiator d (client_core held) l.transcript.client bytes here (holds_owed Initiator (client_core held) l.transcript.client here.stands says.1 says.0.some));
+      what = inr (owed_apart Initiator d (client_core held) l.transcript.client bytes here (owed_held Initiator (client_core held) l.transcript.client here.stands says.1 says.0.some));
     })
 
 answered_data : (l : DiskLog) (d : Deal) (held : ServerState) (bytes : List ℕ) (q : Option ServerCounts) → IsShape l.shape → HeldAt Responder d (server_core held) l.transcript.server

@@ -1,6 +1,6 @@
 -- A packet that a server takes leaves its session counting what it said and heard.
 use Rattle.std.proofs.Common.{◌%◌, ◌≡◌, ℕ, ◌+◌, ◌<◌, ◌≤◌, inl, inr, Bool, true, false, Option, Some, None, List, [], ◌∷◌, ◌++◌, length, refl, sym, ap, ◌∙◌, subst, arith}
-use Rattle.std.specs.Prelude.{is_some, ◌&&◌, not, if◌then◌else◌}
+use Rattle.std.specs.Prelude.{is_some, ◌&&◌, if◌then◌else◌}
 use Rattle.std.proofs.lemmas.Nat.{mod_below}
 use Rattle.ldc_link.specs.declared.phase.Role.TheVariants.{Responder}
 use Rattle.ldc_link.specs.LinkState.{LinkState, is_up}
@@ -9,15 +9,12 @@ use Rattle.ldc_queue.specs.Transcript.{Heard as Heard_, Turn}
 use Rattle.vio_handshake.specs.declared.handshake.Handshake.{Handshake}
 use Rattle.vio_handshake.specs.declared.handshake.Phase.{Phase}
 use Rattle.vio_handshake.specs.declared.handshake.Phase.TheVariants.{Open}
-use Rattle.vio_handshake.specs.declared.session.Offer.{Offer}
-use Rattle.vio_handshake.specs.State.{handshake_up}
 use Rattle.channel_model.specs.Sayings.{half_heard, half_said, heard, said}
 use Rattle.lane_laws.specs.Agreement.{ServerAgrees, ServerCountsAgree, WorkAgrees}
 use Rattle.channel_model.specs.Messages.{range_ended, range_in}
 use Rattle.lane_laws.specs.WorkLog.{ServerCounts, change_server, length_in, one_in, opened_counts}
 use Rattle.channel_model.specs.EndPuts.{handshake_risen}
 use Rattle.disk_model.specs.LaneState.{Shape}
-use Rattle.disk_model.specs.Offering.{server_offer}
 use Rattle.channel_model.specs.Ranges.{wrapped}
 use Rattle.dring.specs.Slots.{range_length}
 use Rattle.disk_model.specs.ServerState.{ServerSession, ServerState, SlotRange, Work, joined_server, restarted_server}
@@ -26,7 +23,6 @@ use Rattle.channel_laws.specs.Grounds.{has_named}
 use Rattle.lane_laws.proofs.ClientTaken.{HearsMessage}
 use Rattle.channel_laws.proofs.EndStanding.{open_declines, up_empty}
 use Rattle.channel_laws.proofs.HandshakeCases.{HandshakeTook, opens_row}
-use Rattle.channel_laws.proofs.HandshakeFitting.{joined_fits, row_fits, up_fits}
 use Rattle.lane_laws.proofs.RangeSums.{count_more, ready_more, sum_heard, sum_more}
 use Rattle.lane_laws.proofs.RangesSaid.{IsNoData, heard_no_range, heard_one, heard_range, no_data, ready_heard}
 use Rattle.lane_laws.proofs.RulesFree.{TakesFree}
@@ -35,14 +31,12 @@ use Rattle.lane_laws.specs.Budget.{one_range}
 use Rattle.lane_laws.specs.Counted.{NothingAsked, RangeStands, ServerCounted, ServerHolds, ServerOrder, is_ready, one_where, range_count, range_sum, ready_count}
 use Rattle.vio_tag.specs.declared.message.Message.{Message}
 use Rattle.lane_laws.specs.LaneRests.{ServerRests, ServerUtters}
-use Rattle.channel_laws.specs.HandshakeFits.{HandshakeFits}
 
 -- IT BEGINS
 pub server_begins_counting : (shape : Shape) (v : ServerState) (turns : List Turn) (d : Option ServerCounts) → ServerCounted shape v turns d → ServerCounted shape (joined_server v) [] None
 server_begins_counting shape v turns d counted = record {
   slots = counted.slots;
   blocks = counted.blocks;
-  handshake = joined_fits Responder (server_offer shape.blocks shape.slots) v.handshake counted.handshake;
   holds = λ owing some. absurd (omega (arith, some));
   order = record { asked = refl; answered = refl; infos = refl };
   unit = tt;
@@ -54,12 +48,6 @@ pub server_restarts_counting : (shape : Shape) (v : ServerState) (turns : List T
 server_restarts_counting shape v turns d counted = record {
   slots = counted.slots;
   blocks = counted.blocks;
-  handshake = record {
-    role_is = refl;
-    offer_is = ap (λ (n : ℕ). server_offer n v.slots) counted.blocks ∙ ap (server_offer shape.blocks) counted.slots;
-    owed = tt;
-    ring = λ takes named. absurd (cc named);
-  };
   holds = λ owing some. absurd (omega (arith, some));
   order = record { asked = refl; answered = refl; infos = refl };
   unit = tt;
@@ -113,11 +101,6 @@ abbrev Behind : Shape → List Turn → List ℕ → ℕ → Option ServerCounts
 Behind shape turns packet sid d opens t = ServerCounted shape t (Heard_ packet ∷ turns) (opened_counts opens sid (asks_more shape turns packet d))
 
 -- IT TAKES a packet: a part of a message, or one of its link's handshake, with which the link may come up
-fits_risen : (b c : Bool) (offer : Offer) (h : Handshake) → HandshakeFits Responder offer h → HandshakeFits Responder offer (if b && not c then handshake_up h else h)
-fits_risen true true offer h fits = fits
-fits_risen true false offer h fits = up_fits Responder offer h fits
-fits_risen false c offer h fits = fits
-
 holds_risen : (b : Bool) (v : ServerState) (k : LinkState) (turns : List Turn) → is_up v.link ≡ b → k.to_send ≡ v.link.to_send → (is_up v.link ≡ false → v.link.to_send ≡ []) → ServerHolds v turns
     → ServerHolds (record v { link = k; handshake = handshake_risen v.link k v.handshake }) turns
 holds_risen false v k turns is left idle holds = λ owing some. absurd (omega (arith, some, ap length left, ap length (idle is)))
@@ -144,7 +127,6 @@ takes_part shape v t turns packet sid d opens utters counted part =
     (subst (Behind shape turns packet sid d false) (sym part.is) (record {
       slots = counted.slots;
       blocks = counted.blocks;
-      handshake = fits_risen (is_up part.link) (is_up v.link) (server_offer shape.blocks shape.slots) v.handshake counted.handshake;
       holds = holds_risen (is_up v.link) v part.link turns refl part.left utters.idle counted.holds;
       order = order_same shape v.session d turns packet same (ap (range_count 1) part.messages) counted.order;
       unit = counted.unit;
@@ -203,7 +185,6 @@ takes_handshake false shape v t turns packet sid d rests free counted handshakes
     subst (Behind shape turns packet sid d false) (sym handshakes.is) (record {
       slots = counted.slots;
       blocks = counted.blocks;
-      handshake = row_fits Responder (server_offer shape.blocks shape.slots) v.handshake handshakes.handshake handshakes.message false free.owed counted.handshake handshakes.took.row;
       holds = λ owing some. absurd (omega (arith, some, ap length handshakes.left, ap length empty));
       order = order_same shape v.session d turns packet same as_many counted.order;
       unit = counted.unit;
@@ -221,7 +202,6 @@ takes_handshake true shape v t turns packet sid d rests free counted handshakes 
     subst (Behind shape turns packet sid d true) (sym handshakes.is) (record {
       slots = counted.slots;
       blocks = counted.blocks;
-      handshake = row_fits Responder (server_offer shape.blocks shape.slots) v.handshake handshakes.handshake handshakes.message true free.owed counted.handshake handshakes.took.row;
       holds = λ owing some. absurd (omega (arith, some, ap length handshakes.left, ap length empty));
       order = record {
         asked = omega (
@@ -307,7 +287,7 @@ asked_agrees (Some s) w (Some c) session next range n added is same adds agrees 
 pub own_slots : (shape : Shape) (v : ServerState) (turns : List Turn) (d : Option ServerCounts) → ServerRests v turns → is_some v.session ≡ true → ServerCounted shape v turns d
     → v.handshake.draft.peer_slots ≡ shape.slots
 own_slots shape v turns d rests now counted =
-    counted.handshake.ring refl (ap (has_named Responder) (rests.opened now))
+    rests.fits.ring refl (ap (has_named Responder) (rests.opened now)) ∙ counted.slots
 
 takes_ask : (shape : Shape) (v t : ServerState) (turns : List Turn) (packet : List ℕ) (sid : ℕ) (d : Option ServerCounts) (opens : Bool) → ServerRests v turns → TakesFree v
     → ServerCounted shape v turns d → ServerAsked v turns packet t opens → Behind shape turns packet sid d opens t
@@ -340,7 +320,6 @@ takes_ask shape v t turns packet sid d opens rests free counted asks =
     (subst (Behind shape turns packet sid d false) (sym asks.is) (record {
       slots = counted.slots;
       blocks = counted.blocks;
-      handshake = counted.handshake;
       holds = λ owing some. absurd (omega (arith, some, ap length asks.left, ap length empty));
       order = asked_order shape.slots added n v.session d turns (Heard_ packet ∷ turns) session next asks.range asks.session_is refl asks_of (sum_heard shape.slots 1 packet turns) refl one_more refl v.work counted.agrees counted.order;
       unit = counted.unit;

@@ -92,7 +92,6 @@ server_fetches_counting shape v at reach slot bytes t new turns d rests step cou
     subst (λ (x : ServerState). ServerCounted shape x turns (change_server (fetched_log shape.blocks bytes) d)) (sym is) (record {
       slots = counted.slots;
       blocks = counted.blocks;
-      handshake = counted.handshake;
       holds = holds_none v behind turns rests now free.0.free refl;
       order = both.0;
       unit = first_unit shape.blocks (disk_desc_of bytes);
@@ -145,7 +144,6 @@ server_finishes_counting shape v at reach slot status t new turns d rests step c
     subst (λ (x : ServerState). ServerCounted shape x turns (change_server finished_log d)) (sym step.is) (record {
       slots = counted.slots;
       blocks = counted.blocks;
-      handshake = counted.handshake;
       holds = holds_none v behind turns rests now free.0.free refl;
       order = both.0;
       unit = tt;
@@ -182,5 +180,5 @@ server_puts_counting shape v at packet opens t turns d few sends rests utters co
     let says = put_says (is_none sends.held.handshake.owed) sends.held.link t.link turns packet follows sends.packet in (
       subst (λ (x : ServerState). ServerCounted shape x (Said packet ∷ turns) (answers_more shape turns packet d)) (sym sends.is)
           (put_counting (server_kind sends.held) shape sends.held turns packet d few held_rests held_utters says held),
-      sends.opens_is ∙ never_opens (server_kind sends.held) sends.held.handshake held.handshake.role_is,
+      sends.opens_is ∙ never_opens (server_kind sends.held) sends.held.handshake held_rests.fits.role_is,
     )

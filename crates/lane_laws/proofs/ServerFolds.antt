@@ -37,7 +37,8 @@ use Rattle.lane_laws.proofs.ServerPutCounting.{put_as, none_is}
 use Rattle.lane_laws.proofs.ServerAnswers.{opened_or}
 use Rattle.lane_laws.proofs.ServerTaken.{ServerTook}
 use Rattle.channel_laws.proofs.Short.{some_bytes}
-use Rattle.lane_laws.specs.Counted.{HoldsAnswer, HoldsOwed, ServerHolds}
+use Rattle.channel_laws.specs.Cuts.{CarriesOwed}
+use Rattle.lane_laws.specs.Counted.{HoldsAnswer, ServerHolds}
 use Rattle.channel_laws.specs.HandshakeFits.{MayOwe, OwedFits}
 use Rattle.lane_laws.specs.LaneRests.{ServerRests, ServerUtters}
 use Rattle.lane_laws.specs.ChannelEnds.{server_core}
@@ -152,9 +153,9 @@ server_puts_so turns packet EndsOwn v held says =
     puts_by v (answered v.session) turns packet held (answered_none v.session ∙ said_range turns packet bytes (said_some turns packet bytes says.0.messages) range)
 server_puts_so turns packet EndsHandshake v held says =
     let bytes = half_said turns ++ v.link.to_send in
-    let owed : HoldsOwed v.handshake.owed bytes = server_holds_owed v turns held.rests.stands says.1 says.0.some in
-    let may : MayOwe v.handshake.phase owed.message.subtype owed.message.body = subst (OwedFits v.handshake.phase) owed.owed_is held.owed in
-    let none : range_in 2 (Some bytes) ≡ None = ap (λ (xs : List ℕ). range_in 2 (Some xs)) owed.bytes_are ∙ owed_no_range v.handshake.phase 2 owed.message (inr refl) may in
+    let owed : CarriesOwed v.handshake.owed bytes = server_holds_owed v turns held.rests.stands says.1 says.0.some in
+    let may : MayOwe v.handshake.phase owed.message.subtype owed.message.body = subst (OwedFits v.handshake.phase) owed.owed held.owed in
+    let none : range_in 2 (Some bytes) ≡ None = ap (λ (xs : List ℕ). range_in 2 (Some xs)) owed.is ∙ owed_no_range v.handshake.phase 2 owed.message (inr refl) may in
     puts_by v v.session turns packet held (held.range ∙ said_same turns packet (Some bytes) (said_some turns packet bytes says.0.messages) none)
 
 -- IT IS BLOCKED

@@ -16,7 +16,6 @@ use Rattle.channel_model.specs.Messages.{range_ended, range_in}
 use Rattle.lane_laws.specs.WorkLog.{ServerCounts, change_server, length_in, one_in}
 use Rattle.channel_model.specs.EndPuts.{ComesUp, EndsOwn, EndsHandshake, Goes, PutKind, handshake_behind}
 use Rattle.disk_model.specs.LaneState.{Shape}
-use Rattle.disk_model.specs.Offering.{server_offer}
 use Rattle.channel_model.specs.Ranges.{wrapped}
 use Rattle.dring.specs.Slots.{range_length}
 use Rattle.disk_model.specs.ServerPutting.{answered, server_holds, session_behind}
@@ -25,7 +24,6 @@ use Rattle.disk_model.specs.ServerState.{ServerSession, ServerState, SlotRange, 
 use Rattle.channel_laws.proofs.Apart.{none_is_some, some_same}
 use Rattle.channel_laws.proofs.PutSayings.{SaysWhole, SaysOn}
 use Rattle.channel_laws.proofs.EndStanding.{open_up, owing_up, up_empty}
-use Rattle.channel_laws.proofs.HandshakeFitting.{sent_fits, up_fits}
 use Rattle.lane_laws.proofs.RangeSums.{count_said, sum_more, sum_said}
 use Rattle.lane_laws.proofs.RangesSaid.{owed_no_range, said_range}
 use Rattle.lane_laws.proofs.RulesFree.{AnswersFree, ServerFree}
@@ -75,7 +73,6 @@ server_holds_counting shape v (Says message) held turns d rests utters free is c
     held_is shape (record v { link = offered (canonical message) v.link }) held turns d is (record {
       slots = counted.slots;
       blocks = counted.blocks;
-      handshake = counted.handshake;
       holds = λ none some. answer_with v (offered (canonical message) v.link) (half_said turns ++ canonical message) (says_answer v turns message half free.1 none);
       order = counted.order;
       unit = counted.unit;
@@ -144,7 +141,6 @@ goes_counting shape v turns packet d on counted =
     record {
       slots = counted.slots;
       blocks = counted.blocks;
-      handshake = counted.handshake;
       holds = λ owing some. answer_with v (behind_put v.link) (half_said (Said packet ∷ turns) ++ (behind_put v.link).to_send)
           (subst (HoldsAnswer v) (sym on.whole) (counted.holds owing (on.some some)));
       order = order_same shape v.session d turns packet same counted.order;
@@ -161,7 +157,6 @@ comes_counting shape v turns packet d utters down on counted =
     record {
       slots = counted.slots;
       blocks = counted.blocks;
-      handshake = up_fits Responder (server_offer shape.blocks shape.slots) v.handshake counted.handshake;
       holds = λ owing some. absurd (omega (arith, on.some some, ap length (utters.idle down)));
       order = order_same shape v.session d turns packet same counted.order;
       unit = counted.unit;
@@ -175,16 +170,15 @@ pub handshake_counting : (shape : Shape) (v : ServerState) (turns : List Turn) (
 handshake_counting shape v turns packet d rests some last counted =
     let bytes = half_said turns ++ v.link.to_send in
     let holds = server_holds_owed v turns rests.stands some last.some in
-    let may : MayOwe v.handshake.phase holds.message.subtype holds.message.body = subst (OwedFits v.handshake.phase) holds.owed_is counted.handshake.owed in
+    let may : MayOwe v.handshake.phase holds.message.subtype holds.message.body = subst (OwedFits v.handshake.phase) holds.owed rests.fits.owed in
     let no_range : range_in 2 (Some bytes) ≡ None =
-    ap (λ (xs : List ℕ). range_in 2 (Some xs)) holds.bytes_are ∙ owed_no_range v.handshake.phase 2 holds.message (inr refl) may in
+    ap (λ (xs : List ℕ). range_in 2 (Some xs)) holds.is ∙ owed_no_range v.handshake.phase 2 holds.message (inr refl) may in
     let same : range_sum shape.slots 2 (said (Said packet ∷ turns)) ≡ range_sum shape.slots 2 (said turns) =
     omega (arith, ap (range_sum shape.slots 2) last.messages, sum_more shape.slots 2 (said turns) bytes, ap (length_in shape.slots) no_range) in
     let none : length_in shape.slots (range_ended 2 (half_said turns) packet) ≡ 0 = omega (arith, same, sum_said shape.slots 2 packet turns) in
     record {
       slots = counted.slots;
       blocks = counted.blocks;
-      handshake = sent_fits Responder (server_offer shape.blocks shape.slots) v.handshake counted.handshake;
       holds = λ owing left. absurd (omega (arith, left, ap length last.none));
       order = order_same shape v.session d turns packet same counted.order;
       unit = counted.unit;
@@ -273,7 +267,6 @@ own_counting shape v turns packet d few none last counted =
     record {
       slots = counted.slots;
       blocks = counted.blocks;
-      handshake = counted.handshake;
       holds = λ owing left. absurd (omega (arith, left, ap length last.none));
       order = both.0;
       unit = counted.unit;

@@ -200,7 +200,6 @@ piece_counting shape v turns d session work next f rests free is goes counted =
     record {
       slots = counted.slots;
       blocks = counted.blocks;
-      handshake = counted.handshake;
       holds = holds_none v (with_progress v work next) turns rests now free.free refl;
       order = order_owed shape.slots v.session d turns f counted.order;
       unit = goes.unit;

@@ -1,9 +1,8 @@
 -- Each event of a lane leaves both ends resting on what they heard, and having said what their handshakes hold, as ends on a channel do.
-use Rattle.std.proofs.Common.{◌≡◌, ◌≤◌, Bool, true, false, refl, ap, ◌++◌, length, Some, List, [], sym, subst, ◌∙◌}
+use Rattle.std.proofs.Common.{◌≡◌, ◌≤◌, Bool, true, false, refl, ap, ◌++◌, length, Some, List, sym, subst, ◌∙◌}
 use Rattle.std.specs.Prelude.{◌&&◌, is_none, is_some, not, ⊤}
 use Rattle.runs.specs.Lawful.{run_lawful}
 use Rattle.runs.specs.Run.{Run}
-use Rattle.ldc_link.specs.declared.phase.Role.{Role}
 use Rattle.ldc_link.specs.declared.phase.Role.TheVariants.{Initiator, Responder}
 use Rattle.ldc_queue.specs.declared.end.End.TheVariants.{A, B}
 use Rattle.ldc_queue.specs.Messages.{is_empty}
@@ -22,62 +21,30 @@ use Rattle.disk_model.specs.ServerRule.{server_rule}
 use Rattle.disk_model.specs.ServerState.{ServerState}
 use Rattle.channel_model.specs.TranscriptLog.{TranscriptLog, nothing_said}
 use Rattle.channel_laws.proofs.EndResting.{open_rests}
-use Rattle.channel_laws.proofs.EndStanding.{opened_phase}
-use Rattle.channel_laws.proofs.EndUttering.{EndSpeaks, fresh_speaks, speaks_step}
+use Rattle.channel_laws.proofs.EndsResting.{fresh_end_rests, rests_move, utters_of}
 use Rattle.channel_laws.proofs.Lifting.{transcript_turns}
 use Rattle.channel_laws.proofs.MessagesHeld.{owed_held}
-use Rattle.channel_laws.specs.EndCore.{EndCore, EndMove, Waits}
-use Rattle.channel_laws.specs.EndStep.{EndStep}
+use Rattle.channel_laws.specs.Cuts.{CarriesOwed}
+use Rattle.channel_laws.specs.EndCore.{Waits}
 use Rattle.channel_laws.specs.Grounds.{OpenRests}
-use Rattle.channel_laws.specs.LaneCore.{move_of, transcript_after, turns_after}
+use Rattle.channel_laws.specs.LaneCore.{move_of, transcript_after}
 use Rattle.channel_laws.specs.Standing.{EndStands}
 use Rattle.channel_laws.specs.Utterances.{SaysEach}
-use Rattle.lane_laws.specs.Counted.{HoldsOwed}
 use Rattle.lane_laws.proofs.ClientMoves.{client_waits}
 use Rattle.lane_laws.proofs.EndMoves.{step_a, step_b, transcript_same}
 use Rattle.lane_laws.proofs.LaneStepping.{fresh_sound, sound_step}
 use Rattle.lane_laws.proofs.OpeningDeal.{client_fits, server_fits}
 use Rattle.lane_laws.proofs.ServerMoves.{server_waits}
 use Rattle.lane_laws.specs.ChannelEnds.{client_core, core_event, server_core}
-use Rattle.lane_laws.specs.LaneRests.{ClientRests, ClientUtters, EndRests, EndUtters, LaneRests, LaneUtters, ServerRests, ServerUtters}
+use Rattle.lane_laws.specs.LaneRests.{ClientRests, ClientUtters, LaneRests, LaneUtters, ServerRests, ServerUtters}
 use Rattle.lane_laws.specs.LaneTranscripts.{transcript_behind}
 use Rattle.lane_laws.specs.Sound.{ClientSound}
 
--- AN END, as the channel has it
-rests_of : (role : Role) (c : EndCore) (turns : List Turn) → EndSpeaks role c turns → EndRests role c turns
-rests_of role c turns speaks = record {
-  stands = speaks.knows.stands;
-  rests = speaks.knows.rests;
-  utters = speaks.utters;
-  whole = speaks.knows.stands.link.seen;
-  down = λ below. (speaks.knows.stands.below below).down;
-  opened = λ now. opened_phase c.handshake.phase (sym speaks.knows.stands.opened ∙ now);
-}
-
-speaks_of : (role : Role) (c : EndCore) (turns : List Turn) → EndRests role c turns → EndSpeaks role c turns
-speaks_of role c turns rests = record { knows = record { stands = rests.stands; rests = rests.rests }; utters = rests.utters }
-
-rests_move : (role : Role) (c : EndCore) (move : EndMove) (t : EndCore) (turns : List Turn) → EndRests role c turns → EndStep role c move t → EndRests role t (turns_after turns move)
-rests_move role c move t turns rests step = rests_of role t (turns_after turns move) (speaks_step role c move t turns (speaks_of role c turns rests) step)
-
-utters_of : (role : Role) (c : EndCore) (turns : List Turn) → EndRests role c turns → EndUtters c turns
-utters_of role c turns rests = record {
-  half = rests.stands.link.cuts.free;
-  silent = λ below. (rests.stands.below below).said_none;
-  idle = λ below. (rests.stands.below below).left;
-  free = λ below. (rests.stands.below below).owed;
-}
-
--- WHAT IT HOLDS, where that isn't of its session, is what its handshake owes
-pub holds_owed : (role : Role) (c : EndCore) (turns : List Turn) → EndStands role c turns → c.own ≡ false → 1 ≤ length c.link.to_send → HoldsOwed c.handshake.owed (half_said turns ++ c.link.to_send)
-holds_owed role c turns stands own some =
-    let held = owed_held role c turns stands own some in
-    record { message = held.message; owed_is = held.owed; bytes_are = held.is }
-
+-- WHAT A SERVER HOLDS, where that isn't of its session, is what its handshake owes
 pub server_holds_owed : (v : ServerState) (turns : List Turn) → EndStands Responder (server_core v) turns → is_none v.handshake.owed ≡ false → 1 ≤ length v.link.to_send
-    → HoldsOwed v.handshake.owed (half_said turns ++ v.link.to_send)
+    → CarriesOwed v.handshake.owed (half_said turns ++ v.link.to_send)
 server_holds_owed v turns stands is some =
-    holds_owed Responder (server_core v) turns stands (ap (λ (b : Bool). not (is_empty v.link.to_send) && b) is ∙ never (not (is_empty v.link.to_send))) some
+    owed_held Responder (server_core v) turns stands (ap (λ (b : Bool). not (is_empty v.link.to_send) && b) is ∙ never (not (is_empty v.link.to_send))) some
   where
     never : (b : Bool) → (b && false) ≡ false
     never true = refl
@@ -114,8 +81,8 @@ fresh_rests shape sound =
     let asks = client_fits shape.blocks shape.slots sound.most_slots in
     let answers = server_fits shape.blocks shape.slots in
     record {
-      client = rests_of Initiator (client_core (fresh shape).client) [] (fresh_speaks Initiator (client_core (fresh shape).client).offer asks.form.most);
-      server = rests_of Responder (server_core (fresh shape).server) [] (fresh_speaks Responder (server_core (fresh shape).server).offer answers.form.most);
+      client = fresh_end_rests Initiator (client_core (fresh shape).client).offer asks.form.most;
+      server = fresh_end_rests Responder (server_core (fresh shape).server).offer answers.form.most;
     }
 
 -- what both ends said, where they rest so

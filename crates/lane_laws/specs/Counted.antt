@@ -1,7 +1,6 @@
 -- What an end's session counts, also where somebody forges packets and memory: the ranges of slots that the end said and heard, each message
 -- of the link being the one that is owed or the end's own.
 use Rattle.std.specs.Prelude.{◌≡◌, ℕ, ◌+◌, ◌%◌, ◌^◌, ◌<◌, ◌≤◌, ◌&&◌, ◌==◌, Bool, true, false, is_some, List, [], ◌∷◌, ◌++◌, length, Option, Some, None, ⊤}
-use Rattle.ldc_link.specs.declared.phase.Role.TheVariants.{Initiator, Responder}
 use Rattle.ldc_queue.specs.Transcript.{Turn}
 use Rattle.vdisk_msg.specs.Pieces.{unit_count}
 use Rattle.vio_bytes.specs.Place.{number_at}
@@ -15,14 +14,12 @@ use Rattle.lane_laws.specs.WorkLog.{ClientCounts, ServerCounts, length_in, one_i
 use Rattle.disk_model.specs.ClientPutting.{announcement}
 use Rattle.disk_model.specs.ClientState.{ClientSession, ClientState}
 use Rattle.disk_model.specs.LaneState.{LaneState, Shape}
-use Rattle.disk_model.specs.Offering.{client_offer, server_offer}
 use Rattle.channel_model.specs.Ranges.{wrapped}
 use Rattle.dring.specs.Slots.{range_length}
 use Rattle.disk_model.specs.ServerRule.{answer}
 use Rattle.disk_model.specs.ServerState.{Gathers, Gives, Progress, Reads, ServerSession, ServerState, SlotRange, Work, Writes}
 use Rattle.disk_model.specs.ServerWork.{desc_of}
 use Rattle.lane_laws.specs.Budget.{one_range}
-use Rattle.channel_laws.specs.HandshakeFits.{HandshakeFits}
 
 -- SUMS over messages: the slots of their ranges, INFO 1 or ACK 2, how many ranges, and how many agreements to RDX
 abbrev pub range_sum : ℕ → ℕ → List (List ℕ) → ℕ
@@ -44,12 +41,6 @@ abbrev pub ready_count : List (List ℕ) → ℕ
 ready_count [] = 0
 ready_count (message ∷ messages) = one_where (is_ready message) + ready_count messages
 
--- bytes of the message that is owed
-pub record HoldsOwed (owed : Option Message) (bytes : List ℕ) : Type 0 where
-  pub message : Message
-  pub owed_is : owed ≡ Some message
-  pub bytes_are : bytes ≡ canonical message
-
 -- THE CLIENT: where it announces, what was put of a message and what is left of it are the INFO that does
 abbrev pub ClientHolds : ClientState → List Turn → Type 0
 ClientHolds c turns =
@@ -70,7 +61,6 @@ acked_of (Some session) = session.acked
 -- its session counts what was said and heard, as the log does, and is open once it agreed to RDX
 pub record ClientCounted (shape : Shape) (c : ClientState) (turns : List Turn) (done : ℕ) (k : Option ClientCounts) : Type 0 where
   pub slots : c.slots ≡ shape.slots
-  pub handshake : HandshakeFits Initiator (client_offer shape.blocks shape.slots) c.handshake
   pub holds : ClientHolds c turns
   pub announced : announced_of c.session ≡ range_sum shape.slots 1 (said turns)
   pub infos : infos_of c.session ≡ range_count 1 (said turns)
@@ -132,7 +122,6 @@ UnitFits (Some work) = UnitIn (unit_count (desc_of work).size) work.progress
 pub record ServerCounted (shape : Shape) (v : ServerState) (turns : List Turn) (d : Option ServerCounts) : Type 0 where
   pub slots : v.slots ≡ shape.slots
   pub blocks : v.blocks ≡ shape.blocks
-  pub handshake : HandshakeFits Responder (server_offer shape.blocks shape.slots) v.handshake
   pub holds : ServerHolds v turns
   pub order : ServerOrder shape.slots v.session d turns
   pub unit : UnitFits v.work

@@ -213,7 +213,7 @@ other_right slots groups l said other message v is log =
 handshake_said : (role : Role) (held : NetEndState) (turns : List Turn) → EndStands role (net_core role held) turns → OwedFits held.handshake.phase held.handshake.owed → is_none held.handshake.owed ≡ false
     → is_up held.link ≡ true → 1 ≤ length held.link.to_send → spoken (half_said turns ++ held.link.to_send) ≡ Other
 handshake_said role held turns stands owes own up some =
-    let carried : CarriesOwed held.handshake (half_said turns ++ held.link.to_send) =
+    let carried : CarriesOwed held.handshake.owed (half_said turns ++ held.link.to_send) =
     subst (λ (b : Bool). Carries b held.handshake (half_said turns ++ held.link.to_send)) own (stands.carries (holds_some held.link up some)) in
     ap spoken carried.is ∙ owed_other held.handshake.phase carried.message (subst (OwedFits held.handshake.phase) carried.owed owes)
 
