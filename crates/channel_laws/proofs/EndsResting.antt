@@ -1,5 +1,5 @@
 -- Each move of an end leaves it resting on what it heard, and having said what its handshake holds.
-use Rattle.std.proofs.Common.{◌≡◌, List, [], sym, ◌∙◌, ◌≤◌}
+use Rattle.std.proofs.Common.{List, [], sym, ◌∙◌, ◌≤◌}
 use Rattle.ldc_link.specs.declared.phase.Role.{Role}
 use Rattle.ldc_queue.specs.Transcript.{Turn}
 use Rattle.vio_handshake.specs.declared.session.Offer.{Offer}

@@ -1,13 +1,15 @@
 -- Where both sessions are open and nobody forged, both ends are up, what each heard is as the other has it, and the sessions are one.
-use Rattle.std.proofs.Common.{◌≡◌, ℕ, Bool, true, false, List, [], ◌∷◌, refl, sym, ap, ◌∙◌, subst}
+use Rattle.std.proofs.Common.{◌≡◌, ℕ, Bool, true, false, List, [], ◌∷◌, ◌++◌, inl, inr, refl, sym, ap, ◌∙◌, subst}
 use Rattle.std.specs.Prelude.{⊤}
 use Rattle.runs.specs.Run.{Run}
 use Rattle.ldc_link.specs.declared.phase.Role.{Role}
 use Rattle.ldc_link.specs.declared.phase.Role.TheVariants.{Initiator, Responder}
+use Rattle.ldc_link.specs.LinkState.{is_up}
 use Rattle.ldc_queue.specs.declared.end.ChannelState.{ChannelState}
 use Rattle.ldc_queue.specs.declared.end.ChannelState.TheVariants.{Down, Resetting, Up}
 use Rattle.ldc_queue.specs.declared.end.End.{End}
 use Rattle.ldc_queue.specs.declared.end.End.TheVariants.{A, B}
+use Rattle.ldc_queue.specs.OneStream.{IsFront}
 use Rattle.ldc_queue.specs.Transcript.{Turn}
 use Rattle.ldc_queue.specs.Wire.{peer_of}
 use Rattle.runs.specs.Lawful.{log_of}
@@ -23,13 +25,14 @@ use Rattle.channel_model.specs.Sayings.{heard, said}
 use Rattle.channel_model.specs.TranscriptLog.{TranscriptLog, transcript_of}
 use Rattle.channel_model.specs.WireAt.{IsUp}
 use Rattle.channel_laws.proofs.Apart.{true_is_false}
-use Rattle.channel_laws.proofs.ConversingRuns.{converse_keeps, first_converse, heard_messages, unheard}
+use Rattle.channel_laws.proofs.ConversingRuns.{converse_keeps, first_converse, heard_messages, messages_of, unheard}
 use Rattle.channel_laws.proofs.CoreRuns.{Knows, knows_run}
 use Rattle.channel_laws.proofs.EndResting.{StandsResting, open_rests}
 use Rattle.channel_laws.proofs.EndStanding.{open_up}
 use Rattle.channel_laws.proofs.EndUttering.{each_front}
-use Rattle.channel_laws.proofs.HandshakePlaces.{AtPlace, deal, open_place}
-use Rattle.channel_laws.proofs.HandshakesPlaced.{Meets, first_meets, meets_keep}
+use Rattle.channel_laws.proofs.HandshakePlaces.{AtPlace, deal, open_place, place_open}
+use Rattle.channel_laws.proofs.HandshakesPlaced.{Meets, first_meets, meets_keep, up_or}
+use Rattle.channel_laws.proofs.WhoseTurn.{initiator_done}
 use Rattle.channel_laws.specs.Conversing.{Converse}
 use Rattle.channel_laws.specs.CoreLog.{CoreLog, after, nothing_yet}
 use Rattle.channel_laws.specs.EndCore.{EndCore}
@@ -122,6 +125,39 @@ one_session asks answers s l knows clean opened peer_opened =
     (meets.handshakes.theirs up.1 (open_up Responder s.b l.transcript.server knows.holds.ends.b peer_opened)) in
     subst (λ (h : Handshake). AreOneSession h s.b.handshake) (sym mine) (subst (AreOneSession (handshake_at both d Initiator AllSaid)) (sym theirs) (one_in both d refl))
 
+-- A RESPONDER IN SESSION: its peer is up, and is in session too
+pub record PeerIsOpen (s : LaneCore) : Type 0 where
+  pub up : IsUp A s.wire.wire
+  pub opened : s.a.is_open ≡ true
+
+pub initiator_open : (asks answers : Offer) (s : LaneCore) (l : CoreLog) → Knows (Meets asks answers) s l → s.wire.forged ≡ false → IsUp B s.wire.wire → s.b.is_open ≡ true
+    → PeerIsOpen s
+initiator_open asks answers s l knows clean up opened =
+    let meets = knows.holds.holds clean in
+    let both = asks.both_rings in
+    let d = deal asks answers meets.handshakes.sid in
+    let some : heard l.transcript.server ≡ [] → ⊥ = open_heard Responder s.b l.transcript.server knows.speaks.b.knows opened in
+    let up_a : IsUp A s.wire.wire = elim (up_or s.wire.wire.end_a) [
+      | inl is ↦ is
+      | inr not ↦
+          absurd (some (unheard Responder (swapped (sides_of s l.transcript)) (converse_keeps.swaps Initiator (sides_of s l.transcript) meets.converse) up not))
+    ] in
+    let front : IsFront (heard l.transcript.server) (said l.transcript.client) = messages_of s l.transcript B meets.converse up in
+    let link : is_up s.a.link ≡ true = said_up s.a l.transcript.client (λ none. some (front_none (heard l.transcript.server) (said l.transcript.client) front none)) (is_up s.a.link) refl knows.holds.ends.a in
+    let mine = meets.handshakes.mine up_a link in
+    let theirs = meets.handshakes.theirs up (open_up Responder s.b l.transcript.server knows.holds.ends.b opened) in
+    let last = open_place both d Responder s.b l.transcript.server knows.holds.ends.b theirs opened in
+    let done = initiator_done both d s.a.handshake s.b.handshake l.transcript.client l.transcript.server mine theirs last front in
+    record { up = up_a; opened = place_open both d Initiator s.a l.transcript.client knows.holds.ends.a mine done }
+  where
+    front_none : (xs ys : List (List ℕ)) → IsFront xs ys → ys ≡ [] → xs ≡ []
+    front_none [] ys front none = refl
+    front_none (x ∷ xs) ys front none = let wrong : x ∷ (xs ++ front.0) ≡ [] = sym front.1 ∙ none in cc wrong
+
+    said_up : (c : EndCore) (turns : List Turn) → (said turns ≡ [] → ⊥) → (b : Bool) → is_up c.link ≡ b → EndStands Initiator c turns → is_up c.link ≡ true
+    said_up c turns some true is stands = is
+    said_up c turns some false is stands = absurd (some (stands.below is).said_none)
+
 -- ALONG EVERY RUN
 abbrev May : CoreLog → CoreEvent → Type 0
 May l event = ⊤
@@ -147,6 +183,11 @@ pub open_sessions_one : (entries : ℕ) (asks answers : Offer) (events : List Co
     → Run CoreStep (fresh_core entries asks answers) events s → s.wire.forged ≡ false → s.a.is_open ≡ true → s.b.is_open ≡ true → AreOneSession s.a.handshake s.b.handshake
 open_sessions_one entries asks answers events s fits matched run clean opened peer_opened =
     one_session asks answers s (log_of after (nothing_yet entries) events) (meets_knows entries asks answers events s fits matched run) clean opened peer_opened
+
+pub open_sessions_begin : (entries : ℕ) (asks answers : Offer) (events : List CoreEvent) (s : LaneCore) → CoreFits entries asks answers → Match asks answers
+    → Run CoreStep (fresh_core entries asks answers) events s → s.wire.forged ≡ false → IsUp B s.wire.wire → s.b.is_open ≡ true → PeerIsOpen s
+open_sessions_begin entries asks answers events s fits matched run clean up opened =
+    initiator_open asks answers s (log_of after (nothing_yet entries) events) (meets_knows entries asks answers events s fits matched run) clean up opened
 
 -- WHAT IS HEARD is as the other end has it
 said_of : (e : End) (s : LaneCore) (l : CoreLog) → Knows Converse s l

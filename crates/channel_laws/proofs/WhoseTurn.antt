@@ -9,7 +9,7 @@ use Rattle.ldc_link.specs.declared.phase.Role.TheVariants.{Initiator, Responder}
 use Rattle.ldc_queue.specs.OneStream.{IsFront}
 use Rattle.ldc_queue.specs.Transcript.{Turn}
 use Rattle.vio_handshake.specs.declared.handshake.Handshake.{Handshake}
-use Rattle.vio_handshake.proofs.Places.{AllSaid, Deal, IsPlace, Place, owner}
+use Rattle.vio_handshake.proofs.Places.{AllSaid, AttributesAnswered, AttributesSaid, Deal, IsPlace, PeerReadyAnswered, PeerReadySaid, PeerRingAnswered, PeerRingSaid, Place, ReadyAnswered, ReadySaid, RingAnswered, RingSaid, VersionAnswered, VersionSaid, owner}
 use Rattle.channel_model.specs.Sayings.{heard, said}
 use Rattle.channel_laws.proofs.Apart.{none_is_some, true_is_false}
 use Rattle.channel_laws.proofs.HandshakePlaces.{AtPlace, owes_at, owes_none, owes_not, who}
@@ -147,6 +147,51 @@ never_both both d h g mine theirs at there owed owing to_there to_here = by_orde
           | inl turn ↦ both_own at.place there.place (same_place both at.place there.place at.here there.here far (not_last Responder there.place turn) same) own turn
           | inr last ↦ omega (arith, same, before_last both at.place there.place at.here far last)
         ]
+
+-- THE INITIATOR HAS SAID ALL where a responder that heard a front of it has: the last message is the initiator's
+last_asked : (both : Bool) (d : Deal) (n : Place) → IsPlace both n → owner n ≡ Some Responder → length (said_at both d Initiator n) < length (said_at both d Initiator AllSaid)
+last_asked true d VersionAnswered here turn = omega arith
+last_asked true d AttributesAnswered here turn = omega arith
+last_asked true d RingAnswered here turn = omega arith
+last_asked true d PeerRingSaid here turn = omega arith
+last_asked true d ReadyAnswered here turn = omega arith
+last_asked true d PeerReadySaid here turn = omega arith
+last_asked false d VersionAnswered here turn = omega arith
+last_asked false d AttributesAnswered here turn = omega arith
+last_asked false d RingAnswered here turn = omega arith
+last_asked false d PeerRingSaid here turn = absurd here
+last_asked false d ReadyAnswered here turn = omega arith
+last_asked false d PeerReadySaid here turn = omega arith
+last_asked both d VersionSaid here turn = absurd (cc turn)
+last_asked both d AttributesSaid here turn = absurd (cc turn)
+last_asked both d RingSaid here turn = absurd (cc turn)
+last_asked both d PeerRingAnswered here turn = absurd (cc turn)
+last_asked both d ReadySaid here turn = absurd (cc turn)
+last_asked both d PeerReadyAnswered here turn = absurd (cc turn)
+last_asked both d AllSaid here turn = absurd (cc turn)
+
+pub initiator_done : (both : Bool) (d : Deal) (h g : Handshake) (mine theirs : List Turn) → (at : AtPlace both d Initiator h mine) → (there : AtPlace both d Responder g theirs)
+    → there.place ≡ AllSaid → IsFront (heard theirs) (said mine) → at.place ≡ AllSaid
+initiator_done both d h g mine theirs at there last front =
+    elim (who Initiator at.place) [
+      | inl own ↦
+          let less = later both d Initiator at.place there.place at.here own (before_last both at.place there.place at.here (not_last Initiator at.place own) last) in
+          absurd (omega (arith, less, here.told_is (not_last Initiator at.place own), yonder.taken_least, told))
+      | inr (inl turn) ↦
+          let less = last_asked both d at.place at.here turn in
+          let all : length (said_at both d Initiator there.place) ≡ length (said_at both d Initiator AllSaid) = ap (λ (n : Place). length (said_at both d Initiator n)) last in
+          absurd (omega (arith, less, all, here.told_is (not_last Responder at.place turn), yonder.taken_least, told))
+      | inr (inr done) ↦ done
+    ]
+  where
+    here : Counts both d Initiator Responder at.place (length (said mine)) (length (heard mine))
+    here = counts both d Initiator h mine at
+
+    yonder : Counts both d Responder Initiator there.place (length (said theirs)) (length (heard theirs))
+    yonder = counts both d Responder g theirs there
+
+    told : length (heard theirs) ≤ length (said mine)
+    told = front_less (heard theirs) (said mine) front
 
 -- BOTH HAVE SAID ALL where neither owes one and each heard all
 pub both_done : (both : Bool) (d : Deal) (h g : Handshake) (mine theirs : List Turn) → (at : AtPlace both d Initiator h mine) → (there : AtPlace both d Responder g theirs)

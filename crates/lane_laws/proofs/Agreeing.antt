@@ -1,10 +1,9 @@
 -- The sessions of a lane that nobody forged agree after every run: they are of one ring, and their counts stand in their order.
-use Rattle.std.proofs.Common.{◌≡◌, ℕ, ◌+◌, ◌^◌, ◌<◌, ◌≤◌, true, false, Option, Some, None, List, [], length, take, refl, sym, ap, ◌∙◌, subst, arith, length-drop}
+use Rattle.std.proofs.Common.{◌≡◌, ℕ, ◌+◌, ◌^◌, ◌<◌, ◌≤◌, true, false, Option, Some, None, List, length, take, refl, sym, ap, ◌∙◌, subst, arith, length-drop}
 use Rattle.std.specs.Prelude.{is_some, ⊤}
 use Rattle.runs.specs.Lawful.{log_of, run_lawful}
 use Rattle.runs.specs.Run.{Run}
-use Rattle.ldc_queue.specs.declared.end.ChannelState.{ChannelState}
-use Rattle.ldc_queue.specs.declared.end.ChannelState.TheVariants.{Down, Resetting, Up}
+use Rattle.ldc_queue.specs.declared.end.ChannelState.TheVariants.{Up}
 use Rattle.ldc_queue.specs.declared.end.End.TheVariants.{A, B}
 use Rattle.ldc_queue.specs.OneStream.{IsFront}
 use Rattle.vio_handshake.specs.declared.session.Offer.{Offer}
@@ -24,14 +23,14 @@ use Rattle.disk_model.specs.LaneStep.{LaneStep}
 use Rattle.disk_model.specs.Offering.{client_offer, own_cookies}
 use Rattle.disk_model.specs.ServerState.{ServerSession, SlotRange, Work}
 use Rattle.lane_laws.proofs.CarriedRuns.{AllStand, all_step, fresh_all}
-use Rattle.lane_laws.proofs.HeardFront.{heard_messages, unheard_server}
+use Rattle.lane_laws.proofs.HeardFront.{heard_messages}
 use Rattle.lane_laws.proofs.LaneCounting.{Knows, run_knows}
 use Rattle.lane_laws.proofs.OfferedRing.{few_cookies, filled_front}
-use Rattle.lane_laws.proofs.OneSession.{one_session}
+use Rattle.lane_laws.proofs.OneSession.{client_in_session, one_session}
 use Rattle.lane_laws.proofs.LaneCores.{transcript_is}
-use Rattle.lane_laws.proofs.RangeSums.{ready_front, sum_front}
+use Rattle.lane_laws.proofs.RangeSums.{sum_front}
 use Rattle.lane_laws.proofs.RingRuns.{issued_behind}
-use Rattle.lane_laws.specs.Counted.{InServerOrder, RangeStands, ServerOrder, acked_of, announced_of, range_sum, ready_count}
+use Rattle.lane_laws.specs.Counted.{InServerOrder, RangeStands, ServerOrder, acked_of, announced_of, range_sum}
 use Rattle.lane_laws.specs.LaneTranscripts.{transcript_behind}
 use Rattle.lane_laws.specs.OneSession.{AreOneSession}
 use Rattle.channel_model.specs.Ranges.{wrapped}
@@ -65,10 +64,6 @@ order_of slots None q d transcript is now order = absurd (cc)
 order_of slots (Some s) None d transcript is now order = absurd order
 order_of slots (Some s) (Some c) d transcript is now order = let same : c ≡ d = some_same is in (s, subst (λ (x : ServerCounts). InServerOrder slots s x transcript.server) same order)
 
-client_open : (o : Option ClientSession) (count : ℕ) → (o ≡ None → count ≡ 0) → 1 ≤ count → is_some o ≡ true
-client_open None count none some = absurd (omega (arith, none refl, some))
-client_open (Some s) count none some = refl
-
 record ClientOpen (o : Option ClientSession) (done : ℕ) (q : Option ClientCounts) : Type 0 where
   session : ClientSession
   counts : ClientCounts
@@ -84,17 +79,6 @@ counts_of (Some s) done (Some c) now agrees = record { session = s; counts = c; 
 pub front_sum : (slots subtype : ℕ) (xs ys : List (List ℕ)) → IsFront xs ys → range_sum slots subtype xs ≤ range_sum slots subtype ys
 front_sum slots subtype xs ys front = subst (λ (zs : List (List ℕ)). range_sum slots subtype xs ≤ range_sum slots subtype zs) (sym front.1) (sum_front slots subtype xs front.0)
 
-front_ready : (xs ys : List (List ℕ)) → IsFront xs ys → ready_count xs ≤ ready_count ys
-front_ready xs ys front = subst (λ (zs : List (List ℕ)). ready_count xs ≤ ready_count zs) (sym front.1) (ready_front xs front.0)
-
--- an end whose agreement was heard is up
-heard_up : (x : ChannelState) (s : LaneState) (messages : List (List ℕ)) → s.wire.wire.end_a ≡ x → ((s.wire.wire.end_a ≡ Up → ⊥) → messages ≡ []) → 1 ≤ ready_count messages → s.wire.wire.end_a ≡ Up
-heard_up Up s messages is none some = is
-heard_up Down s messages is none some =
-    absurd (omega (arith, some, ap ready_count (none (λ up. let never : Up ≡ Down = sym up ∙ is in absurd (cc)))))
-heard_up Resetting s messages is none some =
-    absurd (omega (arith, some, ap ready_count (none (λ up. let never : Up ≡ Resetting = sym up ∙ is in absurd (cc)))))
-
 in_order : (pending : ℕ) (o : Option ClientSession) (session : ClientSession) → o ≡ Some session → CountsInOrder pending o → InOrder pending session
 in_order pending o session is order = subst (CountsInOrder pending) is order
 
@@ -103,14 +87,9 @@ pub server_alive : (shape : Shape) (events : List DiskEvent) (s : LaneState) →
 server_alive shape events s sound run clean up d is =
     let l = log_of after (nothing_yet shape) events in
     let server = (run_knows shape events s sound run).counted.server in
-    let transcript : l.transcript ≡ transcript_behind events = transcript_is (nothing_yet shape) events in
-    heard_up s.wire.wire.end_a s (heard l.transcript.server) refl (λ not. ap (λ (t : TranscriptLog). heard t.server) transcript ∙ unheard_server shape events s sound run clean up not)
-    (server.ready (server_open s.server.session s.server.work l.work.server d is server.agrees))
+    (client_in_session shape events s sound run clean up (server_open s.server.session s.server.work l.work.server d is server.agrees)).up
 
 -- sums over the counts of both sessions, of numbers alone
-at_least : (a b c : ℕ) → a ≤ b → b ≤ c → a ≤ c
-at_least a b c one two = omega arith
-
 named_most : (asked heard said own log : ℕ) → asked ≡ heard → heard ≤ said → own ≡ said → own ≡ log → asked ≤ log
 named_most asked heard said own log is front was agrees = omega arith
 
@@ -141,13 +120,10 @@ one_ring shape events s sound run clean up d is =
     let said_v = said l.transcript.server in
     let heard_c = heard l.transcript.client in
     let said_c = said l.transcript.client in
-    let ready : 1 ≤ ready_count heard_v = server.ready v_open in
-    let up_a : s.wire.wire.end_a ≡ Up = server_alive shape events s sound run clean up d is in
+    let peer = client_in_session shape events s sound run clean up v_open in
     let front_b : IsFront heard_v said_c = subst (λ (t : TranscriptLog). IsFront (heard t.server) (said t.client)) (sym transcript) (heard_messages shape events s B sound run clean up) in
-    let front_a : IsFront heard_c said_v = subst (λ (t : TranscriptLog). IsFront (heard t.client) (said t.server)) (sym transcript) (heard_messages shape events s A sound run clean up_a) in
-    let c_open : is_some s.client.session ≡ true =
-    client_open s.client.session (ready_count said_c) client.ready (at_least 1 (ready_count heard_v) (ready_count said_c) ready (front_ready heard_v said_c front_b)) in
-    let k = counts_of s.client.session l.work.done l.work.client c_open client.agrees in
+    let front_a : IsFront heard_c said_v = subst (λ (t : TranscriptLog). IsFront (heard t.client) (said t.server)) (sym transcript) (heard_messages shape events s A sound run clean peer.up) in
+    let k = counts_of s.client.session l.work.done l.work.client peer.opened client.agrees in
     let order = in_order (length s.client.pending) s.client.session k.session k.session_is knows.all.sound.counts in
     let v_order = (order_of l.shape.slots s.server.session l.work.server d l.transcript is v_open server.order).1 in
     let announced : k.session.announced ≡ range_sum l.shape.slots 1 said_c = ap announced_of (sym k.session_is) ∙ client.announced in
@@ -158,7 +134,7 @@ one_ring shape events s sound run clean up d is =
     named_most d.asked (range_sum l.shape.slots 1 heard_v) (range_sum l.shape.slots 1 said_c) k.session.announced k.counts.announced v_order.asked asked_said announced k.agree.announced in
     let asked : d.asked ≤ k.counts.published =
     published_most d.asked k.session.announced k.counts.announced k.session.published k.counts.published named order.announced k.agree.announced k.agree.published in
-    let one : AreOneSession s.client.handshake s.server.handshake = one_session shape events s sound run clean c_open v_open in
+    let one : AreOneSession s.client.handshake s.server.handshake = one_session shape events s sound run clean peer.opened v_open in
     let offer = knows.rests.client.fits.offer_is in
     let all : length s.client.pending + l.work.done ≡ length l.work.issued =
     omega (arith, ap length knows.all.stands.requests.pending, length-drop l.work.done l.work.issued, knows.all.stands.requests.done) in

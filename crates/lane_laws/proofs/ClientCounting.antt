@@ -16,7 +16,7 @@ use Rattle.disk_model.specs.ClientTaking.{acknowledged}
 use Rattle.disk_model.specs.LaneState.{Shape}
 use Rattle.dring.specs.Slots.{range_length}
 use Rattle.lane_laws.proofs.ClientTaken.{ClientAcked, ClientHearsPart, ClientHandshakes, ClientTook}
-use Rattle.channel_laws.proofs.Apart.{some_is_none, some_same}
+use Rattle.channel_laws.proofs.Apart.{some_same}
 use Rattle.channel_laws.proofs.EndStanding.{open_declines}
 use Rattle.lane_laws.proofs.RangeSums.{sum_heard, sum_more}
 use Rattle.lane_laws.proofs.RangesSaid.{IsNoData, heard_no_range, heard_range, no_data}
@@ -32,7 +32,6 @@ client_begins_counting shape c turns done k counted = record {
   announced = refl;
   infos = refl;
   acked = refl;
-  ready = λ none. refl;
   agrees = tt;
 }
 
@@ -93,7 +92,6 @@ takes_part shape c t turns packet done k counted part =
       announced = counted.announced;
       infos = counted.infos;
       acked = acked;
-      ready = counted.ready;
       agrees = hears_agrees shape c (record c { link = part.link }) turns packet done k counted (record { same = same_acked c.session; acked = acked });
     })
 
@@ -121,7 +119,6 @@ takes_handshake shape c t turns packet done k rests none counted handshakes =
       announced = counted.announced;
       infos = counted.infos;
       acked = acked;
-      ready = counted.ready;
       agrees = hears_agrees shape c (record c { link = handshakes.link; handshake = handshakes.handshake }) turns packet done k counted (record { same = same_acked c.session; acked = acked });
     })
 
@@ -154,7 +151,6 @@ takes_ack shape c t turns packet done k counted acks =
       announced = ap announced_of (sym acks.session_is) ∙ counted.announced;
       infos = ap infos_of (sym acks.session_is) ∙ counted.infos;
       acked = acked;
-      ready = λ none. some_is_none none;
       agrees = hears_agrees shape c (acknowledged (record c { link = acks.link }) session n) turns packet done k counted
           (record { same = acked_session c.session session n acks.session_is; acked = acked });
     })

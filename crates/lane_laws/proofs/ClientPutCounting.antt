@@ -19,14 +19,14 @@ use Rattle.channel_model.specs.EndPuts.{ComesUp, EndsOwn, Goes, PutKind, handsha
 use Rattle.disk_model.specs.LaneState.{Shape}
 use Rattle.channel_model.specs.Ranges.{wrapped}
 use Rattle.dring.specs.Slots.{range_length}
-use Rattle.channel_laws.proofs.Apart.{false_is_true, some_is_none, some_same}
+use Rattle.channel_laws.proofs.Apart.{false_is_true, some_same}
 use Rattle.channel_laws.proofs.PutSayings.{SaysWhole, SaysOn}
 use Rattle.channel_laws.proofs.EndStanding.{open_up}
 use Rattle.lane_laws.proofs.RangeSums.{count_more, count_said, sum_more, sum_said}
 use Rattle.lane_laws.proofs.RangeTurns.{range_turns}
 use Rattle.lane_laws.proofs.RangesSaid.{said_one, said_range}
 use Rattle.lane_laws.proofs.Sharing.{in_order}
-use Rattle.lane_laws.specs.Counted.{ClientCounted, ClientHolds, acked_of, announced_of, infos_of, range_count, range_sum, ready_count}
+use Rattle.lane_laws.specs.Counted.{ClientCounted, ClientHolds, acked_of, announced_of, infos_of, range_count, range_sum}
 use Rattle.lane_laws.specs.LaneRests.{ClientRests, ClientUtters}
 use Rattle.lane_laws.specs.Sound.{ClientSound, InOrder}
 use Rattle.lane_laws.specs.ChannelEnds.{client_core}
@@ -97,7 +97,6 @@ goes_counting shape c turns packet sid done k on counted =
       announced = announced;
       infos = infos;
       acked = counted.acked;
-      ready = λ none. ap ready_count on.messages ∙ counted.ready none;
       agrees = says_agrees shape c c.session turns packet sid done k counted (record { same = same_said c.session; announced = announced; infos = infos });
     }
 
@@ -116,7 +115,6 @@ comes_counting shape c turns packet sid done k rests utters down on counted =
       announced = announced;
       infos = infos;
       acked = counted.acked;
-      ready = λ none. ap ready_count on.messages ∙ counted.ready none;
       agrees = says_agrees shape c c.session turns packet sid done k counted (record { same = same_said c.session; announced = announced; infos = infos });
     }
 
@@ -182,6 +180,5 @@ own_counting shape c turns packet sid done k sound own last counted =
       announced = announced_is;
       infos = infos_are;
       acked = ap acked_of (sym info.is) ∙ counted.acked;
-      ready = λ none. some_is_none none;
       agrees = says_agrees shape c behind turns packet sid done k counted (record { same = same; announced = announced_is; infos = infos_are });
     })

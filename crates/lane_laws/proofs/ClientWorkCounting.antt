@@ -25,14 +25,14 @@ use Rattle.disk_model.specs.DiskEvent.{Accepted, Admitted, Full, Refused}
 use Rattle.disk_model.specs.LaneState.{Shape}
 use Rattle.channel_model.specs.Seeing.{Seen}
 use Rattle.lane_laws.proofs.ClientPutCounting.{counts_as, none_left, put_as, same_said, says_agrees}
-use Rattle.channel_laws.proofs.Apart.{false_is_true, none_is_some, some_is_none, some_same}
+use Rattle.channel_laws.proofs.Apart.{false_is_true, none_is_some, some_same}
 use Rattle.channel_laws.proofs.PutSayings.{SaysWhole}
 use Rattle.channel_laws.proofs.EndStanding.{open_up, owing_up, up_empty}
-use Rattle.lane_laws.proofs.RangeSums.{count_more, ready_more, sum_more}
-use Rattle.lane_laws.proofs.RangesSaid.{canonical_ready, owed_no_range}
+use Rattle.lane_laws.proofs.RangeSums.{count_more, sum_more}
+use Rattle.lane_laws.proofs.RangesSaid.{owed_no_range}
 use Rattle.lane_laws.proofs.RulesFree.{publishes_free}
 use Rattle.lane_laws.proofs.Ruling.{client_may}
-use Rattle.lane_laws.specs.Counted.{ClientCounted, acked_of, announced_of, infos_of, is_ready, one_where, range_count, range_sum, ready_count}
+use Rattle.lane_laws.specs.Counted.{ClientCounted, acked_of, announced_of, infos_of, range_count, range_sum}
 use Rattle.lane_laws.specs.LaneRests.{ClientRests, ClientUtters}
 use Rattle.lane_laws.specs.RuleFacts.{ClientMay}
 use Rattle.channel_laws.specs.HandshakeFits.{MayOwe, OwedFits}
@@ -81,10 +81,6 @@ sums_same shape c turns packet last owed =
       infos = omega (arith, ap (range_count 1) last.messages, count_more 1 (said turns) bytes, ap one_in owed.none);
     }
 
-not_ready : (b : Bool) (bytes : List ℕ) → is_ready bytes ≡ b → (is_ready bytes ≡ true → ⊥) → one_where (is_ready bytes) ≡ 0
-not_ready true bytes is never = absurd (never is)
-not_ready false bytes is never = ap one_where is
-
 none_more : (n : ℕ) → n ≡ n + 0
 none_more n = omega arith
 
@@ -102,7 +98,6 @@ handshake_as true shape c turns packet sid done k is rests first own last counte
       announced = sym (ap announced_of none) ∙ counted.announced ∙ sym same.ranges;
       infos = sym (ap infos_of none) ∙ counted.infos ∙ sym same.infos;
       acked = sym (ap acked_of none) ∙ counted.acked;
-      ready = λ absent. some_is_none absent;
       agrees = record { base = first; published = refl; announced = refl; infos = refl; acked = refl; completed = none_more done };
     }
 handshake_as false shape c turns packet sid done k is rests first own last counted =
@@ -110,11 +105,6 @@ handshake_as false shape c turns packet sid done k is rests first own last count
     let same = sums_same shape c turns packet last owed in
     let announced : announced_of c.session ≡ range_sum shape.slots 1 (said (Said packet ∷ turns)) = counted.announced ∙ sym same.ranges in
     let infos : infos_of c.session ≡ range_count 1 (said (Said packet ∷ turns)) = counted.infos ∙ sym same.infos in
-    let bytes = half_said turns ++ c.link.to_send in
-    let unready : one_where (is_ready bytes) ≡ 0 = not_ready (is_ready bytes) bytes refl (λ test.
-    let phase : c.handshake.phase ≡ PeerReadyTaken = canonical_ready c.handshake.phase owed.message owed.may (ap is_ready (sym owed.bytes_are) ∙ test) in
-    let now : opens_by_put c.handshake.role c.handshake.phase ≡ true = ap (λ (r : Role). opens_by_put r c.handshake.phase) rests.fits.role_is ∙ ap (λ (p : Phase). opens_by_put Initiator p) phase in
-    false_is_true (sym is ∙ now)) in
     record {
       slots = counted.slots;
       holds = none_left c turns packet (handshake_sent c.handshake) c.session last (λ s now announces.
@@ -122,7 +112,6 @@ handshake_as false shape c turns packet sid done k is rests first own last count
       announced = announced;
       infos = infos;
       acked = counted.acked;
-      ready = λ none. omega (arith, ap ready_count last.messages, ready_more (said turns) bytes, unready, counted.ready none);
       agrees = says_agrees shape c c.session turns packet sid done k counted (record { same = same_said c.session; announced = announced; infos = infos });
     }
 
@@ -155,7 +144,6 @@ says_counting shape c turns message done k known free owed counted =
       announced = counted.announced;
       infos = counted.infos;
       acked = counted.acked;
-      ready = counted.ready;
       agrees = counted.agrees;
     }
 
@@ -181,7 +169,6 @@ announces_counting shape c turns session done k known free is counted =
       announced = ap announced_of (sym is) ∙ counted.announced;
       infos = ap infos_of (sym is) ∙ counted.infos;
       acked = ap acked_of (sym is) ∙ counted.acked;
-      ready = λ none. absurd (cc);
       agrees = announcing_agrees c.session session done k is counted.agrees;
     }
 
@@ -225,7 +212,6 @@ client_publishes_counting shape c at memory id t new turns done k sound rests st
       announced = ap announced_of (sym may.1) ∙ counted.announced;
       infos = ap infos_of (sym may.1) ∙ counted.infos;
       acked = ap acked_of (sym may.1) ∙ counted.acked;
-      ready = λ none. absurd (cc);
       agrees = published_agrees c.session step.session done k may.1 counted.agrees;
     })
 
@@ -258,7 +244,6 @@ client_completes_counting shape c at memory id operation status bytes t new turn
       announced = ap announced_of (sym may.1) ∙ counted.announced;
       infos = ap infos_of (sym may.1) ∙ counted.infos;
       acked = ap acked_of (sym may.1) ∙ counted.acked;
-      ready = λ none. absurd (cc);
       agrees = completed_agrees c.session step.session done k may.1 counted.agrees;
     })
 
@@ -273,6 +258,5 @@ client_admits_counting shape c (Accepted id request) t turns done k admits count
   announced = counted.announced;
   infos = counted.infos;
   acked = counted.acked;
-  ready = counted.ready;
   agrees = counted.agrees;
 })

@@ -324,7 +324,6 @@ fresh_counted shape = record {
     announced = refl;
     infos = refl;
     acked = refl;
-    ready = λ none. refl;
     agrees = tt;
   };
   server = record {
@@ -333,7 +332,6 @@ fresh_counted shape = record {
     holds = λ owing some. absurd (omega (arith, some));
     order = record { asked = refl; answered = refl; infos = refl };
     unit = tt;
-    ready = λ now. absurd (cc);
     agrees = refl;
   };
 }

@@ -1,11 +1,13 @@
 -- The open sessions of both ends of a lane that nobody forged are one.
 use Rattle.std.proofs.Common.{◌≡◌, false, true, List, map, sym, ◌∙◌}
 use Rattle.std.specs.Prelude.{is_some}
+use Rattle.ldc_queue.specs.declared.end.End.TheVariants.{B}
+use Rattle.channel_model.specs.WireAt.{IsUp}
 use Rattle.runs.specs.Run.{Run}
 use Rattle.disk_model.specs.DiskEvent.{DiskEvent}
 use Rattle.disk_model.specs.LaneState.{IsShape, LaneState, Shape, fresh}
 use Rattle.disk_model.specs.LaneStep.{LaneStep}
-use Rattle.channel_laws.proofs.Sessions.{open_sessions_one}
+use Rattle.channel_laws.proofs.Sessions.{PeerIsOpen, open_sessions_begin, open_sessions_one}
 use Rattle.lane_laws.proofs.LaneChannel.{answers_of, asks_of, lane_matches}
 use Rattle.lane_laws.proofs.LaneCores.{lane_cores, lane_fits}
 use Rattle.lane_laws.specs.ChannelEnds.{core_event, core_of}
@@ -26,3 +28,10 @@ one_session shape events s sound run clean client server =
       count = one.ring.count;
       cookies = one.ring.cookies;
     }
+
+-- the client of a server in session whose end is up
+pub client_in_session : (shape : Shape) (events : List DiskEvent) (s : LaneState) → IsShape shape → Run LaneStep (fresh shape) events s
+    → s.wire.forged ≡ false → IsUp B s.wire.wire → is_some s.server.session ≡ true → PeerIsOpen (core_of s)
+client_in_session shape events s sound run clean up server =
+    open_sessions_begin shape.entries (asks_of shape) (answers_of shape) (map core_event events) (core_of s) (lane_fits shape sound) (lane_matches shape sound).matched
+    (lane_cores shape events s sound run) clean up server

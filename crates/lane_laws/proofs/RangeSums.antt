@@ -6,7 +6,7 @@ use Rattle.ldc_queue.specs.Transcript.{Heard as Heard_, Said, Turn}
 use Rattle.channel_model.specs.Sayings.{half_heard, half_said, heard, said, whole_by, whole_past}
 use Rattle.channel_model.specs.Messages.{range_ended, range_in, whole_with}
 use Rattle.lane_laws.specs.WorkLog.{length_in, one_in}
-use Rattle.lane_laws.specs.Counted.{is_ready, one_where, range_count, range_sum, ready_count}
+use Rattle.lane_laws.specs.Counted.{range_count, range_sum}
 
 -- ONE MORE MESSAGE
 pub sum_more : (slots subtype : ℕ) (messages : List (List ℕ)) (message : List ℕ)
@@ -19,18 +19,10 @@ pub count_more : (subtype : ℕ) (messages : List (List ℕ)) (message : List �
 count_more subtype [] message = omega arith
 count_more subtype (one ∷ messages) message = omega (arith, count_more subtype messages message)
 
-pub ready_more : (messages : List (List ℕ)) (message : List ℕ) → ready_count (messages ++ message ∷ []) ≡ ready_count messages + one_where (is_ready message)
-ready_more [] message = omega arith
-ready_more (one ∷ messages) message = omega (arith, ready_more messages message)
-
 -- more messages
 pub sum_front : (slots subtype : ℕ) (messages rest : List (List ℕ)) → range_sum slots subtype messages ≤ range_sum slots subtype (messages ++ rest)
 sum_front slots subtype [] rest = omega arith
 sum_front slots subtype (one ∷ messages) rest = omega (arith, sum_front slots subtype messages rest)
-
-pub ready_front : (messages rest : List (List ℕ)) → ready_count messages ≤ ready_count (messages ++ rest)
-ready_front [] rest = omega arith
-ready_front (one ∷ messages) rest = omega (arith, ready_front messages rest)
 
 -- ONE MORE PACKET adds what the range that it ends has
 by_end : (f : Option (List ℕ) → ℕ) (sum : List (List ℕ) → ℕ) (subtype : ℕ) (is : Bool) (part : Fragment) (half : List ℕ) (messages : List (List ℕ)) → f None ≡ 0

@@ -2,10 +2,10 @@
 use Rattle.std.proofs.Common.{◌≡◌, ◌≢◌, ℕ, zero, suc, ◌%◌, ◌^◌, ◌<◌, ◌≤◌, ◌⊎◌, inl, inr, Bool, true, false, Some, None, List, [], ◌∷◌, refl, sym, ap, ◌∙◌, subst, arith}
 use Rattle.std.specs.Int.{byte_at}
 use Rattle.std.specs.Prelude.{◌&&◌, ◌==◌, ⊤}
-use Rattle.std.proofs.lemmas.Bool.{and_parts, eqb-true}
+use Rattle.std.proofs.lemmas.Bool.{eqb-true}
 use Rattle.std.proofs.lemmas.Bool.Decides.{nat_tests}
 use Rattle.ldc_packet.specs.declared.packet.Subtype.{Subtype}
-use Rattle.ldc_packet.specs.declared.packet.Subtype.TheVariants.{Ack, Info, Nack}
+use Rattle.ldc_packet.specs.declared.packet.Subtype.TheVariants.{Nack}
 use Rattle.ldc_packet.specs.Spelling.{subtype_code}
 use Rattle.vio_tag.proofs.Canonical.{canonical_spells}
 use Rattle.vio_tag.specs.declared.message.Message.{Message}
@@ -14,13 +14,11 @@ use Rattle.vio_tag.specs.declared.message.MsgBody.TheVariants.{Attr, DringData, 
 use Rattle.vio_tag.specs.Form.{HasForm, IsWellFormed}
 use Rattle.vio_tag.specs.Spelling.{SpellsBody, SpellsMessage, canonical, envelope_at, envelope_code, subtype_at}
 use Rattle.vio_handshake.specs.declared.handshake.Phase.{Phase}
-use Rattle.vio_handshake.specs.declared.handshake.Phase.TheVariants.{PeerReadyTaken}
 use Rattle.vio_bytes.specs.Place.{big_bytes, number_at}
 use Rattle.channel_model.specs.Messages.{end_of, is_range, range_if, range_in, seq_of, sid_of, start_of}
 use Rattle.lane_laws.specs.EndLog.{ident_of, state_of}
 use Rattle.lane_laws.specs.WorkLog.{length_in, one_in}
 use Rattle.dring.specs.Slots.{range_length}
-use Rattle.lane_laws.specs.Counted.{is_ready}
 use Rattle.vio_handshake.specs.declared.handshake.Handshake.{Handshake}
 use Rattle.channel_laws.proofs.HandshakeCases.{HandshakeTook, row_apart}
 use Rattle.channel_laws.specs.EndStep.{IsOfSession}
@@ -300,32 +298,3 @@ said_range slots k n s seq ident start end state kind small_start small_end =
 pub said_one : (k n : ℕ) (s : Subtype) (seq ident start end state : ℕ) → subtype_code s ≡ k
     → one_in (range_in k (Some (canonical (record { subtype = s; sid = n; body = DringData seq ident start end state })))) ≡ 1
 said_one k n s seq ident start end state kind = ap one_in (said_is k n s seq ident start end state kind)
-
--- THE AGREEMENT TO RDX
-pub ready_heard : (bytes : List ℕ) (m : Message) → SpellsMessage bytes m → m.subtype ≡ Ack → m.body ≡ Rdx → is_ready bytes ≡ true
-ready_heard bytes m spells acks body =
-    let envelope : envelope_at bytes ≡ 5 = spells.envelope ∙ ap envelope_code body in
-    let subtype : subtype_at bytes ≡ 2 = spells.subtype ∙ ap subtype_code acks in
-    rw (envelope, subtype) refl
-
--- a message that a handshake owes is one in one phase alone
-ready_codes : (envelope subtype : ℕ) → (envelope == 5 && subtype == 2) ≡ true → (envelope ≡ 5) × (subtype ≡ 2)
-ready_codes envelope subtype test = let both = and_parts (envelope == 5) (subtype == 2) test in (eqb-true envelope 5 both.0, eqb-true subtype 2 both.1)
-
-ready_in : (phase : Phase) (n : ℕ) (s : Subtype) (b : MsgBody) → MayOwe phase s b → is_ready (canonical (record { subtype = s; sid = n; body = b })) ≡ true → phase ≡ PeerReadyTaken
-ready_in phase n Ack Rdx may test = may
-ready_in phase n Nack b may test =
-    let m : Message = record { subtype = Nack; sid = n; body = b } in
-    absurd (omega (arith, subtype_reads m, (ready_codes (envelope_at (canonical m)) (subtype_at (canonical m)) test).1))
-ready_in phase n Info b may test =
-    let m : Message = record { subtype = Info; sid = n; body = b } in
-    absurd (omega (arith, subtype_reads m, (ready_codes (envelope_at (canonical m)) (subtype_at (canonical m)) test).1))
-ready_in phase n Ack (DringData seq ident start end state) may test = absurd may
-ready_in phase n Ack (Mcast set count addresses) may test = absurd may
-ready_in phase n Ack (Plain envelope) may test = absurd may
-ready_in phase n Ack b may test =
-    let m : Message = record { subtype = Ack; sid = n; body = b } in
-    absurd (omega (arith, envelope_reads Ack n b tt, (ready_codes (envelope_at (canonical m)) (subtype_at (canonical m)) test).0))
-
-pub canonical_ready : (phase : Phase) (m : Message) → MayOwe phase m.subtype m.body → is_ready (canonical m) ≡ true → phase ≡ PeerReadyTaken
-canonical_ready phase m may test = ready_in phase m.sid m.subtype m.body may test

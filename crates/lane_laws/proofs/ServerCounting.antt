@@ -1,6 +1,6 @@
 -- A packet that a server takes leaves its session counting what it said and heard.
-use Rattle.std.proofs.Common.{◌%◌, ◌≡◌, ℕ, ◌+◌, ◌<◌, ◌≤◌, inl, inr, Bool, true, false, Option, Some, None, List, [], ◌∷◌, ◌++◌, length, refl, sym, ap, ◌∙◌, subst, arith}
-use Rattle.std.specs.Prelude.{is_some, ◌&&◌, if◌then◌else◌}
+use Rattle.std.proofs.Common.{◌%◌, ◌≡◌, ℕ, ◌+◌, ◌<◌, inl, inr, Bool, true, false, Option, Some, None, List, [], ◌∷◌, ◌++◌, length, refl, sym, ap, ◌∙◌, subst, arith}
+use Rattle.std.specs.Prelude.{is_some}
 use Rattle.std.proofs.lemmas.Nat.{mod_below}
 use Rattle.ldc_link.specs.declared.phase.Role.TheVariants.{Responder}
 use Rattle.ldc_link.specs.LinkState.{LinkState, is_up}
@@ -22,13 +22,13 @@ use Rattle.channel_laws.proofs.Apart.{none_is_some, some_same, true_is_false}
 use Rattle.channel_laws.specs.Grounds.{has_named}
 use Rattle.lane_laws.proofs.ClientTaken.{HearsMessage}
 use Rattle.channel_laws.proofs.EndStanding.{open_declines, up_empty}
-use Rattle.channel_laws.proofs.HandshakeCases.{HandshakeTook, opens_row}
-use Rattle.lane_laws.proofs.RangeSums.{count_more, ready_more, sum_heard, sum_more}
-use Rattle.lane_laws.proofs.RangesSaid.{IsNoData, heard_no_range, heard_one, heard_range, no_data, ready_heard}
+use Rattle.channel_laws.proofs.HandshakeCases.{HandshakeTook}
+use Rattle.lane_laws.proofs.RangeSums.{count_more, sum_heard, sum_more}
+use Rattle.lane_laws.proofs.RangesSaid.{IsNoData, heard_no_range, heard_one, heard_range, no_data}
 use Rattle.lane_laws.proofs.RulesFree.{TakesFree}
 use Rattle.lane_laws.proofs.ServerTaken.{ServerAsked, ServerHearsPart, ServerHandshakes, ServerTook, still}
 use Rattle.lane_laws.specs.Budget.{one_range}
-use Rattle.lane_laws.specs.Counted.{NothingAsked, RangeStands, ServerCounted, ServerHolds, ServerOrder, is_ready, one_where, range_count, range_sum, ready_count}
+use Rattle.lane_laws.specs.Counted.{NothingAsked, RangeStands, ServerCounted, ServerHolds, ServerOrder, range_count, range_sum}
 use Rattle.vio_tag.specs.declared.message.Message.{Message}
 use Rattle.lane_laws.specs.LaneRests.{ServerRests, ServerUtters}
 
@@ -40,7 +40,6 @@ server_begins_counting shape v turns d counted = record {
   holds = λ owing some. absurd (omega (arith, some));
   order = record { asked = refl; answered = refl; infos = refl };
   unit = tt;
-  ready = λ now. absurd (cc);
   agrees = refl;
 }
 
@@ -51,7 +50,6 @@ server_restarts_counting shape v turns d counted = record {
   holds = λ owing some. absurd (omega (arith, some));
   order = record { asked = refl; answered = refl; infos = refl };
   unit = tt;
-  ready = λ now. absurd (cc);
   agrees = refl;
 }
 
@@ -130,7 +128,6 @@ takes_part shape v t turns packet sid d opens utters counted part =
       holds = holds_risen (is_up v.link) v part.link turns refl part.left utters.idle counted.holds;
       order = order_same shape v.session d turns packet same (ap (range_count 1) part.messages) counted.order;
       unit = counted.unit;
-      ready = λ now. subst (λ (xs : List (List ℕ)). 1 ≤ ready_count xs) (sym part.messages) (counted.ready now);
       agrees = agrees_same v.session v.work d (length_in shape.slots (range_ended 1 (half_heard turns) packet)) none counted.agrees;
     }))
 
@@ -188,7 +185,6 @@ takes_handshake false shape v t turns packet sid d rests free counted handshakes
       holds = λ owing some. absurd (omega (arith, some, ap length handshakes.left, ap length empty));
       order = order_same shape v.session d turns packet same as_many counted.order;
       unit = counted.unit;
-      ready = λ now. omega (arith, counted.ready now, ap ready_count handshakes.hears.messages, ready_more (heard turns) bytes);
       agrees = agrees_same v.session v.work d (length_in shape.slots (range_ended 1 (half_heard turns) packet)) none counted.agrees;
     })
 takes_handshake true shape v t turns packet sid d rests free counted handshakes =
@@ -197,8 +193,6 @@ takes_handshake true shape v t turns packet sid d rests free counted handshakes 
     let empty : v.link.to_send ≡ [] = up_empty v.link handshakes.up free.free in
     let none : v.session ≡ None = closed v.session v.handshake.phase rests.opened (λ (now : v.handshake.phase ≡ Open). opens_closed v.handshake handshakes.handshake handshakes.message now handshakes.took) in
     let nothing = nothing_asked shape.slots v.session d turns none counted.order in
-    let is = (opens_row v.handshake handshakes.handshake handshakes.message handshakes.took.row).1 in
-    let readies : one_where (is_ready bytes) ≡ 1 = ap one_where (ready_heard bytes handshakes.message handshakes.hears.spells (ap (λ (m : Message). m.subtype) is) (ap (λ (m : Message). m.body) is)) in
     subst (Behind shape turns packet sid d true) (sym handshakes.is) (record {
       slots = counted.slots;
       blocks = counted.blocks;
@@ -220,7 +214,6 @@ takes_handshake true shape v t turns packet sid d rests free counted handshakes 
         replies = omega (arith, no_more_infos turns packet handshakes.message handshakes.hears apart, nothing.infos);
       };
       unit = counted.unit;
-      ready = λ now. omega (arith, ap ready_count handshakes.hears.messages, ready_more (heard turns) bytes, readies);
       agrees = (record { asked = refl; descs = refl; finished = refl; answered = refl }, opened_work v.work sid (no_work v.session v.work d none counted.agrees));
     })
 
@@ -323,7 +316,6 @@ takes_ask shape v t turns packet sid d opens rests free counted asks =
       holds = λ owing some. absurd (omega (arith, some, ap length asks.left, ap length empty));
       order = asked_order shape.slots added n v.session d turns (Heard_ packet ∷ turns) session next asks.range asks.session_is refl asks_of (sum_heard shape.slots 1 packet turns) refl one_more refl v.work counted.agrees counted.order;
       unit = counted.unit;
-      ready = λ now. omega (arith, counted.ready (ap is_some asks.session_is), ap ready_count asks.hears.messages, ready_more (heard turns) bytes);
       agrees = asked_agrees v.session v.work d session next asks.range n added asks.session_is refl adds counted.agrees;
     }))
 

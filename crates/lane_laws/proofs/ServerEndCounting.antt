@@ -95,7 +95,6 @@ server_fetches_counting shape v at reach slot bytes t new turns d rests step cou
       holds = holds_none v behind turns rests now free.0.free refl;
       order = both.0;
       unit = first_unit shape.blocks (disk_desc_of bytes);
-      ready = λ open_one. counted.ready now;
       agrees = both.1;
     })
 
@@ -147,7 +146,6 @@ server_finishes_counting shape v at reach slot status t new turns d rests step c
       holds = holds_none v behind turns rests now free.0.free refl;
       order = both.0;
       unit = tt;
-      ready = λ open_one. counted.ready now;
       agrees = both.1;
     })
 

@@ -76,7 +76,6 @@ server_holds_counting shape v (Says message) held turns d rests utters free is c
       holds = λ none some. answer_with v (offered (canonical message) v.link) (half_said turns ++ canonical message) (says_answer v turns message half free.1 none);
       order = counted.order;
       unit = counted.unit;
-      ready = counted.ready;
       agrees = counted.agrees;
     })
 server_holds_counting shape v _ held turns d rests utters free is counted = none_is_some is
@@ -145,7 +144,6 @@ goes_counting shape v turns packet d on counted =
           (subst (HoldsAnswer v) (sym on.whole) (counted.holds owing (on.some some)));
       order = order_same shape v.session d turns packet same counted.order;
       unit = counted.unit;
-      ready = counted.ready;
       agrees = agrees_same v.session v.work d (length_in shape.slots (range_ended 2 (half_said turns) packet)) none counted.agrees;
     }
 
@@ -160,7 +158,6 @@ comes_counting shape v turns packet d utters down on counted =
       holds = λ owing some. absurd (omega (arith, on.some some, ap length (utters.idle down)));
       order = order_same shape v.session d turns packet same counted.order;
       unit = counted.unit;
-      ready = counted.ready;
       agrees = agrees_same v.session v.work d (length_in shape.slots (range_ended 2 (half_said turns) packet)) none counted.agrees;
     }
 
@@ -182,7 +179,6 @@ handshake_counting shape v turns packet d rests some last counted =
       holds = λ owing left. absurd (omega (arith, left, ap length last.none));
       order = order_same shape v.session d turns packet same counted.order;
       unit = counted.unit;
-      ready = counted.ready;
       agrees = agrees_same v.session v.work d (length_in shape.slots (range_ended 2 (half_said turns) packet)) none counted.agrees;
     }
 
@@ -270,7 +266,6 @@ own_counting shape v turns packet d few none last counted =
       holds = λ owing left. absurd (omega (arith, left, ap length last.none));
       order = both.0;
       unit = counted.unit;
-      ready = λ now. counted.ready (ap is_some a.session_is);
       agrees = both.1;
     }
   where

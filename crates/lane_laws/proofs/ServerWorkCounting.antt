@@ -1,6 +1,6 @@
 -- A server's work on descriptors leaves its session counting them, and its log owing what is left of the one in work.
 use Rattle.std.proofs.Common.{◌≡◌, ℕ, ◌+◌, ◌-◌, ◌/◌, ◌%◌, ◌<◌, Bool, true, false, Option, Some, None, List, [], ◌∷◌, ◌++◌, length, refl, sym, ap, ◌∙◌, subst, arith}
-use Rattle.std.specs.Prelude.{is_some, nat_lt, nat_le, not, ◌&&◌, ◌||◌, ◌==◌, if◌then◌else◌, suc}
+use Rattle.std.specs.Prelude.{is_some, nat_lt, nat_le, not, ◌&&◌, ◌||◌, ◌==◌, suc, if◌then◌else◌}
 use Rattle.std.proofs.lemmas.Bool.{ltb-false, ltb-true}
 use Rattle.cookie_copy.specs.declared.fault.CopyFault.{CopyFault}
 use Rattle.ldc_link.specs.declared.phase.Role.TheVariants.{Responder}
@@ -203,7 +203,6 @@ piece_counting shape v turns d session work next f rests free is goes counted =
       holds = holds_none v (with_progress v work next) turns rests now free.free refl;
       order = order_owed shape.slots v.session d turns f counted.order;
       unit = goes.unit;
-      ready = counted.ready;
       agrees = agrees_owed v.session v.work work d next f is goes.owed now counted.agrees;
     }
 

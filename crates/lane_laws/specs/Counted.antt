@@ -1,15 +1,13 @@
 -- What an end's session counts, also where somebody forges packets and memory: the ranges of slots that the end said and heard, each message
 -- of the link being the one that is owed or the end's own.
-use Rattle.std.specs.Prelude.{◌≡◌, ℕ, ◌+◌, ◌%◌, ◌^◌, ◌<◌, ◌≤◌, ◌&&◌, ◌==◌, Bool, true, false, is_some, List, [], ◌∷◌, ◌++◌, length, Option, Some, None, ⊤}
+use Rattle.std.specs.Prelude.{◌≡◌, ℕ, ◌+◌, ◌%◌, ◌^◌, ◌<◌, ◌≤◌, Bool, true, false, List, [], ◌∷◌, ◌++◌, length, Option, Some, None, ⊤}
 use Rattle.ldc_queue.specs.Transcript.{Turn}
 use Rattle.vdisk_msg.specs.Pieces.{unit_count}
-use Rattle.vio_bytes.specs.Place.{number_at}
-use Rattle.vio_tag.specs.declared.message.Message.{Message}
 use Rattle.vio_tag.specs.Spelling.{canonical}
 use Rattle.channel_model.specs.Sayings.{half_said, heard, said}
 use Rattle.lane_laws.specs.Agreement.{ClientAgrees, ServerAgrees}
 use Rattle.lane_laws.specs.DiskLog.{DiskLog}
-use Rattle.channel_model.specs.Messages.{range_in, subtype_of}
+use Rattle.channel_model.specs.Messages.{range_in}
 use Rattle.lane_laws.specs.WorkLog.{ClientCounts, ServerCounts, length_in, one_in}
 use Rattle.disk_model.specs.ClientPutting.{announcement}
 use Rattle.disk_model.specs.ClientState.{ClientSession, ClientState}
@@ -21,7 +19,7 @@ use Rattle.disk_model.specs.ServerState.{Gathers, Gives, Progress, Reads, Server
 use Rattle.disk_model.specs.ServerWork.{desc_of}
 use Rattle.lane_laws.specs.Budget.{one_range}
 
--- SUMS over messages: the slots of their ranges, INFO 1 or ACK 2, how many ranges, and how many agreements to RDX
+-- SUMS over messages: the slots of their ranges, INFO 1 or ACK 2, and how many ranges
 abbrev pub range_sum : ℕ → ℕ → List (List ℕ) → ℕ
 range_sum slots subtype [] = 0
 range_sum slots subtype (message ∷ messages) = length_in slots (range_in subtype (Some message)) + range_sum slots subtype messages
@@ -30,16 +28,9 @@ abbrev pub range_count : ℕ → List (List ℕ) → ℕ
 range_count subtype [] = 0
 range_count subtype (message ∷ messages) = one_in (range_in subtype (Some message)) + range_count subtype messages
 
-abbrev pub is_ready : List ℕ → Bool
-is_ready message = number_at 2 2 message == 0x0005 && subtype_of message == 2
-
 abbrev pub one_where : Bool → ℕ
 one_where true = 1
 one_where false = 0
-
-abbrev pub ready_count : List (List ℕ) → ℕ
-ready_count [] = 0
-ready_count (message ∷ messages) = one_where (is_ready message) + ready_count messages
 
 -- THE CLIENT: where it announces, what was put of a message and what is left of it are the INFO that does
 abbrev pub ClientHolds : ClientState → List Turn → Type 0
@@ -58,14 +49,13 @@ abbrev pub acked_of : Option ClientSession → ℕ
 acked_of None = 0
 acked_of (Some session) = session.acked
 
--- its session counts what was said and heard, as the log does, and is open once it agreed to RDX
+-- its session counts what was said and heard, as the log does
 pub record ClientCounted (shape : Shape) (c : ClientState) (turns : List Turn) (done : ℕ) (k : Option ClientCounts) : Type 0 where
   pub slots : c.slots ≡ shape.slots
   pub holds : ClientHolds c turns
   pub announced : announced_of c.session ≡ range_sum shape.slots 1 (said turns)
   pub infos : infos_of c.session ≡ range_count 1 (said turns)
   pub acked : acked_of c.session ≡ range_sum shape.slots 2 (heard turns)
-  pub ready : c.session ≡ None → ready_count (said turns) ≡ 0
   pub agrees : ClientAgrees c.session done k
 
 -- THE SERVER: where its handshake owes nothing, they are the answer to its range, whose descriptors all are finished
@@ -125,7 +115,6 @@ pub record ServerCounted (shape : Shape) (v : ServerState) (turns : List Turn) (
   pub holds : ServerHolds v turns
   pub order : ServerOrder shape.slots v.session d turns
   pub unit : UnitFits v.work
-  pub ready : is_some v.session ≡ true → 1 ≤ ready_count (heard turns)
   pub agrees : ServerAgrees v.session v.work d
 
 -- BOTH ENDS of a lane, and its log
