@@ -1,5 +1,5 @@
 -- What the events of a lane that nobody forged tell of the statuses of its completions.
-use Rattle.std.proofs.Common.{◌≡◌, inl, inr, ℕ, ◌+◌, ◌≤◌, Bool, false, cond, List, [], ◌∷◌, length, refl, ap, ◌∙◌, subst, arith}
+use Rattle.std.proofs.Common.{◌≡◌, inl, inr, ℕ, Bool, false, cond, List, [], ◌∷◌, refl, ap, arith}
 use Rattle.std.specs.List.{All, count_by, filter_map}
 use Rattle.std.proofs.lemmas.List.Elements.{All-cons, All-nil}
 use Rattle.runs.specs.Lawful.{Lawful, log_of}

@@ -1,9 +1,9 @@
 -- Whether a disk's lane is finished, by its log.
-use Rattle.std.proofs.Common.{◌≡◌, ℕ, ◌-◌, ◌≤◌, Bool, true, false, List, [], ◌∷◌, length, Option, Some, None, refl, sym, ap, ◌∙◌, arith}
+use Rattle.std.proofs.Common.{◌≡◌, ℕ, ◌-◌, ◌≤◌, Bool, true, false, List, [], ◌∷◌, length, Option, Some, None, refl, sym, ◌∙◌, arith}
 use Rattle.std.specs.Prelude.{◌&&◌, is_some}
 use Rattle.runs.specs.Lawful.{log_of, run_lawful}
 use Rattle.runs.specs.Run.{Run}
-use Rattle.disk_model.specs.ClientState.{ClientSession, ClientState, is_finished, is_nothing}
+use Rattle.disk_model.specs.ClientState.{ClientSession, is_finished, is_nothing}
 use Rattle.disk_model.specs.DiskEvent.{DiskEvent}
 use Rattle.disk_model.specs.LaneState.{IsShape, LaneState, Shape, fresh}
 use Rattle.disk_model.specs.LaneStep.{LaneStep}
@@ -14,7 +14,7 @@ use Rattle.lane_laws.specs.Agreement.{AgreesWithLog, ClientAgrees}
 use Rattle.lane_laws.specs.DiskLog.{DiskLog, after, nothing_yet}
 use Rattle.lane_laws.specs.RequestLaws.{CarriesAt}
 use Rattle.lane_laws.specs.Standing.{RequestsStand}
-use Rattle.lane_laws.specs.WorkLog.{ClientCounts, WorkLog}
+use Rattle.lane_laws.specs.WorkLog.{ClientCounts}
 use Rattle.script_laws.specs.Settled.{IsFinishedBy}
 use Rattle.vdisk_msg.specs.declared.request.Request.{Request}
 

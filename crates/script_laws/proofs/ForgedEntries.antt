@@ -1,6 +1,5 @@
 -- A journal that forges a disk nowhere tells its lane of nothing that forges.
-use Rattle.std.proofs.Common.{◌≡◌, ◌≢◌, inl, inr, ℕ, ◌==◌, if◌then◌else◌, Bool, true, false, Option, Some, None, option_map, List, [], ◌∷◌, ◌++◌, refl}
-use Rattle.std.specs.Prelude.{⊤}
+use Rattle.std.proofs.Common.{◌≡◌, ℕ, ◌==◌, if◌then◌else◌, Bool, true, false, Option, Some, None, option_map, List, [], ◌∷◌, ◌++◌, refl}
 use Rattle.std.proofs.lemmas.Bool.{eqb-true}
 use Rattle.channel_model.specs.WireEvent.{Declines, Injected, Poked, WireEvent}
 use Rattle.disk_model.specs.DiskEvent.{Asks, Calms, DiskEvent, Full, OnWire, Refused}
@@ -11,7 +10,7 @@ use Rattle.ldom_report.specs.DiskEvents.{defect_of}
 use Rattle.ldom_report.specs.LaneEvents.{AtClient, AtLane, AtServer, AtWire, ChangesNothing, LeavesNothing, LeavesOver, Meaning, NoRoomFor, Refuses, meaning}
 use Rattle.world_laws.specs.Along.{event_at, happened}
 use Rattle.world_laws.specs.Forged.{NobodyForges, forges}
-use Rattle.world_laws.specs.Settle.{OfLane, SettleEntry, Settled, Unsettled}
+use Rattle.world_laws.specs.Settle.{OfLane, SettleEntry}
 use Rattle.world_parts.proofs.Meanings.{Has, Holds, disk_has, entry_has, lane_of, left_has, who_has, wire_has}
 use Rattle.world_parts.specs.Lines.{line_of}
 use Rattle.script_laws.specs.Forged.{IsOther, IsUnforged, forged_disk}

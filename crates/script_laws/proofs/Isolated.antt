@@ -1,5 +1,5 @@
 -- A line that is for one disk leaves the lanes of all others, and the image around that disk's region.
-use Rattle.std.proofs.Common.{◌≡◌, ℕ, zero, suc, ◌+◌, ◌*◌, ◌≤◌, Option, Some, IfSome, List, [], ◌∷◌, ◌++◌, length, map, replicate, slice_get, refl, sym, ap, ◌∙◌, subst, arith}
+use Rattle.std.proofs.Common.{◌≡◌, ℕ, zero, suc, ◌≤◌, Option, Some, IfSome, List, [], ◌∷◌, ◌++◌, length, replicate, slice_get, sym, ap, ◌∙◌, subst}
 use Rattle.runs.specs.Run.{Run, run_push}
 use Rattle.disk_law.specs.ListState.{ImageState}
 use Rattle.disk_model.specs.DiskEvent.{DiskEvent}

@@ -1,5 +1,5 @@
 -- A lane that was led on, by a part, from where the lines before it led.
-use Rattle.std.proofs.Common.{◌≡◌, ℕ, ◌≤◌, List, ◌++◌, length, map, slice_get, Some, sym, subst}
+use Rattle.std.proofs.Common.{◌≡◌, ℕ, List, ◌++◌, map, slice_get, Some, sym, subst}
 use Rattle.runs.specs.Run.{Run, run_append}
 use Rattle.disk_law.specs.ListState.{ImageState}
 use Rattle.disk_model.specs.DiskEvent.{DiskEvent}

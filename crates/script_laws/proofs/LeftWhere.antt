@@ -1,9 +1,8 @@
 -- Where a settle of a script's lines leaves a disk over: the rounds ran out, and the disk moved in them or waits.
-use Rattle.std.proofs.Common.{◌≡◌, ◌⊎◌, inl, inr, ℕ, ◌+◌, ◌*◌, ◌<◌, ◌≤◌, List, [], ◌∷◌, ◌++◌, length, map, slice_get, Some, true, refl, sym, ap, ◌∙◌, subst, arith, append_assoc}
+use Rattle.std.proofs.Common.{◌≡◌, ◌⊎◌, inl, inr, ℕ, ◌+◌, ◌*◌, ◌≤◌, List, [], ◌∷◌, ◌++◌, length, slice_get, Some, true, refl, sym, ap, ◌∙◌, subst, arith, append_assoc}
 use Rattle.runs.specs.Run.{Run}
 use Rattle.disk_law.specs.ListState.{ImageState}
-use Rattle.disk_model.specs.LaneState.{IsShape, LaneState, Shape, fresh}
-use Rattle.disk_model.specs.LaneStep.{LaneStep}
+use Rattle.disk_model.specs.LaneState.{LaneState, Shape}
 use Rattle.domain_script.specs.Declarations.{AreDisks}
 use Rattle.domain_script.specs.declared.event.DiskDecl.{DiskDecl}
 use Rattle.domain_script.specs.declared.event.Event.{Event}
@@ -18,7 +17,7 @@ use Rattle.world_laws.proofs.Pending.{world_pending}
 use Rattle.world_laws.proofs.Stuck.{made_move}
 use Rattle.world_laws.specs.Along.{LanesMove, happened}
 use Rattle.world_laws.specs.Begun.{SettleFront}
-use Rattle.world_laws.specs.Moves.{IsLeftOver, MovedIn, WaitsIn, moves, moves_in}
+use Rattle.world_laws.specs.Moves.{IsLeftOver, MovedIn, moves, moves_in}
 use Rattle.world_laws.specs.Requests.{pending_of}
 use Rattle.world_laws.specs.DiskKind.{waits_on}
 use Rattle.world_laws.specs.Settle.{GoesOn, RunsOut, SettleEntry, SettlePart, SettleRound, Settled, Settling, Unsettled, begin, disks, entries_of_rounds, left_over, most_rounds, pending_on}
@@ -33,7 +32,7 @@ use Rattle.script_laws.proofs.TicksNeeded.{waits_by}
 use Rattle.script_laws.proofs.TicksStand.{MovedTo, moved_to}
 use Rattle.script_laws.specs.Settled.{LeftWhereBusy, RunsOutIn, WaitsBy}
 use Rattle.script_laws.specs.Told.{log_at, told, told_by}
-use Rattle.world_parts.specs.Declared.{shapes_of, world_of}
+use Rattle.world_parts.specs.Declared.{shapes_of}
 
 -- AFTER SO MUCH OF A PART, where it names this lane
 pub record LeftAt (x : ℕ) (start : List LaneState) (so_far : List SettleEntry) (behind : List LaneState) : Type 0 where

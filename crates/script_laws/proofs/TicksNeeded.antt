@@ -33,7 +33,7 @@ use Rattle.script_laws.proofs.LedLanes.{led_run, own_run, told_run}
 use Rattle.script_laws.proofs.SettleLines.{EachSettles, SettlesBehind}
 use Rattle.script_laws.proofs.Settling.{reached_lines}
 use Rattle.script_laws.proofs.TicksStand.{TickAt, TicksStand, begun_stands, part_stands}
-use Rattle.script_laws.specs.Settled.{IsFinishedBy, NeedsTick, TicksAreNeeded, WaitsBy}
+use Rattle.script_laws.specs.Settled.{NeedsTick, TicksAreNeeded, WaitsBy}
 use Rattle.script_laws.specs.Still.{AreStillBy}
 use Rattle.script_laws.specs.Told.{log_at, told, told_by}
 use Rattle.script_laws.proofs.DiskShapes.{are_shapes}

@@ -1,12 +1,10 @@
 -- Each entry of a run of declared disks, forged or not, is of one of them and has its words.
-use Rattle.std.proofs.Common.{◌≡◌, inl, inr, ℕ, zero, suc, ◌<◌, ◌≤◌, ◌==◌, if◌then◌else◌, Bool, true, false, Some, List, [], ◌∷◌, ◌++◌, length, slice_get, slice_set, refl, sym, ap, ◌∙◌, subst, arith}
+use Rattle.std.proofs.Common.{◌≡◌, ℕ, ◌<◌, ◌≤◌, ◌==◌, if◌then◌else◌, Bool, true, false, List, [], ◌∷◌, ◌++◌, length, refl, sym, ap, ◌∙◌, subst, arith}
 use Rattle.std.specs.Prelude.{⊤}
 use Rattle.std.proofs.lemmas.Bool.{eqb-true}
 use Rattle.std.proofs.lemmas.Option.{slice_get_within}
 use Rattle.runs.specs.Run.{Run}
 use Rattle.disk_model.specs.DiskEvent.{DiskEvent}
-use Rattle.disk_model.specs.LaneState.{LaneState}
-use Rattle.disk_model.specs.LaneStep.{LaneStep}
 use Rattle.disk_model.specs.Reached.{IsReached}
 use Rattle.world_laws.specs.Along.{happened}
 use Rattle.world_laws.specs.Rounds.{Each}
@@ -44,8 +42,7 @@ pub run_told : (many : ℕ) (w : WorldState) (entries : List SettleEntry) (v : W
     → Each IsReached w.lanes → Run WorldStep w entries v → NamesBelow many entries → AreTold many entries
 run_told many w [] v long reached run below = tt
 run_told many w (OfLane k event ∷ entries) v long reached run below =
-    let first : Run WorldStep w (OfLane k event ∷ []) run.0 = (run.0, run.1, refl) in
-    (
+    let first : Run WorldStep w (OfLane k event ∷ []) run.0 = (run.0, run.1, refl) in (
       lane_told many w k event run.0 long reached run.1,
       run_told many run.0 entries v (many_stay w (OfLane k event ∷ []) run.0 first ∙ long)
           (stay_reached w (OfLane k event ∷ []) run.0 reached first) run.2 below.1,
