@@ -46,6 +46,10 @@ module _ {W M R E : Type 0} (K : Rounds W M R E) (Stands : W → M → Type 0) (
       (subst (To start (entries_of_rounds (out.rounds ++ out.last ∷ []))) (sym out.lanes) (stand_lead (begin K start) (out.rounds ++ out.last ∷ []) out.now stands out.run))
       (ends.names out.last.steps behind (K.names out.last.steps behind) [] (append-nil (K.names out.last.steps behind))))
 
+  pub part_stands : Ends K To → (start : W) (part : List E) (behind : W) → Stands start (K.unmarked start) → SettlePart K start part behind → To start part behind
+  part_stands ends start part behind stands (inl at) = settles_lead ends.answer start part behind stands at
+  part_stands ends start part behind stands (inr out) = out_leads ends start part behind stands out
+
   -- A FRONT, by where names lead
   module _ (F : Fronts W M E) (fronts : FrontsLeadWhere K F Stands To) where
     later_leads : (rounds : List (SettleRound R E)) (now : Settling W M) (most many : ℕ) (later : List E) (behind : W) → Stands now.lanes now.marks
@@ -63,6 +67,11 @@ module _ {W M R E : Type 0} (K : Rounds W M R E) (Stands : W → M → Type 0) (
         subst (λ (l : List E). To start l behind) (sym at.is)
         (laws.both start at.now.lanes behind (entries_of_rounds at.rounds) at.later (stand_lead (begin K start) at.rounds at.now stands at.run)
         (later_leads at.rounds at.now (most_rounds K start) (length at.rounds) at.later behind (rounds_stand K Stands laws.keeps (begin K start) at.rounds at.now at.run stands) named at.front))
+
+    pub front_stands : Ends K To → (start : W) (part : List E) (behind : W) → Stands start (K.unmarked start) → SettleFront K F start part behind → To start part behind
+    front_stands ends start part behind stands at =
+        front_by start part behind stands at
+        (λ all front. subst (To at.now.lanes at.later) (sym front.lanes) (ends.names front.last.steps at.now.lanes at.later front.unnamed front.is))
 
     -- of rounds that haven't run out
     pub few_stand : (start : W) (part : List E) (behind : W) → Stands start (K.unmarked start) → (at : SettleFront K F start part behind) → length at.rounds < most_rounds K start → To start part behind
@@ -89,8 +98,7 @@ module _ {W M R E : Type 0} (K : Rounds W M R E) (To : W → List E → W → Ty
   steps_lead start part behind at = before_answer K Always To always start part behind tt at
 
   pub part_leads : Ends K To → (start : W) (part : List E) (behind : W) → SettlePart K start part behind → To start part behind
-  part_leads ends start part behind (inl at) = settles_lead K Always To always ends.answer start part behind tt at
-  part_leads ends start part behind (inr out) = out_leads K Always To always ends start part behind tt out
+  part_leads ends start part behind settle = part_stands K Always To always ends start part behind tt settle
 
   module _ (F : Fronts W M E) (fronts : FrontsLead K F To) where
     fronts_always : FrontsLeadWhere K F Always To
@@ -100,9 +108,7 @@ module _ {W M R E : Type 0} (K : Rounds W M R E) (To : W → List E → W → Ty
     }
 
     pub front_leads : Ends K To → (start : W) (part : List E) (behind : W) → SettleFront K F start part behind → To start part behind
-    front_leads ends start part behind at =
-        front_by K Always To always F fronts_always start part behind tt at
-        (λ all front. subst (To at.now.lanes at.later) (sym front.lanes) (ends.names front.last.steps at.now.lanes at.later front.unnamed front.is))
+    front_leads ends start part behind at = front_stands K Always To always F fronts_always ends start part behind tt at
 
     pub few_lead : (start : W) (part : List E) (behind : W) (at : SettleFront K F start part behind) → length at.rounds < most_rounds K start → To start part behind
     few_lead start part behind at few = few_stand K Always To always F fronts_always start part behind tt at few

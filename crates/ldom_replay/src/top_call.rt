@@ -14,7 +14,7 @@ ghost use Rattle.ldom_dump.specs.DumpReport.{Dumps};
 ghost use Rattle.ldom_dump.specs.Whole.{IsWhole};
 ghost use Rattle.script_laws.specs.Counts.{FaultsTold, NoneFailed, counts};
 ghost use Rattle.script_laws.specs.Clean.{EndsClean, IsCleanScript, NeverFails, StandsStill};
-ghost use Rattle.script_laws.specs.Failures.{SucceedOrFail, failed_count};
+ghost use Rattle.script_laws.specs.Failures.{FailuresCounted, SucceedOrFail};
 ghost use Rattle.ldom_report.specs.DiskEvents.{history};
 ghost use Rattle.script_laws.specs.Objects.{host_tells, run_leaves, tells};
 ghost use Rattle.script_laws.specs.Outcomes.{Reports, RunsScript};
@@ -113,9 +113,10 @@ pub fn replay<H: Host, S: Source, K: Sink>(
         → (image ≢ codes "-" → IfSome result.image (λ disk. bytes_needed clean.names.disks ≤ H.Disk.size disk))
         → result.status ≢ Status.SinkFault → EndsClean result.status result.journal.entries }
 
-    // Each completion has status 0, or 5 where the image failed: no more of these than the image counts.
+    // Each completion of a disk that nobody forged has status 0, or 5 where the image failed: no more of these than the
+    // image counts, of that disk, and of all disks together where nobody forged one.
     ensures statuses { SucceedOrFail result.journal.entries }
-    ensures failures { IfSome result.image (λ image. failed_count result.journal.entries ≤ H.Disk.faults image) }
+    ensures failures { IfSome result.image (λ image. FailuresCounted result.journal.entries (H.Disk.faults image)) }
 
     // The image was called once for each entry `stored` of the journal, and asked to flush or to write once for each of a
     // flush or a write: whether the call failed or not.

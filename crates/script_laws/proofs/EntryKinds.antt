@@ -21,10 +21,9 @@ use Rattle.ldom_report.specs.DiskEvents.{Defective, NoRoom, NotTaken, Nothing, O
 use Rattle.ldom_report.specs.LaneEvents.{AtClient, AtLane, AtServer, AtWire, ChangesNothing, LeavesNothing, LeavesOver, Meaning, NoRoomFor, Refuses, meaning}
 use Rattle.world_parts.specs.WorldEvents.{at_disk, full_event, if_so, refused_event, world_event}
 use Rattle.world_laws.specs.Failures.{is_failed_done}
-use Rattle.world_laws.specs.Statuses.{TellsStore}
 use Rattle.world_parts.specs.Lines.{line_of}
 use Rattle.world_laws.specs.Requests.{request_event}
-use Rattle.script_laws.specs.Failures.{SucceedsOrFails, has_failed}
+use Rattle.script_laws.specs.Failures.{has_failed}
 use Rattle.world_parts.proofs.Meanings.{Holds, disk_has, entry_has, lane_of, left_has, wire_has}
 
 -- what a journal tells of a disk whatever its lines asked: which requests were accepted and completed
@@ -34,11 +33,6 @@ kept (plain.Full request) = None
 kept (plain.Refused why request) = None
 kept (plain.Done id operation status bytes) = Some (plain.Done id operation status bytes)
 kept plain.Rested = None
-
--- the status of a completion tells that all went well, or that the store failed
-abbrev pub IsWell : DiskEvent → Type 0
-IsWell (Works (Done id operation status bytes)) = TellsStore status
-IsWell _ = ⊤
 
 -- AN ENTRY OF A DISK, whatever was asked: a request was accepted, or completed
 pub record AtDisk (entry : Entry) (means : SettleEntry) : Type 0 where
@@ -50,7 +44,6 @@ pub record AtDisk (entry : Entry) (means : SettleEntry) : Type 0 where
   pub sees : request_event event ≡ Some seen
   pub keeps : kept seen ≡ Some seen
   pub failed : is_failed_done event ≡ has_failed seen
-  pub status : IsWell event → SucceedsOrFails seen
 
 -- the request of the entry's line wasn't taken up
 pub record NotTakenUp (asked : Event) (entry : Entry) (means : SettleEntry) : Type 0 where
@@ -174,7 +167,6 @@ accepted_kind k id request m is = record {
   sees = refl;
   keeps = refl;
   failed = refl;
-  status = λ well. tt;
 }
 
 done_kind : (k id operation status : ℕ) (bytes : BytesState) (m : SettleEntry)
@@ -189,7 +181,6 @@ done_kind k id operation status bytes m is = record {
   sees = refl;
   keeps = refl;
   failed = refl;
-  status = λ well. well;
 }
 
 -- EACH ENTRY is of one of these kinds

@@ -10,7 +10,9 @@ use Rattle.world_laws.specs.World.{WorldState}
 use Rattle.script_laws.proofs.Disks.{of_disk}
 use Rattle.script_laws.proofs.Leading.{Leads, script_leads}
 use Rattle.script_laws.proofs.SettleLines.{EachSettles, rules_at, script_settles}
-use Rattle.script_laws.proofs.Settling.{settle_at}
+use Rattle.script_laws.proofs.LeftWhere.{left_where_busy, rounds_ran_out}
+use Rattle.script_laws.proofs.SettleRests.{rests_or_ticked}
+use Rattle.script_laws.proofs.Settling.{settle_at, settled_where}
 use Rattle.script_laws.proofs.TicksNeeded.{ticks_are_needed}
 use Rattle.script_laws.proofs.DeclaredWorlds.{declared_world}
 use Rattle.script_laws.specs.Headline.{Headline}
@@ -48,10 +50,16 @@ headline_law disks image parts v are few long fits =
       each = of_disk disks image are long entries v leads;
       settles = record {
         each = λ before part behind is.
-            rules_at disks image are few before (told_by (Settle, part)) (each before part behind is);
+            rules_at disks image before (told_by (Settle, part)) (each before part behind is);
         ends = settle_at disks image are few parts.whole fits.middle fits.run;
+        settled = settled_where disks image are few parts.whole fits.middle fits.run;
+        left = λ before part behind so_far x rest is place.
+            rounds_ran_out disks image are before (told_by (Settle, part)) so_far x rest (each before part behind is)
+            place;
         none_left = leads.none_left;
       };
       ticks = λ x shape of_shape. ticks_are_needed disks image are few x shape of_shape (all_lines parts) each;
+      left = λ x shape of_shape. left_where_busy disks image are x shape of_shape (all_lines parts) each;
+      rests = λ x shape of_shape. rests_or_ticked disks image are few x shape of_shape (all_lines parts) each;
       outside = outside disks image are few long entries v leads;
     }

@@ -1,9 +1,9 @@
--- A lane that nobody forged stands as its log says behind each front of the entries.
-use Rattle.std.proofs.Common.{◌≡◌, ℕ, false, List, ◌++◌, sym, ap, ◌∙◌, subst}
-use Rattle.runs.specs.Lawful.{log_append, log_of}
+-- A lane stands as its log says behind each front of the entries, forged or not.
+use Rattle.std.proofs.Common.{◌≡◌, ℕ, false, List, ◌++◌, ap, ◌∙◌, subst}
+use Rattle.runs.specs.Lawful.{log_of}
 use Rattle.runs.specs.Run.{Run, run_split}
 use Rattle.disk_model.specs.DiskEvent.{DiskEvent}
-use Rattle.lane_laws.specs.DiskLog.{DiskLog, after, nothing_yet}
+use Rattle.lane_laws.specs.DiskLog.{after, nothing_yet}
 use Rattle.disk_model.specs.LaneState.{IsShape, LaneState, Shape, fresh}
 use Rattle.disk_model.specs.LaneStep.{LaneStep}
 use Rattle.channel_model.specs.WireLog.{WireLog}
@@ -13,22 +13,19 @@ use Rattle.lane_laws.proofs.NearOrder.{near_in_order}
 use Rattle.lane_laws.proofs.OneSession.{one_session}
 use Rattle.lane_laws.proofs.SlotsAlong.{run_order}
 use Rattle.lane_laws.proofs.HeardFront.{both_up}
-use Rattle.world_laws.proofs.LawFacts.{clean_before, log_clean}
 use Rattle.world_laws.proofs.Moving.{happened_both}
 use Rattle.world_laws.specs.Along.{happened}
 use Rattle.world_laws.specs.Settle.{SettleEntry}
 use Rattle.script_laws.proofs.Hearing.{hears_a_front}
-use Rattle.script_laws.specs.Lanes.{Moment, StandsAt}
+use Rattle.script_laws.specs.Lanes.{Moment, StandsAt, StandsUnforged}
 
 -- AFTER EVENTS of a lane
-pub stands_at : (shape : Shape) (events : List DiskEvent) (s : LaneState) → IsShape shape
-    → Run LaneStep (fresh shape) events s → s.wire.forged ≡ false
-    → StandsAt s (log_of after (nothing_yet shape) events)
-stands_at shape events s sound run unforged =
-    let clean = log_clean shape events s sound run unforged in
+stands_unforged : (shape : Shape) (events : List DiskEvent) (s : LaneState) → IsShape shape
+    → Run LaneStep (fresh shape) events s → (log_of after (nothing_yet shape) events).wire.forged ≡ false
+    → StandsUnforged s (log_of after (nothing_yet shape) events)
+stands_unforged shape events s sound run clean =
+    let unforged : s.wire.forged ≡ false = ap (λ (w : WireLog). w.forged) (run_agrees shape events s sound run).wire ∙ clean in
     record {
-      agrees = run_agrees shape events s sound run;
-      unforged = unforged;
       hears = λ e up. hears_a_front shape events s e sound run unforged up;
       sessions = λ client server.
           let up = both_up shape events s sound run unforged client server in
@@ -42,25 +39,25 @@ stands_at shape events s sound run unforged =
       near = near_in_order shape events s sound run clean;
     }
 
+pub stands_at : (shape : Shape) (events : List DiskEvent) (s : LaneState) → IsShape shape
+    → Run LaneStep (fresh shape) events s → StandsAt s (log_of after (nothing_yet shape) events)
+stands_at shape events s sound run = record {
+  agrees = run_agrees shape events s sound run;
+  unforged = stands_unforged shape events s sound run;
+}
+
 -- BEHIND A FRONT
 pub moment : (shape : Shape) (x : ℕ) (before behind : List SettleEntry) (last : LaneState) → IsShape shape
-    → Run LaneStep (fresh shape) (happened x (before ++ behind)) last → last.wire.forged ≡ false
-    → Moment shape x before behind last
-moment shape x before behind last sound run unforged =
+    → Run LaneStep (fresh shape) (happened x (before ++ behind)) last → Moment shape x before behind last
+moment shape x before behind last sound run =
     let front : List DiskEvent = happened x before in
     let rest : List DiskEvent = happened x behind in
     let whole : Run LaneStep (fresh shape) (front ++ rest) last =
     subst (λ (events : List DiskEvent). Run LaneStep (fresh shape) events last) (happened_both x before behind) run in
     let parts = run_split LaneStep (fresh shape) last front rest whole in
-    let l : DiskLog = log_of after (nothing_yet shape) front in
-    let all : (log_of after l rest).wire.forged ≡ false =
-    ap (λ (m : DiskLog). m.wire.forged) (sym (log_append after (nothing_yet shape) front rest))
-    ∙ log_clean shape (front ++ rest) last sound whole unforged in
-    let here : l.wire.forged ≡ false = clean_before l rest all in
-    let wire = (run_agrees shape front parts.0 sound parts.1).wire in
     record {
       state = parts.0;
       reached = parts.1;
       leads = parts.2;
-      stands = stands_at shape front parts.0 sound parts.1 (ap (λ (w : WireLog). w.forged) wire ∙ here);
+      stands = stands_at shape front parts.0 sound parts.1;
     }

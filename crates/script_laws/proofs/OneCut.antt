@@ -1,6 +1,6 @@
 -- A journal cuts into the parts of its lines in one way: the part of a line has so many entries, or ends in the answer
--- of a settle.
-use Rattle.std.proofs.Common.{◌≡◌, ◌⊎◌, inl, inr, ℕ, ◌+◌, ◌≤◌, Bool, true, false, Option, Some, None, List, [], ◌∷◌, ◌++◌, length, map, replicate, refl, sym, ap, ◌∙◌, subst, arith, append-nil}
+-- of a settle or in names, and no part begins with a name.
+use Rattle.std.proofs.Common.{◌≡◌, ◌⊎◌, inl, inr, ℕ, ◌≤◌, Option, Some, None, List, [], ◌∷◌, ◌++◌, length, map, replicate, refl, sym, ap, ◌∙◌, subst, arith, append-nil}
 use Rattle.std.proofs.lemmas.List.{append_cancel_left, length-map}
 use Rattle.runs.specs.Run.{Run, run_push}
 use Rattle.disk_law.specs.ListState.{ImageState}
@@ -10,26 +10,25 @@ use Rattle.domain_script.specs.Declarations.{AreDisks}
 use Rattle.domain_script.specs.declared.event.DiskDecl.{DiskDecl}
 use Rattle.domain_script.specs.declared.event.Event.{Event}
 use Rattle.world_laws.proofs.Along.{lanes_run, lines_run}
-use Rattle.world_laws.specs.Settle.{OfLane, SettleEntry, Settled}
+use Rattle.world_laws.specs.Settle.{SettleEntry, SettlePart}
 use Rattle.world_laws.specs.Lines.{AreSteps, Asked, Calls, Line, Nothing, OneEntry, PartOf, Rounds, Steps, EndTurn, entries_of_lines, turn, turns_of}
 use Rattle.world_laws.specs.Lines as world
 use Rattle.world_laws.specs.World.{WorldState}
 use Rattle.world_parts.specs.WorldEvents.{world_event}
 use Rattle.ldom_entries.specs.declared.entry.Entry.{Entry}
-use Rattle.script_laws.proofs.CleanLanes.{AreClean}
+use Rattle.script_laws.proofs.AnswerEntries.{BeginsUnnamed, UpToAnswer, begun_unnamed, one_front, up_to_names, up_to_settled, whole_unnamed}
+use Rattle.script_laws.proofs.ReachedLanes.{AreReached}
 use Rattle.script_laws.proofs.DeclaredWorlds.{as_told, lines_told}
 use Rattle.script_laws.proofs.DiskShapes.{many_shapes}
-use Rattle.world_laws.proofs.LineEntries.{EachEntry, by_answer}
-use Rattle.script_laws.proofs.Entries.{IsOfLane}
-use Rattle.script_laws.proofs.LineEntries.{clean_settles}
-use Rattle.script_laws.proofs.SettleEntries.{SettledLast, settled_last}
-use Rattle.script_laws.proofs.Settling.{clean_lines}
+use Rattle.world_laws.proofs.LineEntries.{by_answer}
+use Rattle.script_laws.proofs.SettleEntries.{NamesLast, SettledLast, out_last, settled_last, some_left}
+use Rattle.script_laws.proofs.Settling.{reached_lines}
 use Rattle.world_parts.specs.Declared.{shapes_of, world_of}
-use Rattle.world_parts.specs.Lines.{EventStep, line_of}
+use Rattle.world_parts.specs.Lines.{EventStep, LineStarts, line_of}
 use Rattle.world_parts.specs.Parts.{PartSays}
-use Rattle.world_parts.specs.Script.{FitsScript, ScriptParts, all_lines, entries_in, events_in, events_of, journal_of, with_last}
+use Rattle.world_parts.specs.Script.{FitsScript, LastStarts, ScriptParts, all_lines, entries_in, events_in, events_of, journal_of, with_last}
 
--- FRONTS OF A LIST that are as long, and fronts up to the first that meets a test
+-- FRONTS OF A LIST that are as long
 same_front : {X : Type 0} (p q j k : List X) → length p ≡ length q → p ++ j ≡ q ++ k → p ≡ q
 same_front {X} [] [] j k long is = refl
 same_front {X} [] (y ∷ q) j k long is = absurd (omega (arith, long))
@@ -39,33 +38,7 @@ same_front {X} (x ∷ p) (y ∷ q) j k long is =
     let others : p ++ j ≡ q ++ k = cc is in
     ap (λ (z : X). z ∷ p) first ∙ ap (λ (l : List X). y ∷ l) (same_front p q j k (omega (arith, long)) others)
 
--- it is the last of them
-abbrev UpToFirst : {X : Type 0} → (X → Bool) → List X → Type 0
-UpToFirst test [] = ⊥
-UpToFirst test (x ∷ xs) = ((test x ≡ true) × (xs ≡ [])) ⊎ ((test x ≡ false) × UpToFirst test xs)
-
-never_both : (a b : Bool) → a ≡ b → a ≡ true → b ≡ false → ⊥
-never_both a b same one two = cc (same, one, two)
-
-one_front : {X : Type 0} (test : X → Bool) (p q j k : List X) → UpToFirst test p → UpToFirst test q
-    → p ++ j ≡ q ++ k → p ≡ q
-one_front {X} test [] q j k first second is = absurd first
-one_front {X} test (x ∷ p) [] j k first second is = absurd second
-one_front {X} test (x ∷ p) (y ∷ q) j k (inl here) (inl there) is =
-    let same : x ≡ y = cc is in
-    ap (λ (z : X). z ∷ p) same ∙ ap (λ (l : List X). y ∷ l) (here.1 ∙ sym there.1)
-one_front {X} test (x ∷ p) (y ∷ q) j k (inl here) (inr there) is =
-    let same : x ≡ y = cc is in
-    absurd (never_both (test x) (test y) (ap test same) here.0 there.0)
-one_front {X} test (x ∷ p) (y ∷ q) j k (inr here) (inl there) is =
-    let same : x ≡ y = cc is in
-    absurd (never_both (test y) (test x) (sym (ap test same)) there.0 here.0)
-one_front {X} test (x ∷ p) (y ∷ q) j k (inr here) (inr there) is =
-    let same : x ≡ y = cc is in
-    let others : p ++ j ≡ q ++ k = cc is in
-    ap (λ (z : X). z ∷ p) same ∙ ap (λ (l : List X). y ∷ l) (one_front test p q j k here.1 there.1 others)
-
--- THE PART OF A LINE has so many entries, by the number of lanes; that of a settle ends with its answer
+-- THE PART OF A LINE has so many entries, by the number of lanes; that of a settle ends with its answer, or with names
 abbrev part_size : Line → ℕ → Option ℕ
 part_size Nothing many = Some 0
 part_size (Asked k request) many = Some 1
@@ -74,9 +47,13 @@ part_size (Rounds count) many = Some (length (turns_of count many))
 part_size world.Settles many = None
 part_size (Calls k call) many = Some 1
 
+record SomeNamed (part : List SettleEntry) : Type 0 where
+  last : NamesLast part
+  some : 1 ≤ length last.names
+
 abbrev IsDelimited : Option ℕ → List SettleEntry → Type 0
 IsDelimited (Some n) part = length part ≡ n
-IsDelimited None part = SettledLast part
+IsDelimited None part = SettledLast part ⊎ SomeNamed part
 
 as_turns : (turns : List EndTurn) (part : List SettleEntry) → AreSteps turns part → length part ≡ length turns
 as_turns [] [] are = refl
@@ -87,56 +64,41 @@ as_turns (next ∷ turns) [] are = absurd are
 one_long : (k : ℕ) (Answers : DiskEvent → Type 0) (part : List SettleEntry) → OneEntry k Answers part → length part ≡ 1
 one_long k Answers part one = ap (λ (l : List SettleEntry). length l) one.is
 
-delimited : (line : Line) (lanes : List LaneState) (part : List SettleEntry) (behind : List LaneState) → AreClean lanes
+settle_delimited : (lanes : List LaneState) (part : List SettleEntry) (behind : List LaneState) → AreReached lanes
+    → SettlePart lanes part behind → SettledLast part ⊎ SomeNamed part
+settle_delimited lanes part behind at (inl settles) = inl (settled_last lanes part behind settles)
+settle_delimited lanes part behind at (inr out) =
+    inr (record { last = out_last lanes part behind out; some = some_left lanes part behind out at.reached })
+
+delimited : (line : Line) (lanes : List LaneState) (part : List SettleEntry) (behind : List LaneState) → AreReached lanes
     → PartOf line lanes part behind → IsDelimited (part_size line (length lanes)) part
-delimited Nothing lanes part behind clean is = ap (λ (l : List SettleEntry). length l) is
-delimited (Asked k request) lanes part behind clean is = one_long k _ part is
-delimited (Steps k e count) lanes part behind clean is = as_turns (replicate count (turn k e)) part is
-delimited (Rounds count) lanes part behind clean is = as_turns (turns_of count (length lanes)) part is
-delimited world.Settles lanes part behind clean is =
-    settled_last lanes part behind (clean_settles lanes part behind clean is)
-delimited (Calls lane call) lanes part behind clean is =
+delimited Nothing lanes part behind at is = ap (λ (l : List SettleEntry). length l) is
+delimited (Asked k request) lanes part behind at is = one_long k _ part is
+delimited (Steps k e count) lanes part behind at is = as_turns (replicate count (turn k e)) part is
+delimited (Rounds count) lanes part behind at is = as_turns (turns_of count (length lanes)) part is
+delimited world.Settles lanes part behind at is = settle_delimited lanes part behind at is
+delimited (Calls lane call) lanes part behind at is =
     by_answer (λ (l : List SettleEntry). length l ≡ 1) lane call part (λ k event same answers. refl) is
 
--- ITS ENTRIES are as many, and the answer stands last among them
-abbrev is_answer : Option SettleEntry → Bool
-is_answer (Some Settled) = true
-is_answer _ = false
-
-of_lane_is_none : (m : SettleEntry) → IsOfLane m → is_answer (Some m) ≡ false
-of_lane_is_none (OfLane k event) is = refl
-of_lane_is_none _ is = absurd is
-
-up_to_answer : (f : Entry → Option SettleEntry) (part : List Entry) (front : List SettleEntry)
-    → map f part ≡ map Some (front ++ Settled ∷ []) → EachEntry IsOfLane front
-    → UpToFirst (λ (x : Entry). is_answer (f x)) part
-up_to_answer f [] [] says of_lanes = absurd (cc says)
-up_to_answer f (x ∷ []) [] says of_lanes =
-    let is : f x ≡ Some Settled = cc says in
-    inl (ap is_answer is, refl)
-up_to_answer f (x ∷ y ∷ part) [] says of_lanes = absurd (cc says)
-up_to_answer f [] (m ∷ front) says of_lanes = absurd (cc says)
-up_to_answer f (x ∷ part) (m ∷ front) says of_lanes =
-    let is : f x ≡ Some m = cc says in
-    let others : map f part ≡ map Some (front ++ Settled ∷ []) = cc says in
-    inr (ap is_answer is ∙ of_lane_is_none m of_lanes.0, up_to_answer f part front others of_lanes.1)
-
+-- ITS ENTRIES are as many, or the answer stands last among them
 says_long : (line : Line) (part : List Entry) (entries : List SettleEntry) → PartSays line part entries
     → length part ≡ length entries
 says_long line part entries says =
     sym (length-map part (world_event line)) ∙ ap (λ (l : List (Option SettleEntry)). length l) says
     ∙ length-map entries Some
 
+up_to_answer : (line : Line) (part : List Entry) (entries : List SettleEntry) → PartSays line part entries
+    → SettledLast entries ⊎ SomeNamed entries → UpToAnswer part
+up_to_answer line part entries says (inl last) = up_to_settled line part entries says last
+up_to_answer line part entries says (inr named) = up_to_names line part entries says named.last named.some
+
 one_part : (size : Option ℕ) (line : Line) (one two : List SettleEntry) (p q j k : List Entry) → IsDelimited size one
-    → IsDelimited size two → PartSays line p one → PartSays line q two → p ++ j ≡ q ++ k → p ≡ q
-one_part (Some n) line one two p q j k first second says also is =
+    → IsDelimited size two → PartSays line p one → PartSays line q two → BeginsUnnamed j → BeginsUnnamed k
+    → p ++ j ≡ q ++ k → p ≡ q
+one_part (Some n) line one two p q j k first second says also here there is =
     same_front p q j k (says_long line p one says ∙ first ∙ sym second ∙ sym (says_long line q two also)) is
-one_part None line one two p q j k first second says also is =
-    one_front (λ (x : Entry). is_answer (world_event line x)) p q j k
-    (up_to_answer (world_event line) p first.front
-    (says ∙ ap (λ (l : List SettleEntry). map Some l) first.is) first.of_lanes)
-    (up_to_answer (world_event line) q second.front
-    (also ∙ ap (λ (l : List SettleEntry). map Some l) second.is) second.of_lanes) is
+one_part None line one two p q j k first second says also here there is =
+    one_front p q j k (up_to_answer line p one says first) (up_to_answer line q two also second) here there is
 
 -- ONE LINE, which no others follow
 no_events : (lines : List (Event × List Entry)) → [] ≡ events_in lines → [] ≡ lines
@@ -157,6 +119,22 @@ first_last : (line : Event × List Entry) (lines : List (Event × List Entry)) (
 first_last line lines None = refl
 first_last line lines (Some last) = refl
 
+-- what is left of the lines begins with no name
+begun_first : (m : WorldState) (line : Event × List Entry) (v : WorldState) → LineStarts m line v
+    → BeginsUnnamed (line.1 ++ [])
+begun_first m line v starts =
+    begun_unnamed (line_of line.0) line.1 starts.entries m.lanes v.lanes [] starts.says starts.begins.begins tt
+
+lines_unnamed : (w m v : WorldState) (xs : List (Event × List Entry)) (cut : Option (Event × List Entry))
+    → Run EventStep w xs m → LastStarts m cut v → BeginsUnnamed (entries_in (with_last xs cut))
+lines_unnamed w m v [] None run last = tt
+lines_unnamed w m v [] (Some line) run last = begun_first m line v last
+lines_unnamed w m v (x ∷ xs) cut run last =
+    let step = run.1 in
+    subst (λ (l : List (Event × List Entry)). BeginsUnnamed (entries_in l)) (sym (first_last x xs cut))
+    (whole_unnamed (line_of x.0) x.1 step.entries w.lanes run.0.lanes (entries_in (with_last xs cut)) step.says
+    step.moves.part_of (lines_unnamed run.0 m v xs cut run.2 last))
+
 -- LINES over the same disks
 module _ (disks : List DiskDecl) (image : ImageState) (are : AreDisks disks) (few : length disks ≤ 8) where
   -- where some lines led
@@ -170,9 +148,9 @@ module _ (disks : List DiskDecl) (image : ImageState) (are : AreDisks disks) (fe
     run = run_push EventStep (world_of disks image) w v at.before line at.run step;
   }
 
-  clean_there : (w : WorldState) → IsLed w → AreClean w.lanes
-  clean_there w at =
-      clean_lines disks image are few (map as_told at.before) w
+  reached_there : (w : WorldState) → IsLed w → AreReached w.lanes
+  reached_there w at =
+      reached_lines disks image are few (map as_told at.before) w
       (lines_told (world_of disks image) at.before w at.run)
 
   many_there : (w : WorldState) → IsLed w → length w.lanes ≡ length disks
@@ -186,17 +164,18 @@ module _ (disks : List DiskDecl) (image : ImageState) (are : AreDisks disks) (fe
       → (step : EventStep w (event, part) v) → IsDelimited (part_size (line_of event) (length disks)) step.entries
   there_delimited w event part v at step =
       subst (λ (n : ℕ). IsDelimited (part_size (line_of event) n) step.entries) (many_there w at)
-      (delimited (line_of event) w.lanes step.entries v.lanes (clean_there w at) step.moves.part_of)
+      (delimited (line_of event) w.lanes step.entries v.lanes (reached_there w at) step.moves.part_of)
 
   same_part : (w u v x : WorldState) (event : Event) (p q j k : List Entry) → IsLed w → IsLed u
-      → EventStep w (event, p) v → EventStep u (event, q) x → p ++ j ≡ q ++ k → p ≡ q
-  same_part w u v x event p q j k led also one two is =
+      → EventStep w (event, p) v → EventStep u (event, q) x → BeginsUnnamed j → BeginsUnnamed k → p ++ j ≡ q ++ k → p ≡ q
+  same_part w u v x event p q j k led also one two here there is =
       one_part (part_size (line_of event) (length disks)) (line_of event) one.entries two.entries p q j k
-      (there_delimited w event p v led one) (there_delimited u event q x also two) one.says two.says is
+      (there_delimited w event p v led one) (there_delimited u event q x also two) one.says two.says here there is
 
   -- a line first of both lists
   module _ (w u v x : WorldState) (line other : Event × List Entry) (lines others : List (Event × List Entry))
       (led : IsLed w) (also : IsLed u) (one : EventStep w line v) (two : EventStep u other x)
+      (here : BeginsUnnamed (entries_in lines)) (there : BeginsUnnamed (entries_in others))
       (events : line.0 ∷ events_in lines ≡ other.0 ∷ events_in others)
       (entries : line.1 ++ entries_in lines ≡ other.1 ++ entries_in others) where
     same_event : line.0 ≡ other.0
@@ -205,7 +184,7 @@ module _ (disks : List DiskDecl) (image : ImageState) (are : AreDisks disks) (fe
     first_part : line.1 ≡ other.1
     first_part =
         same_part w u v x line.0 line.1 other.1 (entries_in lines) (entries_in others) led also one
-        (subst (λ (event : Event). EventStep u (event, other.1) x) (sym same_event) two) entries
+        (subst (λ (event : Event). EventStep u (event, other.1) x) (sym same_event) two) here there entries
 
     pub first_same : line ≡ other
     first_same =
@@ -219,32 +198,38 @@ module _ (disks : List DiskDecl) (image : ImageState) (are : AreDisks disks) (fe
         append_cancel_left line.1 (entries_in lines) (entries_in others)
         (entries ∙ ap (λ (l : List Entry). l ++ entries_in others) (sym first_part))
 
-  same_lines : (w u m n : WorldState) (xs ys : List (Event × List Entry)) (c d : Option (Event × List Entry))
-      → IsLed w → IsLed u → Run EventStep w xs m → Run EventStep u ys n
+  same_lines : (w u m n v z : WorldState) (xs ys : List (Event × List Entry)) (c d : Option (Event × List Entry))
+      → IsLed w → IsLed u → Run EventStep w xs m → Run EventStep u ys n → LastStarts m c v → LastStarts n d z
       → events_in (with_last xs c) ≡ events_in (with_last ys d)
       → entries_in (with_last xs c) ≡ entries_in (with_last ys d) → with_last xs c ≡ with_last ys d
-  same_lines w u m n [] ys None d led also one two events entries = no_events (with_last ys d) events
-  same_lines w u m n [] ys (Some last) d led also one two events entries =
-      only_line last (with_last ys d) events entries
-  same_lines w u m n (x ∷ xs) [] c None led also one two events entries =
+  same_lines w u m n v z [] ys None d led also one two last other events entries = no_events (with_last ys d) events
+  same_lines w u m n v z [] ys (Some line) d led also one two last other events entries =
+      only_line line (with_last ys d) events entries
+  same_lines w u m n v z (x ∷ xs) [] c None led also one two last other events entries =
       sym (no_events (with_last (x ∷ xs) c) (sym events))
-  same_lines w u m n (x ∷ xs) [] c (Some last) led also one two events entries =
-      sym (only_line last (with_last (x ∷ xs) c) (sym events) (sym entries))
-  same_lines w u m n (x ∷ xs) (y ∷ ys) c d led also one two events entries =
+  same_lines w u m n v z (x ∷ xs) [] c (Some line) led also one two last other events entries =
+      sym (only_line line (with_last (x ∷ xs) c) (sym events) (sym entries))
+  same_lines w u m n v z (x ∷ xs) (y ∷ ys) c d led also one two last other events entries =
       let front = first_last x xs c in
-      let other = first_last y ys d in
+      let second = first_last y ys d in
       let all_events : x.0 ∷ events_in (with_last xs c) ≡ y.0 ∷ events_in (with_last ys d) =
-      sym (ap events_in front) ∙ events ∙ ap events_in other in
+      sym (ap events_in front) ∙ events ∙ ap events_in second in
       let all_entries : x.1 ++ entries_in (with_last xs c) ≡ y.1 ++ entries_in (with_last ys d) =
-      sym (ap entries_in front) ∙ entries ∙ ap entries_in other in
+      sym (ap entries_in front) ∙ entries ∙ ap entries_in second in
+      let here = lines_unnamed one.0 m v xs c one.2 last in
+      let there = lines_unnamed two.0 n z ys d two.2 other in
       let same : x ≡ y =
-      first_same w u one.0 two.0 x y (with_last xs c) (with_last ys d) led also one.1 two.1 all_events all_entries in
+      first_same w u one.0 two.0 x y (with_last xs c) (with_last ys d) led also one.1 two.1 here there all_events
+      all_entries in
       let rest : with_last xs c ≡ with_last ys d =
-      same_lines one.0 two.0 m n xs ys c d (led_on w x one.0 led one.1) (led_on u y two.0 also two.1) one.2 two.2
-      (later_events w u one.0 two.0 x y (with_last xs c) (with_last ys d) led also one.1 two.1 all_events all_entries)
-      (later_entries w u one.0 two.0 x y (with_last xs c) (with_last ys d) led also one.1 two.1 all_events all_entries) in
+      same_lines one.0 two.0 m n v z xs ys c d (led_on w x one.0 led one.1) (led_on u y two.0 also two.1) one.2 two.2
+      last other
+      (later_events w u one.0 two.0 x y (with_last xs c) (with_last ys d) led also one.1 two.1 here there all_events
+      all_entries)
+      (later_entries w u one.0 two.0 x y (with_last xs c) (with_last ys d) led also one.1 two.1 here there all_events
+      all_entries) in
       front ∙ ap (λ (l : Event × List Entry). l ∷ with_last xs c) same
-      ∙ ap (λ (l : List (Event × List Entry)). y ∷ l) rest ∙ sym other
+      ∙ ap (λ (l : List (Event × List Entry)). y ∷ l) rest ∙ sym second
 
 pub one_cut : (disks : List DiskDecl) (image : ImageState) (parts others : ScriptParts) (v u : WorldState)
     → AreDisks disks → length disks ≤ 8
@@ -252,5 +237,6 @@ pub one_cut : (disks : List DiskDecl) (image : ImageState) (parts others : Scrip
     → events_of parts ≡ events_of others → journal_of parts ≡ journal_of others → all_lines parts ≡ all_lines others
 one_cut disks image parts others v u are few fits also events journal =
     let start : WorldState = world_of disks image in
-    same_lines disks image are few start start fits.middle also.middle parts.whole others.whole parts.cut others.cut
-    (record { before = []; run = refl }) (record { before = []; run = refl }) fits.run also.run events journal
+    same_lines disks image are few start start fits.middle also.middle v u parts.whole others.whole parts.cut others.cut
+    (record { before = []; run = refl }) (record { before = []; run = refl }) fits.run also.run fits.last also.last
+    events journal

@@ -1,5 +1,5 @@
 -- What holds of the journal of every run.
-use Rattle.std.proofs.Common.{◌≡◌, ℕ, ◌^◌, ◌<◌, ◌≤◌, List, [], ◌∷◌, ◌++◌, length, refl, sym, ◌∙◌, ap, subst, Option, IfSome}
+use Rattle.std.proofs.Common.{◌≡◌, ℕ, ◌^◌, ◌<◌, List, [], ◌∷◌, ◌++◌, length, refl, sym, ◌∙◌, ap, subst, Option, IfSome}
 use Rattle.std.specs.List.{All}
 use Rattle.std.proofs.lemmas.Option.{IfSome_then}
 use Rattle.disk_law.specs.Issued.{CompletesOnceInOrder}
@@ -14,7 +14,7 @@ use Rattle.ldom_entries.specs.declared.entry.Entry.{Entry}
 use Rattle.ldom_report.specs.declared.status.Status.{Status}
 use Rattle.ldom_report.specs.declared.status.Status.TheVariants as status
 use Rattle.script_laws.specs.Admitting.{AdmitsAll}
-use Rattle.script_laws.specs.Failures.{SucceedOrFail, failed_count}
+use Rattle.script_laws.specs.Failures.{FailuresCounted, SucceedOrFail}
 use Rattle.script_laws.specs.Headline.{Headline}
 use Rattle.script_laws.specs.Replayed.{FaultsAre, Replayed, start_of}
 use Rattle.script_laws.specs.Sized.{SizeIs}
@@ -63,7 +63,7 @@ module _ {D : Type 0} (seen : D → ImageState) (script now : Option (List ℕ))
       of_journal (λ (l : List Entry). CompletesOnceInOrder (history disk l))
       (script_once names.disks start 0 run.parts run.final disks_are fits disk)
 
-  -- each completion has status 0 or 5
+  -- each completion of a disk that nobody forged has status 0 or 5
   pub statuses : SucceedOrFail journal
   statuses = of_journal SucceedOrFail (script_statuses names.disks start 0 run.parts run.final disks_are fits)
 
@@ -91,11 +91,11 @@ module _ {D : Type 0} (seen : D → ImageState) (script now : Option (List ℕ))
     parts_short = subst (λ (l : List Entry). length l < 2 ^ 63) (sym run.journal_is.is) short
 
     -- no more completions failed than the image counts
-    pub failures : IfSome image (λ disk. failed_count journal ≤ (seen disk).faults)
+    pub failures : IfSome image (λ disk. FailuresCounted journal (seen disk).faults)
     failures =
         IfSome_then image run.image_is
-        (λ disk is. subst (λ (i : ImageState). failed_count journal ≤ i.faults) (sym is)
-        (of_journal (λ (l : List Entry). failed_count l ≤ run.final.image.faults)
+        (λ disk is. subst (λ (i : ImageState). FailuresCounted journal i.faults) (sym is)
+        (of_journal (λ (l : List Entry). FailuresCounted l run.final.image.faults)
         (script_failed names.disks start 0 run.parts run.final disks_are fits refl parts_short)))
 
     -- and each call of it is told

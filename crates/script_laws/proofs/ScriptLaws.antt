@@ -1,29 +1,38 @@
 -- What a script's journal says of the requests of its disks and of the image.
-use Rattle.std.proofs.Common.{◌≡◌, inl, inr, ℕ, ◌^◌, ◌<◌, ◌≤◌, ◌==◌, Bool, true, Option, Some, IfSome, List, [], ◌∷◌, length, slice_get, slice_index, sym, ap, ◌∙◌, subst, arith}
+use Rattle.std.proofs.Common.{◌≡◌, inl, inr, ℕ, ◌^◌, ◌<◌, ◌≤◌, ◌==◌, Bool, true, false, Option, Some, IfSome, List, [], ◌∷◌, length, slice_get, slice_index, sym, ap, ◌∙◌, subst, arith}
 use Rattle.std.specs.List.{All, count_by, filter_map}
 use Rattle.std.proofs.lemmas.Bool.{cases_lt}
 use Rattle.std.proofs.lemmas.List.{length-map}
+use Rattle.std.proofs.lemmas.List.Elements.{All-nil}
 use Rattle.std.proofs.lemmas.List.Sums.{count_by-le-length}
+use Rattle.runs.specs.Lawful.{log_of}
 use Rattle.runs.specs.Run.{Run}
 use Rattle.vio_io.specs.Causes.{count_after}
 use Rattle.vdisk_msg.specs.declared.request.Request.{Request}
 use Rattle.disk_law.specs.Issued.{Admission, CompletesOnceInOrder, issued}
 use Rattle.disk_law.specs.ListState.{ImageState}
 use Rattle.disk_law.specs.ListStep as plain
-use Rattle.disk_model.specs.LaneState.{fresh}
+use Rattle.disk_model.specs.DiskEvent.{DiskEvent}
+use Rattle.disk_model.specs.LaneState.{Shape, fresh}
+use Rattle.disk_model.specs.LaneStep.{LaneStep}
+use Rattle.lane_laws.specs.DiskLog.{after, nothing_yet}
 use Rattle.domain_script.specs.Declarations.{AreDisks}
 use Rattle.domain_script.specs.declared.event.DiskDecl.{DiskDecl}
 use Rattle.domain_script.specs.declared.event.Event.{Event}
 use Rattle.world_laws.specs.Along.{happened}
-use Rattle.world_laws.proofs.Along.{fresh_reached}
+use Rattle.world_laws.proofs.Along.{fresh_reached, lane_at, lanes_run, shape_at}
 use Rattle.lane_kinds.proofs.Places.{get_within}
 use Rattle.world_laws.specs.World.{IsWorld, WorldState, WorldStep}
-use Rattle.world_laws.specs.Failures.{in_entry, is_flush, is_store, is_store_that, is_write}
+use Rattle.world_laws.specs.Failures.{in_entry, is_failed_done, is_flush, is_store, is_store_that, is_write}
+use Rattle.world_laws.specs.Forged.{NobodyForges}
+use Rattle.world_laws.specs.NamesNo.{AllLeaveAlone}
 use Rattle.world_laws.proofs.ImageFaults.{few_counted, run_calls, run_flushes, run_writes}
 use Rattle.ldom_report.specs.DiskEvents.{history}
 use Rattle.ldom_report.specs.HasWords.{HasWords}
 use Rattle.ldom_entries.specs.declared.entry.Entry.{Entry}
-use Rattle.world_laws.proofs.WorldLaws.{world_counted}
+use Rattle.world_laws.proofs.Forging.{all_unforged, forged_by_events}
+use Rattle.world_laws.proofs.LawFacts.{log_clean}
+use Rattle.world_laws.proofs.WorldLaws.{disk_counted, world_counted, world_tells}
 use Rattle.world_laws.proofs.BehindDisks.{stays_behind}
 use Rattle.world_laws.proofs.NamedRuns.{stays_at}
 use Rattle.world_parts.specs.Declared.{bytes_needed, shape_of, shapes_of, world_of}
@@ -32,7 +41,8 @@ use Rattle.world_parts.specs.Script.{FitsScript, ScriptParts, all_lines, journal
 use Rattle.world_laws.proofs.RequestLaws.{disk_admits, disk_completes}
 use Rattle.world_laws.specs.Requests.{requests_of}
 use Rattle.script_laws.specs.Admitting.{AdmitsAll}
-use Rattle.script_laws.specs.Failures.{SucceedOrFail, failed_count}
+use Rattle.script_laws.specs.Failures.{FailuresCounted, SucceedOrFail, SucceedsOrFails, failed_count, has_failed}
+use Rattle.script_laws.specs.Forged.{IsUnforged}
 use Rattle.script_laws.specs.Outside.{IsOutsideAll, IsOutsideDisks, KeepsOthers}
 use Rattle.script_laws.specs.Stored.{flush_count, is_stored_that, stored_count, write_count}
 use Rattle.script_laws.proofs.DiskHistory.{all_seen, history_kept, issued_kept, kept_once, nothing_once}
@@ -43,9 +53,11 @@ use Rattle.script_laws.proofs.StoredEntries.{all_stored}
 use Rattle.script_laws.proofs.Tellings.{Telling, as_many, entries_told, means_of}
 use Rattle.script_laws.proofs.Through.{JournalTells, script_tells}
 use Rattle.script_laws.proofs.ToldEntries.{AreTold, none_happened, run_told}
-use Rattle.script_laws.proofs.WholeHistory.{all_counts, all_statuses}
+use Rattle.script_laws.proofs.WholeHistory.{all_counts}
+use Rattle.script_laws.proofs.ForgedEntries.{means_unforged}
+use Rattle.script_laws.proofs.DiskStatuses.{failed_of, kept_of, statuses_of}
 use Rattle.script_laws.proofs.WordedEntries.{all_words}
-use Rattle.script_laws.proofs.WrittenPlaces.{AreOutside, names_no}
+use Rattle.script_laws.proofs.WrittenPlaces.{names_no}
 
 -- A RUN by no entry
 no_run : (w v : WorldState) (tellings : List Telling) → entries_told tellings ≡ [] → Run WorldStep w (means_of tellings) v
@@ -69,7 +81,7 @@ module _ (disks : List DiskDecl) (image : ImageState) (entries : ℕ) (parts : S
   told_all =
       run_told (length disks) (world_of disks image) (means_of tells.tellings) v
       (length-map (shapes_of 0 disks) fresh ∙ many_shapes 0 disks)
-      (fresh_reached 0 (shapes_of 0 disks) (are_shapes 0 disks are)) tells.run tells.unforged tells.below
+      (fresh_reached 0 (shapes_of 0 disks) (are_shapes 0 disks are)) tells.run tells.below
 
   -- the disk's events
   disk_seen : (x : ℕ) → all_happened x lines ≡ requests_of (happened x (means_of tells.tellings))
@@ -117,10 +129,21 @@ module _ (disks : List DiskDecl) (image : ImageState) (entries : ℕ) (parts : S
   issued_is : (x : ℕ) → issued (history x journal) ≡ issued (requests_of (happened x (means_of tells.tellings)))
   issued_is x = ap issued (history_is x) ∙ issued_kept (requests_of (happened x (means_of tells.tellings)))
 
-  are_outside : (place : ℕ) → IsOutsideDisks disks journal place
-      → AreOutside (shapes_of 0 disks) place (means_of tells.tellings)
-  are_outside place outside x shape there =
-      subst (λ (l : List Request). IsOutsideAll shape.first place l) (issued_is x) (outside x shape there)
+  -- a disk that the journal forges nowhere
+  none_forges : (x : ℕ) → IsUnforged x journal → NobodyForges (happened x (means_of tells.tellings))
+  none_forges x none = means_unforged x tells.tellings (subst (IsUnforged x) (sym tells.journal_is) none)
+
+  leave_alone : (place : ℕ) → IsOutsideDisks disks journal place
+      → AllLeaveAlone (shapes_of 0 disks) place (means_of tells.tellings)
+  leave_alone place outside x shape there = elim (outside x shape there) [
+    | inl out ↦ inl out
+    | inr clean ↦
+        inr (
+          none_forges x clean.0,
+          names_no shape.first place (happened x (means_of tells.tellings))
+              (subst (λ (l : List Request). IsOutsideAll shape.first place l) (issued_is x) clean.1),
+        )
+  ]
 
   same_content : (a b : List ℕ) → Some a ≡ Some b → a ≡ b
   same_content a b is = cc is
@@ -139,22 +162,51 @@ module _ (disks : List DiskDecl) (image : ImageState) (entries : ℕ) (parts : S
         told_is = stays.told_is;
         long = stays.long;
         same = λ place outside.
-            let at = stays_at shapes image content place world told means v tells.run tells.unforged
-            (names_no shapes place means (are_outside place outside)) in
+            let at = stays_at shapes image content place world told means v tells.run (leave_alone place outside) in
             let now = same_content stays.now at.now (sym stays.told_is ∙ at.told_is) in
             ap (λ (l : List ℕ). slice_index l place) now ∙ at.byte;
       }
 
   -- no more failed than the image counts
-  pub script_failed : image.faults ≡ 0 → length journal < 2 ^ 63 → failed_count journal ≤ v.image.faults
-  script_failed none short =
-      let means = means_of tells.tellings in
+  means_short : length journal < 2 ^ 63 → length (means_of tells.tellings) < 2 ^ 63
+  means_short short =
       let many = as_many tells.tellings in
       let long = ap (λ (l : List Entry). length l) tells.journal_is in
+      omega (arith, many, long, short)
+
+  disk_failed : (x : ℕ) → image.faults ≡ 0 → length journal < 2 ^ 63 → IsUnforged x journal
+      → count_by has_failed (history x journal) ≤ v.image.faults
+  disk_failed x none short clean = elim (cases_lt x (length disks)) [
+    | inl below ↦
+        let events = happened x (means_of tells.tellings) in
+        let count : count_by has_failed (history x journal) ≡ count_by is_failed_done events =
+        ap (λ (es : List plain.ListEvent). count_by has_failed es) (history_is x) ∙ failed_of events in
+        let most = disk_counted (shapes_of 0 disks) image (means_of tells.tellings) v x (are_shapes 0 disks are) tells.run
+        (omega (arith, below, many_shapes 0 disks)) (none_forges x clean) none (means_short short) in
+        omega (arith, count, most)
+    | inr past ↦
+        let nothing : history x journal ≡ [] =
+        history_is x ∙ ap kept_of (none_happened (length disks) x (means_of tells.tellings) past told_all) in
+        let count : count_by has_failed (history x journal) ≡ 0 =
+        ap (λ (es : List plain.ListEvent). count_by has_failed es) nothing in
+        omega (arith, count)
+  ]
+
+  all_failed : image.faults ≡ 0 → length journal < 2 ^ 63 → ((x : ℕ) → IsUnforged x journal)
+      → failed_count journal ≤ v.image.faults
+  all_failed none short clean =
+      let means = means_of tells.tellings in
       let count = ap failed_count (sym tells.journal_is) ∙ all_counts tells.tellings in
-      let most = world_counted (shapes_of 0 disks) image means v (are_shapes 0 disks are) tells.run tells.unforged none
-      (omega (arith, many, long, short)) in
+      let most = world_counted (shapes_of 0 disks) image means v (are_shapes 0 disks are) tells.run
+      (all_unforged (shapes_of 0 disks) image means v tells.run (λ x. none_forges x (clean x))) none
+      (means_short short) in
       omega (arith, count, most)
+
+  pub script_failed : image.faults ≡ 0 → length journal < 2 ^ 63 → FailuresCounted journal v.image.faults
+  script_failed none short = record {
+    each = λ x clean. disk_failed x none short clean;
+    all = all_failed none short;
+  }
 
   -- each call of the image is told
   counted : (says : ℕ → Bool → Bool) → length journal < 2 ^ 63
@@ -190,9 +242,36 @@ module _ (disks : List DiskDecl) (image : ImageState) (entries : ℕ) (parts : S
   pub script_nothing : journal ≡ [] → v ≡ world_of disks image
   script_nothing none = no_run (world_of disks image) v tells.tellings (tells.journal_is ∙ none) tells.run
 
-  -- each completion has the status 0 or 5
+  -- each completion of a disk that nobody forged has the status 0 or 5
+  log_unforged : (x : ℕ) (shape : Shape) → slice_get (shapes_of 0 disks) x ≡ Some shape
+      → NobodyForges (happened x (means_of tells.tellings))
+      → (log_of after (nothing_yet shape) (happened x (means_of tells.tellings))).wire.forged ≡ false
+  log_unforged x shape of_shape none =
+      let events = happened x (means_of tells.tellings) in
+      let lane = lane_at (shapes_of 0 disks) image (means_of tells.tellings) v x shape tells.run of_shape in
+      let run : Run LaneStep (fresh shape) events lane.0 =
+      (lanes_run (shapes_of 0 disks) image (means_of tells.tellings) v tells.run).each x shape lane.0 of_shape lane.1 in
+      log_clean shape events lane.0 (shape_at 0 (shapes_of 0 disks) x shape (are_shapes 0 disks are) of_shape) run
+      ((forged_by_events shape events lane.0 run).1 none)
+
+  kept_statuses : (x : ℕ) → NobodyForges (happened x (means_of tells.tellings))
+      → All SucceedsOrFails (kept_of (happened x (means_of tells.tellings)))
+  kept_statuses x none = elim (cases_lt x (length disks)) [
+    | inl below ↦
+        let disk = get_within disks x below in
+        let at = shape_there 0 disks x disk.0 disk.1 in
+        statuses_of (nothing_yet (shape_of at.0 disk.0)) (happened x (means_of tells.tellings))
+        (world_tells (shapes_of 0 disks) image (means_of tells.tellings) v x (shape_of at.0 disk.0)
+        (are_shapes 0 disks are) tells.run at.1) (log_unforged x (shape_of at.0 disk.0) at.1 none)
+    | inr past ↦
+        subst (λ (l : List DiskEvent). All SucceedsOrFails (kept_of l))
+        (sym (none_happened (length disks) x (means_of tells.tellings) past told_all)) (All-nil SucceedsOrFails)
+  ]
+
   pub script_statuses : SucceedOrFail journal
-  script_statuses = subst SucceedOrFail tells.journal_is (all_statuses (length disks) tells.tellings told_all)
+  script_statuses = λ x clean.
+      subst (λ (es : List plain.ListEvent). All SucceedsOrFails es) (sym (history_is x))
+      (kept_statuses x (none_forges x clean))
 
   -- each entry has its words
   pub script_worded : All (HasWords disks) journal

@@ -1,9 +1,8 @@
--- Each settle of a script's lines begins over clean lanes, also the one that want of memory cut off.
-use Rattle.std.proofs.Common.{◌≡◌, ◌⊎◌, inl, inr, ◌≤◌, Option, Some, None, List, [], ◌∷◌, ◌++◌, length, map, refl, sym, ap, ◌∙◌, subst, append-nil}
+-- Each settle of a script's lines begins where the lines before it led, also the one that want of memory cut off.
+use Rattle.std.proofs.Common.{◌≡◌, ◌⊎◌, inl, inr, Option, Some, None, List, [], ◌∷◌, ◌++◌, refl, sym, ap, ◌∙◌, subst, append-nil}
 use Rattle.runs.specs.Run.{Run, run_split}
 use Rattle.disk_law.specs.ListState.{ImageState}
 use Rattle.disk_model.specs.LaneState.{LaneState}
-use Rattle.domain_script.specs.Declarations.{AreDisks}
 use Rattle.domain_script.specs.declared.event.DiskDecl.{DiskDecl}
 use Rattle.domain_script.specs.declared.event.Event.{Event}
 use Rattle.domain_script.specs.declared.event.Event.TheVariants.{Settle}
@@ -14,8 +13,7 @@ use Rattle.world_laws.specs.World.{WorldState}
 use Rattle.ldom_entries.specs.declared.entry.Entry.{Entry}
 use Rattle.script_laws.proofs.LineEntries.{settle_rules}
 use Rattle.script_laws.proofs.Places.{InEither, no_place, place_in}
-use Rattle.script_laws.proofs.Settling.{clean_lines}
-use Rattle.script_laws.proofs.DeclaredWorlds.{as_told, line_told, lines_told, says_told}
+use Rattle.script_laws.proofs.DeclaredWorlds.{line_told, says_told}
 use Rattle.script_laws.specs.Settled.{KeepsRules}
 use Rattle.script_laws.specs.Told.{told_by}
 use Rattle.world_parts.specs.Declared.{world_of}
@@ -92,10 +90,6 @@ script_settles disks image parts v fits =
     settles_on disks image parts.whole fits.middle fits.run parts.cut v fits.last
 
 -- BY ITS RULES
-pub rules_at : (disks : List DiskDecl) (image : ImageState) → AreDisks disks → length disks ≤ 8
-    → (before : List (Event × List Entry)) (part : List SettleEntry) → SettlesBehind disks image before part
-    → KeepsRules part
-rules_at disks image are few before part of =
-    settle_rules of.at.lanes part of.behind
-    (clean_lines disks image are few (map as_told before) of.at
-    (lines_told (world_of disks image) before of.at of.run)) of.goes
+pub rules_at : (disks : List DiskDecl) (image : ImageState) (before : List (Event × List Entry)) (part : List SettleEntry)
+    → SettlesBehind disks image before part → KeepsRules part
+rules_at disks image before part of = settle_rules of.at.lanes part of.behind of.goes

@@ -18,7 +18,7 @@ use Rattle.script_laws.proofs.TicksStand.{MovedTo, QuietAt, moved_to, quiet_at}
 use Rattle.script_laws.specs.Still.{AreStillBy}
 
 -- the answer says nothing of a lane
-answered : (x : ℕ) (part : List SettleEntry) → happened x part ≡ happened x (part ++ Settled ∷ [])
+pub answered : (x : ℕ) (part : List SettleEntry) → happened x part ≡ happened x (part ++ Settled ∷ [])
 answered x part = sym (happened_both x part (Settled ∷ []) ∙ append-nil (happened x part))
 
 same_part : (x : ℕ) (part one two so_far : List SettleEntry) → part ≡ one ++ two ++ Settled ∷ []

@@ -1,8 +1,8 @@
--- Each settle of a script's lines ends settled, no disk is left over, and after it all lanes are finished whose
--- servers run.
-use Rattle.std.proofs.Common.{◌≡◌, ℕ, zero, suc, ◌+◌, ◌≤◌, true, false, List, [], ◌∷◌, ◌++◌, length, map, slice_get, Some, sym, ap, ◌∙◌, subst, arith}
+-- Each settle of a script's lines ends settled, or it names disks that are left over; and where it ends settled all lanes
+-- are finished whose servers run and that nobody forged.
+use Rattle.std.proofs.Common.{◌≡◌, ◌⊎◌, ℕ, zero, suc, ◌+◌, ◌≤◌, true, false, List, [], ◌∷◌, ◌++◌, length, map, slice_get, Some, sym, ap, ◌∙◌, subst, arith}
 use Rattle.runs.specs.Lawful.{log_of}
-use Rattle.runs.specs.Run.{Run, run_append, run_push, run_split}
+use Rattle.runs.specs.Run.{Run, run_append, run_split}
 use Rattle.disk_law.specs.ListState.{ImageState}
 use Rattle.disk_model.specs.ClientState.{is_finished}
 use Rattle.lane_laws.specs.DiskLog.{after, nothing_yet}
@@ -17,32 +17,35 @@ use Rattle.world_laws.proofs.Moving.{happened_both}
 use Rattle.world_laws.specs.Along.{happened}
 use Rattle.world_laws.proofs.SettledLanes.{settled_lanes}
 use Rattle.world_laws.specs.Ended.{LanesEnd}
-use Rattle.world_laws.specs.Settle.{SettleEntry, Settled, Settles, Unsettled}
+use Rattle.world_laws.proofs.Forging.{all_unforged}
+use Rattle.world_laws.specs.Forged.{NobodyForgesAny}
+use Rattle.world_laws.specs.Rounds.{Each}
+use Rattle.world_laws.specs.Settle.{SettleEntry, SettlePart, Settled, Settles, Unsettled}
 use Rattle.world_laws.specs.Sums.{IsUnforged}
 use Rattle.world_laws.proofs.Along.{lane_at, lanes_run, lines_run, shape_at}
-use Rattle.world_laws.proofs.LaneLists.{each_there}
 use Rattle.world_laws.specs.Lines as world
 use Rattle.world_laws.specs.World.{WorldState, WorldStep}
 use Rattle.ldom_entries.specs.declared.entry.Entry.{Entry}
-use Rattle.script_laws.proofs.CleanLanes.{AreClean, clean_behind}
+use Rattle.script_laws.proofs.ReachedLanes.{AreReached, any_front, reached_behind}
 use Rattle.world_laws.proofs.LineEntries.{each_in}
 use Rattle.script_laws.proofs.Entries.{LeavesNone}
-use Rattle.script_laws.proofs.LineEntries.{clean_settles, part_leaves, settle_ends, settles_where}
+use Rattle.script_laws.proofs.LineEntries.{part_leaves, settle_either, settle_ends, settles_where}
 use Rattle.script_laws.proofs.Places.{InLine, line_with}
 use Rattle.script_laws.proofs.SettleEntries.{SettledLast, none_behind, settled_last}
 use Rattle.script_laws.proofs.SettledStill.{settled_still}
-use Rattle.script_laws.proofs.DeclaredWorlds.{as_told, line_told, lines_told}
-use Rattle.script_laws.specs.Settled.{EndsSettled}
+use Rattle.script_laws.proofs.DeclaredWorlds.{as_told, line_told, lines_told, told_is}
+use Rattle.script_laws.specs.Settled.{EndsSettled, EndsUnsettled}
 use Rattle.script_laws.specs.Still.{AreStillBy}
-use Rattle.script_laws.specs.Told.{log_at, told_by}
+use Rattle.script_laws.specs.Told.{log_at, told, told_by}
 use Rattle.script_laws.proofs.DiskShapes.{are_shapes, many_shapes}
 use Rattle.world_parts.specs.Declared.{shapes_of, world_of}
 use Rattle.world_parts.specs.Lines.{EventStep}
 
--- EACH LANE IS FINISHED whose server runs
+-- EACH LANE IS FINISHED whose server runs and that nobody forged
 abbrev pub AllFinished : List LaneState → Type 0
 AllFinished lanes =
-    (x : ℕ) (s : LaneState) → slice_get lanes x ≡ Some s → s.stopped ≡ false → is_finished s.client ≡ true
+    (x : ℕ) (s : LaneState) → slice_get lanes x ≡ Some s → IsUnforged s → s.stopped ≡ false
+    → is_finished s.client ≡ true
 
 end_at : (j : ℕ) (part : List SettleEntry) (lanes : List LaneState) (x : ℕ) (s : LaneState) → LanesEnd j part lanes
     → slice_get lanes x ≡ Some s → IsUnforged s → s.stopped ≡ false → is_finished s.client ≡ true
@@ -62,25 +65,57 @@ pub record FinishedAt (disks : List DiskDecl) (image : ImageState) (before : Lis
       → AreStillBy (log_at shape x before)
 
 module _ (disks : List DiskDecl) (image : ImageState) (are : AreDisks disks) (few : length disks ≤ 8) where
-  pub clean_lines : (lines : List (world.Line × List SettleEntry)) (w : WorldState)
-      → Run world.LineStep (world_of disks image) lines w → AreClean w.lanes
-  clean_lines lines w run =
+  pub reached_lines : (lines : List (world.Line × List SettleEntry)) (w : WorldState)
+      → Run world.LineStep (world_of disks image) lines w → AreReached w.lanes
+  reached_lines lines w run =
       let many = many_shapes 0 disks in
-      clean_behind (shapes_of 0 disks) image lines w (are_shapes 0 disks are) (omega (arith, many, few)) run
+      reached_behind (shapes_of 0 disks) image lines w (are_shapes 0 disks are) (omega (arith, many, few)) run
+
+  -- where their entries forge no lane, nobody forged any
+  pub unforged_lines : (lines : List (world.Line × List SettleEntry)) (w : WorldState)
+      → Run world.LineStep (world_of disks image) lines w → NobodyForgesAny (world.entries_of_lines lines)
+      → Each IsUnforged w.lanes
+  unforged_lines lines w run none =
+      all_unforged (shapes_of 0 disks) image (world.entries_of_lines lines) w
+      (lines_run (world_of disks image) lines w run) none
 
   -- A SETTLE among the lines
-  pub settle_at : (lines : List (Event × List Entry)) (v : WorldState) → Run EventStep (world_of disks image) lines v
+  record SettleAt (before : List (Event × List Entry)) (part : List Entry) : Type 0 where
+    at : WorldState
+    run : Run world.LineStep (world_of disks image) (map as_told before) at
+    next : WorldState
+    settle : SettlePart at.lanes (told_by (Settle, part)) next.lanes
+
+  settle_in : (lines : List (Event × List Entry)) (v : WorldState) → Run EventStep (world_of disks image) lines v
       → (before : List (Event × List Entry)) (part : List Entry) (behind : List (Event × List Entry))
-      → lines ≡ before ++ (Settle, part) ∷ behind → EndsSettled (told_by (Settle, part))
-  settle_at lines v run before part behind is =
+      → lines ≡ before ++ (Settle, part) ∷ behind → SettleAt before part
+  settle_in lines v run before part behind is =
       let whole : Run EventStep (world_of disks image) (before ++ (Settle, part) ∷ behind) v =
       subst (λ (l : List (Event × List Entry)). Run EventStep (world_of disks image) l v) is run in
       let split = run_split EventStep (world_of disks image) v before ((Settle, part) ∷ behind) whole in
-      let at : WorldState = split.0 in
-      let next : WorldState = split.2.0 in
-      let clean = clean_lines (map as_told before) at (lines_told (world_of disks image) before at split.1) in
-      settle_ends at.lanes (told_by (Settle, part)) next.lanes clean
-      (line_told at (Settle, part) next split.2.1).part_of
+      record {
+        at = split.0;
+        run = lines_told (world_of disks image) before split.0 split.1;
+        next = split.2.0;
+        settle = (line_told split.0 (Settle, part) split.2.0 split.2.1).part_of;
+      }
+
+  pub settle_at : (lines : List (Event × List Entry)) (v : WorldState) → Run EventStep (world_of disks image) lines v
+      → (before : List (Event × List Entry)) (part : List Entry) (behind : List (Event × List Entry))
+      → lines ≡ before ++ (Settle, part) ∷ behind
+      → EndsSettled (told_by (Settle, part)) ⊎ EndsUnsettled (told_by (Settle, part))
+  settle_at lines v run before part behind is =
+      let of : SettleAt before part = settle_in lines v run before part behind is in
+      settle_either of.at.lanes (told_by (Settle, part)) of.next.lanes (reached_lines (map as_told before) of.at of.run)
+      of.settle
+
+  pub settled_where : (lines : List (Event × List Entry)) (v : WorldState) → Run EventStep (world_of disks image) lines v
+      → (before : List (Event × List Entry)) (part : List Entry) (behind : List (Event × List Entry))
+      → lines ≡ before ++ (Settle, part) ∷ behind → NobodyForgesAny (told before) → EndsSettled (told_by (Settle, part))
+  settled_where lines v run before part behind is none =
+      let of : SettleAt before part = settle_in lines v run before part behind is in
+      settle_ends of.at.lanes (told_by (Settle, part)) of.next.lanes (reached_lines (map as_told before) of.at of.run)
+      (unforged_lines (map as_told before) of.at of.run (subst NobodyForgesAny (told_is before) none)) of.settle
 
   -- A LINE among them, with what stands in its part
   record LineAt (lines : List (world.Line × List SettleEntry)) (before : List SettleEntry) (entry : SettleEntry)
@@ -103,16 +138,21 @@ module _ (disks : List DiskDecl) (image : ImageState) (are : AreDisks disks) (fe
       let split = run_split world.LineStep (world_of disks image) v place.front (place.line ∷ place.later) whole in
       record { place = place; at = split.0; run = split.1; next = split.2.0; moves = split.2.1 }
 
-  -- NO DISK IS LEFT OVER
+  -- NO DISK IS LEFT OVER where nobody forged one before
   pub none_over : (lines : List (world.Line × List SettleEntry)) (v : WorldState)
       → Run world.LineStep (world_of disks image) lines v → (before : List SettleEntry) (x : ℕ)
-      (behind : List SettleEntry) → world.entries_of_lines lines ≡ before ++ Unsettled x ∷ behind → ⊥
-  none_over lines v run before x behind is =
+      (behind : List SettleEntry) → world.entries_of_lines lines ≡ before ++ Unsettled x ∷ behind
+      → NobodyForgesAny before → ⊥
+  none_over lines v run before x behind is none =
       let of : LineAt lines before (Unsettled x) behind = line_at lines v run before (Unsettled x) behind is in
       let line = of.place.line in
       let place = of.place.place in
+      let clean : NobodyForgesAny (world.entries_of_lines of.place.front) =
+      any_front (world.entries_of_lines of.place.front) of.place.so_far
+      (subst NobodyForgesAny of.place.before_is none) in
       each_in LeavesNone line.1 of.place.so_far (Unsettled x) place.rest place.is
-      (part_leaves line.0 of.at.lanes line.1 of.next.lanes (clean_lines of.place.front of.at of.run) of.moves.part_of)
+      (part_leaves line.0 of.at.lanes line.1 of.next.lanes (reached_lines of.place.front of.at of.run)
+      (unforged_lines of.place.front of.at of.run clean) of.moves.part_of)
 
   -- BEHIND THE ANSWER of a settle nothing more stands in its part, and all lanes are finished
   settled_at : (lines : List (world.Line × List SettleEntry)) (before behind : List SettleEntry)
@@ -120,21 +160,17 @@ module _ (disks : List DiskDecl) (image : ImageState) (are : AreDisks disks) (fe
       → Settles of.at.lanes of.place.line.1 of.next.lanes
   settled_at lines before behind of =
       let line = of.place.line in
-      clean_settles of.at.lanes line.1 of.next.lanes (clean_lines of.place.front of.at of.run)
-      (settles_where line.0 of.at.lanes line.1 of.place.so_far of.place.place.rest of.next.lanes of.moves.part_of
-      of.place.place.is)
+      settles_where line.0 of.at.lanes line.1 of.place.so_far of.place.place.rest of.next.lanes of.moves.part_of
+      of.place.place.is
 
   lanes_finished : (lines : List (world.Line × List SettleEntry)) (before behind : List SettleEntry)
       (of : LineAt lines before Settled behind) → AllFinished of.next.lanes
   lanes_finished lines before behind of =
       let line = of.place.line in
-      let clean = clean_lines of.place.front of.at of.run in
       let ends : LanesEnd 0 line.1 of.next.lanes =
-      settled_lanes of.at.lanes line.1 of.next.lanes clean.reached (settled_at lines before behind of) in
-      let through = run_push world.LineStep (world_of disks image) of.at of.next of.place.front line of.run of.moves in
-      let unforged = (clean_lines (of.place.front ++ line ∷ []) of.next through).unforged in
-      λ x s there runs.
-      end_at 0 line.1 of.next.lanes x s ends there (each_there IsUnforged of.next.lanes x s unforged there) runs
+      settled_lanes of.at.lanes line.1 of.next.lanes (reached_lines of.place.front of.at of.run).reached
+      (settled_at lines before behind of) in
+      λ x s there clean runs. end_at 0 line.1 of.next.lanes x s ends there clean runs
 
   ends_line : (lines : List (world.Line × List SettleEntry)) (before behind : List SettleEntry)
       (of : LineAt lines before Settled behind) → of.place.line.1 ≡ of.place.so_far ++ Settled ∷ []

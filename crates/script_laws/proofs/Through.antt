@@ -8,9 +8,7 @@ use Rattle.disk_model.specs.LaneState.{LaneState, Shape, fresh}
 use Rattle.domain_script.specs.declared.event.DiskDecl.{DiskDecl}
 use Rattle.domain_script.specs.declared.event.Event.{Event}
 use Rattle.lane_laws.proofs.RingPages.{same_pages}
-use Rattle.world_laws.specs.Rounds.{Each}
 use Rattle.world_laws.specs.Settle.{OfLane, SettleEntry}
-use Rattle.world_laws.specs.Sums.{IsUnforged}
 use Rattle.world_laws.proofs.Along.{lane_step, lines_run}
 use Rattle.world_laws.specs.Lines.{Line, entries_of_lines}
 use Rattle.world_laws.specs.Lines as script
@@ -19,7 +17,6 @@ use Rattle.ldom_entries.specs.declared.entry.Entry.{Entry}
 use Rattle.world_parts.specs.Declared.{shapes_of, world_of}
 use Rattle.world_parts.specs.Lines.{EventStep, all_happened, line_of}
 use Rattle.world_parts.specs.Script.{FitsScript, LastStarts, ScriptParts, all_lines, journal_of}
-use Rattle.world_laws.proofs.ByLines.{unforged_begun, unforged_behind}
 use Rattle.world_laws.proofs.LeftOver.{NamesBelow, cut_below, lines_below}
 use Rattle.script_laws.proofs.DiskShapes.{fresh_shapes, many_shapes}
 use Rattle.script_laws.proofs.Tellings.{LinesTell, Telling, entries_told, line_first, line_last, means_of, no_lines, part_tells, seen_at}
@@ -49,7 +46,6 @@ pub record JournalTells (disks : List DiskDecl) (image : ImageState) (parts : Sc
   pub journal_is : entries_told tellings ≡ journal_of parts
   pub seen : (x : ℕ) → seen_at x tellings ≡ all_happened x (all_lines parts)
   pub run : Run WorldStep (world_of disks image) (means_of tellings) v
-  pub unforged : Each IsUnforged v.lanes
   pub below : NamesBelow (length disks) (means_of tellings)
 
 fresh_many : (disks : List DiskDecl) → length (map fresh (shapes_of 0 disks)) ≡ length disks
@@ -72,7 +68,6 @@ module _ (disks : List DiskDecl) (image : ImageState) (whole : List (Event × Li
         journal_is = tells.entries_are;
         seen = tells.seen;
         run = subst (λ (l : List SettleEntry). Run WorldStep w l m) back (lines_run w through.moved m through.run);
-        unforged = unforged_behind (shapes_of 0 disks) image through.moved m through.run;
         below = subst (NamesBelow (length disks)) back
             (lines_below (length disks) w through.moved m (fresh_many disks) through.run);
       })
@@ -88,8 +83,6 @@ module _ (disks : List DiskDecl) (image : ImageState) (whole : List (Event × Li
         journal_is = tells.entries_are;
         seen = tells.seen;
         run = subst (λ (l : List SettleEntry). Run WorldStep w l v) back both;
-        unforged = unforged_begun (shapes_of 0 disks) image through.moved m (line_of line.0) last.entries v through.run
-            last.begins;
         below = subst (NamesBelow (length disks)) back
             (cut_below (length disks) w through.moved m (line_of line.0) last.entries v (fresh_many disks) through.run
             last.begins);

@@ -1,12 +1,12 @@
--- Each tick in the part of a settle over clean lanes comes where its lane's server runs, a packet was lost since the
--- queues were last emptied, and both ends are still.
-use Rattle.std.proofs.Common.{◌≡◌, ◌⊎◌, inl, inr, ℕ, zero, suc, ◌+◌, ◌<◌, ◌≤◌, Bool, true, false, List, [], ◌∷◌, ◌++◌, length, slice_get, Some, refl, sym, ap, ◌∙◌, subst, arith, append_assoc, append-nil}
+-- Each tick in the part of a settle comes where its lane isn't finished though its server runs, and both ends are still;
+-- and where nobody forged the lane, where a packet was lost since the queues were last emptied.
+use Rattle.std.proofs.Common.{◌≡◌, ◌⊎◌, inl, inr, ℕ, zero, suc, ◌+◌, ◌≤◌, Bool, true, false, List, [], ◌∷◌, ◌++◌, map, slice_get, Some, refl, sym, ap, ◌∙◌, subst, arith, append_assoc, append-nil}
 use Rattle.std.proofs.lemmas.Option.{slice_get_within}
 use Rattle.std.specs.Prelude.{if◌then◌else◌, ⊤}
 use Rattle.ldc_queue.specs.declared.end.End.{End}
 use Rattle.vio_tag.specs.declared.cause.Cause.TheVariants as the_cause
 use Rattle.channel_model.specs.WireEvent.{Reset}
-use Rattle.lane_laws.specs.CalmEnds.{IsStep}
+use Rattle.lane_laws.specs.CalmEnds.{IsStep, StepKeeps}
 use Rattle.runs.specs.Lawful.{log_of}
 use Rattle.runs.specs.Run.{Run, run_append}
 use Rattle.lane_laws.specs.DiskLog.{after, nothing_yet}
@@ -15,29 +15,29 @@ use Rattle.disk_model.specs.DiskEvent.{DiskEvent, OnWire}
 use Rattle.disk_model.specs.LaneState.{IsShape, LaneState, Shape, fresh}
 use Rattle.disk_model.specs.LaneStep.{LaneStep}
 use Rattle.disk_model.specs.Reached.{IsReached}
-use Rattle.world_laws.proofs.Falling.{AreClean, keeps}
 use Rattle.lane_kinds.proofs.Lanes.{own_turns}
 use Rattle.lane_kinds.proofs.Moving.{none_both}
 use Rattle.lane_kinds.specs.Lanes.{OwnTurns}
-use Rattle.lane_kinds.proofs.Leading.{few_stand, settles_lead}
+use Rattle.lane_kinds.proofs.Leading as kind
 use Rattle.lane_kinds.proofs.Sums.{and_left, and_right}
-use Rattle.lane_kinds.specs.Laws.{FrontsLeadWhere, LeadsWhere}
-use Rattle.world_laws.proofs.LineEntries.{EachEntry, begun_each, each_in, round_each}
+use Rattle.lane_kinds.specs.Laws.{Ends, FrontsLeadWhere, Keeps, LeadsWhere}
+use Rattle.world_laws.proofs.LineEntries.{EachEntry, begun_each, each_as, each_in, round_each}
 use Rattle.world_laws.proofs.LaneRounds.{quiet_finished, quiet_same, round_keeps}
 use Rattle.world_laws.proofs.LaneTicks.{either, gets_where, waits_where}
-use Rattle.world_laws.proofs.DiskLaws.{IsClean, gives_nothing}
-use Rattle.world_laws.proofs.Moving.{fronts_move, happened_both, leads, moves_on, settled_moves, stay}
+use Rattle.world_laws.proofs.DiskLaws.{gives_nothing}
+use Rattle.world_laws.proofs.Moving.{ends, fronts_move, happened_both, leads, moved_reached, moves_on, settled_moves, stay}
 use Rattle.world_laws.specs.Along.{LanesMove, event_at, happened}
 use Rattle.world_laws.specs.Begun.{NoMore, SettleFront, TickFront, fronts}
 use Rattle.world_laws.specs.Moves.{is_tick}
 use Rattle.world_laws.specs.Rounds.{Each, LaneRound, MakeRound, MakesRound, are_quiet, is_quiet}
-use Rattle.world_laws.specs.Settle.{OfLane, SettleEntry, Settled, Settles, disks, most_rounds, round_entries, tick_entries}
+use Rattle.world_laws.specs.Settle.{OfLane, SettleEntry, SettlePart, Settled, Unsettled, disks, left_over, round_entries, tick_entries}
 use Rattle.world_laws.specs.Sums.{IsUnforged}
 use Rattle.world_laws.specs.DiskKind.{disk_kind, tick, waits_on}
 use Rattle.world_laws.specs.Ticks.{TickLanes, gets_tick}
 use Rattle.lane_kinds.proofs.Places.{get_within}
 use Rattle.world_laws.proofs.LaneLists.{each_there, other_event, lane_moved, many_moved}
 use Rattle.script_laws.proofs.Places.{InEither, no_place, place_in}
+use Rattle.script_laws.proofs.SettleEntries.{first_names, names_are}
 use Rattle.script_laws.proofs.Stillness.{calm_round, still_by}
 use Rattle.script_laws.specs.Still.{AreStillBy}
 
@@ -54,8 +54,8 @@ step_none k e _ own = refl
 pub record TickAt (x : ℕ) (so_far : List SettleEntry) (start : LaneState) : Type 0 where
   pub lane : LaneState
   pub run : Run LaneStep start (happened x so_far) lane
-  pub runs : lane.stopped ≡ false
-  pub lost : lane.wire.lossy ≡ true
+  pub waits : waits_on lane ≡ true
+  pub lost : IsUnforged lane → lane.wire.lossy ≡ true
   pub still : (shape : Shape) (events : List DiskEvent) → IsShape shape → Run LaneStep (fresh shape) events start
       → AreStillBy (log_of after (nothing_yet shape) (events ++ happened x so_far))
 
@@ -99,7 +99,7 @@ two_at start one between two moves first second x event so_far rest s is there (
       lane = found.lane;
       run = subst (λ (l : List DiskEvent). Run LaneStep s l found.lane) (sym (happened_both x one at.later))
           (run_append LaneStep s m.lane found.lane (happened x one) (happened x at.later) m.run found.run);
-      runs = found.runs;
+      waits = found.waits;
       lost = found.lost;
       still = λ shape events sound run.
           subst (λ (l : List DiskEvent). AreStillBy (log_of after (nothing_yet shape) l))
@@ -190,14 +190,14 @@ front_tick j (s ∷ lanes) (had ∷ marks) part behind (inr made) x event so_far
     front_tick (j + 1) lanes marks made.later made.others made.more x event past rest is)
     (sym made.is ∙ place)
 
--- a lane that waits lost a packet
+-- a lane that waits lost a packet, where nobody forged it
 abbrev pub WaitsLost : LaneState → Type 0
-WaitsLost t = waits_on t ≡ true → t.wire.lossy ≡ true
+WaitsLost t = IsUnforged t → waits_on t ≡ true → t.wire.lossy ≡ true
 
 record LostAt (x : ℕ) (so_far : List SettleEntry) (s : LaneState) : Type 0 where
   none : happened x so_far ≡ []
-  runs : s.stopped ≡ false
-  lost : s.wire.lossy ≡ true
+  waits : waits_on s ≡ true
+  lost : IsUnforged s → s.wire.lossy ≡ true
 
 front_lost : (lanes : List LaneState) (marks : List Bool) (part : List SettleEntry) (behind : List LaneState)
     → Each WaitsLost lanes → TickFront 0 lanes marks part behind → (x : ℕ) (event : DiskEvent)
@@ -213,8 +213,8 @@ front_lost lanes marks part behind lost front x event so_far rest s place there 
     let waits : waits_on s ≡ true = subst (λ (l : LaneState). waits_on l ≡ true) same first.waits in
     record {
       none = first.none;
-      runs = (waits_where (is_finished s.client) s.stopped waits).1;
-      lost = each_there WaitsLost lanes x s lost there waits;
+      waits = waits;
+      lost = λ clean. each_there WaitsLost lanes x s lost there clean waits;
     }
 
 -- all ticks are a front of them
@@ -243,20 +243,21 @@ lossy_where s r t at clean made quiet runs unfinished (inr whole) =
     let never : true ≡ false = sym (quiet_finished s r t at clean whole runs made quiet).finished ∙ unfinished in
     absurd (cc never)
 
-waits_lost : (s : LaneState) (r : LaneRound) (t : LaneState) → IsReached s → IsUnforged s → MakesRound s r t
-    → is_quiet r ≡ true → WaitsLost t
-waits_lost s r t at clean made quiet waits =
+waits_lost : (s : LaneState) (r : LaneRound) (t : LaneState) → IsReached s → MakesRound s r t → is_quiet r ≡ true
+    → WaitsLost t
+waits_lost s r t at made quiet clean waits =
     let both = waits_where (is_finished t.client) t.stopped waits in
-    lossy_where s r t at clean made quiet (sym (round_keeps s r t made).stopped ∙ both.1) both.0 (either s.wire.lossy)
+    let keeps : StepKeeps s t = round_keeps s r t made in
+    lossy_where s r t at (sym keeps.forged ∙ clean) made quiet (sym keeps.stopped ∙ both.1) both.0 (either s.wire.lossy)
 
-quiet_lost : (lanes : List LaneState) (rounds : List LaneRound) (behind : List LaneState) → Each IsClean lanes
+quiet_lost : (lanes : List LaneState) (rounds : List LaneRound) (behind : List LaneState) → Each IsReached lanes
     → OwnTurns disk_kind lanes rounds behind → are_quiet rounds ≡ true → Each WaitsLost behind
-quiet_lost [] [] [] clean made quiet = tt
-quiet_lost (s ∷ lanes) (r ∷ rounds) (t ∷ behind) clean made quiet = (
-  waits_lost s r t clean.0.reached clean.0.unforged made.0 (and_left (is_quiet r) (are_quiet rounds) quiet),
-  quiet_lost lanes rounds behind clean.1 made.1 (and_right (is_quiet r) (are_quiet rounds) quiet),
+quiet_lost [] [] [] reached made quiet = tt
+quiet_lost (s ∷ lanes) (r ∷ rounds) (t ∷ behind) reached made quiet = (
+  waits_lost s r t reached.0 made.0 (and_left (is_quiet r) (are_quiet rounds) quiet),
+  quiet_lost lanes rounds behind reached.1 made.1 (and_right (is_quiet r) (are_quiet rounds) quiet),
 )
-quiet_lost _ _ _ clean made quiet = absurd made
+quiet_lost _ _ _ reached made quiet = absurd made
 
 pub record QuietAt (x : ℕ) (s : LaneState) (behind : List LaneState) : Type 0 where
   pub round : LaneRound
@@ -284,7 +285,8 @@ quiet_at (y ∷ lanes) (r ∷ rounds) (t ∷ behind) (suc x) s made quiet there 
 quiet_at _ _ _ x s made quiet there = absurd made
 
 module _ (lanes : List LaneState) (marks : List Bool) (steps : List LaneRound) (between : List LaneState)
-    (later : List SettleEntry) (behind : List LaneState) (clean : AreClean lanes) (made : MakeRound lanes steps between)
+    (later : List SettleEntry) (behind : List LaneState) (reached : Each IsReached lanes)
+    (made : MakeRound lanes steps between)
     (quiet : are_quiet steps ≡ true) (front : TickFront 0 between marks later behind) where
   turns : OwnTurns disk_kind lanes steps between
   turns = own_turns disk_kind gives_nothing lanes steps between made
@@ -303,7 +305,7 @@ module _ (lanes : List LaneState) (marks : List Bool) (steps : List LaneRound) (
       record {
         lane = at.lane;
         run = subst (λ (l : List DiskEvent). Run LaneStep s l at.lane) (sym same) moved;
-        runs = lost.runs;
+        waits = lost.waits;
         lost = lost.lost;
         still = λ shape events sound run.
             subst (λ (l : List DiskEvent). AreStillBy (log_of after (nothing_yet shape) (events ++ l))) (sym same)
@@ -322,7 +324,7 @@ module _ (lanes : List LaneState) (marks : List Bool) (steps : List LaneRound) (
       there
   quiet_tick x event so_far rest s is there (inr at) =
       let found : QuietAt x s between = quiet_at lanes steps between x s turns quiet there in
-      let all_lost = quiet_lost lanes steps between clean.clean turns quiet in
+      let all_lost = quiet_lost lanes steps between reached turns quiet in
       let lost : LostAt x at.later found.lane =
       front_lost between marks later behind all_lost front x event at.later rest found.lane at.is found.there in
       subst (λ (l : List SettleEntry). TickAt x l s) (sym at.before_is) (behind_round x at.later s found lost there)
@@ -337,20 +339,28 @@ record Stretch (lanes : List LaneState) (part : List SettleEntry) (behind : List
   moves : LanesMove 0 lanes part behind
   stand : TicksStand lanes part
 
-abbrev Clean : List LaneState → List Bool → Type 0
-Clean lanes marks = AreClean lanes
+abbrev Reached : List LaneState → List Bool → Type 0
+Reached lanes marks = Each IsReached lanes
 
-quiet_stretch : (lanes : List LaneState) (marks : List Bool) (steps : List LaneRound) (between : List LaneState)
-    (later : List SettleEntry) (behind : List LaneState) → AreClean lanes → MakeRound lanes steps between
-    → are_quiet steps ≡ true → TickFront 0 between marks later behind
-    → Stretch lanes (round_entries 0 steps ++ later) behind
-quiet_stretch lanes marks steps between later behind clean made quiet front = record {
-  moves = moves_on 0 lanes between behind (round_entries 0 steps) later (leads.round lanes steps between made)
-      (fronts_move.ticks between marks later behind front);
-  stand = quiet_front lanes marks steps between later behind clean made quiet front;
+keeps : Keeps disks Reached
+keeps = record {
+  round = λ w m r v at made. moved_reached 0 w (round_entries 0 r) v at (leads.round w r v made);
+  ticks = λ w m r v u at made quiet ticks.
+      moved_reached 0 v (tick_entries 0 v m) u (moved_reached 0 w (round_entries 0 r) v at (leads.round w r v made))
+      (leads.ticks v m u ticks);
 }
 
-stretches : LeadsWhere disks Clean Stretch
+quiet_stretch : (lanes : List LaneState) (marks : List Bool) (steps : List LaneRound) (between : List LaneState)
+    (later : List SettleEntry) (behind : List LaneState) → Each IsReached lanes → MakeRound lanes steps between
+    → are_quiet steps ≡ true → TickFront 0 between marks later behind
+    → Stretch lanes (round_entries 0 steps ++ later) behind
+quiet_stretch lanes marks steps between later behind reached made quiet front = record {
+  moves = moves_on 0 lanes between behind (round_entries 0 steps) later (leads.round lanes steps between made)
+      (fronts_move.ticks between marks later behind front);
+  stand = quiet_front lanes marks steps between later behind reached made quiet front;
+}
+
+stretches : LeadsWhere disks Reached Stretch
 stretches = record {
   keeps = keeps;
   none = λ w. record { moves = stay 0 w; stand = none_stand w [] tt };
@@ -358,33 +368,52 @@ stretches = record {
     moves = moves_on 0 w m v one two first.moves second.moves;
     stand = two_stand w one m two first.moves first.stand second.stand;
   };
-  round = λ w m r v clean made. record {
+  round = λ w m r v reached made. record {
     moves = leads.round w r v made;
     stand = none_stand w (round_entries 0 r) (round_each NoTick step_none w r v made);
   };
-  ticks = λ w m r v u clean made quiet ticks.
-      quiet_stretch w m r v (tick_entries 0 v m) u clean made quiet (all_ticks 0 v m u ticks);
+  ticks = λ w m r v u reached made quiet ticks.
+      quiet_stretch w m r v (tick_entries 0 v m) u reached made quiet (all_ticks 0 v m u ticks);
 }
 
--- A SETTLE, and a front of one that made fewer than the most rounds
-answered : (w : List LaneState) → Stretch w (Settled ∷ []) w
-answered w = record { moves = settled_moves w; stand = none_stand w (Settled ∷ []) (tt, tt) }
+-- the answer, and names
+no_ticks : (names : List ℕ) → EachEntry NoTick (map Unsettled names)
+no_ticks [] = tt
+no_ticks (k ∷ names) = (tt, no_ticks names)
 
-pub settles_stand : (start : List LaneState) (part : List SettleEntry) (behind : List LaneState) → AreClean start
-    → Settles start part behind → TicksStand start part
-settles_stand start part behind clean at =
-    (settles_lead disks Clean Stretch stretches answered start part behind clean at).stand
+named_none : (r : List LaneRound) (w : List LaneState) (part more : List SettleEntry) → part ++ more ≡ left_over 0 r w
+    → EachEntry NoTick part
+named_none r w part more is =
+    let names = names_are 0 r w in
+    let named = first_names part more names.0 (is ∙ names.1) in
+    each_as NoTick part (map Unsettled named.0) named.1 (no_ticks named.0)
 
-front_stretches : FrontsLeadWhere disks fronts Clean Stretch
+stretch_ends : Ends disks Stretch
+stretch_ends = record {
+  answer = λ w. record { moves = settled_moves w; stand = none_stand w (Settled ∷ []) (tt, tt) };
+  names = λ r w part more is. record {
+    moves = ends.names r w part more is;
+    stand = none_stand w part (named_none r w part more is);
+  };
+}
+
+-- A SETTLE, and a front of one
+pub part_stands : (start : List LaneState) (part : List SettleEntry) (behind : List LaneState) → Each IsReached start
+    → SettlePart start part behind → TicksStand start part
+part_stands start part behind reached settle =
+    (kind.part_stands disks Reached Stretch stretches stretch_ends start part behind reached settle).stand
+
+front_stretches : FrontsLeadWhere disks fronts Reached Stretch
 front_stretches = record {
-  round = λ w m part v clean front. record {
+  round = λ w m part v reached front. record {
     moves = fronts_move.round w part v front;
     stand = none_stand w part (begun_each NoTick step_none w part v front);
   };
-  ticks = λ w m r v part u clean made quiet front. quiet_stretch w m r v part u clean made quiet front;
+  ticks = λ w m r v part u reached made quiet front. quiet_stretch w m r v part u reached made quiet front;
 }
 
-pub begun_stand : (start : List LaneState) (part : List SettleEntry) (behind : List LaneState) → AreClean start
-    → (at : SettleFront start part behind) → length at.rounds < most_rounds start → TicksStand start part
-begun_stand start part behind clean at few =
-    (few_stand disks Clean Stretch stretches fronts front_stretches start part behind clean at few).stand
+pub begun_stands : (start : List LaneState) (part : List SettleEntry) (behind : List LaneState) → Each IsReached start
+    → SettleFront start part behind → TicksStand start part
+begun_stands start part behind reached at =
+    (kind.front_stands disks Reached Stretch stretches fronts front_stretches stretch_ends start part behind reached
+    at).stand

@@ -1,7 +1,6 @@
--- What a journal tells of all disks together: the statuses of its completions, and how many of them failed.
-use Rattle.std.proofs.Common.{◌≡◌, inl, inr, ℕ, ◌+◌, Bool, false, cond, List, [], ◌∷◌, refl, sym, ap, ◌∙◌, subst, arith}
-use Rattle.std.specs.List.{All, cons_option, count_by}
-use Rattle.std.proofs.lemmas.List.Elements.{All-cons, All-nil}
+-- What a journal tells of all disks together: how many of its completions failed.
+use Rattle.std.proofs.Common.{◌≡◌, inl, inr, ℕ, ◌+◌, Bool, false, cond, List, [], ◌∷◌, refl, sym, ap, ◌∙◌, arith}
+use Rattle.std.specs.List.{cons_option, count_by}
 use Rattle.disk_law.specs.ListStep as plain
 use Rattle.domain_script.specs.declared.event.Event.{Event}
 use Rattle.world_laws.specs.Settle.{OfLane, SettleEntry}
@@ -9,31 +8,9 @@ use Rattle.ldom_report.specs.DiskEvents.{Said, said, said_of_any, whole_history}
 use Rattle.ldom_entries.specs.declared.entry.Entry.{Entry}
 use Rattle.world_laws.proofs.Counted.{count_more}
 use Rattle.world_laws.specs.Failures.{in_entry, is_failed_done}
-use Rattle.script_laws.specs.Failures.{SucceedsOrFails, has_failed}
+use Rattle.script_laws.specs.Failures.{has_failed}
 use Rattle.script_laws.proofs.EntryKinds.{Kind, SaysNothing, kind_of}
 use Rattle.script_laws.proofs.Tellings.{Telling, entries_told, means_of}
-use Rattle.script_laws.proofs.ToldEntries.{AreTold, IsTold}
-
--- STATUSES
-entry_status : (many : ℕ) (asked : Event) (e : Entry) (m : SettleEntry) (es : List plain.ListEvent) → Kind asked e m
-    → IsTold many m
-    → All SucceedsOrFails es → All SucceedsOrFails (cons_option (said_of_any (said e)) es)
-entry_status many asked e m es (inl at) told rest =
-    let event_told : IsTold many (OfLane at.disk at.event) = subst (IsTold many) at.means_is told in
-    subst (λ (s : Said). All SucceedsOrFails (cons_option (said_of_any s) es)) (sym at.said_is)
-    (All-cons SucceedsOrFails at.seen es (at.status event_told.2) rest)
-entry_status many asked e m es (inr (inl other)) told rest =
-    subst (λ (s : Said). All SucceedsOrFails (cons_option (said_of_any s) es)) (sym other.said_is) rest
-entry_status many asked e m es (inr (inr silent)) told rest =
-    subst (λ (s : Said). All SucceedsOrFails (cons_option (said_of_any s) es)) (sym silent.said_is) rest
-
-pub all_statuses : (many : ℕ) (tellings : List Telling) → AreTold many (means_of tellings)
-    → All SucceedsOrFails (whole_history (entries_told tellings))
-all_statuses many [] told = All-nil SucceedsOrFails
-all_statuses many (t ∷ tellings) told =
-    entry_status many t.asked t.entry t.means (whole_history (entries_told tellings))
-    (kind_of t.asked t.entry t.means t.is) told.0
-    (all_statuses many tellings told.1)
 
 -- COUNTS
 abbrev one_count : Bool → ℕ

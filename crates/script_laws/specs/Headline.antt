@@ -11,10 +11,11 @@ use Rattle.world_parts.specs.Declared.{shapes_of}
 use Rattle.world_parts.specs.Script.{ScriptParts, all_lines}
 use Rattle.script_laws.specs.Contents.{DiskHolds, NoStoreFailed, ReadsShow}
 use Rattle.script_laws.specs.Lanes.{LaneStands}
-use Rattle.script_laws.specs.Settled.{FinishesAll, SettlesEnd, StillBehind, TicksAreNeeded}
+use Rattle.script_laws.specs.Settled.{FinishesAll, LeftWhereBusy, RestsOrTicked, SettlesEnd, StillBehind, TicksAreNeeded}
 use Rattle.script_laws.specs.Told.{told}
 
--- OF EACH DISK, by its number, with what of the image is its own. `first` is what the image told as it was attached.
+-- OF EACH DISK, by its number, with what of the image is its own. `first` is what the image told as it was attached. What
+-- is said only of a disk that nobody forged has a premise on that disk alone, whatever was forged of others.
 pub record OfDisk (shape : Shape) (x : ℕ) (start : ImageState) (entries : List SettleEntry) (s : LaneState)
     (now : ImageState) : Type 0 where
   pub stands : LaneStands shape x entries s
@@ -23,18 +24,23 @@ pub record OfDisk (shape : Shape) (x : ℕ) (start : ImageState) (entries : List
   -- its state says whether the entries have a call of its store that failed: none where the image counts no fault
   pub failed : (s.failed ≡ false) ↔ NoStoreFailed (happened x entries)
   pub unfailed : now.faults ≡ 0 → s.failed ≡ false
-  -- where no call of its store failed, over an image that tells its bytes
-  pub reads : (first : List ℕ) → start.told ≡ Some first → s.failed ≡ false → ReadsShow shape x first entries
-  pub holds : (first bytes : List ℕ) → start.told ≡ Some first → now.told ≡ Some bytes → s.failed ≡ false
-      → DiskHolds shape x first entries bytes
+  -- where nobody forged it and no call of its store failed, over an image that tells its bytes
+  pub reads : (first : List ℕ) → start.told ≡ Some first → s.wire.forged ≡ false → s.failed ≡ false
+      → ReadsShow shape x first entries
+  pub holds : (first bytes : List ℕ) → start.told ≡ Some first → now.told ≡ Some bytes → s.wire.forged ≡ false
+      → s.failed ≡ false → DiskHolds shape x first entries bytes
 
 -- OF ALL LINES with their parts: each disk has its lane, each settle keeps its rules and, among those that gave whole
--- parts, ended, and the image stays outside of all disks.
+-- parts, ended or ran out of rounds, and the image stays outside of all disks.
 pub record Headline (disks : List DiskDecl) (start : ImageState) (parts : ScriptParts) (v : WorldState) : Type 0 where
   pub many : length v.lanes ≡ length disks
   pub each : (x : ℕ) (shape : Shape) (s : LaneState) → slice_get (shapes_of 0 disks) x ≡ Some shape
       → slice_get v.lanes x ≡ Some s → OfDisk shape x start (told (all_lines parts)) s v.image
-  pub settles : SettlesEnd parts
+  pub settles : SettlesEnd (length disks) parts
   pub ticks : (x : ℕ) (shape : Shape) → slice_get (shapes_of 0 disks) x ≡ Some shape
       → TicksAreNeeded shape x (all_lines parts)
+  pub left : (x : ℕ) (shape : Shape) → slice_get (shapes_of 0 disks) x ≡ Some shape
+      → LeftWhereBusy shape x (all_lines parts)
+  pub rests : (x : ℕ) (shape : Shape) → slice_get (shapes_of 0 disks) x ≡ Some shape
+      → RestsOrTicked shape x (all_lines parts)
   pub outside : IfSome start.told (λ first. StaysBehind (shapes_of 0 disks) first v.image.told)

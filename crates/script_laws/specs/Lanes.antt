@@ -1,5 +1,5 @@
 -- What holds of the lane of each disk along a script's lines, and at their end.
-use Rattle.std.specs.Prelude.{◌≡◌, ℕ, true, false, List, ◌++◌, Some, is_some}
+use Rattle.std.specs.Prelude.{◌≡◌, ◌↔◌, ℕ, true, false, List, ◌++◌, Some, is_some}
 use Rattle.runs.specs.Run.{Run}
 use Rattle.lane_laws.specs.Agreement.{AgreesWithLog}
 use Rattle.lane_laws.specs.DiskLog.{DiskLog}
@@ -15,6 +15,7 @@ use Rattle.lane_laws.specs.CountsInTurn.{CountsInTurn}
 use Rattle.lane_laws.specs.OneSession.{AreOneSession}
 use Rattle.lane_laws.specs.SlotsInOrder.{RingInOrder}
 use Rattle.world_laws.specs.Along.{happened}
+use Rattle.world_laws.specs.Forged.{NobodyForges}
 use Rattle.world_laws.specs.Settle.{SettleEntry}
 use Rattle.ldc_queue.specs.OneStream.{IsFront}
 use Rattle.ldc_queue.specs.Transcript.{numbered_heard, numbered_said}
@@ -35,18 +36,20 @@ pub record HearsAFront (e : End) (transcript : TranscriptLog) : Type 0 where
   pub packets : IsFront (numbered_heard (transcript_of e transcript)) (numbered_said (transcript_of (peer_of e) transcript))
   pub messages : IsFront (heard (transcript_of e transcript)) (said (transcript_of (peer_of e) transcript))
 
--- A LANE AT ONE MOMENT: it stands as its log says, and nobody forged it. An end that is up heard in order what the other
--- said. Where both sessions are open they are one, and their counts stand in their order. The slots of the ring do where
--- the client's is open, and where its end is up what is on the way agrees with them. The counts of what is finished do
--- always.
-pub record StandsAt (s : LaneState) (l : DiskLog) : Type 0 where
-  pub agrees : AgreesWithLog s l
-  pub unforged : s.wire.forged ≡ false
+-- WHERE NOBODY FORGED the lane until then: an end that is up heard in order what the other said. Where both sessions are
+-- open they are one, and their counts stand in their order. The slots of the ring do where the client's is open, and where
+-- its end is up what is on the way agrees with them. The counts of what is finished do always.
+pub record StandsUnforged (s : LaneState) (l : DiskLog) : Type 0 where
   pub hears : (e : End) → IsUp e s.wire.wire → HearsAFront e l.transcript
   pub sessions : is_some s.client.session ≡ true → is_some s.server.session ≡ true → IsOneSession s
   pub counts : (k : ClientCounts) (d : ServerCounts) → l.work.client ≡ Some k → l.work.server ≡ Some d → CountsInTurn k d
   pub slots : (k : ClientCounts) → l.work.client ≡ Some k → RingInOrder s l k
   pub near : NearInOrder l
+
+-- A LANE AT ONE MOMENT: it stands as its log says, forged or not; and where nobody forged it until then, in order.
+pub record StandsAt (s : LaneState) (l : DiskLog) : Type 0 where
+  pub agrees : AgreesWithLog s l
+  pub unforged : l.wire.forged ≡ false → StandsUnforged s l
 
 -- BEHIND A FRONT of the entries a lane came to a state, from which what is left of them led to the last one
 pub record Moment (shape : Shape) (x : ℕ) (before behind : List SettleEntry) (last : LaneState) : Type 0 where
@@ -55,9 +58,11 @@ pub record Moment (shape : Shape) (x : ℕ) (before behind : List SettleEntry) (
   pub leads : Run LaneStep state (happened x behind) last
   pub stands : StandsAt state (log_at shape x before)
 
--- A LANE ALONG THE ENTRIES: each thing that happened to it may happen after those before it, by the laws of the wire, of
--- requests, of work and of quiet steps; and so it stands at the end, and behind each front of the entries.
+-- A LANE ALONG THE ENTRIES, also where somebody forged it: each thing that happened to it may happen after those before
+-- it, by the laws of the wire, of requests, of work and of quiet steps; and so it stands at the end, and behind each front
+-- of the entries. Its state says whether the entries forge it.
 pub record LaneStands (shape : Shape) (x : ℕ) (entries : List SettleEntry) (s : LaneState) : Type 0 where
   pub lawful : IsLawful shape (happened x entries)
   pub now : StandsAt s (log_at shape x entries)
   pub always : (before behind : List SettleEntry) → entries ≡ before ++ behind → Moment shape x before behind s
+  pub forged : (s.wire.forged ≡ false) ↔ NobodyForges (happened x entries)

@@ -1,5 +1,7 @@
 pub mod Admitting
 pub mod Completed
+pub mod Forged
+pub mod Isolation
 pub mod Failures
 pub mod Stored
 pub mod Outside

@@ -8,7 +8,9 @@ use Rattle.disk_law.specs.ListStep.{block_place}
 use Rattle.disk_model.specs.LaneState.{Shape}
 use Rattle.ldom_report.specs.DiskEvents.{history}
 use Rattle.ldom_entries.specs.declared.entry.Entry.{Entry}
+use Rattle.world_laws.specs.NamesNo.{IsOutOf}
 use Rattle.world_parts.specs.Declared.{shapes_of}
+use Rattle.script_laws.specs.Forged.{IsUnforged}
 
 -- The byte at this place isn't in the blocks that a request writes to a disk, whose blocks begin at this one of the image.
 abbrev pub IsOutside : ℕ → ℕ → Request → Type 0
@@ -21,10 +23,12 @@ abbrev pub IsOutsideAll : ℕ → ℕ → List Request → Type 0
 IsOutsideAll first place [] = Unit {0}
 IsOutsideAll first place (request ∷ requests) = IsOutside first place request × IsOutsideAll first place requests
 
--- it is outside of each request of each declared disk that a journal accepted
+-- Each declared disk leaves it alone: it lies outside of the disk's region, or nobody forged the disk and it is outside of
+-- each request of the disk that a journal accepted.
 abbrev pub IsOutsideDisks : List DiskDecl → List Entry → ℕ → Type 0
 IsOutsideDisks disks journal place =
-    (x : ℕ) (shape : Shape) → slice_get (shapes_of 0 disks) x ≡ Some shape → IsOutsideAll shape.first place (issued (history x journal))
+    (x : ℕ) (shape : Shape) → slice_get (shapes_of 0 disks) x ≡ Some shape
+    → IsOutOf place shape ⊎ (IsUnforged x journal × IsOutsideAll shape.first place (issued (history x journal)))
 
 -- the image tells as many bytes as it began with, and at these places they are those
 pub record KeepsOthers (IsLeft : ℕ → Type 0) (first : List ℕ) (told : Option (List ℕ)) : Type 0 where

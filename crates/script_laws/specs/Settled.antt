@@ -1,11 +1,13 @@
 -- What a settle comes to in a script.
-use Rattle.std.specs.Prelude.{◌≡◌, ℕ, ◌≤◌, true, false, is_some, List, [], ◌∷◌, ◌++◌, length}
+use Rattle.std.specs.Prelude.{◌≡◌, ◌⊎◌, ℕ, ◌+◌, ◌*◌, ◌≤◌, true, false, is_some, List, [], ◌∷◌, ◌++◌, length, map}
 use Rattle.lane_laws.specs.DiskLog.{DiskLog}
 use Rattle.disk_model.specs.DiskEvent.{DiskEvent}
 use Rattle.disk_model.specs.LaneState.{Shape}
 use Rattle.domain_script.specs.declared.event.Event.{Event}
 use Rattle.domain_script.specs.declared.event.Event.TheVariants.{Settle}
-use Rattle.world_laws.specs.Moves.{NeverThree, is_tick, ticks_in}
+use Rattle.world_laws.specs.Forged.{NobodyForgesAny}
+use Rattle.world_laws.specs.Moves.{MovedIn, NeverThree, is_tick, moves_in, ticks_in}
+use Rattle.world_laws.specs.Requests.{pending_of}
 use Rattle.world_laws.specs.Settle.{OfLane, SettleEntry, Settled, Unsettled}
 use Rattle.ldc_queue.specs.declared.end.End.{End}
 use Rattle.ldom_entries.specs.declared.entry.Entry.{Entry}
@@ -19,11 +21,17 @@ pub record KeepsRules (part : List SettleEntry) : Type 0 where
   pub ticks : (x : ℕ) → ticks_in x part ≤ 1
   pub moves : (x : ℕ) (e : End) → NeverThree x e 0 part
 
--- A TICK IN IT comes only where the disk's server runs, a packet was lost since the queues were last emptied, and both
--- ends are still.
+-- A DISK IS FINISHED: its client's session is open, and all requests that it accepted have completed.
+pub record IsFinishedBy (l : DiskLog) : Type 0 where
+  pub session : is_some l.work.client ≡ true
+  pub completed : l.work.done ≡ length l.work.issued
+
+-- A TICK IN IT comes only where the disk's server runs, the disk isn't finished and both its ends are still; and where
+-- nobody forged the disk, only where a packet was lost since the queues were last emptied.
 pub record NeedsTick (l : DiskLog) : Type 0 where
   pub runs : l.work.stopped ≡ false
-  pub lost : l.wire.lossy ≡ true
+  pub waits : IsFinishedBy l → ⊥
+  pub lost : l.wire.forged ≡ false → l.wire.lossy ≡ true
   pub still : AreStillBy l
 
 abbrev pub TicksAreNeeded : Shape → ℕ → List (Event × List Entry) → Type 0
@@ -33,32 +41,72 @@ TicksAreNeeded shape x lines =
     → lines ≡ before ++ (Settle, part) ∷ behind → told_by (Settle, part) ≡ so_far ++ OfLane x event ∷ rest
     → is_tick event ≡ true → NeedsTick (log_at shape x (told before ++ so_far))
 
+-- A DISK IS LEFT OVER in it only where it moved there, by a step that isn't calm or by its tick, or isn't finished though
+-- its server runs.
+pub record WaitsBy (l : DiskLog) : Type 0 where
+  pub runs : l.work.stopped ≡ false
+  pub waits : IsFinishedBy l → ⊥
+
+abbrev pub LeftWhereBusy : Shape → ℕ → List (Event × List Entry) → Type 0
+LeftWhereBusy shape x lines =
+    (before : List (Event × List Entry)) (part : List Entry) (behind : List (Event × List Entry))
+    (so_far rest : List SettleEntry)
+    → lines ≡ before ++ (Settle, part) ∷ behind → told_by (Settle, part) ≡ so_far ++ Unsettled x ∷ rest
+    → MovedIn x so_far ⊎ WaitsBy (log_at shape x (told before ++ so_far))
+
+-- WHERE IT ENDS SETTLED each disk whose server runs is finished, or had its tick in the part
+abbrev pub RestsOrTicked : Shape → ℕ → List (Event × List Entry) → Type 0
+RestsOrTicked shape x lines =
+    (before : List (Event × List Entry)) (part : List Entry) (behind : List (Event × List Entry))
+    (so_far rest : List SettleEntry)
+    → lines ≡ before ++ (Settle, part) ∷ behind → told_by (Settle, part) ≡ so_far ++ Settled ∷ rest
+    → (log_at shape x (told before ++ so_far)).work.stopped ≡ false
+    → IsFinishedBy (log_at shape x (told before ++ so_far)) ⊎ (ticks_in x so_far ≡ 1)
+
 -- a whole part ends settled
 pub record EndsSettled (part : List SettleEntry) : Type 0 where
   pub front : List SettleEntry
   pub is : part ≡ front ++ Settled ∷ []
 
--- so each settle of a script's lines, of which the whole ones end, and no disk is ever left over
-pub record SettlesEnd (parts : ScriptParts) : Type 0 where
+-- or it ends with the names of disks that are left over, and of one at least
+pub record EndsUnsettled (part : List SettleEntry) : Type 0 where
+  pub front : List SettleEntry
+  pub first : ℕ
+  pub others : List ℕ
+  pub is : part ≡ front ++ map Unsettled (first ∷ others)
+
+-- THE ROUNDS RAN OUT, of so many disks: the steps other than Blocked and the ticks so far are as many as may be made, by
+-- how many requests were pending as the settle began
+abbrev pub RunsOutIn : ℕ → List SettleEntry → List SettleEntry → Type 0
+RunsOutIn many past so_far = 4096 + 64 * pending_of 0 many past ≤ moves_in so_far
+
+-- so each settle of a script's lines, of which the whole ones end. A disk is left over only where the rounds ran out, and
+-- only where somebody forged a disk before.
+pub record SettlesEnd (many : ℕ) (parts : ScriptParts) : Type 0 where
   pub each : (before : List (Event × List Entry)) (part : List Entry) (behind : List (Event × List Entry))
       → all_lines parts ≡ before ++ (Settle, part) ∷ behind → KeepsRules (told_by (Settle, part))
   pub ends : (before : List (Event × List Entry)) (part : List Entry) (behind : List (Event × List Entry))
-      → parts.whole ≡ before ++ (Settle, part) ∷ behind → EndsSettled (told_by (Settle, part))
+      → parts.whole ≡ before ++ (Settle, part) ∷ behind
+      → EndsSettled (told_by (Settle, part)) ⊎ EndsUnsettled (told_by (Settle, part))
+  pub settled : (before : List (Event × List Entry)) (part : List Entry) (behind : List (Event × List Entry))
+      → parts.whole ≡ before ++ (Settle, part) ∷ behind → NobodyForgesAny (told before)
+      → EndsSettled (told_by (Settle, part))
+  pub left : (before : List (Event × List Entry)) (part : List Entry) (behind : List (Event × List Entry))
+      (so_far : List SettleEntry) (x : ℕ) (rest : List SettleEntry)
+      → all_lines parts ≡ before ++ (Settle, part) ∷ behind
+      → told_by (Settle, part) ≡ so_far ++ Unsettled x ∷ rest → RunsOutIn many (told before) so_far
   pub none_left : (before : List SettleEntry) (x : ℕ) (behind : List SettleEntry)
-      → told (all_lines parts) ≡ before ++ Unsettled x ∷ behind → ⊥
+      → told (all_lines parts) ≡ before ++ Unsettled x ∷ behind → NobodyForgesAny before → ⊥
 
--- A DISK IS FINISHED: its client's session is open, and all requests that it accepted have completed.
-pub record IsFinishedBy (l : DiskLog) : Type 0 where
-  pub session : is_some l.work.client ≡ true
-  pub completed : l.work.done ≡ length l.work.issued
-
--- BEHIND EACH SETTLE it is, unless its server is stopped: whatever became of the store's calls.
+-- BEHIND EACH SETTLE a disk that nobody forged is finished, unless its server is stopped: whatever became of the store's
+-- calls, and whatever was forged of others.
 abbrev pub FinishesAll : Shape → ℕ → List SettleEntry → Type 0
 FinishesAll shape x entries =
     (before behind : List SettleEntry) → entries ≡ before ++ Settled ∷ behind
-    → (log_at shape x before).work.stopped ≡ false → IsFinishedBy (log_at shape x before)
+    → (log_at shape x before).wire.forged ≡ false → (log_at shape x before).work.stopped ≡ false
+    → IsFinishedBy (log_at shape x before)
 
--- and there both ends of its lane are still
+-- and both ends of its lane are still there, forged or not
 abbrev pub StillBehind : Shape → ℕ → List SettleEntry → Type 0
 StillBehind shape x entries =
     (before behind : List SettleEntry) → entries ≡ before ++ Settled ∷ behind → AreStillBy (log_at shape x before)

@@ -10,7 +10,7 @@ ghost use Rattle.world_laws.specs.World.{WorldState};
 ghost use Rattle.ldom_report.specs.DiskEvents.{history};
 ghost use Rattle.ldom_report.specs.HasWords.{HasWords};
 ghost use Rattle.script_laws.specs.Admitting.{AdmitsAll};
-ghost use Rattle.script_laws.specs.Failures.{SucceedOrFail, failed_count};
+ghost use Rattle.script_laws.specs.Failures.{FailuresCounted, SucceedOrFail};
 ghost use Rattle.script_laws.specs.Outside.{IsOutsideDisks, KeepsOthers};
 ghost use Rattle.script_laws.specs.Stored.{flush_count, stored_count, write_count};
 ghost use Rattle.world_parts.specs.Declared.{bytes_needed, world_of};
@@ -44,8 +44,8 @@ pub fn requests_complete_once_in_order()
 {}
 
 /// An image that tells its bytes goes on to tell as many, and outside of the blocks that accepted requests write they
-/// stay as they were. It is so too where an image failed, and where memory was wanted within a line. Each request
-/// writes to its own disk.
+/// stay as they were; of a disk that somebody forged, outside of the disk's region. It is so too where an image failed,
+/// and where memory was wanted within a line. Each request writes to its own disk.
 pub fn bytes_outside_of_writes_stay()
     ensures { (disks : List DiskDecl) (image : ImageState) (entries : ℕ) (parts : ScriptParts) (v : WorldState)
         → AreDisks disks → FitsScript entries (world_of disks image) parts v
@@ -53,12 +53,13 @@ pub fn bytes_outside_of_writes_stay()
         → KeepsOthers (IsOutsideDisks disks (journal_of parts)) content v.image.told }
 {}
 
-/// No more completions failed than the image counts faults, where it counted none at first and its count can't have
-/// stopped at the last value.
+/// No more completions of a disk that nobody forged failed than the image counts faults; and no more of all disks
+/// together, where nobody forged one. It counted none at first, and its count can't have stopped at the last value.
 pub fn failed_completions_are_counted()
     ensures { (disks : List DiskDecl) (image : ImageState) (entries : ℕ) (parts : ScriptParts) (v : WorldState)
         → AreDisks disks → FitsScript entries (world_of disks image) parts v
-        → image.faults ≡ 0 → length (journal_of parts) < 2 ^ 63 → failed_count (journal_of parts) ≤ v.image.faults }
+        → image.faults ≡ 0 → length (journal_of parts) < 2 ^ 63
+        → FailuresCounted (journal_of parts) v.image.faults }
 {}
 
 /// Each call of the image is told. It was called as often as the journal says `stored`, and asked to flush or to write as
@@ -78,7 +79,7 @@ pub fn calls_of_the_image_are_told()
         → v.image.writes ≡ write_count (journal_of parts) }
 {}
 
-/// Each completion has the status 0, or 5 where the image failed.
+/// Each completion of a disk that nobody forged has the status 0, or 5 where the image failed.
 pub fn completions_succeed_or_fail()
     ensures { (disks : List DiskDecl) (image : ImageState) (entries : ℕ) (parts : ScriptParts) (v : WorldState)
         → AreDisks disks → FitsScript entries (world_of disks image) parts v → SucceedOrFail (journal_of parts) }

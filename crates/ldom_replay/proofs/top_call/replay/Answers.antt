@@ -7,7 +7,7 @@ use Rattle.ldom_report.specs.DiskEvents.{history}
 use Rattle.script_laws.proofs.Completeness.{all_zero, completes, never, still}
 use Rattle.std.proofs.lemmas.List.Elements.{All-nil}
 use Rattle.script_laws.specs.Clean.{EndsClean}
-use Rattle.script_laws.specs.Failures.{SucceedOrFail, SucceedsOrFails, failed_count}
+use Rattle.script_laws.specs.Failures.{FailuresCounted, SucceedOrFail, SucceedsOrFails}
 use Rattle.script_laws.specs.Objects.{host_tells, run_leaves, tells}
 use Rattle.script_laws.specs.Outcomes.{RunsScript}
 use Rattle.world_parts.specs.Declared.{blocks_of}
@@ -162,20 +162,20 @@ returns-in-Some-Sample-clause-statuses g c =
     subst (λ (j : JournalState). SucceedOrFail j.entries) (sym c.report_run-in-Some-Sample.ensures.journal) (statuses _ _ _ _ _ _ _ _ _ _ c.run_sample.ensures.replayed.replayed)
 
 pub returns-in-Some-Dump-clause-statuses : goal.returns-in-Some-Dump-clause-statuses
-returns-in-Some-Dump-clause-statuses g c = subst (λ (l : List Entry). SucceedOrFail l) (sym (ap (λ (j : JournalState). j.entries) c.report_dump.ensures.journal)) (All-nil SucceedsOrFails)
+returns-in-Some-Dump-clause-statuses g c = subst (λ (l : List Entry). SucceedOrFail l) (sym (ap (λ (j : JournalState). j.entries) c.report_dump.ensures.journal)) (λ x clean. All-nil SucceedsOrFails)
 
 pub returns-in-None-clause-statuses : goal.returns-in-None-clause-statuses
-returns-in-None-clause-statuses g c = subst (λ (l : List Entry). SucceedOrFail l) (sym (ap (λ (j : JournalState). j.entries) (c.report_usage.ensures.journal ∙ c.new.ensures))) (All-nil SucceedsOrFails)
+returns-in-None-clause-statuses g c = subst (λ (l : List Entry). SucceedOrFail l) (sym (ap (λ (j : JournalState). j.entries) (c.report_usage.ensures.journal ∙ c.new.ensures))) (λ x clean. All-nil SucceedsOrFails)
 
 pub returns-in-Some-Script-clause-failures : goal.returns-in-Some-Script-clause-failures
 returns-in-Some-Script-clause-failures g c =
-    said_otherwise (λ (j : JournalState) d. IfSome d (λ image. failed_count j.entries ≤ g.H.Disk.Store.faults image)) c.run_script.result.journal c.report_run.result.journal c.run_script.result.image c.report_run.result.image
+    said_otherwise (λ (j : JournalState) d. IfSome d (λ image. FailuresCounted j.entries (g.H.Disk.Store.faults image))) c.run_script.result.journal c.report_run.result.journal c.run_script.result.image c.report_run.result.image
     c.report_run.ensures.journal c.report_run.ensures.image
     (failures _ _ _ _ _ _ _ _ _ _ c.run_script.ensures.replayed (subst (λ (j : JournalState). length j.entries < 2 ^ 63) c.report_run.ensures.journal c.report_run.ensures.small))
 
 pub returns-in-Some-Sample-clause-failures : goal.returns-in-Some-Sample-clause-failures
 returns-in-Some-Sample-clause-failures g c =
-    said_otherwise (λ (j : JournalState) d. IfSome d (λ image. failed_count j.entries ≤ g.H.Disk.Store.faults image)) c.run_sample.result.journal c.report_run-in-Some-Sample.result.journal c.run_sample.result.image c.report_run-in-Some-Sample.result.image
+    said_otherwise (λ (j : JournalState) d. IfSome d (λ image. FailuresCounted j.entries (g.H.Disk.Store.faults image))) c.run_sample.result.journal c.report_run-in-Some-Sample.result.journal c.run_sample.result.image c.report_run-in-Some-Sample.result.image
     c.report_run-in-Some-Sample.ensures.journal c.report_run-in-Some-Sample.ensures.image
     (failures _ _ _ _ _ _ _ _ _ _ c.run_sample.ensures.replayed.replayed (subst (λ (j : JournalState). length j.entries < 2 ^ 63) c.report_run-in-Some-Sample.ensures.journal c.report_run-in-Some-Sample.ensures.small))
 
