@@ -25,7 +25,7 @@ use crate::blocks::blocks_declared;
 use crate::reading::Reader;
 use domain_script::{Event, Names};
 use ldom_report::{Journal, Status, Stop};
-use ldom_world::{Lanes, World};
+use ldom_world::{KeptBlocks, Lanes, World, room_for};
 use std::alloc::Global;
 use vdisk_msg::BLOCK;
 use vio_bytes::NoMemory;
@@ -170,7 +170,7 @@ pub fn run_script<H: Host, S: Source>(
     }
 }
 
-// Makes the lanes, attaches the image and runs the script over both, from the first event that isn't a declaration on.
+// Makes the lanes and the room of the cache, attaches the image and runs the script over them, from the first event that isn't a declaration on.
 // Nothing wants memory between attaching and that event: so where there is an image there are lanes, but for one that is
 // too short.
 fn attach<H: Host, S: Source>(
@@ -199,15 +199,15 @@ fn attach<H: Host, S: Source>(
     ensures host { Fails (result.status ≡ Status.HostFault) (H.faults host.old) (H.faults host.new) }
     ensures image { Gave (H.given host.old) (H.given host.new) result.image }
 {
-    let lanes = match Lanes::new(alloc, &reader.names) {
-        Ok(lanes) => lanes,
+    let (lanes, blocks) = match room_for(alloc, &reader.names) {
+        Ok(room) => room,
         Err(NoMemory) => {
             let lines = reader.number();
             return reader.into_run(Status::NoMemory, lines, None, None);
         }
     };
     match host.attach(alloc, name, BLOCK * blocks_declared(&reader.names)) {
-        Ok(image) => run_over(alloc, image, lanes, source, reader, first),
+        Ok(image) => run_over(alloc, image, lanes, blocks, source, reader, first),
         Err(fault) => {
             let lines = reader.number();
             reader.into_run(status_of(fault), lines, None, None)
@@ -220,6 +220,7 @@ fn run_over<D: Store, S: Source>(
     alloc: Global,
     image: D,
     lanes: Lanes,
+    blocks: KeptBlocks,
     source: &mut S,
     reader: Reader,
     first: Option<Event>,
@@ -231,6 +232,7 @@ fn run_over<D: Store, S: Source>(
     requires journal { reader.journal.entries ≡ [] }
     requires lanes { lanes ≡ map fresh (shapes_of 0 reader.names.disks) }
     requires few_lanes { length lanes ≤ 8 }
+    requires none_kept { blocks.kept ≡ [] }
     ensures replayed { (start : Option (List ℕ)) (gives : ℕ → Option (List ℕ))
         → Opened start reader.lines.held (S.left source.old) first reader.names reader.lines.number
         → as_image D.Store image ≡ (start_of reader.names gives).image
@@ -251,7 +253,12 @@ fn run_over<D: Store, S: Source>(
     if have < need {
         return reader.into_run(Status::ImageSize { need, have }, lines, Some(image), None);
     }
-    run_world(source, reader, World::over(alloc, lanes, image), first)
+    run_world(
+        source,
+        reader,
+        World::over(alloc, lanes, blocks, image),
+        first,
+    )
 }
 
 // Runs the script in its world, and lets the world end.

@@ -14,7 +14,6 @@ use Rattle.ldom_report.specs.LinesEnd.{IsPast}
 -- a fault of the reader
 abbrev pub stop_of : LinesFault → Stop
 stop_of reader.Source = Source
-stop_of reader.Memory = Memory
 stop_of reader.Long = Limit limit.Bytes
 stop_of reader.Many = Limit limit.Lines
 
@@ -38,7 +37,7 @@ abbrev pub StopsReading : Stop → Option (List ℕ) → Option (List ℕ) → L
 StopsReading End rest left held count = IsAtEnd rest × Keeps rest left
 StopsReading Source rest left held count = DecidesNothing count held × Keeps rest left
 StopsReading (Limit kind) rest left held count = IsPast kind rest count × Keeps rest left
-StopsReading Memory rest left held count = Keeps rest left
+StopsReading Memory rest left held count = ⊥
 StopsReading (Faulty fault) rest left held count = ⊥
 StopsReading Entries rest left held count = ⊥
 

@@ -25,7 +25,7 @@ pub enum Stop {
     /// The next line is past a limit.
     Limit(LimitKind),
 
-    /// Out of memory.
+    /// Out of memory. A reader never says so: whoever runs the lines does.
     Memory,
 
     /// The line that was read spells nothing.
@@ -74,7 +74,6 @@ impl Stop {
     {
         match fault {
             LinesFault::Source => Stop::Source,
-            LinesFault::Memory => Stop::Memory,
             LinesFault::Long => Stop::Limit(LimitKind::Bytes),
             LinesFault::Many => Stop::Limit(LimitKind::Lines),
         }

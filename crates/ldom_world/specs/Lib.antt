@@ -1,3 +1,4 @@
+pub mod CachedImage
 pub mod Fitting
 pub mod OneLane
 pub mod Called

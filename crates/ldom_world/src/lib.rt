@@ -11,5 +11,6 @@ mod settling;
 mod stepping;
 mod world;
 
+pub use cached_store::KeptBlocks;
 pub use lanes::Lanes;
-pub use world::World;
+pub use world::{World, room_for};

@@ -1,10 +1,13 @@
-ghost use Rattle.std.specs.Prelude.{◌≡◌, ◌≤◌, ◌<◌, ◌↔◌, IfErr, IfOk, IsTrue, length};
+ghost use Rattle.std.specs.Prelude.{◌≡◌, ◌≤◌, ◌<◌, ◌↔◌, [], IfErr, IfOk, IsTrue, length, map};
+ghost use Rattle.disk_model.specs.LaneState.{fresh};
 ghost use Rattle.domain_script.specs.Declarations.{AreDisks};
+ghost use Rattle.vio_io.specs.Causes.{last_count};
 ghost use Rattle.world_laws.specs.Rounds.{Each};
 ghost use Rattle.disk_law.specs.ListState.{as_image};
-ghost use Rattle.world_parts.specs.Declared.{LiesWithin, bytes_needed, world_of};
+ghost use Rattle.world_parts.specs.Declared.{LiesWithin, bytes_needed, shapes_of, world_of};
 
 use crate::lanes::Lanes;
+use cached_store::{Cached, KeptBlocks};
 use disk_lane::DiskLane;
 use domain_script::Names;
 use ldom_report::Bytes;
@@ -13,13 +16,16 @@ use std::marker::Model;
 use vio_bytes::NoMemory;
 use vio_io::Store;
 
+/// How many blocks of an image are kept.
+const MOST_KEPT: usize = 64;
+
 /// The lanes of a script, a list of each kind by their numbers in the order of declaration: of disks alone as yet. And
-/// the image that all disks are served from: each is a region of it, one after another.
+/// the image that all disks are served from, behind a cache of its blocks: each disk is a region of it, one after another.
 #[derive(Drop)]
 pub struct World<D: Store> {
     pub(crate) alloc: Global,
     pub(crate) disks: Vec<DiskLane>,
-    pub(crate) image: D,
+    pub(crate) image: Cached<D>,
 
     /// Room for what the next completion carries.
     pub(crate) room: Bytes,
@@ -29,18 +35,31 @@ impl<D: Store> Model for World<D> {
     ghost use Rattle.std.specs.Prelude.{[], ◌≡◌, ◌≤◌, length};
     ghost use Rattle.world_laws.specs.Rounds.{Each};
     ghost use Rattle.world_laws.specs.World.{WorldState};
-    ghost use Rattle.disk_law.specs.ListState.{as_image};
+    ghost use Rattle.ldom_world.specs.CachedImage.{cached_image};
     ghost use Rattle.world_parts.specs.Declared.{LiesWithin};
 
     ghost Value = { WorldState };
 
     ghost view = { λ w. record {
       lanes = w.disks.items;
-      image = as_image D.Store w.image;
+      image = cached_image D.Store w.image;
     } };
 
-    ghost invariant = { λ w. (length w.disks.items ≤ 8) × Each (LiesWithin (D.size w.image)) w.disks.items
+    ghost invariant = { λ w. (length w.disks.items ≤ 8) × Each (LiesWithin (D.size w.image.inner)) w.disks.items
         × (w.room.items ≡ []) };
+}
+
+/// The lanes of these declarations, before anything was asked, and room for the blocks that are kept of their image: all
+/// the memory that a world wants as it is made.
+pub fn room_for(alloc: Global, names: &Names) -> Result<(Lanes, KeptBlocks), NoMemory>
+    requires { AreDisks names.now.disks }
+    ensures lanes { IfOk result (λ room. room.0 ≡ map fresh (shapes_of 0 names.now.disks)) }
+    ensures few { IfOk result (λ room. length room.0 ≤ 8) }
+    ensures blocks { IfOk result (λ room. room.1 ≡ record { kept = []; most = 64 }) }
+{
+    let lanes = Lanes::new(alloc, names)?;
+    let blocks = KeptBlocks::new(alloc, MOST_KEPT)?;
+    Ok((lanes, blocks))
 }
 
 impl<D: Store> World<D> {
@@ -53,15 +72,17 @@ impl<D: Store> World<D> {
             (as_image D.Store image)) }
         ensures given_back { IfErr result (λ e. e.1 ≡ image) }
     {
-        match Lanes::new(alloc, names) {
-            Ok(lanes) => Ok(World::over(alloc, lanes, image)),
+        match room_for(alloc, names) {
+            Ok((lanes, blocks)) => Ok(World::over(alloc, lanes, blocks, image)),
             Err(fault) => Err((fault, image)),
         }
     }
 
-    /// The world of these lanes, at most eight, over an image that holds the disks of all. It takes no memory.
-    pub fn over(alloc: Global, lanes: Lanes, image: D) -> Self
+    /// The world of these lanes, at most eight, over an image that holds the disks of all, of which no block is kept yet.
+    /// It takes no memory.
+    pub fn over(alloc: Global, lanes: Lanes, blocks: KeptBlocks, image: D) -> Self
         requires few { length lanes ≤ 8 }
+        requires none_kept { blocks.kept ≡ [] }
         requires image { Each (LiesWithin (D.size image)) lanes }
         ensures lanes { result.lanes ≡ lanes }
         ensures image { result.image ≡ as_image D.Store image }
@@ -69,7 +90,7 @@ impl<D: Store> World<D> {
         World {
             alloc,
             disks: lanes.disks,
-            image,
+            image: Cached::over(blocks, image),
             room: Bytes::empty(alloc),
         }
     }
@@ -89,9 +110,14 @@ impl<D: Store> World<D> {
         self.image.faulty()
     }
 
-    /// The image, and the lanes as they stand.
+    /// The image, and the lanes as they stand. Its bytes and its faults are what the lanes saw, and it got each write and
+    /// each flush. It was called at most as often as they asked, where no count can have stopped: it may be spared reads.
     pub fn finish(self) -> (D, Lanes)
-        ensures image { as_image D.Store result.0 ≡ self.image }
+        ensures content { D.content result.0 ≡ self.image.told }
+        ensures faults { D.faults result.0 ≡ self.image.faults }
+        ensures flushes { D.flushes result.0 ≡ self.image.flushes }
+        ensures writes { D.writes result.0 ≡ self.image.writes }
+        ensures calls { self.image.calls < last_count → D.calls result.0 ≤ self.image.calls }
         ensures lanes { result.1 ≡ self.lanes }
         ensures size { Each (LiesWithin (D.size result.0)) self.lanes }
     {
@@ -101,6 +127,6 @@ impl<D: Store> World<D> {
             image,
             room: _,
         } = self;
-        (image, Lanes { disks })
+        (image.into_inner(), Lanes { disks })
     }
 }

@@ -19,6 +19,7 @@ use Rattle.world_parts.specs.Endings.{EndsSo, JournalIs, ending}
 use Rattle.script_laws.specs.Going.{RunsAll, RunsLines}
 use Rattle.ldom_report.specs.Stops.{IsReaders}
 use Rattle.script_laws.specs.Attached.{AreOpening, AttachesAt, ImageStands, is_opening}
+use Rattle.script_laws.specs.Behind.{StandsBehind}
 use Rattle.script_laws.specs.Opening.{Opened, Opens, OpensAndStops}
 use Rattle.world_parts.specs.Lines.{EventStep, line_of}
 use Rattle.world_parts.specs.Parts.{Fits, FitsSoFar}
@@ -387,10 +388,20 @@ begun_attaches : (opening : List Event) (event : Event) (rest : Option (List ℕ
 begun_attaches opening event rest are other =
     inr (record { opening = opening; are = are; event = event; other = other; events_are = first_events opening event [] })
 
+-- where nothing stood between
+nothing_between : (seen image : ImageState) → seen ≡ image → StandsBehind seen image
+nothing_between seen image is = record {
+  told = ap (λ (i : ImageState). i.told) is;
+  faults = ap (λ (i : ImageState). i.faults) is;
+  flushes = ap (λ (i : ImageState). i.flushes) is;
+  writes = ap (λ (i : ImageState). i.writes) is;
+  calls = λ few. omega (arith, ap (λ (i : ImageState). i.calls) is);
+}
+
 module _ {D : Type 0} (seen : D → ImageState) (start now : Option (List ℕ)) (gives : ℕ → Option (List ℕ)) where
   -- A RUN in a world that ended
   pub replayed_of : (why : Status) (faulty : Bool) (names after : NamesState) (s t : WorldState) (journal : List Entry) (lines : ℕ) (image : D) (lanes : List LaneState) → IsReaders why → RunsAll start now names s why after journal t lines → s ≡ start_of names gives
-      → seen image ≡ t.image → lanes ≡ t.lanes → (IsTrue faulty ↔ (0 < t.image.faults))
+      → StandsBehind (seen image) t.image → lanes ≡ t.lanes → (IsTrue faulty ↔ (0 < t.image.faults))
       → Replayed seen start now gives (ended_status why faulty) lines after journal (Some image) (Some lanes)
   replayed_of why faulty names after s t journal lines image lanes readers runs begins told left tells =
       let begin : s ≡ start_of after gives = begins ∙ ap (λ (disks : List _). start_of (record { disks = disks; ended = true }) gives) (sym runs.disks) in
@@ -481,7 +492,7 @@ module _ {D : Type 0} (seen : D → ImageState) (start now : Option (List ℕ)) 
           fits = declared_fit (start_of names gives) opened.opening opened.are;
           ends = opening_entries opened.opening;
         };
-        image_is = told;
+        image_is = nothing_between (seen image) (start_of names gives).image told;
         faults_are = tt;
         image_stands = (refl, declared_attaches opened.opening opened.stopped.left opened.are opened.stopped.stop.0);
         lanes_stand = refl;
@@ -497,7 +508,7 @@ module _ {D : Type 0} (seen : D → ImageState) (start now : Option (List ℕ)) 
           fits = none_start (start_of names gives) opened.opening event opened.are;
           ends = first_entries opened.opening event [];
         };
-        image_is = told;
+        image_is = nothing_between (seen image) (start_of names gives).image told;
         faults_are = tt;
         image_stands = (refl, begun_attaches opened.opening event (prepend_known held now) opened.are (other_line event opened.other));
         lanes_stand = refl;

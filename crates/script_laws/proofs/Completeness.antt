@@ -17,6 +17,7 @@ use Rattle.ldom_report.specs.declared.status.LimitKind.TheVariants.{Lines, Bytes
 use Rattle.ldom_report.specs.declared.status.Status.{Status}
 use Rattle.ldom_report.specs.declared.status.Status.TheVariants as status
 use Rattle.domain_script.specs.ScriptLines.{AreShort}
+use Rattle.script_laws.specs.Behind.{StandsBehind}
 use Rattle.script_laws.specs.Clean.{EndsClean, IsCleanScript, IsFull, NeverFails, StandsStill}
 use Rattle.script_laws.specs.Outcomes.{Reports}
 use Rattle.ldom_report.specs.LinesEnd.{IsPast}
@@ -104,9 +105,9 @@ module _ {D : Type 0} (seen : D → ImageState) (script behind : Option (List �
       by_name true tests = zeros_are_long size ran (512 * blocks_of names.disks) need have (gives (512 * blocks_of names.disks)) image is (zeros ((bytes_eq-Decides name (45 ∷ [])).0 tests) (512 * blocks_of names.disks)) sized
       by_name false tests = long_enough size ran (512 * blocks_of names.disks) (512 * blocks_of clean.names.disks) need have (gives (512 * blocks_of names.disks)) image is as_needed (long (λ same. cc (tests, (bytes_eq-Decides name (45 ∷ [])).1 same))) sized
 
-  store_works : (i : Option D) (left : ImageState) → IsSome i → IfSome i (λ d. seen d ≡ left) → IfSome i (λ d. (seen d).faults ≡ 0) → 0 < left.faults → ⊥
+  store_works : (i : Option D) (left : ImageState) → IsSome i → IfSome i (λ d. StandsBehind (seen d) left) → IfSome i (λ d. (seen d).faults ≡ 0) → 0 < left.faults → ⊥
   store_works None left some is none rose = cc some
-  store_works (Some d) left some is none rose = omega (arith, ap (λ (x : ImageState). x.faults) is, none, rose)
+  store_works (Some d) left some is none rose = omega (arith, is.faults, none, rose)
 
   never_past : (at : ℕ) (kind : LimitKind) → (replayed : Replayed seen (Some bytes) behind gives (status.Limit at kind) lines names journal image lanes) → IsPast kind replayed.stopped.left replayed.stopped.count → ⊥
   never_past at kind replayed past =

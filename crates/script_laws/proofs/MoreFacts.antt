@@ -30,7 +30,7 @@ module _ {D : Type 0} (seen : D → ImageState) (script now : Option (List ℕ))
   kept_of : (first : List ℕ) → KeepsOthers (IsOutsideDisks names.disks journal) first run.final.image.told → Kept first
   kept_of first kept =
       IfSome_then image run.image_is
-      (λ disk is. subst (λ (i : ImageState). KeepsOthers (IsOutsideDisks names.disks journal) first i.told) (sym is) kept)
+      (λ disk is. subst (λ (o : Option (List ℕ)). KeepsOthers (IsOutsideDisks names.disks journal) first o) (sym is.told) kept)
 
   others : (first : List ℕ) → gives (bytes_needed names.disks) ≡ Some first → bytes_needed names.disks ≤ length first → Kept first
   others first is long =

@@ -1,7 +1,9 @@
 -- What holds of the journal of every run.
-use Rattle.std.proofs.Common.{◌≡◌, ℕ, ◌^◌, ◌<◌, List, [], ◌∷◌, ◌++◌, length, refl, sym, ◌∙◌, ap, subst, Option, IfSome}
+use Rattle.std.proofs.Common.{◌≡◌, ℕ, ◌^◌, ◌<◌, ◌≤◌, List, [], ◌∷◌, ◌++◌, length, refl, sym, ◌∙◌, ap, arith, subst, true, Option, IfSome}
 use Rattle.std.specs.List.{All}
+use Rattle.std.proofs.lemmas.List.Sums.{count_by-le-length}
 use Rattle.std.proofs.lemmas.Option.{IfSome_then}
+use Rattle.vio_io.specs.Causes.{last_count}
 use Rattle.disk_law.specs.Issued.{CompletesOnceInOrder}
 use Rattle.disk_law.specs.ListState.{ImageState}
 use Rattle.disk_law.specs.ListStep.{Done}
@@ -18,7 +20,7 @@ use Rattle.script_laws.specs.Failures.{FailuresCounted, SucceedOrFail}
 use Rattle.script_laws.specs.Headline.{Headline}
 use Rattle.script_laws.specs.Replayed.{FaultsAre, Replayed, start_of}
 use Rattle.script_laws.specs.Sized.{SizeIs}
-use Rattle.script_laws.specs.Stored.{flush_count, stored_count, write_count}
+use Rattle.script_laws.specs.Stored.{flush_count, is_stored_that, stored_count, write_count}
 use Rattle.script_laws.proofs.HeadlineLaw.{headline_law}
 use Rattle.script_laws.proofs.ScriptLaws.{script_admits, script_calls, script_failed, script_flushes, script_once, script_statuses, script_worded, script_writes}
 use Rattle.script_laws.proofs.ReadLemmas.{read_disks, read_few}
@@ -84,7 +86,7 @@ module _ {D : Type 0} (seen : D → ImageState) (script now : Option (List ℕ))
   pub image_unfailed : why ≡ status.Done → IfSome image (λ disk. (seen disk).faults ≡ 0)
   image_unfailed done =
       let none : run.final.image.faults ≡ 0 = (subst (λ (w : Status). FaultsAre w image run.final.image.faults) done run.faults_are).1 in
-      IfSome_then image run.image_is (λ disk is. ap (λ (i : ImageState). i.faults) is ∙ none)
+      IfSome_then image run.image_is (λ disk is. is.faults ∙ none)
 
   module _ (short : length journal < 2 ^ 63) where
     parts_short : length (journal_of run.parts) < 2 ^ 63
@@ -94,28 +96,29 @@ module _ {D : Type 0} (seen : D → ImageState) (script now : Option (List ℕ))
     pub failures : IfSome image (λ disk. FailuresCounted journal (seen disk).faults)
     failures =
         IfSome_then image run.image_is
-        (λ disk is. subst (λ (i : ImageState). FailuresCounted journal i.faults) (sym is)
+        (λ disk is. subst (λ (n : ℕ). FailuresCounted journal n) (sym is.faults)
         (of_journal (λ (l : List Entry). FailuresCounted l run.final.image.faults)
         (script_failed names.disks start 0 run.parts run.final disks_are fits refl parts_short)))
 
-    -- and each call of it is told
-    pub calls : IfSome image (λ disk. (seen disk).calls ≡ stored_count journal)
+    -- each flush and each write of it is told, and it was called at most as often as that is
+    pub calls : IfSome image (λ disk. (seen disk).calls ≤ stored_count journal)
     calls =
-        IfSome_then image run.image_is
-        (λ disk is. ap (λ (i : ImageState). i.calls) is
-        ∙ script_calls names.disks start 0 run.parts run.final disks_are fits refl parts_short
-        ∙ ap stored_count run.journal_is.is)
+        let told : run.final.image.calls ≡ stored_count journal =
+        script_calls names.disks start 0 run.parts run.final disks_are fits refl parts_short ∙ ap stored_count run.journal_is.is in
+        let most : stored_count journal ≤ length journal = count_by-le-length (is_stored_that (λ operation failed. true)) journal in
+        let few : run.final.image.calls < last_count = omega (arith, told, most, short) in
+        IfSome_then image run.image_is (λ disk is. subst (λ (n : ℕ). (seen disk).calls ≤ n) told (is.calls few))
 
     pub flushes : IfSome image (λ disk. (seen disk).flushes ≡ flush_count journal)
     flushes =
         IfSome_then image run.image_is
-        (λ disk is. ap (λ (i : ImageState). i.flushes) is
+        (λ disk is. is.flushes
         ∙ script_flushes names.disks start 0 run.parts run.final disks_are fits refl parts_short
         ∙ ap flush_count run.journal_is.is)
 
     pub writes : IfSome image (λ disk. (seen disk).writes ≡ write_count journal)
     writes =
         IfSome_then image run.image_is
-        (λ disk is. ap (λ (i : ImageState). i.writes) is
+        (λ disk is. is.writes
         ∙ script_writes names.disks start 0 run.parts run.final disks_are fits refl parts_short
         ∙ ap write_count run.journal_is.is)

@@ -17,6 +17,7 @@ use Rattle.ldom_report.specs.declared.status.Mode.{Mode}
 use Rattle.ldom_report.specs.declared.status.Mode.TheVariants as mode
 use Rattle.ldom_report.specs.declared.status.Status.{Status}
 use Rattle.ldom_report.specs.declared.status.Status.TheVariants as status
+use Rattle.script_laws.specs.Behind.{StandsBehind}
 use Rattle.script_laws.specs.Completed.{completed_ids}
 use Rattle.script_laws.specs.PlainRun.{plain_content, plain_ids, plain_text}
 use Rattle.script_laws.specs.Quiet.{IsQuiet, IsQuietScript}
@@ -46,7 +47,7 @@ long_at_end : {D : Type 0} (size : D → ℕ) (least : ℕ) (told : Option (List
 long_at_end size least told None given is some sized = absurd (cc some)
 long_at_end size least told (Some disk) given is some sized = subst (λ (o : Option (List ℕ)). IfSome o (λ bytes. least ≤ length bytes)) is sized.1
 
-seen_so : {D : Type 0} (seen : D → ImageState) (image : Option D) (i : ImageState) → IfSome image (λ d. seen d ≡ i) → IsSome image → IsSomeAnd image (λ d. seen d ≡ i)
+seen_so : {D : Type 0} (seen : D → ImageState) (image : Option D) (i : ImageState) → IfSome image (λ d. StandsBehind (seen d) i) → IsSome image → IsSomeAnd image (λ d. StandsBehind (seen d) i)
 seen_so seen None i is some = absurd (cc some)
 seen_so seen (Some d) i is some = is
 
@@ -93,10 +94,10 @@ module _ {D : Type 0} (shown : Mode) (seen : D → ImageState) (script now : Opt
     written = subst (λ (l : List ℕ). Appends old new l) text_is told.1;
   }
 
-left_so : {D : Type 0} (seen : D → ImageState) (image : Option D) (i : ImageState) (left : List ℕ) → IsSomeAnd image (λ d. seen d ≡ i) → i.told ≡ Some left
+left_so : {D : Type 0} (seen : D → ImageState) (image : Option D) (i : ImageState) (left : List ℕ) → IsSomeAnd image (λ d. StandsBehind (seen d) i) → i.told ≡ Some left
     → IsSomeAnd image (λ d. (seen d).told ≡ Some left)
 left_so seen None i left is same = absurd is
-left_so seen (Some d) i left is same = ap (λ (x : ImageState). x.told) is ∙ same
+left_so seen (Some d) i left is same = is.told ∙ same
 
 -- A QUIET SCRIPT, over an image that tells its bytes
 module _ {D : Type 0} (seen : D → ImageState) (size : D → ℕ) (script now : Option (List ℕ)) (gives : ℕ → Option (List ℕ)) (why : Status) (journal : List Entry) (image : Option D) (lanes : Option (List LaneState)) (old new : Option (List ℕ)) (before after : Counts)
@@ -142,7 +143,7 @@ module _ {D : Type 0} (seen : D → ImageState) (size : D → ℕ) (script now :
       subst (λ (n : ℕ). n ≤ length given) least
       (long_at_end size (bytes_needed (disk ∷ [])) (gives (bytes_needed (disk ∷ []))) image given gave_one (some_image image whole.image_is) sized)
     where
-      some_image : (i : Option D) → IsSomeAnd i (λ d. seen d ≡ final.image) → IsSome i
+      some_image : (i : Option D) → IsSomeAnd i (λ d. StandsBehind (seen d) final.image) → IsSome i
       some_image None is = absurd is
       some_image (Some d) is = refl
 

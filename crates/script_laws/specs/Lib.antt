@@ -13,6 +13,7 @@ pub mod Headline
 pub mod PlainRun
 pub mod Quiet
 pub mod Attached
+pub mod Behind
 pub mod Clean
 pub mod Counts
 pub mod Going

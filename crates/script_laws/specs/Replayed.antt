@@ -10,6 +10,7 @@ use Rattle.vio_io.specs.declared.host.AttachFault.{AttachFault}
 use Rattle.vio_io.specs.declared.host.AttachFault.TheVariants.{Failed, Memory}
 use Rattle.ldom_report.specs.LinesEnd.{counted_lines}
 use Rattle.script_laws.specs.Attached.{ImageStands}
+use Rattle.script_laws.specs.Behind.{StandsBehind}
 use Rattle.world_parts.specs.Endings.{JournalIs, ending}
 use Rattle.disk_model.specs.LaneState.{LaneState}
 use Rattle.world_laws.specs.World.{WorldState}
@@ -51,8 +52,8 @@ abbrev pub start_of : NamesState → (ℕ → Option (List ℕ)) → WorldState
 start_of names gives = world_of names.disks (attached (gives (bytes_needed names.disks)))
 
 -- A run: its script was read up to where it stopped, its journal is one part for each line, and the image and the lanes are
--- what the journal makes of the image that was attached and of fresh lanes. The source has `now` left. `seen` is what
--- contracts see of an image.
+-- what the journal makes of the image that was attached and of fresh lanes, but that reads may have been spared the image.
+-- The source has `now` left. `seen` is what contracts see of an image.
 pub record Replayed {D : Type 0} (seen : D → ImageState) (script now : Option (List ℕ)) (gives : ℕ → Option (List ℕ))
     (why : Status) (lines : ℕ) (names : NamesState) (journal : List Entry) (image : Option D) (lanes : Option (List LaneState)) : Type 0 where
   -- its lines with their parts, of which all that is said of the run speaks
@@ -60,7 +61,7 @@ pub record Replayed {D : Type 0} (seen : D → ImageState) (script now : Option 
   pub stopped : Stopped script now why (events_of parts) names (length journal) lines
   pub final : WorldState
   pub journal_is : JournalIs (ending why) (start_of names gives) parts journal final
-  pub image_is : IfSome image (λ disk. seen disk ≡ final.image)
+  pub image_is : IfSome image (λ disk. StandsBehind (seen disk) final.image)
   pub faults_are : FaultsAre why image final.image.faults
   pub image_stands : ImageStands why (events_of parts) stopped.left journal image
   pub lanes_stand : LanesStand why image lanes final

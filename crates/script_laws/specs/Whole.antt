@@ -11,6 +11,7 @@ use Rattle.ldom_report.specs.Report.{report}
 use Rattle.ldom_entries.specs.declared.entry.Entry.{Entry}
 use Rattle.ldom_report.specs.declared.status.Mode.{Mode}
 use Rattle.ldom_report.specs.declared.status.Status.TheVariants.{Done}
+use Rattle.script_laws.specs.Behind.{StandsBehind}
 use Rattle.script_laws.specs.Completed.{completed_ids}
 use Rattle.script_laws.specs.PlainRun.{plain_text, plain_content, plain_ids}
 use Rattle.world_parts.specs.Script.{ScriptParts, events_of}
@@ -28,7 +29,7 @@ pub record RunsWhole {D : Type 0} (mode : Mode) (seen : D → ImageState) (scrip
   pub all : SpellsAll script (events_of parts) names
   pub none_cut : parts.cut ≡ None
   pub faultless : final.image.faults ≡ 0
-  pub image_is : IsSomeAnd image (λ disk. seen disk ≡ final.image)
+  pub image_is : IsSomeAnd image (λ disk. StandsBehind (seen disk) final.image)
   pub written : Appends old new (report mode names.disks (length (events_of parts)) journal Done)
 
 -- the written text is that of the plain run over these bytes, and so are what the image is left with and the ids of the

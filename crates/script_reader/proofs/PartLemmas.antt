@@ -4,7 +4,7 @@ use Rattle.std.proofs.lemmas.List.{length-append}
 use Rattle.domain_script.specs.Pieces.{HasNoFeed}
 use Rattle.domain_script.proofs.Feeds.{cut_at, has_no_append, has_no_take}
 use Rattle.script_reader.specs.declared.lines.LinesFault.{LinesFault}
-use Rattle.script_reader.specs.declared.lines.LinesFault.TheVariants.{Source, Long, Many, Memory}
+use Rattle.script_reader.specs.declared.lines.LinesFault.TheVariants.{Source, Long, Many}
 use Rattle.script_reader.specs.Parts.{Extends, MovesPart}
 
 -- the bytes up to the line feed at n were moved
@@ -33,6 +33,5 @@ part_refused piece line part behind line_after Long is clean clean_part extends 
     long = omega (arith, extends.1, length-append line part);
   },
 )
-part_refused piece line part behind line_after Memory is clean clean_part extends = (refl, extends)
 part_refused piece line part behind line_after Source is clean clean_part extends = absurd extends
 part_refused piece line part behind line_after Many is clean clean_part extends = absurd extends

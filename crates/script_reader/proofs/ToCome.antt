@@ -4,7 +4,7 @@ use Rattle.std.proofs.Math.Dec.{eqb-suc-zero}
 use Rattle.std.proofs.KnownBytes.{Keeps-trans}
 use Rattle.std.specs.Io.KnownBytes.{Keeps, IsAtEnd, prepend_known}
 use Rattle.script_reader.specs.declared.lines.LinesFault.{LinesFault}
-use Rattle.script_reader.specs.declared.lines.LinesFault.TheVariants.{Source, Long, Many, Memory}
+use Rattle.script_reader.specs.declared.lines.LinesFault.TheVariants.{Source, Long, Many}
 use Rattle.domain_script.specs.ScriptLines.{script_lines, TakesLine, BeginsWithLonger}
 use Rattle.domain_script.specs.Pieces.{HasNoFeed, IsTooLong}
 use Rattle.script_reader.specs.Parts.{MovesPart, ReadsLine}
@@ -76,8 +76,6 @@ read_refused rest left line piece line_after piece_after Long told moves = (
   subst (λ (l : List ℕ). Keeps rest (prepend_known l left)) (sym (ap (λ (l : List ℕ). l ++ piece_after) moves.1 ∙ ap (λ (l : List ℕ). line ++ l) moves.0)) told,
   longer_to_come rest left (line ++ piece) told moves.2,
 )
-read_refused rest left line piece line_after piece_after Memory told moves =
-    subst (λ (l : List ℕ). Keeps rest (prepend_known l left)) (sym (ap (λ (l : List ℕ). l ++ piece_after) moves.1 ∙ ap (λ (l : List ℕ). line ++ l) moves.0)) told
 read_refused rest left line piece line_after piece_after Source told moves = absurd moves
 read_refused rest left line piece line_after piece_after Many told moves = absurd moves
 

@@ -2,7 +2,7 @@
 use Rattle.std.specs.Prelude.{◌≡◌, ◌≢◌, ℕ, ◌+◌, ◌<◌, ◌≤◌, Bool, true, false, List, [], length, Option, IfSome, Result, Ok, Err}
 use Rattle.std.specs.Io.KnownBytes.{Keeps, IsAtEnd, prepend_known}
 use Rattle.script_reader.specs.declared.lines.LinesFault.{LinesFault}
-use Rattle.script_reader.specs.declared.lines.LinesFault.TheVariants.{Source, Long, Many, Memory}
+use Rattle.script_reader.specs.declared.lines.LinesFault.TheVariants.{Source, Long, Many}
 use Rattle.script_reader.specs.declared.lines.LinesStop.{LinesStop}
 use Rattle.script_reader.specs.declared.lines.LinesStop.TheVariants.{Going, Ended, TooLong, TooMany}
 use Rattle.domain_script.specs.Pieces.{DecidesNothing}
@@ -44,7 +44,6 @@ abbrev pub Reads : Option (List ℕ) → Option (List ℕ) → LinesState → Re
 Reads rest left before (Ok true) after = GivesLine rest left before after
 Reads rest left before (Ok false) after = GivesNone rest left before after Ended × IsAtEnd rest
 Reads rest left before (Err Source) after = GivesNone rest left before after Going × DecidesNothing before.number after.held
-Reads rest left before (Err Memory) after = GivesNone rest left before after Going
 Reads rest left before (Err Long) after = GivesNone rest left before after TooLong × (before.number < most_lines) × IfSome rest (BeginsWithLonger most_line_bytes)
 Reads rest left before (Err Many) after = GivesNone rest left before after TooMany × (before.number ≡ most_lines) × IfSome rest (λ bytes. bytes ≢ [])
 

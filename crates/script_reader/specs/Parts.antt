@@ -5,13 +5,12 @@ use Rattle.domain_script.specs.Limits.{most_line_bytes}
 use Rattle.domain_script.specs.Pieces.{HasNoFeed, IsTooLong}
 use Rattle.domain_script.specs.ScriptLines.{TakesLine, BeginsWithLonger}
 use Rattle.script_reader.specs.declared.lines.LinesFault.{LinesFault}
-use Rattle.script_reader.specs.declared.lines.LinesFault.TheVariants.{Source, Long, Many, Memory}
+use Rattle.script_reader.specs.declared.lines.LinesFault.TheVariants.{Source, Long, Many}
 
 -- bytes were added to a line, which has at most 3,100 of them
 abbrev pub Extends : List ℕ → List ℕ → Result (Unit {0}) LinesFault → List ℕ → Type 0
 Extends old more (Ok _) new = (new ≡ old ++ more) × (length new ≤ most_line_bytes)
 Extends old more (Err Long) new = (new ≡ old) × (most_line_bytes < length old + length more)
-Extends old more (Err Memory) new = new ≡ old
 Extends old more (Err Source) new = ⊥
 Extends old more (Err Many) new = ⊥
 
@@ -20,7 +19,6 @@ abbrev pub MovesPart : List ℕ → List ℕ → Result Bool LinesFault → List
 MovesPart piece line (Ok true) piece_after line_after = (line ++ piece ≡ line_after ++ 10 ∷ piece_after) × HasNoFeed line_after × (length line_after ≤ most_line_bytes)
 MovesPart piece line (Ok false) piece_after line_after = (line_after ≡ line ++ piece) × (piece_after ≡ []) × HasNoFeed line_after × (length line_after ≤ most_line_bytes)
 MovesPart piece line (Err Long) piece_after line_after = (piece_after ≡ piece) × (line_after ≡ line) × IsTooLong (line ++ piece)
-MovesPart piece line (Err Memory) piece_after line_after = (piece_after ≡ piece) × (line_after ≡ line)
 MovesPart piece line (Err Source) piece_after line_after = ⊥
 MovesPart piece line (Err Many) piece_after line_after = ⊥
 
@@ -29,6 +27,5 @@ abbrev pub ReadsLine : Option (List ℕ) → Result Bool LinesFault → List ℕ
 ReadsLine rest (Ok true) line piece left = TakesLine rest (prepend_known piece left) line
 ReadsLine rest (Ok false) line piece left = Keeps rest (prepend_known (line ++ piece) left) × (line ≡ []) × IsAtEnd rest
 ReadsLine rest (Err Source) line piece left = Keeps rest (prepend_known (line ++ piece) left) × HasNoFeed (line ++ piece) × (length (line ++ piece) ≤ most_line_bytes)
-ReadsLine rest (Err Memory) line piece left = Keeps rest (prepend_known (line ++ piece) left)
 ReadsLine rest (Err Long) line piece left = Keeps rest (prepend_known (line ++ piece) left) × IfSome rest (BeginsWithLonger most_line_bytes)
 ReadsLine rest (Err Many) line piece left = ⊥

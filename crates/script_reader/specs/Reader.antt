@@ -1,5 +1,5 @@
 -- What a reader of lines keeps, and how it is seen.
-use Rattle.std.specs.Prelude.{◌≡◌, ◌≤◌, true, false, [], ◌++◌, length, if◌then◌else◌}
+use Rattle.std.specs.Prelude.{◌≡◌, ◌≤◌, true, false, [], ◌++◌, length, if◌then◌else◌, vec_capacity}
 use Rattle.script_reader.specs.declared.lines.LinesStop.TheVariants.{Going}
 use Rattle.script_reader.specs.declared.lines.Lines.TheInside.{Inside}
 use Rattle.script_reader.specs.LinesState.{LinesState}
@@ -18,6 +18,8 @@ reader_state reader = record {
 pub record IsReader (reader : Inside) : Type 0 where
   pub short : length reader.line.items ≤ most_line_bytes
   pub no_feed : HasNoFeed reader.line.items
+  -- there is room for the longest line
+  pub room : most_line_bytes ≤ vec_capacity reader.line
   pub few : reader.number ≤ most_lines
   -- after the last line that there may be, no line is begun
   pub all : reader.number ≡ most_lines → reader.given ≡ false → reader.line.items ≡ []

@@ -4,7 +4,7 @@ ghost use Rattle.domain_script.specs.Limits.{most_lines};
 
 use crate::piece::Piece;
 use crate::reading::{MOST_BYTES, read_line};
-use std::alloc::{AllocError, Global};
+use std::alloc::Global;
 use std::marker::Model;
 use thiserror::Error;
 use vio_bytes::NoMemory;
@@ -27,10 +27,6 @@ pub enum LinesFault {
     /// There is a line after the 20,000th.
     #[error("too many lines")]
     Many,
-
-    /// Out of memory.
-    #[error("out of memory")]
-    Memory,
 }
 
 impl From<Failed> for LinesFault {
@@ -40,16 +36,6 @@ impl From<Failed> for LinesFault {
 
     fn from(_: Failed) -> Self {
         LinesFault::Source
-    }
-}
-
-impl From<AllocError> for LinesFault {
-    ghost use Rattle.script_reader.specs.declared.lines.LinesFault.TheVariants.{Memory as memory_fault};
-
-    ghost from_gives = { λ _ fault. fault ≡ memory_fault };
-
-    fn from(_: AllocError) -> Self {
-        LinesFault::Memory
     }
 }
 
@@ -95,7 +81,7 @@ impl Lines {
     ghost use Rattle.vio_io.specs.Causes.{Rose};
     ghost use Rattle.script_reader.specs.LinesState.{Advances, Reads, to_come};
 
-    /// Nothing was read.
+    /// Nothing was read. No other call takes memory: the room of a line of the most bytes is taken here.
     pub fn new(alloc: Global) -> Result<Self, NoMemory>
         ensures { IfOk result (λ lines. lines ≡ record { held = []; line = []; number = 0; stop = LinesStop.Going }) }
     {

@@ -1,4 +1,4 @@
-ghost use Rattle.std.specs.Prelude.{◌≡◌, ◌≢◌, ◌≤◌, ◌++◌, length};
+ghost use Rattle.std.specs.Prelude.{◌≡◌, ◌≢◌, ◌≤◌, ◌++◌, length, vec_capacity};
 ghost use Rattle.vio_io.specs.Causes.{Fails};
 ghost use Rattle.std.specs.Io.KnownBytes.{prepend_known};
 ghost use Rattle.domain_script.specs.Pieces.{HasNoFeed};
@@ -13,15 +13,17 @@ use vio_io::Source;
 /// The most bytes that a line has, without its line feed.
 pub const MOST_BYTES: usize = 3100;
 
-/// Adds bytes to a line, unless it had more than 3,100 then.
+/// Adds bytes to a line, unless it had more than 3,100 then. There is room for so many.
 fn extend(line: &mut Vec<u8>, more: &[u8]) -> Result<(), LinesFault>
-    requires { length line.old.items ≤ most_line_bytes }
-    ensures { Extends line.old.items more.now result line.new.items }
+    requires short { length line.old.items ≤ most_line_bytes }
+    requires room { most_line_bytes ≤ vec_capacity line.old }
+    ensures extends { Extends line.old.items more.now result line.new.items }
+    ensures room { most_line_bytes ≤ vec_capacity line.new }
 {
     if more.len() > MOST_BYTES - line.len() {
         return Err(LinesFault::Long);
     }
-    line.extend_from_slice(more)?;
+    let _has_room = line.extend_from_slice(more);
     Ok(())
 }
 
@@ -30,7 +32,9 @@ fn extend(line: &mut Vec<u8>, more: &[u8]) -> Result<(), LinesFault>
 fn take_part(piece: &mut Piece, line: &mut Vec<u8>) -> Result<bool, LinesFault>
     requires short { length line.old.items ≤ most_line_bytes }
     requires no_feed { HasNoFeed line.old.items }
-    ensures { MovesPart piece.old line.old.items result piece.new line.new.items }
+    requires room { most_line_bytes ≤ vec_capacity line.old }
+    ensures moves { MovesPart piece.old line.old.items result piece.new line.new.items }
+    ensures room { most_line_bytes ≤ vec_capacity line.new }
 {
     let rest = piece.rest();
     match memchr(b'\n', rest) {
@@ -55,9 +59,11 @@ pub fn read_line<S: Source>(
 ) -> Result<bool, LinesFault>
     requires short { length line.old.items ≤ most_line_bytes }
     requires no_feed { HasNoFeed line.old.items }
+    requires room { most_line_bytes ≤ vec_capacity line.old }
     ensures reads { ReadsLine (prepend_known (line.old.items ++ piece.old) (S.left source.old)) result line.new.items piece.new (S.left source.new) }
     ensures short { length line.new.items ≤ most_line_bytes }
     ensures no_feed { HasNoFeed line.new.items }
+    ensures room { most_line_bytes ≤ vec_capacity line.new }
     ensures faults { Fails (result ≡ Err LinesFault.Source) (S.faults source.old) (S.faults source.new) }
 {
     while piece.fill(source)? {

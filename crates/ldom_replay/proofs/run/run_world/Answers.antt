@@ -22,7 +22,14 @@ returns-clause-replayed g c start gives opened begins =
     (ap (λ (j : JournalState). j.entries) c.into_run.ensures.journal) c.into_run.ensures.image c.into_run.ensures.lanes
     (replayed_of (as_image g.D.Store) start now gives why c.faulty.result c.args.reader.names read.names c.args.world c.run_first-stop.new.world
     read.journal.entries (stop_lines c.run_first-stop.result read.lines.number) c.finish-image.result.0 c.finish-image.result.1 (readers_of c.run_first-stop.result read.lines.number) (c.run_first-stop.ensures.runs start opened) begins
-    c.finish-image.ensures.image c.finish-image.ensures.lanes c.faulty.ensures)
+    (record {
+      told = c.finish-image.ensures.content;
+      faults = c.finish-image.ensures.faults;
+      flushes = c.finish-image.ensures.flushes;
+      writes = c.finish-image.ensures.writes;
+      calls = c.finish-image.ensures.calls;
+    })
+    c.finish-image.ensures.lanes c.faulty.ensures)
 
 pub returns-clause-sized : goal.returns-clause-sized
 returns-clause-sized g c start gives opened begins long =

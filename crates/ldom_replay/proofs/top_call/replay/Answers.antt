@@ -181,13 +181,13 @@ returns-in-Some-Sample-clause-failures g c =
 
 pub returns-in-Some-Script-clause-calls : goal.returns-in-Some-Script-clause-calls
 returns-in-Some-Script-clause-calls g c =
-    said_otherwise (λ (j : JournalState) d. IfSome d (λ image. g.H.Disk.Store.calls image ≡ stored_count j.entries)) c.run_script.result.journal c.report_run.result.journal c.run_script.result.image c.report_run.result.image
+    said_otherwise (λ (j : JournalState) d. IfSome d (λ image. g.H.Disk.Store.calls image ≤ stored_count j.entries)) c.run_script.result.journal c.report_run.result.journal c.run_script.result.image c.report_run.result.image
     c.report_run.ensures.journal c.report_run.ensures.image
     (calls _ _ _ _ _ _ _ _ _ _ c.run_script.ensures.replayed (subst (λ (j : JournalState). length j.entries < 2 ^ 63) c.report_run.ensures.journal c.report_run.ensures.small))
 
 pub returns-in-Some-Sample-clause-calls : goal.returns-in-Some-Sample-clause-calls
 returns-in-Some-Sample-clause-calls g c =
-    said_otherwise (λ (j : JournalState) d. IfSome d (λ image. g.H.Disk.Store.calls image ≡ stored_count j.entries)) c.run_sample.result.journal c.report_run-in-Some-Sample.result.journal c.run_sample.result.image c.report_run-in-Some-Sample.result.image
+    said_otherwise (λ (j : JournalState) d. IfSome d (λ image. g.H.Disk.Store.calls image ≤ stored_count j.entries)) c.run_sample.result.journal c.report_run-in-Some-Sample.result.journal c.run_sample.result.image c.report_run-in-Some-Sample.result.image
     c.report_run-in-Some-Sample.ensures.journal c.report_run-in-Some-Sample.ensures.image
     (calls _ _ _ _ _ _ _ _ _ _ c.run_sample.ensures.replayed.replayed (subst (λ (j : JournalState). length j.entries < 2 ^ 63) c.report_run-in-Some-Sample.ensures.journal c.report_run-in-Some-Sample.ensures.small))
 

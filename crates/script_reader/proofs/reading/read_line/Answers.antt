@@ -14,7 +14,7 @@ returns-in_err-take_part-clause-reads g c =
     let p = err_from_is_err_and c.from_residual-in_err-take_part.result c.from_residual-in_err-take_part.ensures.1 in
     rw (p.1, p.2)
     (read_refused rest left c.loop-piece.line.items c.fill.new.self c.take_part.new.line.items c.take_part.new.piece
-    c.in_err-take_part.field-0.0 told c.in_err-take_part.ensures)
+    c.in_err-take_part.field-0.0 told c.in_err-take_part.ensures.moves)
 
 pub returns-then-branch-2-clause-reads : goal.returns-then-branch-2-clause-reads
 returns-then-branch-2-clause-reads g c =
@@ -24,7 +24,7 @@ returns-then-branch-2-clause-reads g c =
     keeps_on rest (g.S.Source.left c.loop-piece.source) left c.loop-piece.line.items c.loop-piece.piece c.fill.new.self c.loop-piece.invariant.told c.fill.ensures.told in
     let moved : MovesPart c.fill.new.self c.loop-piece.line.items (Ok true) c.take_part.new.piece c.take_part.new.line.items =
     subst (λ (b : Bool). MovesPart c.fill.new.self c.loop-piece.line.items (Ok b) c.take_part.new.piece c.take_part.new.line.items)
-    c.if-branch-2.true c.in_ok-take_part.ensures in
+    c.if-branch-2.true c.in_ok-take_part.ensures.moves in
     takes_line rest left c.loop-piece.line.items c.fill.new.self c.take_part.new.line.items c.take_part.new.piece told moved.0 moved.1
 
 pub returns-clause-reads : goal.returns-clause-reads

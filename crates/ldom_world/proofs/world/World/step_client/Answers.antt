@@ -6,13 +6,13 @@ use Rattle.ldc_queue.specs.declared.end.End.TheVariants.{A}
 use Rattle.ldom_world.proofs.Lifting.{end_steps}
 use Rattle.ldom_world.proofs.Opened.{lane_set, lane_there, over}
 use Rattle.ldom_world.specs.OneLane.{EndSteps, LaneSteps}
-use Rattle.disk_law.specs.ListState.{as_image}
+use Rattle.ldom_world.specs.CachedImage.{cached_image}
 use Rattle.ldom_world.proofs.world.World.step_client.Goals as goal
 
 pub returns-clause-steps : goal.returns-clause-steps
 returns-clause-steps g c =
     let image : ImageState =
-    as_image g.D.Store c.self.inside.image in
+    cached_image g.D.Store c.self.inside.image in
     let lanes = c.self.inside.disks.items in
     let w : WorldState = c.args.self.now in
     let old = c.args.journal.now in

@@ -5,15 +5,15 @@ use Rattle.ldc_queue.specs.declared.end.End.TheVariants.{B}
 use Rattle.ldom_world.proofs.Lifting.{end_steps}
 use Rattle.ldom_world.proofs.Opened.{image_there, lane_there, one_set, over}
 use Rattle.ldom_world.specs.OneLane.{LaneSteps}
-use Rattle.disk_law.specs.ListState.{as_image}
+use Rattle.ldom_world.specs.CachedImage.{cached_image}
 use Rattle.ldom_world.proofs.world.World.step_server.Goals as goal
 
 pub returns : goal.returns
 returns g c =
     let image : ImageState =
-    as_image g.D.Store c.self.inside.image in
+    cached_image g.D.Store c.self.inside.image in
     let behind : ImageState =
-    as_image g.D.Store c.server_step.new.image in
+    cached_image g.D.Store c.server_step.new.image in
     let lanes = c.self.inside.disks.items in
     let w : WorldState = c.args.self.now in
     let old = c.args.journal.now in
