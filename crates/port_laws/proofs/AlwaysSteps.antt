@@ -1,5 +1,5 @@
 -- An end of a port that some events led to has a next step.
-use Rattle.std.proofs.Common.{◌≡◌, ◌≢◌, Bool, true, false, Option, Some, None, List, refl, sym, ap, ◌∙◌}
+use Rattle.std.proofs.Common.{◌≡◌, ◌≢◌, Bool, true, false, Option, Some, None, List, refl, sym, subst, ap, ◌∙◌}
 use Rattle.std.specs.Prelude.{is_some}
 use Rattle.ldc_link.specs.declared.phase.Role.{Role}
 use Rattle.ldc_link.specs.declared.phase.Role.TheVariants.{Initiator, Responder}
@@ -9,18 +9,26 @@ use Rattle.ldc_queue.specs.declared.end.End.TheVariants.{A, B}
 use Rattle.ldc_queue.specs.Transcript.{Turn}
 use Rattle.vio_handshake.specs.declared.handshake.Phase.{Phase}
 use Rattle.channel_laws.proofs.CoreLaws.{stands_a, stands_b}
+use Rattle.channel_laws.specs.LaneCore.{CoreEvent, CoreStep}
 use Rattle.channel_laws.specs.Standing.{EndStands, is_open_in}
+use Rattle.port_model.proofs.Moving.{before_keeps}
 use Rattle.port_model.proofs.Refuting.{true_false}
+use Rattle.runs.specs.Run.{Run}
 use Rattle.port_model.proofs.SomeStep.{always_step}
 use Rattle.port_model.specs.NetEndState.{NetEndState, NetSession}
-use Rattle.port_model.specs.NetEndStep.{NetAnswer, NetEndStep, NetLeft}
-use Rattle.port_model.specs.NetLaneState.{NetLaneState, memory_of, net_end, reach_of, role_at, seen_at}
+use Rattle.port_model.specs.NetEndStep.{Idle, NetAnswer, NetEndStep, NetLeft}
+use Rattle.port_model.specs.NetEvent.{Steps}
+use Rattle.port_model.specs.NetLaneState.{IsNetShape, NetLaneState, NetShape, memory_of, net_end, reach_of, role_at, seen_at, with_left}
+use Rattle.port_model.specs.NetLaneStep.{NetLaneStep, net_wire}
 use Rattle.port_model.specs.NetReached.{NetReached}
 use Rattle.port_model.specs.Offers.{port_offer}
+use Rattle.port_model.specs.PortState.{OfQueue, OnLane, PortEvent, PortState, PortStep, before, fresh_port}
 use Rattle.port_model.specs.StepStands.{CanStep, IsPacket}
-use Rattle.port_laws.specs.NetCore.{core_events, is_begun, lane_core, net_core_at}
+use Rattle.port_laws.specs.NetCore.{core_events, fresh_net_core, is_begun, lane_core, net_core_at}
+use Rattle.port_laws.specs.PortCore.{port_events}
 use Rattle.port_laws.proofs.CoreLaws.{sizes_fit}
 use Rattle.port_laws.proofs.LaneMoves.{fresh_run_core}
+use Rattle.port_laws.proofs.PortRuns.{before_core, fresh_port_core}
 
 owed_up : (role : Role) (begun : Bool) (s : NetEndState) (turns : List Turn) → EndStands role (net_core_at role begun s) turns → (up : Bool) → is_up s.link ≡ up → s.handshake.owed ≢ None → is_up s.link ≡ true
 owed_up role begun s turns stands true is some = is
@@ -42,16 +50,42 @@ can_step role begun s turns e l stands first = record {
   first = first;
 }
 
-can_at : (s : NetLaneState) → NetReached s → (e : End) → IsPacket (seen_at e s).first → CanStep (net_end e s) (seen_at e s)
-can_at s reached A first =
-    can_step Initiator (is_begun s.wire.wire.end_a) s.guest _ A s
-    (stands_a reached.shape.entries (port_offer Initiator reached.shape.address reached.shape.slots) (port_offer Responder reached.shape.address reached.shape.slots) (core_events reached.events) (lane_core s)
-    (sizes_fit reached.shape reached.sound) (fresh_run_core reached.shape reached.events s reached.run)) first
-can_at s reached B first =
-    can_step Responder (is_begun s.wire.wire.end_b) s.hub _ B s
-    (stands_b reached.shape.entries (port_offer Initiator reached.shape.address reached.shape.slots) (port_offer Responder reached.shape.address reached.shape.slots) (core_events reached.events) (lane_core s)
-    (sizes_fit reached.shape reached.sound) (fresh_run_core reached.shape reached.events s reached.run)) first
+-- where events of the channel led to the lane
+can_core : (shape : NetShape) → IsNetShape shape → (moves : List CoreEvent) (u : NetLaneState) → Run CoreStep (fresh_net_core shape) moves (lane_core u) → (e : End) → IsPacket (seen_at e u).first
+    → CanStep (net_end e u) (seen_at e u)
+can_core shape is moves u run A first =
+    can_step Initiator (is_begun u.wire.wire.end_a) u.guest _ A u
+    (stands_a shape.entries (port_offer Initiator shape.address shape.slots) (port_offer Responder shape.address shape.slots) moves (lane_core u) (sizes_fit shape is) run) first
+can_core shape is moves u run B first =
+    can_step Responder (is_begun u.wire.wire.end_b) u.hub _ B u
+    (stands_b shape.entries (port_offer Initiator shape.address shape.slots) (port_offer Responder shape.address shape.slots) moves (lane_core u) (sizes_fit shape is) run) first
 
 pub reached_steps : (s : NetLaneState) (e : End) → NetReached s → IsPacket (seen_at e s).first
     → (answer : NetAnswer) × (left : NetLeft) × NetEndStep (role_at e) (net_end e s) (seen_at e s) (memory_of e s) (reach_of e s) answer left
-reached_steps s e reached first = always_step (role_at e) (net_end e s) (seen_at e s) (memory_of e s) (reach_of e s) (can_at s reached e first)
+reached_steps s e reached first =
+    always_step (role_at e) (net_end e s) (seen_at e s) (memory_of e s) (reach_of e s)
+    (can_core reached.shape reached.sound (core_events reached.events) s (fresh_run_core reached.shape reached.events s reached.run) e first)
+
+-- and so has a port with its out queue, behind the frame that moves
+before_step : (e : End) (one other : NetAnswer) (s : PortState) → before (Steps e one) s ≡ before (Steps e other) s
+before_step A one other s = refl
+before_step B one other s = refl
+
+before_first : (e : End) (s : PortState) → (seen_at e (before (Steps e Idle) s).lane).first ≡ (seen_at e s.lane).first
+before_first A s = refl
+before_first B s = before_keeps (λ (x : PortState). (seen_at B x.lane).first ≡ (seen_at B s.lane).first) (Steps B Idle) s (λ frame frames. refl) refl
+
+pub port_steps : (shape : NetShape) (events : List PortEvent) (s : PortState) (e : End) → IsNetShape shape → Run PortStep (fresh_port shape) events s → IsPacket (seen_at e s.lane).first
+    → (answer : NetAnswer) × (t : PortState) × PortStep s (OnLane (Steps e answer)) t
+port_steps shape events s e is run first =
+    let u : PortState = before (Steps e Idle) s in
+    let moved_run = subst (Run CoreStep (fresh_net_core shape) (port_events events)) (sym (before_core (Steps e Idle) s)) (fresh_port_core shape events s run) in
+    let some = always_step (role_at e) (net_end e u.lane) (seen_at e u.lane) (memory_of e u.lane) (reach_of e u.lane)
+    (can_core shape is (port_events events) u.lane moved_run e (subst IsPacket (sym (before_first e s)) first)) in
+    let lane : NetLaneState = record (with_left e some.1 u.lane) { wire = net_wire (Steps e some.0) u.lane } in
+    let t : PortState = record { lane = lane; queue = u.queue } in (
+      some.0,
+      t,
+      subst (λ (x : PortState). OfQueue s (Steps e some.0) × NetLaneStep x.lane (Steps e some.0) lane × (u.queue ≡ x.queue)) (before_step e Idle some.0 s)
+          (tt, record { left = some.1; step = some.2; is = refl }, refl),
+    )

@@ -99,7 +99,7 @@ idle_turn shape events s m t is run clean whole first second = by_test (is_finis
     none = last_lawful shape NoneLeftAt so_far two (port_none_left shape all t is run_all) last unforged lossless
 
     told : InSession l.guest.session (ToldAll l)
-    told = last_lawful shape NoneUntoldAt so_far two (port_none_untold shape all t is run_all) last unforged lossless
+    told = (last_lawful shape NoneUntoldAt so_far two (port_none_untold shape all t is run_all) last unforged lossless).0
 
     u : PortState
     u = before (Steps B Idle) m

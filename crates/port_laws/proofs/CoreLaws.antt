@@ -1,5 +1,5 @@
 -- What holds of two ends on a channel, for a port.
-use Rattle.std.proofs.Common.{◌≡◌, ℕ, zero, suc, ◌*◌, ◌%◌, ◌^◌, ◌<◌, ◌≤◌, Bool, true, false, Option, List, [], ◌∷◌, refl, sym, subst, ap, arith}
+use Rattle.std.proofs.Common.{◌≡◌, ℕ, zero, suc, ◌*◌, ◌%◌, ◌^◌, ◌<◌, ◌≤◌, Bool, true, false, Option, List, [], ◌∷◌, refl, sym, subst, ap, ◌∙◌, arith}
 use Rattle.std.specs.Prelude.{◌⊎◌, ◌+◌, nat_le, slice_index, is_some}
 use Rattle.std.specs.List.{AllByRecursion}
 use Rattle.byteorder.specs.Numbers.{big_from-lt}
@@ -11,26 +11,29 @@ use Rattle.ldc_queue.specs.declared.end.End.TheVariants.{A, B}
 use Rattle.ldc_queue.specs.OneStream.{IsFront}
 use Rattle.ldc_queue.specs.Transcript.{Heard, Said, Turn}
 use Rattle.ldc_queue.specs.Wire.{peer_of}
+use Rattle.runs.specs.Lawful.{log_of}
 use Rattle.runs.specs.Run.{Run}
 use Rattle.map_table.proofs.Each.{each_replicate}
 use Rattle.map_table.specs.Cookies.{IsCookie, no_cookie}
 use Rattle.vio_bytes.specs.Place.{number_at}
 use Rattle.vio_handshake.specs.Acceptance.{hold_ring}
 use Rattle.vio_handshake.specs.Attributes.{address_of}
+use Rattle.vio_handshake.specs.declared.session.Offer.{Offer}
 use Rattle.vio_handshake.specs.Offers.{FitsRing, Match}
 use Rattle.vio_tag.proofs.AttributeBytes.{net_attr_reads_back}
 use Rattle.vio_tag.specs.declared.attributes.NetAttr.{NetAttr}
 use Rattle.vio_tag.specs.declared.cause.Cause.{Cause}
 use Rattle.channel_model.specs.HandshakeOrder.{HandshakeOrder}
 use Rattle.channel_model.specs.Sayings.{heard, said}
-use Rattle.channel_model.specs.TranscriptLog.{transcript_of}
+use Rattle.channel_model.specs.TranscriptLog.{TranscriptLog, transcript_of}
 use Rattle.channel_model.specs.WireAt.{IsOwnReset, IsUp}
+use Rattle.channel_model.specs.WireLog.{WireLog}
 use Rattle.channel_laws.proofs.ConversingRuns.{heard_messages}
 use Rattle.channel_laws.proofs.LossesTold.{loss_kept, loss_told}
 use Rattle.channel_laws.proofs.OpeningOrder.{opens_hearing, opens_saying}
 use Rattle.channel_laws.proofs.Sessions.{open_sessions_one, open_sessions_up}
 use Rattle.channel_laws.proofs.UnforgedResets.{unforged_reset}
-use Rattle.channel_laws.specs.LaneCore.{CoreFits, OfferFits, end_of, role_of, transcript_behind}
+use Rattle.channel_laws.specs.LaneCore.{CoreEvent, CoreFits, CoreStep, LaneCore, OfferFits, end_of, role_of, transcript_behind}
 use Rattle.channel_laws.specs.LossStands.{LossStands}
 use Rattle.channel_laws.specs.OneSession.{AreOneSession}
 use Rattle.channel_laws.specs.Resetting.{LiesInSession}
@@ -41,8 +44,13 @@ use Rattle.port_model.specs.NetEvent.{NetEvent, Steps}
 use Rattle.port_model.specs.NetLaneState.{IsNetShape, NetLaneState, NetShape, fresh_net, memory_of, net_end, reach_of, role_at, seen_at}
 use Rattle.port_model.specs.NetLaneStep.{NetLaneStep}
 use Rattle.port_model.specs.Offers.{class_of, device_of, port_offer, ring_cookie}
-use Rattle.port_laws.specs.NetCore.{core_events, lane_core}
+use Rattle.port_model.specs.PortLog.{after, no_events}
+use Rattle.port_model.specs.PortState.{OnLane, PortEvent, PortState, PortStep, before, fresh_port}
+use Rattle.port_laws.specs.NetCore.{core_events, fresh_net_core, lane_core}
+use Rattle.port_laws.specs.PortCore.{port_core, port_events}
+use Rattle.port_laws.proofs.Fitting.{BothFit}
 use Rattle.port_laws.proofs.LaneMoves.{event_core_step, fits_behind, fresh_run_core}
+use Rattle.port_laws.proofs.PortRuns.{before_core, before_fits, fresh_port_core, port_fits_behind, spoken_behind}
 
 -- THE OFFERS
 class_small : (role : Role) → class_of role < 2 ^ 8
@@ -110,13 +118,49 @@ offers_match shape is =
       device = (refl, subst (λ (n : ℕ). n < 2 ^ 64) (sym (address_back Initiator shape.address shape.slots few)) few, ring_fits Responder Initiator shape.address shape.slots);
     }
 
--- THE LAWS of two ends, over a port's runs
+-- THE LAWS of two ends, where events of the channel led to a lane
+module _ (shape : NetShape) (is : IsNetShape shape) (moves : List CoreEvent) (u : NetLaneState) (run : Run CoreStep (fresh_net_core shape) moves (lane_core u)) where
+  abbrev asks : Offer
+  asks = port_offer Initiator shape.address shape.slots
+
+  abbrev answers : Offer
+  answers = port_offer Responder shape.address shape.slots
+
+  pub core_front : (e : End) → u.wire.forged ≡ false → IsUp e u.wire.wire
+      → IsFront (heard (transcript_of e (transcript_behind moves))) (said (transcript_of (peer_of e) (transcript_behind moves)))
+  core_front e unforged up = heard_messages shape.entries asks answers moves (lane_core u) e (sizes_fit shape is) run unforged up
+
+  pub core_up : u.wire.forged ≡ false → is_some u.guest.session ≡ true → is_some u.hub.session ≡ true → IsUp A u.wire.wire × IsUp B u.wire.wire
+  core_up unforged guest hub = open_sessions_up shape.entries asks answers moves (lane_core u) (sizes_fit shape is) run unforged guest hub
+
+  pub core_one : u.wire.forged ≡ false → is_some u.guest.session ≡ true → is_some u.hub.session ≡ true → AreOneSession u.guest.handshake u.hub.handshake
+  core_one unforged guest hub = open_sessions_one shape.entries asks answers moves (lane_core u) (sizes_fit shape is) (offers_match shape is) run unforged guest hub
+
+  pub core_resets : (e : End) (cause : Cause) (packet : Option (List ℕ)) (lost : ℕ) (t : NetLaneState) → BothFit u → u.wire.forged ≡ false → NetLaneStep u (Steps e (Reset cause packet lost)) t
+      → IsOwnReset u.wire cause ⊎ LiesInSession (end_of e (lane_core u)) packet
+  core_resets e cause packet lost t fits unforged step =
+      unforged_reset shape.entries asks answers moves (lane_core u) e cause packet lost (lane_core t) (sizes_fit shape is) (offers_match shape is) run unforged
+      (net_resets_own (role_at e) (port_rule (role_at e) (net_end e u) (seen_at e u)) (net_end e u) (memory_of e u) (reach_of e u) cause packet step.step.0)
+      (event_core_step u (Steps e (Reset cause packet lost)) t fits step)
+
+  pub core_loss_told : u.wire.lossy ≡ true → LossStands shape.entries moves
+  core_loss_told lossy = loss_told shape.entries asks answers moves (lane_core u) (sizes_fit shape is) run lossy
+
+  pub core_loss_kept : LossStands shape.entries moves → u.wire.lossy ≡ true
+  core_loss_kept stands = loss_kept shape.entries asks answers moves (lane_core u) (sizes_fit shape is) run stands
+
+-- over a lane's runs, and over those of a port with its out queue
 pub heard_front : (shape : NetShape) (events : List NetEvent) (s : NetLaneState) (e : End) → IsNetShape shape → Run NetLaneStep (fresh_net shape) events s
     → s.wire.forged ≡ false → IsUp e s.wire.wire
     → IsFront (heard (transcript_of e (transcript_behind (core_events events)))) (said (transcript_of (peer_of e) (transcript_behind (core_events events))))
-heard_front shape events s e is run unforged up =
-    heard_messages shape.entries (port_offer Initiator shape.address shape.slots) (port_offer Responder shape.address shape.slots) (core_events events) (lane_core s) e
-    (sizes_fit shape is) (fresh_run_core shape events s run) unforged up
+heard_front shape events s e is run = core_front shape is (core_events events) s (fresh_run_core shape events s run) e
+
+pub port_front : (shape : NetShape) (events : List PortEvent) (s : PortState) (e : End) → IsNetShape shape → Run PortStep (fresh_port shape) events s
+    → s.lane.wire.forged ≡ false → IsUp e s.lane.wire.wire
+    → IsFront (heard (transcript_of e (log_of after (no_events shape) events).transcript)) (said (transcript_of (peer_of e) (log_of after (no_events shape) events).transcript))
+port_front shape events s e is run unforged up =
+    subst (λ (l : TranscriptLog). IsFront (heard (transcript_of e l)) (said (transcript_of (peer_of e) l))) (spoken_behind shape events)
+    (core_front shape is (port_events events) s.lane (fresh_port_core shape events s run) e unforged up)
 
 pub role_same : (e : End) → role_of e ≡ role_at e
 role_same A = refl
@@ -150,34 +194,50 @@ opens_heard shape events s e packet t is run step =
 
 pub both_up : (shape : NetShape) (events : List NetEvent) (s : NetLaneState) → IsNetShape shape → Run NetLaneStep (fresh_net shape) events s → s.wire.forged ≡ false
     → is_some s.guest.session ≡ true → is_some s.hub.session ≡ true → IsUp A s.wire.wire × IsUp B s.wire.wire
-both_up shape events s is run unforged guest hub =
-    open_sessions_up shape.entries (port_offer Initiator shape.address shape.slots) (port_offer Responder shape.address shape.slots) (core_events events) (lane_core s)
-    (sizes_fit shape is) (fresh_run_core shape events s run) unforged guest hub
+both_up shape events s is run = core_up shape is (core_events events) s (fresh_run_core shape events s run)
+
+pub port_both_up : (shape : NetShape) (events : List PortEvent) (s : PortState) → IsNetShape shape → Run PortStep (fresh_port shape) events s → s.lane.wire.forged ≡ false
+    → is_some s.lane.guest.session ≡ true → is_some s.lane.hub.session ≡ true → IsUp A s.lane.wire.wire × IsUp B s.lane.wire.wire
+port_both_up shape events s is run = core_up shape is (port_events events) s.lane (fresh_port_core shape events s run)
 
 pub one_session : (shape : NetShape) (events : List NetEvent) (s : NetLaneState) → IsNetShape shape → Run NetLaneStep (fresh_net shape) events s → s.wire.forged ≡ false
     → is_some s.guest.session ≡ true → is_some s.hub.session ≡ true → AreOneSession s.guest.handshake s.hub.handshake
-one_session shape events s is run unforged guest hub =
-    open_sessions_one shape.entries (port_offer Initiator shape.address shape.slots) (port_offer Responder shape.address shape.slots) (core_events events) (lane_core s)
-    (sizes_fit shape is) (offers_match shape is) (fresh_run_core shape events s run) unforged guest hub
+one_session shape events s is run = core_one shape is (core_events events) s (fresh_run_core shape events s run)
+
+pub port_one_session : (shape : NetShape) (events : List PortEvent) (s : PortState) → IsNetShape shape → Run PortStep (fresh_port shape) events s → s.lane.wire.forged ≡ false
+    → is_some s.lane.guest.session ≡ true → is_some s.lane.hub.session ≡ true → AreOneSession s.lane.guest.handshake s.lane.hub.handshake
+port_one_session shape events s is run = core_one shape is (port_events events) s.lane (fresh_port_core shape events s run)
 
 pub resets_unforged : (shape : NetShape) (events : List NetEvent) (s : NetLaneState) (e : End) (cause : Cause) (packet : Option (List ℕ)) (lost : ℕ) (t : NetLaneState) → IsNetShape shape
     → Run NetLaneStep (fresh_net shape) events s → s.wire.forged ≡ false → NetLaneStep s (Steps e (Reset cause packet lost)) t
     → IsOwnReset s.wire cause ⊎ LiesInSession (end_of e (lane_core s)) packet
-resets_unforged shape events s e cause packet lost t is run unforged step =
-    unforged_reset shape.entries (port_offer Initiator shape.address shape.slots) (port_offer Responder shape.address shape.slots) (core_events events) (lane_core s) e cause packet lost (lane_core t)
-    (sizes_fit shape is) (offers_match shape is) (fresh_run_core shape events s run) unforged
-    (net_resets_own (role_at e) (port_rule (role_at e) (net_end e s) (seen_at e s)) (net_end e s) (memory_of e s) (reach_of e s) cause packet step.step.0)
-    (event_core_step s (Steps e (Reset cause packet lost)) t (fits_behind shape events s run) step)
+resets_unforged shape events s e cause packet lost t is run =
+    core_resets shape is (core_events events) s (fresh_run_core shape events s run) e cause packet lost t (fits_behind shape events s run)
+
+pub port_resets_unforged : (shape : NetShape) (events : List PortEvent) (s : PortState) (e : End) (cause : Cause) (packet : Option (List ℕ)) (lost : ℕ) (t : PortState) → IsNetShape shape
+    → Run PortStep (fresh_port shape) events s → s.lane.wire.forged ≡ false → PortStep s (OnLane (Steps e (Reset cause packet lost))) t
+    → IsOwnReset s.lane.wire cause ⊎ LiesInSession (end_of e (port_core s)) packet
+port_resets_unforged shape events s e cause packet lost t is run unforged step =
+    let event : NetEvent = Steps e (Reset cause packet lost) in
+    let same : lane_core (before event s).lane ≡ port_core s = before_core event s in
+    let wire : (before event s).lane.wire ≡ s.lane.wire = ap (λ (c : LaneCore). c.wire) same in
+    subst (λ (c : LaneCore). IsOwnReset c.wire cause ⊎ LiesInSession (end_of e c) packet) same
+    (core_resets shape is (port_events events) (before event s).lane (subst (Run CoreStep (fresh_net_core shape) (port_events events)) (sym same) (fresh_port_core shape events s run)) e cause packet lost t.lane
+    (before_fits event s (port_fits_behind shape events s run)) (ap (λ (w : WireLog). w.forged) wire ∙ unforged) step.1)
 
 -- A LOSS
 pub net_loss_told : (shape : NetShape) (events : List NetEvent) (s : NetLaneState) → IsNetShape shape → Run NetLaneStep (fresh_net shape) events s
     → s.wire.lossy ≡ true → LossStands shape.entries (core_events events)
-net_loss_told shape events s is run =
-    loss_told shape.entries (port_offer Initiator shape.address shape.slots) (port_offer Responder shape.address shape.slots) (core_events events) (lane_core s) (sizes_fit shape is)
-    (fresh_run_core shape events s run)
+net_loss_told shape events s is run = core_loss_told shape is (core_events events) s (fresh_run_core shape events s run)
 
 pub net_loss_kept : (shape : NetShape) (events : List NetEvent) (s : NetLaneState) → IsNetShape shape → Run NetLaneStep (fresh_net shape) events s
     → LossStands shape.entries (core_events events) → s.wire.lossy ≡ true
-net_loss_kept shape events s is run =
-    loss_kept shape.entries (port_offer Initiator shape.address shape.slots) (port_offer Responder shape.address shape.slots) (core_events events) (lane_core s) (sizes_fit shape is)
-    (fresh_run_core shape events s run)
+net_loss_kept shape events s is run = core_loss_kept shape is (core_events events) s (fresh_run_core shape events s run)
+
+pub port_loss_told : (shape : NetShape) (events : List PortEvent) (s : PortState) → IsNetShape shape → Run PortStep (fresh_port shape) events s
+    → s.lane.wire.lossy ≡ true → LossStands shape.entries (port_events events)
+port_loss_told shape events s is run = core_loss_told shape is (port_events events) s.lane (fresh_port_core shape events s run)
+
+pub port_loss_kept : (shape : NetShape) (events : List PortEvent) (s : PortState) → IsNetShape shape → Run PortStep (fresh_port shape) events s
+    → LossStands shape.entries (port_events events) → s.lane.wire.lossy ≡ true
+port_loss_kept shape events s is run = core_loss_kept shape is (port_events events) s.lane (fresh_port_core shape events s run)

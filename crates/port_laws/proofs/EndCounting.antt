@@ -7,7 +7,7 @@ use Rattle.ldc_link.specs.declared.phase.Role.TheVariants.{Initiator, Responder}
 use Rattle.port_model.specs.EndLog.{EndLog, SessionLog, said_in, said_kind}
 use Rattle.port_model.specs.NetEndState.{NetEndState, NetSession}
 use Rattle.port_model.specs.Spoken.{GroupsInfo, Spoken, spoken}
-use Rattle.port_laws.specs.Counted.{AnswersRightly, Counts, EndCounts, GroupCounts, GuestCounts, GuestGroups, IsBehind, PeerCounts, RingCounts, SessionCounts, left_of, unsaid}
+use Rattle.port_laws.specs.Counted.{AnswersRightly, Counts, EndCounts, GroupCounts, GuestCounts, GuestGroups, IsBehind, NoneTold, PeerCounts, RingCounts, SessionCounts, left_of, unsaid}
 
 -- AN OPEN SESSION, of the end and of its log
 pub record OpenCounts (role : Role) (slots : ℕ) (groups : List (List ℕ)) (published gone : ℕ) (left : Option (List ℕ)) (begun : Bool) (p : NetSession)
@@ -28,17 +28,18 @@ open_counts role slots queue s l p counts is =
     (subst (λ (x : Option NetSession). Counts role slots s.groups l.published l.gone (unsaid s) s.link.begun x l.session) is counts.session)
 
 -- none is open
-pub record ShutCounts (published gone : ℕ) (log : Option SessionLog) : Type 0 where
+pub record ShutCounts (role : Role) (groups : List (List ℕ)) (published gone : ℕ) (log : Option SessionLog) : Type 0 where
   pub is : log ≡ None
   pub gone_all : published ≡ gone
+  pub none : NoneTold role groups
 
 shut_log : (role : Role) (slots : ℕ) (groups : List (List ℕ)) (published gone : ℕ) (left : Option (List ℕ)) (begun : Bool) (log : Option SessionLog)
-    → Counts role slots groups published gone left begun None log → ShutCounts published gone log
-shut_log role slots groups published gone left begun None counts = record { is = refl; gone_all = counts }
+    → Counts role slots groups published gone left begun None log → ShutCounts role groups published gone log
+shut_log role slots groups published gone left begun None counts = record { is = refl; gone_all = counts.0; none = counts.1 }
 shut_log role slots groups published gone left begun (Some v) counts = absurd counts
 
 pub shut_counts : (role : Role) (slots : ℕ) (queue : List (List ℕ)) (s : NetEndState) (l : EndLog) → EndCounts role slots queue s l → s.session ≡ None
-    → ShutCounts l.published l.gone l.session
+    → ShutCounts role s.groups l.published l.gone l.session
 shut_counts role slots queue s l counts is =
     shut_log role slots s.groups l.published l.gone (unsaid s) s.link.begun l.session
     (subst (λ (x : Option NetSession). Counts role slots s.groups l.published l.gone (unsaid s) s.link.begun x l.session) is counts.session)
@@ -69,7 +70,7 @@ gone_within n frames queue given gone few within is =
 -- an end in session that holds no message of it, and from which some frames left
 pub end_from : (role : Role) (slots : ℕ) (queue : List (List ℕ)) (s t : NetEndState) (l : EndLog) (q : NetSession) (v : SessionLog) (n : ℕ) → EndCounts role slots queue s l
     → t.slots ≡ s.slots → t.frames ≡ drop n s.frames → n ≤ length s.frames → t.next_id ≡ s.next_id → GuestGroups role t.groups → t.session ≡ Some q → unsaid t ≡ None
-    → RingCounts q l.published (l.gone + n) v → PeerCounts slots q v → GuestCounts role q t.groups v → AnswersRightly q.reply
+    → RingCounts q l.published (l.gone + n) v → PeerCounts slots q v → GuestCounts role q t.groups v → AnswersRightly q.reply v.owed
     → EndCounts role slots queue t (record l { session = Some v; gone = l.gone + n })
 end_from role slots queue s t l q v n counts same frames few next groups session left ring peer guest reply = record {
   slots_is = same ∙ counts.slots_is;
@@ -84,9 +85,9 @@ end_from role slots queue s t l q v n counts same frames few next groups session
 
 -- the guest's counts speak of few fields
 pub guest_same : (role : Role) (p q : NetSession) (groups now : List (List ℕ)) (v w : SessionLog) → GuestCounts role p groups v → now ≡ groups → q.untold ≡ p.untold → q.telling ≡ p.telling
-    → w.membership ≡ v.membership → w.told ≡ v.told → GuestCounts role q now w
-guest_same Responder p q groups now v w counts same untold telling membership told = tt
-guest_same Initiator p q groups now v w counts same untold telling membership told =
+    → w.membership ≡ v.membership → w.told ≡ v.told → w.groups ≡ v.groups → GuestCounts role q now w
+guest_same Responder p q groups now v w counts same untold telling membership told known = same ∙ counts ∙ sym known
+guest_same Initiator p q groups now v w counts same untold telling membership told known =
     subst (λ (x : List (List ℕ)). GroupCounts q x w) (sym same)
     (record {
       named = λ is. membership ∙ counts.named (sym untold ∙ is);
@@ -107,6 +108,14 @@ said_seen _ message v = refl
 pub left_published : (left : Option (List ℕ)) (v : SessionLog) → (said_in left v).published ≡ v.published
 left_published None v = refl
 left_published (Some message) v = said_published (spoken message) message v
+
+pub said_groups : (k : Spoken) (message : List ℕ) (v : SessionLog) → (said_kind k message v).groups ≡ v.groups
+said_groups GroupsInfo message v = refl
+said_groups _ message v = refl
+
+pub left_groups : (left : Option (List ℕ)) (v : SessionLog) → (said_in left v).groups ≡ v.groups
+left_groups None v = refl
+left_groups (Some message) v = said_groups (spoken message) message v
 
 pub left_seen : (left : Option (List ℕ)) (v : SessionLog) → (said_in left v).seen ≡ v.seen
 left_seen None v = refl

@@ -4,7 +4,7 @@ use Rattle.runs.specs.Lawful.{Lawful, lawful_split, log_of}
 use Rattle.runs.specs.Run.{Run, run_push}
 use Rattle.channel_model.specs.ResetSays.{WireResetAt}
 use Rattle.channel_model.specs.WireAt.{WireAnswersAt, WireGapAt, WireHeardAt, WireSaidAt, WireTableAt, WireUnforgedAt}
-use Rattle.port_model.specs.FrameLaws.{AcknowledgesAt, AdmissionAt, AnnouncesAt, JoiningAt, LostAt, OpeningsAt, OwnResetAt, PublishedAt, SeesAt, TakingAt, TickAt, WorksAt}
+use Rattle.port_model.specs.FrameLaws.{AcknowledgesAt, AdmissionAt, AnnouncesAt, AsksAt, GroupsSaidAt, JoiningAt, LostAt, OpeningsAt, OwnResetAt, PublishedAt, SeesAt, TakingAt, TickAt, UndoneAt, WorksAt}
 use Rattle.port_model.specs.NetLaneState.{IsNetShape, NetShape}
 use Rattle.port_model.specs.PortLog.{PortLog, after, no_events}
 use Rattle.port_model.specs.PortMay.{IsLawfulPort, OfWire, PortMay, sizes_in}
@@ -14,7 +14,9 @@ use Rattle.port_laws.proofs.GroupsAgree.{port_joins}
 use Rattle.port_laws.proofs.NoRefusal.{port_unforged_wire}
 use Rattle.port_laws.proofs.PortResets.{port_gaps_say, port_resets_say}
 use Rattle.port_laws.proofs.PortRuns.{lawful_along}
+use Rattle.port_laws.proofs.RuleAsks.{port_asks, port_undone}
 use Rattle.port_laws.proofs.RuleFrames.{port_acknowledges, port_admits, port_announces, port_lost, port_published, port_sees, port_takes}
+use Rattle.port_laws.proofs.RuleGroups.{port_groups_said}
 use Rattle.port_laws.proofs.RuleIdle.{port_idle}
 use Rattle.port_laws.proofs.RuleRest.{port_resets, port_ticks, port_works}
 use Rattle.port_laws.proofs.RuleTable.{port_answers, port_table}
@@ -52,9 +54,12 @@ every_run shape events s is run = lawful_along shape PortMay each events s run
           lost = last LostAt shape before event (port_lost shape events t is whole);
           announces = last AnnouncesAt shape before event (port_announces shape events t is whole);
           sees = last SeesAt shape before event (port_sees shape events t is whole);
+          asks = last AsksAt shape before event (port_asks shape events t is whole);
           taking = last TakingAt shape before event (port_takes shape events t is whole);
           acknowledges = last AcknowledgesAt shape before event (port_acknowledges shape events t is whole);
           own_resets = last OwnResetAt shape before event (port_resets shape events t is whole);
+          undone = last UndoneAt shape before event (port_undone shape events t is whole);
+          groups_said = last GroupsSaidAt shape before event (port_groups_said shape events t is whole);
           idle = last IdleAt shape before event (port_idle shape events t is whole);
           unforged = last UnforgedAt shape before event (port_unforged shape events t is whole);
           two_idle = last TwoIdleAt shape before event (port_two_idle shape events t is whole);

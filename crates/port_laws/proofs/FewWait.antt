@@ -30,7 +30,7 @@ use Rattle.port_model.specs.NetEndState.{NetSession}
 use Rattle.port_model.specs.NetLaneState.{NetShape}
 use Rattle.port_model.specs.PortLog.{PortLog}
 use Rattle.port_model.specs.PortState.{PortState}
-use Rattle.port_model.specs.Spoken.{GroupsAck, GroupsInfo, Other, RangeAck, RangeInfo, Spoken, spoken, spoken_by}
+use Rattle.port_model.specs.Spoken.{GroupsAck, GroupsInfo, GroupsNack, Other, RangeAck, RangeInfo, Spoken, spoken, spoken_by}
 use Rattle.port_laws.specs.Counted.{unsaid}
 use Rattle.port_laws.specs.NetCore.{lane_core, one_if}
 use Rattle.port_laws.specs.WaysStand.{Comes, Goes, Rests, Way, Ways, WaysStand, Works, ack_first, acks_in, info_first, infos_in, or_new}
@@ -77,6 +77,7 @@ info_more RangeInfo m xs = omega arith
 info_more RangeAck m xs = omega arith
 info_more GroupsInfo m xs = omega arith
 info_more GroupsAck m xs = omega arith
+info_more GroupsNack m xs = omega arith
 info_more Other m xs = omega arith
 
 ack_more : (k : Spoken) (m : List ℕ) (xs : List (List ℕ)) → length xs ≤ length (ack_first k m xs)
@@ -84,6 +85,7 @@ ack_more RangeInfo m xs = omega arith
 ack_more RangeAck m xs = omega arith
 ack_more GroupsInfo m xs = omega arith
 ack_more GroupsAck m xs = omega arith
+ack_more GroupsNack m xs = omega arith
 ack_more Other m xs = omega arith
 
 tail_counted : (m : List ℕ) (messages : List (List ℕ)) → counted messages ≤ counted (m ∷ messages)

@@ -53,7 +53,7 @@ pub record FormsIt (s held : NetEndState) (m : List ℕ) (q : NetSession) : Type
 
 pub data Formed (role : Role) (sid : ℕ) (s : NetEndState) (p : NetSession) (held : NetEndState) : Type 0 where
   Kept : held ≡ s → Formed role sid s p held
-  Ranged : (m : List ℕ) (q : NetSession) → FormsIt s held m q → SaysRange role sid m → q.telling ≡ p.telling → q.reply ≡ p.reply → Formed role sid s p held
+  Ranged : (m : List ℕ) (q : NetSession) → FormsIt s held m q → SaysRange role sid m → q.telling ≡ p.telling → q.reply ≡ p.reply → q.untold ≡ p.untold → Formed role sid s p held
   Replied : (m : List ℕ) (q : NetSession) (r : GroupsReply) → FormsIt s held m q → p.reply ≡ Some r → m ≡ canonical (groups_answer s r) → q.reply ≡ None → q.telling ≡ p.telling → Formed role sid s p held
   Told : (m : List ℕ) (q : NetSession) → FormsIt s held m q → role ≡ Initiator → m ≡ canonical (membership s.handshake.draft.sid s.groups) → p.telling ≡ false → q.telling ≡ true → q.reply ≡ p.reply
       → Formed role sid s p held
@@ -79,7 +79,7 @@ slot_formed : (role : Role) (sid : ℕ) (s : NetEndState) (at : Seen) (p : NetSe
 slot_formed role sid s at p activity (Some last) (NotReady state) held agreed small empty free same =
     of_some (Formed role sid s p) (holding_own (answer s activity last) (record p { active = None }) s) held same
     (Ranged (canonical (answer s activity last)) (record p { active = None }) (forms_it s at p (record p { active = None }) (answer s activity last) free empty)
-    (says_range role sid Ack s.handshake.draft.sid activity.seq s.handshake.draft.ident_peer activity.start last 2 (inr refl) agreed.peer small) refl refl)
+    (says_range role sid Ack s.handshake.draft.sid activity.seq s.handshake.draft.ident_peer activity.start last 2 (inr refl) agreed.peer small) refl refl refl)
 slot_formed role sid s at p activity _ _ held agreed small empty free same = none_some held same
 
 same_session : {X : Type 0} (o : Option X) (p q : X) → o ≡ Some p → o ≡ Some q → q ≡ p
@@ -110,7 +110,7 @@ formed_by role sid s at reach (Announces q) held p may is same =
     subst (λ (x : NetSession). Formed role sid s x held) (same_session s.session p q may.session says.0.in_session.session)
     (of_some (Formed role sid s q) (holding_own (announcement s q) (record q { infos = q.infos + 1; asking = true }) s) held same
     (Ranged (canonical (announcement s q)) (record q { infos = q.infos + 1; asking = true }) (forms_it s at q (record q { infos = q.infos + 1; asking = true }) (announcement s q) says.0.in_session may.empty)
-    (says_range role sid Info s.handshake.draft.sid (wrapped (q.infos + 1)) s.handshake.draft.ident_own (q.seen % s.slots) 0xffffffff 1 (inl refl) may.agreed.own may.small) refl refl))
+    (says_range role sid Info s.handshake.draft.sid (wrapped (q.infos + 1)) s.handshake.draft.ident_own (q.seen % s.slots) 0xffffffff 1 (inl refl) may.agreed.own may.small) refl refl refl))
 formed_by role sid s at reach _ held p may is same = none_some held same
 
 -- IT PUTS the message that it holds, whole in one packet

@@ -25,7 +25,7 @@ use Rattle.port_model.specs.NetLaneState.{IsNetShape, NetLaneState, NetShape, me
 use Rattle.port_model.specs.NetLaneStep.{EndSteps, NetLaneStep, moved_on}
 use Rattle.port_model.specs.PortLog.{PortLog, after, after_answer, after_given, log_of_end, no_events}
 use Rattle.port_model.specs.PortState.{OfQueue, OnLane, PortEvent, PortState, PortStep, Receives, before, fresh_port}
-use Rattle.port_model.specs.Spoken.{GroupsAck, GroupsInfo, Other, RangeAck, RangeInfo, Spoken, spoken}
+use Rattle.port_model.specs.Spoken.{GroupsAck, GroupsInfo, GroupsNack, Other, RangeAck, RangeInfo, Spoken, spoken}
 use Rattle.port_laws.specs.Counted.{unsaid}
 use Rattle.port_laws.specs.NetCore.{lane_core}
 use Rattle.port_laws.specs.InOrder.{InOrder, frames_taken, took}
@@ -194,6 +194,7 @@ heard_seen slots (Some message) w = by_kind (spoken message)
     by_kind RangeAck = omega arith
     by_kind GroupsInfo = omega arith
     by_kind GroupsAck = omega arith
+    by_kind GroupsNack = omega arith
     by_kind Other = omega arith
 
 heard_taken : (slots : ℕ) (message : Option (List ℕ)) (w : SessionLog) → (heard_in slots message w).taken ≡ w.taken
@@ -205,6 +206,7 @@ heard_taken slots (Some message) w = by_kind (spoken message)
     by_kind RangeAck = refl
     by_kind GroupsInfo = refl
     by_kind GroupsAck = refl
+    by_kind GroupsNack = refl
     by_kind Other = refl
 
 none_acked : (slots : ℕ) (message : Option (List ℕ)) (session : Option SessionLog) → session ≡ None → acked_in slots message session ≡ 0

@@ -1,6 +1,8 @@
 -- A message of its session that an end takes is counted by its log as the end counts it.
-use Rattle.std.proofs.Common.{◌≡◌, ℕ, ◌+◌, ◌-◌, ◌≤◌, true, false, Option, Some, None, List, [], length, drop, refl, sym, subst, ap, ◌∙◌, inl, inr, arith}
+use Rattle.std.proofs.Common.{◌≡◌, ℕ, zero, suc, ◌+◌, ◌-◌, ◌*◌, ◌≤◌, true, false, Option, Some, None, List, [], length, drop, refl, sym, subst, ap, ◌∙◌, inl, inr, arith, length-drop}
 use Rattle.std.specs.Prelude.{◌%◌}
+use Rattle.std.specs.List.{AllByRecursion}
+use Rattle.std.proofs.lemmas.List.{length-take}
 use Rattle.ldc_packet.specs.declared.packet.Subtype.{Subtype}
 use Rattle.ldc_packet.specs.declared.packet.Subtype.TheVariants.{Ack, Info}
 use Rattle.ldc_packet.specs.Spelling.{subtype_code}
@@ -12,21 +14,23 @@ use Rattle.vio_tag.specs.declared.message.Message.{Message}
 use Rattle.vio_tag.specs.declared.message.MsgBody.{MsgBody}
 use Rattle.vio_tag.specs.declared.message.MsgBody.TheVariants.{DringData, DringUnreg, Mcast, Plain}
 use Rattle.vio_tag.specs.Form.{HasForm, IsWellFormed}
-use Rattle.vio_tag.specs.Spelling.{SpellsBody, SpellsMessage, envelope_code}
+use Rattle.vio_tag.specs.Spelling.{HasLength, SpellsBody, SpellsMessage, addresses_at, envelope_code}
 use Rattle.channel_model.specs.Messages.{end_of, start_of}
 use Rattle.channel_model.specs.Ranges.{wrapped}
 use Rattle.dring.specs.Slots.{range_length}
 use Rattle.port_model.proofs.Refuting.{false_true}
-use Rattle.port_model.specs.EndLog.{EndLog, SessionLog, acked_by, acked_in, change, heard_in, heard_kind, hears_log, range_of}
+use Rattle.port_model.specs.EndLog.{EndLog, SessionLog, acked_by, acked_in, answer_code, answer_to, change, groups_fields, heard_in, heard_kind, hears_log, list_after, range_of}
+use Rattle.port_model.specs.Groups.{groups_after}
 use Rattle.port_model.specs.FramesStand.{CountsStand, FramesStand}
-use Rattle.port_model.specs.NetEndState.{Activity, NetEndState, NetSession}
+use Rattle.port_model.specs.NetEndState.{Activity, GroupsReply, NetEndState, NetSession}
 use Rattle.port_model.specs.NetEndTaking.{active, replying}
 use Rattle.port_model.specs.RuleFacts.{IfOpen}
-use Rattle.port_model.specs.Spoken.{GroupsAck, GroupsInfo, Other, RangeAck, RangeInfo, Spoken, spoken, spoken_by}
-use Rattle.port_laws.specs.Counted.{ActiveCounts, AnswersRightly, EndCounts, GroupCounts, GuestCounts, GuestGroups, IsBehind, LastCounts, PeerCounts, RingCounts, SessionCounts, unsaid}
+use Rattle.port_model.specs.Spoken.{GroupsAck, GroupsInfo, Other, RangeAck, RangeInfo, Spoken, count_of, set_of, seven_of, spoken, spoken_by}
+use Rattle.port_laws.specs.Counted.{ActiveCounts, AnswersFor, AnswersRightly, EndCounts, GroupCounts, GuestCounts, GuestGroups, IsAnswer, IsBehind, LastCounts, PeerCounts, RingCounts, SessionCounts, unsaid}
 use Rattle.port_laws.proofs.EndCounting.{OpenCounts, empty_unsaid, end_from, guest_same, open_counts}
 use Rattle.port_laws.proofs.LettingGo.{spoken_same}
-use Rattle.port_laws.proofs.MessageDoes.{Acks, Asks, Declines, MessageDoes, Names, Told}
+use Rattle.port_laws.proofs.MessageDoes.{Acks, Asks, Declines, IsKept, MessageDoes, Names, Told, reply_code}
+use Rattle.port_laws.proofs.ShortMessages.{read_long}
 
 -- THE KIND of a message by its fields
 spoken_of : (bytes : List ℕ) (m : Message) (s : Subtype) (b : MsgBody) → SpellsMessage bytes m → m.subtype ≡ s → m.body ≡ b → spoken bytes ≡ spoken_by (envelope_code b) (subtype_code s)
@@ -69,18 +73,18 @@ groups_as role groups now is are = subst (GuestGroups role) (sym is) are
 
 -- EACH KIND
 asks_counts : (role : Role) (slots : ℕ) (queue : List (List ℕ)) (s t : NetEndState) (l : EndLog) (p : NetSession) (v : SessionLog) (bytes : List ℕ) (seq start : ℕ) → EndCounts role slots queue s l
-    → SessionCounts role slots s.groups l.published l.gone None s.link.begun p v → p.active ≡ None → unsaid t ≡ None → p.place ≡ start
+    → SessionCounts role slots s.groups l.published l.gone None s.link.begun p v → p.active ≡ None → unsaid t ≡ None → p.place ≡ start → p.seq ≡ seq
     → t.slots ≡ s.slots → t.frames ≡ s.frames → t.next_id ≡ s.next_id → t.groups ≡ s.groups → t.session ≡ Some (active p seq start) → EndCounts role slots queue t (heard_as slots bytes v l RangeInfo)
-asks_counts role slots queue s t l p v bytes seq start counts opened none left place same frames next groups session =
+asks_counts role slots queue s t l p v bytes seq start counts opened none left place seq_is same frames next groups session =
     let before = active_none slots v p.active none opened.peer.active in
     end_from role slots queue s t l (active p seq start) (heard_kind slots RangeInfo bytes v) 0 counts same frames (omega arith) next (groups_as role s.groups t.groups groups counts.groups)
     session left (ring_same p (active p seq start) l.published l.gone v (heard_kind slots RangeInfo bytes v) opened.ring refl refl refl refl refl refl refl refl refl)
     (record {
       seq = asks_seq p.seq v.asked opened.peer.seq;
       place = opened.peer.place;
-      active = (ap (λ (x : ℕ). x + 1) before.0, sym place ∙ opened.peer.place ∙ ap (λ (x : ℕ). x % slots) (sym before.1), before.1);
+      active = (ap (λ (x : ℕ). x + 1) before.0, sym place ∙ opened.peer.place ∙ ap (λ (x : ℕ). x % slots) (sym before.1), before.1, sym seq_is ∙ opened.peer.seq);
     })
-    (guest_same role p (active p seq start) s.groups t.groups v (heard_kind slots RangeInfo bytes v) opened.guest groups refl refl refl refl) opened.reply
+    (guest_same role p (active p seq start) s.groups t.groups v (heard_kind slots RangeInfo bytes v) opened.guest groups refl refl refl refl refl) opened.reply
   where
     asks_seq : (n asked : ℕ) → n ≡ wrapped (asked + 1) → wrapped (n + 1) ≡ wrapped (asked + 1 + 1)
     asks_seq n asked is = omega (arith, is)
@@ -105,11 +109,14 @@ acks_counts role slots queue s t l p v bytes count counts opened left range few 
       asking = refl;
     })
     (record { seq = opened.peer.seq; place = opened.peer.place; active = opened.peer.active })
-    (guest_same role p (acked_session p count) s.groups t.groups v (record v { seen = v.seen + count; asking = false }) opened.guest groups refl refl refl refl) opened.reply in
+    (guest_same role p (acked_session p count) s.groups t.groups v (record v { seen = v.seen + count; asking = false }) opened.guest groups refl refl refl refl refl) opened.reply in
     subst (λ (n : ℕ). EndCounts role slots queue t (record l { session = Some (record v { seen = v.seen + n; asking = false }); gone = l.gone + n })) (sym range) kept
 
-guest_free : (role : Role) (p : NetSession) (groups : List (List ℕ)) (v : SessionLog) → role ≡ Responder → GuestCounts role p groups v
-guest_free role p groups v is = subst (λ (x : Role). GuestCounts x p groups v) (sym is) tt
+hub_knows : (role : Role) (p : NetSession) (groups : List (List ℕ)) (v : SessionLog) → role ≡ Responder → groups ≡ v.groups → GuestCounts role p groups v
+hub_knows role p groups v is known = subst (λ (x : Role). GuestCounts x p groups v) (sym is) known
+
+hub_known : (role : Role) (p : NetSession) (groups : List (List ℕ)) (v : SessionLog) → role ≡ Responder → GuestCounts role p groups v → groups ≡ v.groups
+hub_known role p groups v is counts = subst (λ (x : Role). GuestCounts x p groups v) is counts
 
 groups_free : (role : Role) (groups : List (List ℕ)) → role ≡ Responder → GuestGroups role groups
 groups_free role groups is = subst (λ (x : Role). GuestGroups x groups) (sym is) tt
@@ -125,26 +132,26 @@ peer_same slots p q v w peer seq place activity asked acks taken answered = reco
     same_active : (a : Option Activity) → ActiveCounts slots v a → ActiveCounts slots w a
     same_active None counts = (asked ∙ counts.0 ∙ sym acks, answered ∙ counts.1 ∙ sym taken)
     same_active (Some a) counts =
-        (asked ∙ counts.0 ∙ ap (λ (n : ℕ). n + 1) (sym acks), counts.1 ∙ ap (λ (n : ℕ). n % slots) (sym answered), same_last a.last counts.2)
+        (asked ∙ counts.0 ∙ ap (λ (n : ℕ). n + 1) (sym acks), counts.1 ∙ ap (λ (n : ℕ). n % slots) (sym answered), same_last a.last counts.2, counts.3 ∙ ap wrapped (sym asked))
       where
         same_last : (last : Option ℕ) → LastCounts slots v last → LastCounts slots w last
         same_last None is = answered ∙ is ∙ sym taken
         same_last (Some n) is = (omega (arith, is.0, answered, taken), is.1 ∙ ap (λ (n : ℕ). (n - 1) % slots) (sym taken))
 
 names_counts : (role : Role) (slots : ℕ) (queue : List (List ℕ)) (s t : NetEndState) (l : EndLog) (p q : NetSession) (v : SessionLog) (bytes : List ℕ) → EndCounts role slots queue s l
-    → SessionCounts role slots s.groups l.published l.gone None s.link.begun p v → unsaid t ≡ None → role ≡ Responder → q ≡ record p { reply = q.reply } → AnswersRightly q.reply
-    → t.slots ≡ s.slots → t.frames ≡ s.frames → t.next_id ≡ s.next_id → t.session ≡ Some q → EndCounts role slots queue t (heard_as slots bytes v l GroupsInfo)
-names_counts role slots queue s t l p q v bytes counts opened left hub is answer same frames next session =
+    → SessionCounts role slots s.groups l.published l.gone None s.link.begun p v → unsaid t ≡ None → role ≡ Responder → q ≡ record p { reply = q.reply }
+    → AnswersRightly q.reply (heard_kind slots GroupsInfo bytes v).owed → t.groups ≡ (heard_kind slots GroupsInfo bytes v).groups → t.slots ≡ s.slots → t.frames ≡ s.frames → t.next_id ≡ s.next_id → t.session ≡ Some q → EndCounts role slots queue t (heard_as slots bytes v l GroupsInfo)
+names_counts role slots queue s t l p q v bytes counts opened left hub is answer known same frames next session =
     end_from role slots queue s t l q (heard_kind slots GroupsInfo bytes v) 0 counts same frames (omega arith) next (groups_free role t.groups hub) session left
     (ring_same p q l.published l.gone v (heard_kind slots GroupsInfo bytes v) opened.ring (ap (λ (x : NetSession). x.base) is) (ap (λ (x : NetSession). x.published) is)
     (ap (λ (x : NetSession). x.seen) is) (ap (λ (x : NetSession). x.infos) is) (ap (λ (x : NetSession). x.asking) is) refl refl refl refl)
     (peer_same slots p q v (heard_kind slots GroupsInfo bytes v) opened.peer (ap (λ (x : NetSession). x.seq) is) (ap (λ (x : NetSession). x.place) is) (ap (λ (x : NetSession). x.active) is) refl refl refl refl)
-    (guest_free role q t.groups (heard_kind slots GroupsInfo bytes v) hub) answer
+    (hub_knows role q t.groups (heard_kind slots GroupsInfo bytes v) hub known) answer
 
-guest_told : (role : Role) (p : NetSession) (groups now : List (List ℕ)) (v w : SessionLog) → GuestCounts role p groups v → now ≡ groups → w.membership ≡ v.membership → w.told ≡ true
+guest_told : (role : Role) (p : NetSession) (groups now : List (List ℕ)) (v w : SessionLog) → GuestCounts role p groups v → now ≡ groups → w.membership ≡ v.membership → w.told ≡ true → w.groups ≡ v.groups
     → GuestCounts role (record p { telling = false }) now w
-guest_told Responder p groups now v w counts same membership told = tt
-guest_told Initiator p groups now v w counts same membership told =
+guest_told Responder p groups now v w counts same membership told known = same ∙ counts ∙ sym known
+guest_told Initiator p groups now v w counts same membership told known =
     subst (λ (x : List (List ℕ)). GroupCounts (record p { telling = false }) x w) (sym same)
     (record {
       named = λ is. membership ∙ counts.named is;
@@ -161,7 +168,7 @@ told_counts role slots queue s t l p v bytes counts opened left same frames next
     end_from role slots queue s t l (record p { telling = false }) (heard_kind slots GroupsAck bytes v) 0 counts same frames (omega arith) next (groups_as role s.groups t.groups groups counts.groups) session left
     (ring_same p (record p { telling = false }) l.published l.gone v (heard_kind slots GroupsAck bytes v) opened.ring refl refl refl refl refl refl refl refl refl)
     (peer_same slots p (record p { telling = false }) v (heard_kind slots GroupsAck bytes v) opened.peer refl refl refl refl refl refl refl)
-    (guest_told role p s.groups t.groups v (heard_kind slots GroupsAck bytes v) opened.guest groups refl refl) opened.reply
+    (guest_told role p s.groups t.groups v (heard_kind slots GroupsAck bytes v) opened.guest groups refl refl refl) opened.reply
 
 -- a message that is none of these, and no message
 pub stays_counts : (role : Role) (slots : ℕ) (queue : List (List ℕ)) (s t : NetEndState) (l : EndLog) (p : NetSession) (v : SessionLog) → EndCounts role slots queue s l
@@ -171,7 +178,43 @@ pub stays_counts : (role : Role) (slots : ℕ) (queue : List (List ℕ)) (s t : 
 stays_counts role slots queue s t l p v counts opened left same frames next groups session =
     end_from role slots queue s t l p v 0 counts same frames (omega arith) next (groups_as role s.groups t.groups groups counts.groups) session left
     (ring_same p p l.published l.gone v v opened.ring refl refl refl refl refl refl refl refl refl) opened.peer
-    (guest_same role p p s.groups t.groups v v opened.guest groups refl refl refl refl) opened.reply
+    (guest_same role p p s.groups t.groups v v opened.guest groups refl refl refl refl refl) opened.reply
+
+-- GROUPS that it was named: the list that comes of them, and the answer that it owes
+record Named (bytes : List ℕ) (known groups : List (List ℕ)) (reply : GroupsReply) : Type 0 where
+  groups_are : groups ≡ list_after (groups_after (set_of bytes) (count_of bytes) (seven_of bytes) known) known
+  answers : AnswersFor reply (Some (answer_to bytes (groups_after (set_of bytes) (count_of bytes) (seven_of bytes) known)))
+
+six_at : (n at : ℕ) (bytes : List ℕ) → at + 6 * n ≤ length bytes → AllByRecursion (λ (address : List ℕ). length address ≡ 6) (addresses_at at n bytes)
+six_at zero at bytes within = tt
+six_at (suc n) at bytes within = (omega (arith, length-take 6 (drop at bytes), length-drop at bytes, within), six_at n (at + 6) bytes (omega (arith, within)))
+
+code_of : (behind : Option (List (List ℕ))) → subtype_code (reply_code behind) ≡ answer_code behind
+code_of None = refl
+code_of (Some groups) = refl
+
+is_answer : (behind : Option (List (List ℕ))) → IsAnswer (reply_code behind)
+is_answer None = tt
+is_answer (Some groups) = tt
+
+named_counts : (bytes : List ℕ) (held known : List (List ℕ)) (set count : ℕ) (addresses groups : List (List ℕ)) (reply : GroupsReply) → length bytes ≡ 56 → SpellsBody bytes (Mcast set count addresses)
+    → held ≡ known → IsKept held set count addresses groups reply → Named bytes known groups reply
+named_counts bytes held known set count addresses groups reply long fields same kept =
+    let behind : Option (List (List ℕ)) = groups_after (set_of bytes) (count_of bytes) (seven_of bytes) known in
+    let there : IsKept known (set_of bytes) (count_of bytes) (seven_of bytes) groups reply =
+    subst (λ (xs : List (List ℕ)). IsKept xs (set_of bytes) (count_of bytes) (seven_of bytes) groups reply) same
+    (subst (λ (n : ℕ). IsKept held n (count_of bytes) (seven_of bytes) groups reply) fields.0
+    (subst (λ (n : ℕ). IsKept held set n (seven_of bytes) groups reply) fields.1
+    (subst (λ (xs : List (List ℕ)). IsKept held set count xs groups reply) fields.2 kept))) in
+    let answer : GroupsReply = record { subtype = reply_code behind; set = set_of bytes; count = count_of bytes; addresses = seven_of bytes } in
+    let answers : AnswersFor answer (Some (answer_to bytes behind)) =
+    record {
+      answer = is_answer behind;
+      few = read_long 7 10 bytes;
+      long = six_at 7 10 bytes (omega (arith, long));
+      fields = ap (λ (n : ℕ). Some (record (groups_fields bytes) { subtype = n })) (sym (code_of behind));
+    } in
+    record { groups_are = there.groups_are; answers = subst (λ (r : GroupsReply). AnswersFor r (Some (answer_to bytes behind))) (sym there.reply_is) answers }
 
 -- A MESSAGE
 pub record Hearing (role : Role) (slots : ℕ) (queue : List (List ℕ)) (s : NetEndState) (l : EndLog) (p : NetSession) : Type 0 where
@@ -203,7 +246,7 @@ heard_counts role slots queue s l p memory bytes m t new hearing form spells doe
     by_kind : MessageDoes role s p memory m.subtype m.body t new → EndCounts role slots queue t (hears_log slots (Some bytes) l)
     by_kind (Asks seq ident start end state kind body place stays is) =
         as_kind RangeInfo (spoken_of bytes m Info (DringData seq ident start end state) spells kind body)
-        (asks_counts role slots queue s t l p opened_here.of_log bytes seq start hearing.counts opened_here.counts hearing.idle (left_of_same (ap (λ (x : NetEndState). x.link) is)) place
+        (asks_counts role slots queue s t l p opened_here.of_log bytes seq start hearing.counts opened_here.counts hearing.idle (left_of_same (ap (λ (x : NetEndState). x.link) is)) place.place place.seq_is
         (ap (λ (x : NetEndState). x.slots) is) (ap (λ (x : NetEndState). x.frames) is) (ap (λ (x : NetEndState). x.next_id) is) (ap (λ (x : NetEndState). x.groups) is) (ap (λ (x : NetEndState). x.session) is))
     by_kind (Acks seq ident start end state kind body begins inside most undone stays is) =
         let fields : SpellsBody bytes (DringData seq ident start end state) = subst (SpellsBody bytes) body spells.body in
@@ -216,8 +259,13 @@ heard_counts role slots queue s l p memory bytes m t new hearing form spells doe
         (omega (arith, most, stood.held)) (ap (λ (x : NetEndState). x.slots) is) (ap (λ (x : NetEndState). x.frames) is) (ap (λ (x : NetEndState). x.next_id) is) (ap (λ (x : NetEndState). x.groups) is)
         (ap (λ (x : NetEndState). x.session) is))
     by_kind (Names set count addresses groups reply answer hub kind body stays is) =
+        let fields : SpellsBody bytes (Mcast set count addresses) = subst (SpellsBody bytes) body spells.body in
+        let long : length bytes ≡ 56 = subst (HasLength (length bytes)) body spells.long in
+        let v : SessionLog = opened_here.of_log in
+        let named = named_counts bytes s.groups v.groups set count addresses groups reply long fields (hub_known role p s.groups v hub opened_here.counts.guest) answer in
         as_kind GroupsInfo (spoken_of bytes m Info (Mcast set count addresses) spells kind body)
-        (names_counts role slots queue s t l p (replying reply p) opened_here.of_log bytes hearing.counts opened_here.counts (left_of_same (ap (λ (x : NetEndState). x.link) is)) hub refl answer
+        (names_counts role slots queue s t l p (replying reply p) v bytes hearing.counts opened_here.counts (left_of_same (ap (λ (x : NetEndState). x.link) is)) hub refl named.answers
+        (ap (λ (x : NetEndState). x.groups) is ∙ named.groups_are)
         (ap (λ (x : NetEndState). x.slots) is) (ap (λ (x : NetEndState). x.frames) is) (ap (λ (x : NetEndState). x.next_id) is) (ap (λ (x : NetEndState). x.session) is))
     by_kind (Told set count addresses guest kind body telling stays is) =
         as_kind GroupsAck (spoken_of bytes m Ack (Mcast set count addresses) spells kind body)

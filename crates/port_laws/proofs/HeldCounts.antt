@@ -16,7 +16,7 @@ use Rattle.channel_model.specs.Seeing.{Seen}
 use Rattle.cookie_copy.specs.Reach.{Reach}
 use Rattle.port_model.proofs.Refuting.{false_true, none_some, of_some, true_false}
 use Rattle.port_model.proofs.Ruling.{says_of}
-use Rattle.port_model.specs.EndLog.{EndLog, SessionLog, said_kind}
+use Rattle.port_model.specs.EndLog.{EndLog, GroupsFields, SessionLog, groups_fields, said_kind}
 use Rattle.port_model.specs.Fetching.{Fetched, NotReady, fetched}
 use Rattle.port_model.specs.Groups.{membership, seven}
 use Rattle.port_model.specs.NetEndPutting.{announcement, answer, answers, groups_answer, holding as holding_shake, holding_own, net_holds}
@@ -24,10 +24,10 @@ use Rattle.port_model.specs.NetEndRule.{Announces as AnnouncesRule, Fetches, Net
 use Rattle.port_model.specs.NetEndState.{Activity, GroupsReply, NetEndState, NetSession}
 use Rattle.port_model.specs.RuleFacts.{IsFreeIn}
 use Rattle.port_model.specs.Spoken.{GroupsInfo, RangeAck, RangeInfo, Spoken, groups_spoken, spoken}
-use Rattle.port_laws.specs.Counted.{ActiveCounts, AnswersRightly, Counts, EndCounts, GuestCounts, GuestGroups, IsAnswer, LastCounts, PeerCounts, RingCounts, SaysRightly, SessionCounts, left_of, unsaid}
+use Rattle.port_laws.specs.Counted.{ActiveCounts, AnswersFor, AnswersRightly, Counts, EndCounts, GuestCounts, GuestGroups, IsAnswer, LastCounts, PeerCounts, RingCounts, SaysRightly, SessionCounts, left_of, unsaid}
 use Rattle.port_laws.specs.NetFits.{AreShort, NetFits, ReplyFits}
 use Rattle.port_laws.proofs.EndCounting.{OpenCounts, empty_unsaid, guest_same, open_counts}
-use Rattle.port_laws.proofs.OwnBytes.{end_is, groups_spoken_as, membership_reads, range_spoken_as, seq_is, start_is, state_is}
+use Rattle.port_laws.proofs.OwnBytes.{end_is, groups_spoken_as, membership_reads, membership_says, range_spoken_as, reply_read, seq_is, start_is, state_is}
 use Rattle.port_laws.proofs.ShortMessages.{announcement_short, answer_short, membership_short, reply_short}
 use Rattle.port_laws.proofs.EndMoves.{reply_of}
 
@@ -57,7 +57,7 @@ pub record Forms (role : Role) (slots : ℕ) (s : NetEndState) (p q : NetSession
   pub ring : RingCounts q published gone (said_kind k (canonical message) v)
   pub peer : PeerCounts slots q (said_kind k (canonical message) v)
   pub guest : GuestCounts role q s.groups (said_kind k (canonical message) v)
-  pub reply : AnswersRightly q.reply
+  pub reply : AnswersRightly q.reply (said_kind k (canonical message) v).owed
 
 formed : (role : Role) (slots : ℕ) (queue : List (List ℕ)) (s : NetEndState) (l : EndLog) (p q : NetSession) (v : SessionLog) (message : Message) (k : Spoken) → EndCounts role slots queue s l
     → l.session ≡ Some v → Forms role slots s p q v l.published l.gone message k → EndCounts role slots queue (holding_own message q s) l
@@ -71,7 +71,7 @@ formed role slots queue s l p q v message k counts log forms =
       ring = subst (λ (x : Spoken). RingCounts q l.published l.gone (said_kind x (canonical message) v)) (sym forms.kind) forms.ring;
       peer = subst (λ (x : Spoken). PeerCounts slots q (said_kind x (canonical message) v)) (sym forms.kind) forms.peer;
       guest = subst (λ (x : Spoken). GuestCounts role q s.groups (said_kind x (canonical message) v)) (sym forms.kind) forms.guest;
-      reply = forms.reply;
+      reply = subst (λ (x : Spoken). AnswersRightly q.reply (said_kind x (canonical message) v).owed) (sym forms.kind) forms.reply;
     } in
     record {
       slots_is = counts.slots_is;
@@ -83,33 +83,35 @@ formed role slots queue s l p q v message k counts log forms =
           (subst (λ (x : Option (List ℕ)). SessionCounts role slots s.groups l.published l.gone x false q v) (sym left) there);
     }
 
--- THE ANSWER to groups changes no count
-said_none : (s : Subtype) (message : List ℕ) (v : SessionLog) → IsAnswer s → said_kind (groups_spoken (subtype_code s)) message v ≡ v
+-- THE ANSWER to groups is the one that is owed
+said_none : (s : Subtype) (message : List ℕ) (v : SessionLog) → IsAnswer s → said_kind (groups_spoken (subtype_code s)) message v ≡ record v { owed = None }
 said_none Ack message v is = refl
 said_none Nack message v is = refl
 said_none Info message v is = absurd is
 
-right_none : (slots : ℕ) (groups : List (List ℕ)) (v : SessionLog) (message : List ℕ) (s : Subtype) → IsAnswer s → SaysRightly slots groups v message (groups_spoken (subtype_code s))
-right_none slots groups v message Ack is = tt
-right_none slots groups v message Nack is = tt
-right_none slots groups v message Info is = absurd is
+right_owed : (slots : ℕ) (groups : List (List ℕ)) (v : SessionLog) (message : List ℕ) (s : Subtype) → IsAnswer s → v.owed ≡ Some (groups_fields message)
+    → SaysRightly slots groups v message (groups_spoken (subtype_code s))
+right_owed slots groups v message Ack is owed = owed
+right_owed slots groups v message Nack is owed = owed
+right_owed slots groups v message Info is owed = absurd is
 
-replies_forms : (role : Role) (slots : ℕ) (s : NetEndState) (p : NetSession) (v : SessionLog) (published gone : ℕ) (reply : GroupsReply) (begun : Bool) → s.handshake.owed ≡ None → ReplyFits reply → IsAnswer reply.subtype
+replies_forms : (role : Role) (slots : ℕ) (s : NetEndState) (p : NetSession) (v : SessionLog) (published gone : ℕ) (reply : GroupsReply) (begun : Bool) → s.handshake.owed ≡ None → ReplyFits reply → AnswersFor reply v.owed
     → SessionCounts role slots s.groups published gone None begun p v
     → Forms role slots s p (record p { reply = None }) v published gone (groups_answer s reply) (groups_spoken (subtype_code reply.subtype))
-replies_forms role slots s p v published gone reply begun owed fits answer counts =
-    let same : said_kind (groups_spoken (subtype_code reply.subtype)) (canonical (groups_answer s reply)) v ≡ v = said_none reply.subtype (canonical (groups_answer s reply)) v answer in
+replies_forms role slots s p v published gone reply begun owed fits answers counts =
+    let same : said_kind (groups_spoken (subtype_code reply.subtype)) (canonical (groups_answer s reply)) v ≡ record v { owed = None } = said_none reply.subtype (canonical (groups_answer s reply)) v answers.answer in
     record {
       owed = owed;
       short = reply_short s reply fits;
       kind = groups_spoken_as reply.subtype s.handshake.draft.sid reply.set reply.count reply.addresses;
-      right = right_none slots s.groups v (canonical (groups_answer s reply)) reply.subtype answer;
+      right = right_owed slots s.groups v (canonical (groups_answer s reply)) reply.subtype answers.answer
+          (answers.fields ∙ ap (λ (x : GroupsFields). Some x) (sym (reply_read s.handshake.draft.sid reply answers.few answers.long)));
       ring = subst (RingCounts (record p { reply = None }) published gone) (sym same)
           (record { all = counts.ring.all; left = counts.ring.left; here = counts.ring.here; seen = counts.ring.seen; infos = counts.ring.infos; asking = counts.ring.asking });
       peer = subst (PeerCounts slots (record p { reply = None })) (sym same) (record { seq = counts.peer.seq; place = counts.peer.place; active = counts.peer.active });
       guest = guest_same role p (record p { reply = None }) s.groups s.groups v (said_kind (groups_spoken (subtype_code reply.subtype)) (canonical (groups_answer s reply)) v) counts.guest refl refl refl
-          (ap (λ (x : SessionLog). x.membership) same) (ap (λ (x : SessionLog). x.told) same);
-      reply = tt;
+          (ap (λ (x : SessionLog). x.membership) same) (ap (λ (x : SessionLog). x.told) same) (ap (λ (x : SessionLog). x.groups) same);
+      reply = ap (λ (x : SessionLog). x.owed) same;
     }
 
 -- THE ANSWER to a ring
@@ -118,6 +120,7 @@ answers_forms : (role : Role) (slots : ℕ) (s : NetEndState) (p : NetSession) (
     → SessionCounts role slots s.groups published gone None begun p v → Forms role slots s p (record p { active = None }) v published gone (answer s activity last) RangeAck
 answers_forms role slots s p v published gone activity last begun owed same fit active is counts =
     let taken : (v.answered < v.taken) × (last ≡ (v.taken - 1) % slots) = subst (LastCounts slots v) is active.2 in
+    let small_seq : activity.seq < 2 ^ 64 = subst (λ (n : ℕ). n < 2 ^ 64) (sym active.3) (omega arith) in
     let small_start : activity.start < 2 ^ 32 = subst (λ (n : ℕ). n < 2 ^ 32) (sym active.1) (small_slot v.answered slots fit) in
     let small_last : last < 2 ^ 32 = subst (λ (n : ℕ). n < 2 ^ 32) (sym taken.1) (small_slot (v.taken - 1) slots fit) in
     record {
@@ -125,6 +128,7 @@ answers_forms role slots s p v published gone activity last begun owed same fit 
       short = answer_short s activity last;
       kind = range_spoken_as Ack s.handshake.draft.sid activity.seq s.handshake.draft.ident_peer activity.start last 2;
       right = record {
+        seq = seq_is Ack s.handshake.draft.sid activity.seq s.handshake.draft.ident_peer activity.start last 2 small_seq ∙ active.3;
         state = state_is Ack s.handshake.draft.sid activity.seq s.handshake.draft.ident_peer activity.start last 2 (omega arith);
         begins = start_is Ack s.handshake.draft.sid activity.seq s.handshake.draft.ident_peer activity.start last 2 small_start ∙ active.1;
         ends = end_is Ack s.handshake.draft.sid activity.seq s.handshake.draft.ident_peer activity.start last 2 small_last ∙ taken.1;
@@ -132,7 +136,7 @@ answers_forms role slots s p v published gone activity last begun owed same fit 
       };
       ring = record { all = counts.ring.all; left = counts.ring.left; here = counts.ring.here; seen = counts.ring.seen; infos = counts.ring.infos; asking = counts.ring.asking };
       peer = record { seq = counts.peer.seq; place = counts.peer.place; active = (active.0, refl) };
-      guest = guest_same role p (record p { active = None }) s.groups s.groups v (said_kind RangeAck (canonical (answer s activity last)) v) counts.guest refl refl refl refl refl;
+      guest = guest_same role p (record p { active = None }) s.groups s.groups v (said_kind RangeAck (canonical (answer s activity last)) v) counts.guest refl refl refl refl refl refl;
       reply = counts.reply;
     }
 
@@ -146,7 +150,7 @@ tells_forms slots s p v published gone begun owed short groups untold counts =
       owed = owed;
       short = membership_short s.handshake.draft.sid s.groups short;
       kind = groups_spoken_as Info s.handshake.draft.sid 1 (length s.groups) (seven 7 s.groups);
-      right = counts.guest.behind untold;
+      right = (counts.guest.behind untold, membership_says s.handshake.draft.sid s.groups groups);
       ring = record { all = counts.ring.all; left = counts.ring.left; here = counts.ring.here; seen = counts.ring.seen; infos = counts.ring.infos; asking = counts.ring.asking };
       peer = record { seq = counts.peer.seq; place = counts.peer.place; active = counts.peer.active };
       guest = record {
@@ -180,7 +184,7 @@ announces_forms role slots s p v published gone begun owed same fit less asking 
       };
       ring = record { all = counts.ring.all; left = counts.ring.left; here = counts.ring.here; seen = counts.ring.seen; infos = ap (λ (n : ℕ). n + 1) counts.ring.infos; asking = refl };
       peer = record { seq = counts.peer.seq; place = counts.peer.place; active = counts.peer.active };
-      guest = guest_same role p (record p { infos = p.infos + 1; asking = true }) s.groups s.groups v (said_kind RangeInfo (canonical (announcement s p)) v) counts.guest refl refl refl refl refl;
+      guest = guest_same role p (record p { infos = p.infos + 1; asking = true }) s.groups s.groups v (said_kind RangeInfo (canonical (announcement s p)) v) counts.guest refl refl refl refl refl refl;
       reply = counts.reply;
     }
 
@@ -260,7 +264,7 @@ held_counts role slots queue s l at reach (Replies p reply) held holding is same
     of_some (λ (x : NetEndState). EndCounts role slots queue x l) _ held same
     (formed role slots queue s l p (record p { reply = None }) here.of_log (groups_answer s reply) (groups_spoken (subtype_code reply.subtype)) holding.counts here.is
     (replies_forms role slots s p here.of_log l.published l.gone reply s.link.begun says.0.free.owed (reply_of s p reply holding.fits.session says.0.session says.1)
-    (subst AnswersRightly says.1 here.counts.reply) here.counts))
+    (subst (λ (o : Option GroupsReply). AnswersRightly o here.of_log.owed) says.1 here.counts.reply) here.counts))
 held_counts role slots queue s l at reach (Fetches p activity) held holding is same =
     let says = says_of role s at (Fetches p activity) is in
     slot_counts role slots queue s l at p activity activity.last (fetched s reach p.place) held holding says.0 says.1 refl same

@@ -20,6 +20,7 @@ mod HeldCounts
 mod PutCounts
 mod TookCounts
 mod TookWhat
+mod SlotsFound
 mod StepCounts
 mod RemainingEnds
 mod FlightSums
@@ -30,9 +31,11 @@ pub mod RuleFrames
 mod FlightRuns
 pub mod RuleRest
 pub mod RuleIdle
+pub mod RuleGroups
 pub mod RuleTwoIdle
 pub mod PortCauses
 pub mod PortResets
+pub mod RuleAsks
 mod PeerOpens
 mod SessionsHeard
 mod RingMoves

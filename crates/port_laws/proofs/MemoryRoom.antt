@@ -1,5 +1,5 @@
 -- The room of both memories of a port's lane for their rings.
-use Rattle.std.proofs.Common.{◌≡◌, ℕ, zero, suc, ◌+◌, ◌≤◌, List, [], ◌++◌, length, drop, sym, subst, arith, length-append, length-drop}
+use Rattle.std.proofs.Common.{◌≡◌, ℕ, zero, suc, ◌+◌, ◌≤◌, List, ◌++◌, length, drop, sym, subst, arith, length-append, length-drop}
 use Rattle.std.specs.Prelude.{◌*◌, ◌^◌, take}
 use Rattle.std.proofs.lemmas.List.{length-take}
 use Rattle.vio_bytes.specs.Place.{put_at}

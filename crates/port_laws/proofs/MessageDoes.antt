@@ -20,21 +20,35 @@ use Rattle.channel_model.specs.Ranges.{is_other}
 use Rattle.dring.specs.Slots.{range_length}
 use Rattle.channel_laws.specs.Standing.{is_open_in}
 use Rattle.port_model.proofs.Refuting.{false_true}
+use Rattle.port_model.specs.EndLog.{list_after}
 use Rattle.port_model.specs.Groups.{groups_after}
 use Rattle.port_model.specs.NetEndState.{GroupsReply, NetEndState, NetSession, with_session}
-use Rattle.port_laws.specs.Counted.{IsAnswer}
 use Rattle.port_model.specs.NetEndTaking.{GoesOn, NetTake, Resets, acknowledged, active, by_handshake, ends_outside, first_undone, freed, hears_message, in_session, refused, replying, sid_first, takes_ack, takes_done, takes_groups, takes_info, takes_range, told}
+
+-- an INFO that is the next
+pub record IsNext (p : NetSession) (seq start : ℕ) : Type 0 where
+  pub seq_is : p.seq ≡ seq
+  pub place : p.place ≡ start
+
+-- the list that comes of groups that a guest names, where one does, and the answer
+abbrev pub reply_code : Option (List (List ℕ)) → Subtype
+reply_code None = Nack
+reply_code (Some behind) = Ack
+
+pub record IsKept (known : List (List ℕ)) (set count : ℕ) (addresses groups : List (List ℕ)) (reply : GroupsReply) : Type 0 where
+  pub groups_are : groups ≡ list_after (groups_after set count addresses known) known
+  pub reply_is : reply ≡ record { subtype = reply_code (groups_after set count addresses known); set = set; count = count; addresses = addresses }
 
 -- THE KINDS: an INFO of the peer's ring, an ACK of the own ring, groups that a guest names, the answer to groups, and what
 -- the handshake declines
 pub data MessageDoes (role : Role) (s : NetEndState) (p : NetSession) (memory : List ℕ) (subtype : Subtype) (b : MsgBody) (t : NetEndState) (new : List ℕ) : Type 0 where
-  Asks : (seq ident start end state : ℕ) → subtype ≡ Info → b ≡ DringData seq ident start end state → p.place ≡ start → new ≡ memory
+  Asks : (seq ident start end state : ℕ) → subtype ≡ Info → b ≡ DringData seq ident start end state → IsNext p seq start → new ≡ memory
       → t ≡ with_session (active p seq start) s → MessageDoes role s p memory subtype b t new
   Acks : (seq ident start end state : ℕ) → subtype ≡ Ack → b ≡ DringData seq ident start end state → start ≡ p.seen % s.slots → end < s.slots
       → p.seen + range_length s.slots start end ≤ p.published → first_undone s.slots memory p.seen (range_length s.slots start end) ≡ None
       → new ≡ freed s.slots p.seen (range_length s.slots start end) memory
       → t ≡ acknowledged p (range_length s.slots start end) s → MessageDoes role s p memory subtype b t new
-  Names : (set count : ℕ) (addresses groups : List (List ℕ)) (reply : GroupsReply) → IsAnswer reply.subtype → role ≡ Responder → subtype ≡ Info → b ≡ Mcast set count addresses → new ≡ memory
+  Names : (set count : ℕ) (addresses groups : List (List ℕ)) (reply : GroupsReply) → IsKept s.groups set count addresses groups reply → role ≡ Responder → subtype ≡ Info → b ≡ Mcast set count addresses → new ≡ memory
       → t ≡ with_session (replying reply p) (record s { groups = groups }) → MessageDoes role s p memory subtype b t new
   Told : (set count : ℕ) (addresses : List (List ℕ)) → role ≡ Initiator → subtype ≡ Ack → b ≡ Mcast set count addresses → p.telling ≡ true → new ≡ memory
       → t ≡ with_session (record p { telling = false }) s → MessageDoes role s p memory subtype b t new
@@ -59,17 +73,20 @@ same_if : (a c : ℕ) (test : Bool) → (a == c) ≡ test → (if test then fals
 same_if a c true is not = eqb-true a c is
 same_if a c false is not = false_true (sym not)
 
-not_other : (a c : ℕ) → is_other a c ≡ false → a ≡ c
+pub not_other : (a c : ℕ) → is_other a c ≡ false → a ≡ c
 not_other a c not = same_if a c (a == c) refl not
 
 info_does : (role : Role) (s : NetEndState) (p : NetSession) (memory : List ℕ) (seq ident start end state : ℕ)
     → TakeDoes role s p memory Info (DringData seq ident start end state) (takes_info s p memory seq ident start end)
 info_does role s p memory seq ident start end state =
     does_if role s p memory Info (DringData seq ident start end state) (is_other s.handshake.draft.ident_peer ident) (Resets (the_cause.Ident s.handshake.draft.ident_peer ident)) _ (λ c. tt) (λ c.
-    does_if role s p memory Info (DringData seq ident start end state) (is_other p.seq seq) (Resets (the_cause.Seq p.seq seq)) _ (λ c. tt) (λ c.
+    does_if role s p memory Info (DringData seq ident start end state) (is_other p.seq seq) (Resets (the_cause.Seq p.seq seq)) _ (λ c. tt) (λ number.
     does_if role s p memory Info (DringData seq ident start end state) (is_other p.place start) (Resets (the_cause.Slot p.place start)) _ (λ c. tt) (λ place.
     does_if role s p memory Info (DringData seq ident start end state) (ends_outside s end) (Resets (the_cause.RangeEnd end)) (GoesOn (with_session (active p seq start) s) false memory) (λ c. tt) (λ c.
-    record { shut = refl; does = Asks seq ident start end state refl refl (not_other p.place start place) refl refl }))))
+    record {
+      shut = refl;
+      does = Asks seq ident start end state refl refl (record { seq_is = not_other p.seq seq number; place = not_other p.place start place }) refl refl;
+    }))))
 
 done_does : (role : Role) (s : NetEndState) (p : NetSession) (memory : List ℕ) (seq ident start end state : ℕ) (fault : Option Cause)
     → first_undone s.slots memory p.seen (range_length s.slots start end) ≡ fault → start ≡ p.seen % s.slots → end < s.slots → p.seen + range_length s.slots start end ≤ p.published
@@ -90,12 +107,18 @@ ack_does role s p memory seq ident start end state =
     done_does role s p memory seq ident start end state (first_undone s.slots memory p.seen (range_length s.slots start end)) refl (sym (not_other (p.seen % s.slots) start begins))
     (ltb-true end s.slots inside.0) (leb-true (p.seen + range_length s.slots start end) p.published inside.1)) (λ c. tt)))
 
-groups_do : (s : NetEndState) (p : NetSession) (memory : List ℕ) (set count : ℕ) (addresses : List (List ℕ)) (groups : Option (List (List ℕ)))
+kept_by : (s : NetEndState) (set count : ℕ) (addresses : List (List ℕ)) (groups : Option (List (List ℕ))) → groups_after set count addresses s.groups ≡ groups
+    → IsKept s.groups set count addresses (list_after groups s.groups) (record { subtype = reply_code groups; set = set; count = count; addresses = addresses })
+kept_by s set count addresses groups is =
+    subst (λ (o : Option (List (List ℕ))). IsKept s.groups set count addresses (list_after o s.groups) (record { subtype = reply_code o; set = set; count = count; addresses = addresses })) is
+    (record { groups_are = refl; reply_is = refl })
+
+groups_do : (s : NetEndState) (p : NetSession) (memory : List ℕ) (set count : ℕ) (addresses : List (List ℕ)) (groups : Option (List (List ℕ))) → groups_after set count addresses s.groups ≡ groups
     → TakeDoes Responder s p memory Info (Mcast set count addresses) (takes_groups s p memory set count addresses groups)
-groups_do s p memory set count addresses None =
-    record { shut = refl; does = Names set count addresses s.groups (record { subtype = Nack; set = set; count = count; addresses = addresses }) tt refl refl refl refl refl }
-groups_do s p memory set count addresses (Some groups) =
-    record { shut = refl; does = Names set count addresses groups (record { subtype = Ack; set = set; count = count; addresses = addresses }) tt refl refl refl refl refl }
+groups_do s p memory set count addresses None is =
+    record { shut = refl; does = Names set count addresses s.groups (record { subtype = Nack; set = set; count = count; addresses = addresses }) (kept_by s set count addresses None is) refl refl refl refl refl }
+groups_do s p memory set count addresses (Some groups) is =
+    record { shut = refl; does = Names set count addresses groups (record { subtype = Ack; set = set; count = count; addresses = addresses }) (kept_by s set count addresses (Some groups) is) refl refl refl refl refl }
 
 told_does : (s : NetEndState) (p : NetSession) (memory : List ℕ) (set count : ℕ) (addresses : List (List ℕ)) → TakeDoes Initiator s p memory Ack (Mcast set count addresses) (told s p memory)
 told_does s p memory set count addresses =
@@ -150,7 +173,7 @@ in_does Initiator s p memory message Ack (DringData seq ident start end state) d
 in_does Responder s p memory message Ack (DringData seq ident start end state) declines = ack_does Responder s p memory seq ident start end state
 in_does Initiator s p memory message Nack (DringData seq ident start end state) declines = tt
 in_does Responder s p memory message Nack (DringData seq ident start end state) declines = tt
-in_does Responder s p memory message Info (Mcast set count addresses) declines = groups_do s p memory set count addresses (groups_after set count addresses s.groups)
+in_does Responder s p memory message Info (Mcast set count addresses) declines = groups_do s p memory set count addresses (groups_after set count addresses s.groups) refl
 in_does Initiator s p memory message Ack (Mcast set count addresses) declines = told_does s p memory set count addresses
 in_does Initiator s p memory message Nack (Mcast set count addresses) declines = refused_does s p memory set count addresses
 in_does role s p memory message subtype b declines = handshake_does role s p memory subtype b (handshake_take s.handshake message) declines

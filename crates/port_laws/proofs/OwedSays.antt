@@ -1,34 +1,136 @@
--- What a handshake owes says nothing of a session of a port.
-use Rattle.std.proofs.Common.{◌≡◌, ℕ, Bool, false, refl}
-use Rattle.std.specs.Prelude.{◌==◌, if◌then◌else◌}
+-- What a handshake owes says nothing of a session of a port, along every run.
+use Rattle.std.proofs.Common.{◌≡◌, ℕ, Bool, true, Option, Some, None, List, inl, inr, refl, sym, subst}
+use Rattle.std.specs.Prelude.{⊤}
+use Rattle.runs.specs.Run.{Run}
+use Rattle.ldc_link.specs.declared.phase.Role.{Role}
+use Rattle.ldc_link.specs.declared.phase.Role.TheVariants.{Initiator, Responder}
+use Rattle.ldc_link.specs.LinkState.{LinkState}
 use Rattle.ldc_packet.specs.declared.packet.Subtype.{Subtype}
-use Rattle.ldc_packet.specs.declared.packet.Subtype.TheVariants.{Ack, Info, Nack}
-use Rattle.vio_bytes.specs.Place.{number_at}
+use Rattle.ldc_packet.specs.declared.packet.Subtype.TheVariants.{Ack, Info}
+use Rattle.ldc_queue.specs.Transcript.{Turn}
+use Rattle.vio_handshake.specs.declared.handshake.Handshake.{Handshake}
 use Rattle.vio_handshake.specs.declared.handshake.Phase.{Phase}
+use Rattle.vio_handshake.specs.declared.session.Offer.{Offer}
+use Rattle.vio_handshake.specs.Rules.{handshake_sent, is_declined, opens_by_put}
+use Rattle.vio_handshake.specs.State.{begun, joined_handshake}
 use Rattle.vio_tag.specs.declared.message.Message.{Message}
 use Rattle.vio_tag.specs.declared.message.MsgBody.{MsgBody}
-use Rattle.vio_tag.specs.declared.message.MsgBody.TheVariants.{DringData, Mcast, Plain}
+use Rattle.vio_tag.specs.declared.message.MsgBody.TheVariants.{DringData, DringUnreg, Mcast, Plain}
+use Rattle.vio_tag.specs.Form.{HasForm, IsWellFormed}
 use Rattle.vio_tag.specs.Spelling.{canonical}
+use Rattle.channel_laws.proofs.EndCases.{NoMessage, PutControl, PutHandshake, PutMore, PutOwn, PutReady, PutWhat, Rises, TookHandshake, TookOwn, TookWhat, end_put, end_took}
+use Rattle.channel_laws.proofs.EndResting.{held_handshake}
+use Rattle.channel_laws.proofs.EndStanding.{fresh_end_stands, held_stands, stands_step}
+use Rattle.channel_laws.proofs.HandshakeCases.{AttributesAgreed, AttributesAsked, AttributesRefused, Declined, OneRingAgreed, Opened, Opens, Owes as OwesNothing, OwnReadyFollows, PeerAgreed, ReadyAgreed, ReadyAsked, ReadyFollows, RingAgreed, RingAsked, RingFollows, RingRefused, RowSent, RowTaken, VersionAgreed, VersionAsked, VersionRefused, row_sent}
+use Rattle.channel_laws.proofs.Lifting.{EndsAll, ends_run}
+use Rattle.channel_laws.specs.EndCore.{Begins, EndCore, EndMove, Fails, Hears, Renews, Says as SaysPacket, Stays, Waits}
+use Rattle.channel_laws.specs.EndStep.{EndSays, EndStep}
 use Rattle.channel_laws.specs.HandshakeFits.{MayOwe}
-use Rattle.port_model.specs.Spoken.{Other, spoken, spoken_by}
+use Rattle.channel_laws.specs.LaneCore.{CoreEvent, CoreFits, CoreStep, LaneCore, fresh_core, transcript_behind}
+use Rattle.channel_laws.specs.Standing.{EndStands}
+use Rattle.port_model.proofs.Refuting.{false_true}
+use Rattle.port_model.specs.Spoken.{Other, spoken}
 
-other_by : (a b : Bool) → (if a then Other else if b then Other else Other) ≡ Other
-other_by false false = refl
-other_by _ _ = refl
+-- WHAT IT OWES is of no groups: what it declines is data without a ring, or the end of a ring
+abbrev pub NoGroups : MsgBody → Type 0
+NoGroups (Mcast set count addresses) = ⊥
+NoGroups (Plain envelope) = HasForm (Plain envelope)
+NoGroups _ = ⊤
 
-refusal_other : (envelope : ℕ) → spoken_by envelope 4 ≡ Other
-refusal_other envelope = other_by (envelope == 0x0042) (envelope == 0x0101)
+abbrev pub OwesNoGroups : Option Message → Type 0
+OwesNoGroups None = ⊤
+OwesNoGroups (Some message) = NoGroups message.body
 
-body_other : (phase : Phase) (s : Subtype) (n : ℕ) (b : MsgBody) → MayOwe phase s b → spoken (canonical (record { subtype = s; sid = n; body = b })) ≡ Other
+plain_other : (s : Subtype) (n envelope : ℕ) → HasForm (Plain envelope) → spoken (canonical (record { subtype = s; sid = n; body = Plain envelope })) ≡ Other
 unfolding canonical
-body_other phase Info n (DringData seq ident start end state) may = absurd may
-body_other phase Ack n (DringData seq ident start end state) may = absurd may
-body_other phase Info n (Mcast set count addresses) may = absurd may
-body_other phase Ack n (Mcast set count addresses) may = absurd may
-body_other phase Nack n (Plain envelope) may = refusal_other (number_at 2 2 (canonical (record { subtype = Nack; sid = n; body = Plain envelope })))
-body_other phase Info n (Plain envelope) may = absurd may
-body_other phase Ack n (Plain envelope) may = absurd may
-body_other phase _ n _ may = refl
+plain_other s n envelope (inl is) = subst (λ (x : ℕ). spoken (canonical (record { subtype = s; sid = n; body = Plain x })) ≡ Other) (sym is) refl
+plain_other s n envelope (inr is) = subst (λ (x : ℕ). spoken (canonical (record { subtype = s; sid = n; body = Plain x })) ≡ Other) (sym is) refl
 
-pub owed_other : (phase : Phase) (message : Message) → MayOwe phase message.subtype message.body → spoken (canonical message) ≡ Other
-owed_other phase message may = body_other phase message.subtype message.sid message.body may
+body_other : (phase : Phase) (s : Subtype) (n : ℕ) (b : MsgBody) → MayOwe phase s b → NoGroups b → spoken (canonical (record { subtype = s; sid = n; body = b })) ≡ Other
+unfolding canonical
+body_other phase Info n (DringData seq ident start end state) may none = absurd may
+body_other phase Ack n (DringData seq ident start end state) may none = absurd may
+body_other phase s n (Mcast set count addresses) may none = absurd none
+body_other phase s n (Plain envelope) may none = plain_other s n envelope none
+body_other phase _ n _ may none = refl
+
+pub owed_other : (phase : Phase) (message : Message) → MayOwe phase message.subtype message.body → OwesNoGroups (Some message) → spoken (canonical message) ≡ Other
+owed_other phase message may none = body_other phase message.subtype message.sid message.body may none
+
+-- EACH MESSAGE that a handshake takes or puts keeps that
+declined_groups : (s : Subtype) (b : MsgBody) → HasForm b → is_declined s b ≡ true → NoGroups b
+declined_groups Info (DringUnreg ident) form is = tt
+declined_groups Info (Plain envelope) form is = form
+declined_groups s b form is = false_true is
+
+abbrev Owes : Handshake → Type 0
+Owes h = OwesNoGroups h.owed
+
+row_owes : (h t : Handshake) (message : Message) (opens : Bool) → IsWellFormed message → Owes h → RowTaken h message t opens → Owes t
+row_owes h t message opens form owes (Declined test goes shut) = subst Owes (sym goes) (declined_groups message.subtype message.body form test)
+row_owes h t message opens form owes (VersionAgreed minor class r at is low goes shut) = subst Owes (sym goes) tt
+row_owes h t message opens form owes (VersionAsked minor class r at is goes shut) = subst Owes (sym goes) tt
+row_owes h t message opens form owes (VersionRefused major minor class other low r at is goes shut) = subst Owes (sym goes) tt
+row_owes h t message opens form owes (AttributesAgreed bytes r at is test goes shut) = subst Owes (sym goes) tt
+row_owes h t message opens form owes (AttributesAsked bytes r at is test goes shut) = subst Owes (sym goes) tt
+row_owes h t message opens form owes (AttributesRefused bytes r at is goes shut) = subst Owes (sym goes) tt
+row_owes h t message opens form owes (RingAgreed ident slots slot_size options count cookies r at both is goes shut) = subst Owes (sym goes) owes
+row_owes h t message opens form owes (OneRingAgreed ident slots slot_size options count cookies r at one is goes shut) = subst Owes (sym goes) tt
+row_owes h t message opens form owes (PeerAgreed ident slots slot_size options count cookies r at is goes shut) = subst Owes (sym goes) owes
+row_owes h t message opens form owes (RingAsked ident slots slot_size options count cookies at is test goes shut) = subst Owes (sym goes) tt
+row_owes h t message opens form owes (RingRefused ident slots slot_size options count cookies at is goes shut) = subst Owes (sym goes) tt
+row_owes h t message opens form owes (ReadyAgreed r at is goes shut) = subst Owes (sym goes) owes
+row_owes h t message opens form owes (ReadyAsked at is goes shut) = subst Owes (sym goes) tt
+row_owes h t message opens form owes (Opened r at is goes shut) = subst Owes (sym goes) owes
+
+sent_owes : (h t : Handshake) (opens : Bool) → RowSent h t opens → Owes t
+sent_owes h t opens (ReadyFollows r at goes shut) = subst Owes (sym goes) tt
+sent_owes h t opens (RingFollows r at goes shut) = subst Owes (sym goes) tt
+sent_owes h t opens (OwnReadyFollows r at goes shut) = subst Owes (sym goes) tt
+sent_owes h t opens (Opens r at goes shut) = subst Owes (sym goes) tt
+sent_owes h t opens (OwesNothing none goes shut) = subst Owes (sym goes) tt
+
+begun_owes : (role : Role) (h : Handshake) → Owes (begun role (joined_handshake h))
+begun_owes Initiator h = tt
+begun_owes Responder h = tt
+
+took_owes : (role : Role) (c t : EndCore) (turns : List Turn) (packet : List ℕ) (opens : Bool) (now : LinkState) → Owes c.handshake → TookWhat role c turns packet opens t now → Owes t.handshake
+took_owes role c t turns packet opens now owes (NoMessage up heard same shut is_open) = subst Owes (sym same) owes
+took_owes role c t turns packet opens now owes (Rises r down up heard same shut is_open) = subst Owes (sym same) (begun_owes c.handshake.role c.handshake)
+took_owes role c t turns packet opens now owes (TookOwn message took own same shut is_open) = subst Owes (sym same) owes
+took_owes role c t turns packet opens now owes (TookHandshake message took handshake is_open) = row_owes c.handshake t.handshake message opens took.form owes handshake.row
+
+put_owes : (role : Role) (held t : EndCore) (turns : List Turn) (packet : List ℕ) (opens : Bool) → Owes held.handshake → PutWhat role held turns packet opens t → Owes t.handshake
+put_owes role held t turns packet opens owes (PutControl next gone link says same shut is_open) = subst Owes (sym same) owes
+put_owes role held t turns packet opens owes (PutReady r at is link says same shut is_open) = subst Owes (sym same) (begun_owes held.handshake.role held.handshake)
+put_owes role held t turns packet opens owes (PutMore at link says same shut is_open) = subst Owes (sym same) owes
+put_owes role held t turns packet opens owes (PutOwn own at link says same shut is_open) = subst Owes (sym same) owes
+put_owes role held t turns packet opens owes (PutHandshake own at link says same opens_is is_open) =
+    subst Owes (sym same) (sent_owes held.handshake (handshake_sent held.handshake) (opens_by_put held.handshake.role held.handshake.phase) (row_sent held.handshake))
+
+pub record EndOwes (role : Role) (c : EndCore) (turns : List Turn) : Type 0 where
+  pub stands : EndStands role c turns
+  pub owes : OwesNoGroups c.handshake.owed
+
+says_owes : (role : Role) (c t : EndCore) (turns : List Turn) (packet : List ℕ) (opens : Bool) → EndOwes role c turns → EndSays role c packet opens t → Owes t.handshake
+says_owes role c t turns packet opens end says =
+    put_owes role says.held t turns packet opens (subst Owes (sym (held_handshake c says.held says.what says.holds)) end.owes)
+    (end_put role c t turns packet opens says (held_stands role c says.held turns says.what end.stands says.holds))
+
+move_owes : (role : Role) (c : EndCore) (move : EndMove) (t : EndCore) (turns : List Turn) → EndOwes role c turns → EndStep role c move t → Owes t.handshake
+move_owes role c Begins t turns end step = subst Owes (sym step.handshake) tt
+move_owes Initiator c Renews t turns end step = subst Owes (sym step.handshake) tt
+move_owes Responder c Renews t turns end step = subst Owes (sym step.handshake) tt
+move_owes role c (Fails cause packet) t turns end step = subst Owes (sym step.1.handshake) tt
+move_owes role c (Hears packet opens) t turns end step =
+    let took = end_took role c t turns packet opens end.stands step in took_owes role c t turns packet opens took.now end.owes took.what
+move_owes role c (SaysPacket packet opens) t turns end step = says_owes role c t turns packet opens end step
+move_owes role c Waits t turns end step = subst Owes (sym (held_handshake c t step.what step.holds)) end.owes
+move_owes role c Stays t turns end step = subst Owes (sym step.handshake) end.owes
+
+-- along every run
+pub owes_run : (entries : ℕ) (asks answers : Offer) (events : List CoreEvent) (s : LaneCore) → CoreFits entries asks answers → Run CoreStep (fresh_core entries asks answers) events s
+    → EndsAll EndOwes s (transcript_behind events)
+owes_run entries asks answers events s fits run =
+    ends_run EndOwes (λ role c move t turns end step. record { stands = stands_step role c move t turns end.stands step; owes = move_owes role c move t turns end step }) entries asks answers events s
+    (record { stands = fresh_end_stands Initiator asks fits.asks_fit.form.most; owes = tt }) (record { stands = fresh_end_stands Responder answers fits.answers_fit.form.most; owes = tt }) run

@@ -1,5 +1,6 @@
 -- What the messages say that an end of a port forms in its session, by their bytes.
 use Rattle.std.proofs.Common.{◌≡◌, ℕ, zero, suc, ◌^◌, ◌<◌, ◌≤◌, List, [], ◌∷◌, length, take, refl, sym, ap, ◌∙◌, arith}
+use Rattle.std.specs.Prelude.{◌%◌}
 use Rattle.std.specs.List.{AllByRecursion}
 use Rattle.ldc_packet.specs.declared.packet.Subtype.{Subtype}
 use Rattle.ldc_packet.specs.declared.packet.Subtype.TheVariants.{Info}
@@ -8,10 +9,12 @@ use Rattle.vio_tag.proofs.Canonical.{canonical_spells}
 use Rattle.vio_tag.specs.declared.message.Message.{Message}
 use Rattle.vio_tag.specs.declared.message.MsgBody.TheVariants.{DringData, Mcast}
 use Rattle.vio_tag.specs.Spelling.{SpellsMessage, canonical}
-use Rattle.channel_model.specs.Messages.{end_of, seq_of, start_of}
+use Rattle.channel_model.specs.Messages.{end_of, seq_of, start_of, subtype_of}
+use Rattle.port_model.specs.EndLog.{groups_fields}
 use Rattle.port_model.specs.Groups.{membership, seven}
-use Rattle.port_model.specs.Spoken.{addresses_of, count_of, groups_spoken, range_spoken, seven_of, spoken, state_of}
-use Rattle.port_laws.specs.Counted.{AreAddresses, AreGroups}
+use Rattle.port_model.specs.NetEndState.{GroupsReply}
+use Rattle.port_model.specs.Spoken.{addresses_of, count_of, groups_spoken, range_spoken, set_of, seven_of, spoken, state_of}
+use Rattle.port_laws.specs.Counted.{AreAddresses, AreGroups, reply_fields}
 use Rattle.port_laws.proofs.ShortMessages.{seven_long}
 
 -- RANGES
@@ -74,6 +77,39 @@ unfolding canonical
 groups_spoken_as Info n set count addresses = refl
 groups_spoken_as _ n set count addresses = refl
 
+-- an answer has its fields, of which two are bytes
+subtype_reads : (s : Subtype) (n set count : ℕ) (addresses : List (List ℕ)) → subtype_of (groups_bytes s n set count addresses) ≡ subtype_code s
+unfolding canonical
+subtype_reads s n set count addresses = omega arith
+
+set_reads : (s : Subtype) (n set count : ℕ) (addresses : List (List ℕ)) → set_of (groups_bytes s n set count addresses) % 256 ≡ set % 256
+unfolding canonical
+set_reads s n set count addresses = omega arith
+
+count_reads : (s : Subtype) (n set count : ℕ) (addresses : List (List ℕ)) → count_of (groups_bytes s n set count addresses) % 256 ≡ count % 256
+unfolding canonical
+count_reads s n set count addresses = omega arith
+
+bare_seven : (s : Subtype) (n set count : ℕ) (addresses : List (List ℕ)) → seven_of (groups_bytes s n set count addresses) ≡ seven_of (groups_bytes Info 0 1 0 addresses)
+unfolding canonical
+bare_seven s n set count addresses = refl
+
+pub reply_read : (n : ℕ) (reply : GroupsReply) → length reply.addresses ≡ 7 → AllByRecursion (λ (address : List ℕ). length address ≡ 6) reply.addresses
+    → groups_fields (groups_bytes reply.subtype n reply.set reply.count reply.addresses) ≡ reply_fields reply
+reply_read n reply few long =
+    let m : List ℕ = groups_bytes reply.subtype n reply.set reply.count reply.addresses in
+    let spells : SpellsMessage (groups_bytes Info 0 1 0 reply.addresses) (record { subtype = Info; sid = 0; body = Mcast 1 0 reply.addresses }) =
+    canonical_spells (record { subtype = Info; sid = 0; body = Mcast 1 0 reply.addresses }) tt (omega arith, (omega arith, omega arith, few, long)) in
+    let all : seven_of m ≡ reply.addresses = bare_seven reply.subtype n reply.set reply.count reply.addresses ∙ sym spells.body.2 in
+    ap (λ (x : ℕ). record { subtype = x; set = set_of m % 256; count = count_of m % 256; seven = seven_of m }) (subtype_reads reply.subtype n reply.set reply.count reply.addresses)
+    ∙ ap (λ (x : ℕ). record { subtype = subtype_code reply.subtype; set = x; count = count_of m % 256; seven = seven_of m }) (set_reads reply.subtype n reply.set reply.count reply.addresses)
+    ∙ ap (λ (x : ℕ). record { subtype = subtype_code reply.subtype; set = reply.set % 256; count = x; seven = seven_of m }) (count_reads reply.subtype n reply.set reply.count reply.addresses)
+    ∙ ap (λ (x : List (List ℕ)). record { subtype = subtype_code reply.subtype; set = reply.set % 256; count = reply.count % 256; seven = x }) all
+
+same_set : (n count : ℕ) (addresses : List (List ℕ)) → set_of (groups_bytes Info n 1 count addresses) ≡ set_of (groups_bytes Info 0 1 count addresses)
+unfolding canonical
+same_set n count addresses = refl
+
 same_count : (n count : ℕ) (addresses : List (List ℕ)) → count_of (groups_bytes Info n 1 count addresses) ≡ count_of (groups_bytes Info 0 1 count addresses)
 unfolding canonical
 same_count n count addresses = refl
@@ -92,12 +128,22 @@ seven_front n [] few = refl
 seven_front zero (address ∷ groups) few = absurd (omega (arith, few))
 seven_front (suc n) (address ∷ groups) few = ap (λ (xs : List (List ℕ)). address ∷ xs) (seven_front n groups (omega (arith, few)))
 
--- the whole list is read back
+-- the whole list is read back, with set 1
+spelled : (groups : List (List ℕ)) → AreGroups groups
+    → SpellsMessage (groups_bytes Info 0 1 (length groups) (seven 7 groups)) (record { subtype = Info; sid = 0; body = Mcast 1 (length groups) (seven 7 groups) })
+spelled groups are =
+    canonical_spells (record { subtype = Info; sid = 0; body = Mcast 1 (length groups) (seven 7 groups) }) tt
+    (omega arith, (omega arith, omega (arith, are.few), seven_long 7 groups, seven_six 7 groups are.addresses))
+
+pub membership_says : (n : ℕ) (groups : List (List ℕ)) → AreGroups groups → (set_of (canonical (membership n groups)) ≡ 1) × (count_of (canonical (membership n groups)) ≤ 7)
+membership_says n groups are =
+    let spells = spelled groups are in
+    let count : count_of (canonical (membership n groups)) ≡ length groups = same_count n (length groups) (seven 7 groups) ∙ sym spells.body.1 in
+    (same_set n (length groups) (seven 7 groups) ∙ sym spells.body.0, omega (arith, count, are.few))
+
 pub membership_reads : (n : ℕ) (groups : List (List ℕ)) → AreGroups groups → addresses_of (canonical (membership n groups)) ≡ groups
 membership_reads n groups are =
-    let spells : SpellsMessage (groups_bytes Info 0 1 (length groups) (seven 7 groups)) (record { subtype = Info; sid = 0; body = Mcast 1 (length groups) (seven 7 groups) }) =
-    canonical_spells (record { subtype = Info; sid = 0; body = Mcast 1 (length groups) (seven 7 groups) }) tt
-    (omega arith, (omega arith, omega (arith, are.few), seven_long 7 groups, seven_six 7 groups are.addresses)) in
+    let spells = spelled groups are in
     let count : count_of (canonical (membership n groups)) ≡ length groups = same_count n (length groups) (seven 7 groups) ∙ sym spells.body.1 in
     let all : seven_of (canonical (membership n groups)) ≡ seven 7 groups = same_seven n (length groups) (seven 7 groups) ∙ sym spells.body.2 in
     ap (λ (k : ℕ). take k (seven_of (canonical (membership n groups)))) count ∙ ap (take (length groups)) all ∙ seven_front 7 groups are.few

@@ -2,6 +2,7 @@
 use Rattle.std.proofs.Common.{◌≡◌, ℕ, Bool, true, false, Option, Some, None, List, refl, sym, subst, ap, ◌∙◌, inr}
 use Rattle.std.specs.Prelude.{Result, Ok, Err, ◌+◌, ◌%◌, ◌&&◌, is_some, nat_le, nat_lt, if◌then◌else◌}
 use Rattle.cookie_copy.specs.Reach.{Reach}
+use Rattle.runs.specs.Lawful.{log_of}
 use Rattle.runs.specs.Run.{Run}
 use Rattle.ldc_link.specs.declared.phase.Role.{Role}
 use Rattle.ldc_link.specs.declared.phase.Role.TheVariants.{Initiator, Responder}
@@ -24,7 +25,7 @@ use Rattle.vio_tag.specs.declared.message.MsgBody.TheVariants.{DringData, Mcast}
 use Rattle.vio_tag.specs.declared.message.TagFault.{TagFault}
 use Rattle.channel_model.specs.Ranges.{is_other}
 use Rattle.dring.specs.Slots.{range_length}
-use Rattle.channel_model.specs.TranscriptLog.{transcript_of}
+use Rattle.channel_model.specs.TranscriptLog.{TranscriptLog, transcript_of}
 use Rattle.channel_laws.proofs.CoreLaws.{stands_a, stands_b}
 use Rattle.channel_laws.proofs.EndCases.{stays_risen}
 use Rattle.channel_laws.proofs.EndStanding.{open_up, opened_phase}
@@ -42,11 +43,15 @@ use Rattle.port_model.specs.NetEvent.{NetEvent, Steps}
 use Rattle.port_model.specs.NetLaneState.{IsNetShape, NetLaneState, NetShape, fresh_net, memory_of, net_end, reach_of, role_at, seen_at}
 use Rattle.port_model.specs.NetLaneStep.{NetLaneStep}
 use Rattle.port_model.specs.Offers.{port_offer}
+use Rattle.port_model.specs.PortLog.{after, no_events}
+use Rattle.port_model.specs.PortState.{OnLane, PortEvent, PortState, PortStep, before, fresh_port}
 use Rattle.port_laws.specs.NetCore.{core_events, fresh_net_core, is_begun, lane_core, net_core_at}
+use Rattle.port_laws.specs.PortCore.{port_events}
 use Rattle.port_laws.specs.PortCauses.{ack_cause, info_cause, own_cause, port_cause, session_cause}
 use Rattle.port_laws.proofs.CoreLaws.{sizes_fit}
 use Rattle.port_laws.proofs.EndMoves.{risen_same}
 use Rattle.port_laws.proofs.LaneMoves.{fresh_run_core}
+use Rattle.port_laws.proofs.PortRuns.{before_core, fresh_port_core, spoken_behind}
 
 -- THE CAUSE of what an end makes of something
 abbrev cause_in : NetTake → Option Cause
@@ -222,3 +227,23 @@ pub resets_with : (shape : NetShape) (events : List NetEvent) (s : NetLaneState)
     → port_cause s e session (transcript_of e (transcript_behind (core_events events))) packet ≡ Some cause
 resets_with shape events s e session cause packet lost t is run opened step =
     fails_with shape (core_events events) s is (fresh_run_core shape events s run) e session cause packet opened step.step.0
+
+-- and along those of a port with its out queue
+pub port_takes_without : (shape : NetShape) (events : List PortEvent) (s : PortState) (e : End) (session : NetSession) (packet : List ℕ) (opens : Bool) (t : PortState) → IsNetShape shape
+    → Run PortStep (fresh_port shape) events s → (net_end e (before (Steps e (Took packet opens)) s).lane).session ≡ Some session → PortStep s (OnLane (Steps e (Took packet opens))) t
+    → port_cause (before (Steps e (Took packet opens)) s).lane e session (transcript_of e (log_of after (no_events shape) events).transcript) packet ≡ None
+port_takes_without shape events s e session packet opens t is run opened step =
+    let u : PortState = before (Steps e (Took packet opens)) s in
+    let moved_run = subst (Run CoreStep (fresh_net_core shape) (port_events events)) (sym (before_core (Steps e (Took packet opens)) s)) (fresh_port_core shape events s run) in
+    subst (λ (l : TranscriptLog). port_cause u.lane e session (transcript_of e l) packet ≡ None) (spoken_behind shape events)
+    (sym (take_cause shape (port_events events) u.lane is moved_run e session packet (GoesOn step.1.left.end opens step.1.left.own) opened step.1.step.1))
+
+pub port_resets_with : (shape : NetShape) (events : List PortEvent) (s : PortState) (e : End) (session : NetSession) (cause : Cause) (packet : List ℕ) (lost : ℕ) (t : PortState) → IsNetShape shape
+    → Run PortStep (fresh_port shape) events s → (net_end e (before (Steps e (Reset cause (Some packet) lost)) s).lane).session ≡ Some session
+    → PortStep s (OnLane (Steps e (Reset cause (Some packet) lost))) t
+    → port_cause (before (Steps e (Reset cause (Some packet) lost)) s).lane e session (transcript_of e (log_of after (no_events shape) events).transcript) packet ≡ Some cause
+port_resets_with shape events s e session cause packet lost t is run opened step =
+    let u : PortState = before (Steps e (Reset cause (Some packet) lost)) s in
+    let moved_run = subst (Run CoreStep (fresh_net_core shape) (port_events events)) (sym (before_core (Steps e (Reset cause (Some packet) lost)) s)) (fresh_port_core shape events s run) in
+    subst (λ (l : TranscriptLog). port_cause u.lane e session (transcript_of e l) packet ≡ Some cause) (spoken_behind shape events)
+    (fails_with shape (port_events events) u.lane is moved_run e session cause packet opened step.1.step.0)

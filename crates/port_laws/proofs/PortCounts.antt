@@ -29,7 +29,7 @@ use Rattle.port_model.specs.NetLaneStep.{NetLaneStep, moved_on}
 use Rattle.port_model.specs.Offers.{port_offer}
 use Rattle.port_model.specs.PortLog.{PortLog, after, after_answer, after_given, end_after, no_events}
 use Rattle.port_model.specs.PortState.{OfQueue, OnLane, PortEvent, PortState, PortStep, Receives, before, fresh_port, moves_first, takes_more}
-use Rattle.port_model.specs.Spoken.{GroupsAck, GroupsInfo, Other, RangeAck, RangeInfo, Spoken, spoken}
+use Rattle.port_model.specs.Spoken.{GroupsAck, GroupsInfo, GroupsNack, Other, RangeAck, RangeInfo, Spoken, spoken}
 use Rattle.port_laws.specs.Counted.{AreAddresses, Counts, EndCounts, GroupCounts, IsBehind, SaysRightly, UnsaidRight, unsaid}
 use Rattle.port_laws.specs.NetCore.{is_begun, lane_core, net_core_at}
 use Rattle.port_laws.specs.NetFits.{NetFits}
@@ -39,6 +39,7 @@ use Rattle.port_laws.proofs.Fitting.{BothFit}
 use Rattle.port_laws.proofs.GroupsAgree.{event_groups}
 use Rattle.channel_laws.proofs.HandshakeFitting.{EndFits, fits_run}
 use Rattle.port_laws.proofs.HeldCounts.{SlotsFit}
+use Rattle.port_laws.proofs.OwedSays.{EndOwes, owes_run}
 use Rattle.port_laws.proofs.PortRuns.{before_core, before_fits, fresh_port_core, port_fits_behind, spoken_behind}
 use Rattle.port_laws.proofs.StepCounts.{Acting, begins_counts, step_counts}
 
@@ -153,23 +154,24 @@ pub record Ready (shape : NetShape) (u : PortState) (l : PortLog) : Type 0 where
   pub wire : u.lane.wire ≡ l.wire
   pub fits : BothFit u.lane
   pub keeps : EndsAll EndFits (lane_core u.lane) l.transcript
+  pub owes : EndsAll EndOwes (lane_core u.lane) l.transcript
 
 acts_of : (role : Role) (slots : ℕ) (queue : List (List ℕ)) (s : NetEndState) (l : EndLog) (turns : List Turn) (begun : Bool) → EndCounts role slots queue s l → FramesStand s → NetFits role s
-    → EndFits role (net_core_at role begun s) turns → SlotsFit slots → begun ≡ true → Acting role slots queue s l turns
-acts_of role slots queue s l turns begun counts stands fits keeps fit is =
+    → EndFits role (net_core_at role begun s) turns → EndOwes role (net_core_at role begun s) turns → SlotsFit slots → begun ≡ true → Acting role slots queue s l turns
+acts_of role slots queue s l turns begun counts stands fits keeps owes fit is =
     let here : EndFits role (net_core_at role true s) turns = subst (λ (b : Bool). EndFits role (net_core_at role b s) turns) is keeps in
-    record { counts = counts; stands = stands; fits = fits; ends = here.stands; keeps = here.fits; slots_fit = fit }
+    record { counts = counts; stands = stands; fits = fits; ends = here.stands; keeps = here.fits; owes = owes.owes; slots_fit = fit }
 
 pub guest_acts : (shape : NetShape) (u : PortState) (l : PortLog) → Ready shape u l → is_up u.lane.wire.wire.end_a ≡ true
     → Acting Initiator shape.slots [] u.lane.guest l.guest l.transcript.client
 guest_acts shape u l ready up =
-    acts_of Initiator shape.slots [] u.lane.guest l.guest l.transcript.client (is_begun u.lane.wire.wire.end_a) ready.guest ready.stands.0 ready.fits.0 ready.keeps.a (slots_fit shape ready.sound)
+    acts_of Initiator shape.slots [] u.lane.guest l.guest l.transcript.client (is_begun u.lane.wire.wire.end_a) ready.guest ready.stands.0 ready.fits.0 ready.keeps.a ready.owes.a (slots_fit shape ready.sound)
     (up_begun u.lane.wire.wire.end_a up)
 
 pub hub_acts : (shape : NetShape) (u : PortState) (l : PortLog) → Ready shape u l → is_up u.lane.wire.wire.end_b ≡ true
     → Acting Responder shape.slots u.queue u.lane.hub l.hub l.transcript.server
 hub_acts shape u l ready up =
-    acts_of Responder shape.slots u.queue u.lane.hub l.hub l.transcript.server (is_begun u.lane.wire.wire.end_b) ready.hub ready.stands.1 ready.fits.1 ready.keeps.b (slots_fit shape ready.sound)
+    acts_of Responder shape.slots u.queue u.lane.hub l.hub l.transcript.server (is_begun u.lane.wire.wire.end_b) ready.hub ready.stands.1 ready.fits.1 ready.keeps.b ready.owes.b (slots_fit shape ready.sound)
     (up_begun u.lane.wire.wire.end_b up)
 
 pub ready_before : (shape : NetShape) (s : PortState) (l : PortLog) (event : NetEvent) → IsNetShape shape → PortCounts shape s l → Ready shape (before event s) l
@@ -178,6 +180,9 @@ ready_before shape s l event is counts =
     spoken_behind shape counts.events ∙ sym (ap (λ (x : PortLog). x.transcript) counts.log) in
     let all : EndsAll EndFits (port_core s) (transcript_behind (port_events counts.events)) =
     fits_run shape.entries (port_offer Initiator shape.address shape.slots) (port_offer Responder shape.address shape.slots) (port_events counts.events) (port_core s)
+    (sizes_fit shape is) (fresh_port_core shape counts.events s counts.run) in
+    let owes : EndsAll EndOwes (port_core s) (transcript_behind (port_events counts.events)) =
+    owes_run shape.entries (port_offer Initiator shape.address shape.slots) (port_offer Responder shape.address shape.slots) (port_events counts.events) (port_core s)
     (sizes_fit shape is) (fresh_port_core shape counts.events s counts.run) in
     let hub : HubReady shape.slots (before event s) l.hub = hub_ready shape.slots event s l.hub counts.hub counts.stands.1 in
     record {
@@ -190,6 +195,7 @@ ready_before shape s l event is counts =
       wire = before_wire event s ∙ counts.wire;
       fits = before_fits event s (port_fits_behind shape counts.events s counts.run);
       keeps = subst (λ (x : LaneCore). EndsAll EndFits x l.transcript) (sym (before_core event s)) (subst (EndsAll EndFits (port_core s)) transcript all);
+      owes = subst (λ (x : LaneCore). EndsAll EndOwes x l.transcript) (sym (before_core event s)) (subst (EndsAll EndOwes (port_core s)) transcript owes);
     }
 
 -- WHAT IS ASKED
@@ -217,8 +223,9 @@ right_more : (slots : ℕ) (groups : List (List ℕ)) (address : List ℕ) (v : 
     → SaysRightly slots (groups ++ address ∷ []) v message k
 right_more slots groups address v message RangeInfo right = right
 right_more slots groups address v message RangeAck right = right
-right_more slots groups address v message GroupsInfo right = behind_more v.membership groups address right
-right_more slots groups address v message GroupsAck right = tt
+right_more slots groups address v message GroupsInfo right = (behind_more v.membership groups address right.0, right.1)
+right_more slots groups address v message GroupsAck right = right
+right_more slots groups address v message GroupsNack right = right
 right_more slots groups address v message Other right = tt
 
 unsaid_more : (slots : ℕ) (groups : List (List ℕ)) (address : List ℕ) (begun : Bool) (v : SessionLog) (left : Option (List ℕ)) → UnsaidRight slots groups begun v left
@@ -347,8 +354,8 @@ fresh_counts shape = record {
   log = refl;
   shape_is = refl;
   stands = (record { room = omega arith; ids = omega arith; session = tt }, record { room = omega arith; ids = omega arith; session = tt });
-  guest = record { slots_is = refl; frames = refl; gone = omega arith; ids = refl; groups = record { few = omega arith; addresses = tt }; session = refl };
-  hub = record { slots_is = refl; frames = refl; gone = omega arith; ids = refl; groups = tt; session = refl };
+  guest = record { slots_is = refl; frames = refl; gone = omega arith; ids = refl; groups = record { few = omega arith; addresses = tt }; session = (refl, tt) };
+  hub = record { slots_is = refl; frames = refl; gone = omega arith; ids = refl; groups = tt; session = (refl, refl) };
   members = refl;
   wire = refl;
 }

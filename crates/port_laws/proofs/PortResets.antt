@@ -32,10 +32,11 @@ use Rattle.channel_laws.specs.PacketCauses.{JudgesRightly, OwnSays, SomeSays}
 use Rattle.channel_laws.specs.Resetting.{ResetsFor}
 use Rattle.port_model.proofs.OwnResets.{net_resets_own}
 use Rattle.port_model.specs.FrameLaws.{SlotCause}
-use Rattle.port_model.specs.Fetching.{fetched}
+use Rattle.port_model.specs.EndLog.{SessionLog, opened_log}
+use Rattle.port_model.specs.Fetching.{Fetched, IsFrame as IsFetched, NotReady, Refuses, fetched}
 use Rattle.port_model.specs.NetEndRule.{Fetches, NetRule, Takes, port_rule}
-use Rattle.port_model.specs.NetEndState.{NetEndState, NetSession}
-use Rattle.port_model.specs.NetEndStep.{Frame, NetFails, Published, Reset}
+use Rattle.port_model.specs.NetEndState.{Activity, NetEndState, NetSession}
+use Rattle.port_model.specs.NetEndStep.{FetchFails, Frame, NetFails, Published, Reset}
 use Rattle.port_model.specs.NetEndTaking.{ends_outside, first_undone, slot_state}
 use Rattle.port_model.specs.NetEvent.{CalmTick, Gives, Joins, NetEvent, Steps, on_wire}
 use Rattle.port_model.specs.NetLaneState.{IsNetShape, NetLaneState, NetShape, memory_of, net_end, reach_of, role_at, seen_at}
@@ -52,7 +53,7 @@ use Rattle.port_laws.proofs.Fitting.{BothFit}
 use Rattle.port_laws.proofs.LaneMoves.{event_core_step}
 use Rattle.port_laws.proofs.PortCauses.{fails_with}
 use Rattle.port_laws.proofs.PortRuns.{before_core, before_fits, fresh_port_core, lawful_along, port_fits_behind, spoken_behind}
-use Rattle.port_laws.proofs.RuleRest.{fails_fit, fetched_fits}
+use Rattle.port_laws.proofs.SlotsFound.{Fits, fetched_fits}
 
 -- THE CAUSES of a session, by its messages
 some_if : (m : List ℕ) (b : Bool) (one : Cause) (rest : Option Cause) → (b ≡ true → OwnSays m one) → SomeSays m rest → SomeSays m (if b then Some one else rest)
@@ -124,20 +125,26 @@ own_rightly role s p memory =
 abbrev SaysSo : List Turn → Cause → Option (List ℕ) → Type 0
 SaysSo turns cause packet = ResetSays turns packet cause × GapOf turns cause packet
 
-slot_says : (turns : List Turn) (cause : Cause) → SlotCause cause → SaysSo turns cause None
-slot_says turns (the_cause.NotReady slot state) is = (tt, tt)
-slot_says turns (the_cause.Frame size number) is = (tt, tt)
-slot_says turns (the_cause.Copy fault) is = (tt, tt)
-slot_says turns _ is = absurd is
+slot_says : (turns : List Turn) (cause : Cause) (slots : ℕ) (v : SessionLog) → SlotCause slots cause v → SaysSo turns cause None
+slot_says turns (the_cause.NotReady slot state) slots v is = (tt, tt)
+slot_says turns (the_cause.Frame size number) slots v is = (tt, tt)
+slot_says turns (the_cause.Copy fault) slots v is = (tt, tt)
+slot_says turns _ slots v is = absurd is
 
-fails_slot : (role : Role) (rule : NetRule) (s : NetEndState) (memory : List ℕ) (reach : Reach) (cause : Cause) → NetFails role rule s memory reach cause None → SlotCause cause
-fails_slot role (Fetches p activity) s memory reach cause fails =
-    fails_fit (fetched s reach p.place) activity p.place cause (fetched_fits s reach p.place) fails.1
-fails_slot role (Takes bytes) s memory reach cause fails = absurd (cc fails.0)
-fails_slot role _ s memory reach cause fails = absurd fails
+found_says : (turns : List Turn) (found : Fetched) (activity : Activity) (slot : ℕ) (cause : Cause) → Fits found → FetchFails found activity slot cause → SaysSo turns cause None
+found_says turns (IsFetched frame new) activity slot cause fits fails = absurd fails
+found_says turns (NotReady state) activity slot cause fits fails = subst (λ (c : Cause). SaysSo turns c None) (sym fails.1) (tt, tt)
+found_says turns (Refuses why) activity slot cause fits fails =
+    subst (λ (c : Cause). SaysSo turns c None) (sym fails) (slot_says turns why 0 (opened_log 0) (fits 0 (opened_log 0)))
+
+fails_says : (turns : List Turn) (role : Role) (rule : NetRule) (s : NetEndState) (memory : List ℕ) (reach : Reach) (cause : Cause) → NetFails role rule s memory reach cause None → SaysSo turns cause None
+fails_says turns role (Fetches p activity) s memory reach cause fails =
+    found_says turns (fetched s reach p.place) activity p.place cause (fetched_fits s reach p.place) fails.1
+fails_says turns role (Takes bytes) s memory reach cause fails = absurd (cc fails.0)
+fails_says turns role _ s memory reach cause fails = absurd fails
 
 -- A RESET with one is for what the packet says
-opened_is : (e : End) (u : NetLaneState) → (end_of e (lane_core u)).is_open ≡ is_some (net_end e u).session
+pub opened_is : (e : End) (u : NetLaneState) → (end_of e (lane_core u)).is_open ≡ is_some (net_end e u).session
 opened_is A u = refl
 opened_is B u = refl
 
@@ -164,7 +171,7 @@ module _ (shape : NetShape) (is : IsNetShape shape) (moves : List CoreEvent) (u 
 
   step_says : (cause : Cause) (packet : Option (List ℕ)) (lost : ℕ) → NetLaneStep u (Steps e (Reset cause packet lost)) t → SaysSo turns cause packet
   step_says cause None lost step =
-      slot_says turns cause (fails_slot (role_at e) (port_rule (role_at e) (net_end e u) (seen_at e u)) (net_end e u) (memory_of e u) (reach_of e u) cause step.step.0)
+      fails_says turns (role_at e) (port_rule (role_at e) (net_end e u) (seen_at e u)) (net_end e u) (memory_of e u) (reach_of e u) cause step.step.0
   step_says cause (Some packet) lost step = carried_says cause packet lost (net_end e u).session refl step
 
 -- EACH EVENT

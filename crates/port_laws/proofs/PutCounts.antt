@@ -27,22 +27,22 @@ use Rattle.port_model.specs.EndLog.{EndLog, SessionLog, change, opened_log, open
 use Rattle.port_model.specs.NetEndPutting.{net_kind, net_opens, net_put, opened_by_put}
 use Rattle.port_model.specs.NetEndState.{NetEndState, NetSession, first_id, opened_net_end, opened_session}
 use Rattle.port_model.specs.Spoken.{Other, Spoken, spoken}
-use Rattle.port_laws.specs.Counted.{Counts, EndCounts, GuestCounts, HoldsRightly, SaysRightly, SessionCounts, UnsaidRight, left_of, unsaid}
+use Rattle.port_laws.specs.Counted.{Counts, EndCounts, GuestCounts, HoldsRightly, NoneTold, SaysRightly, SessionCounts, UnsaidRight, left_of, unsaid}
 use Rattle.port_laws.specs.NetCore.{net_core}
 use Rattle.port_laws.proofs.EndCounting.{OpenCounts, ShutCounts, empty_unsaid, open_counts, shut_counts}
 use Rattle.channel_laws.proofs.PacketsLeft.{opening_shut}
 use Rattle.channel_laws.specs.HandshakeFits.{OwedFits}
-use Rattle.port_laws.proofs.OwedSays.{owed_other}
+use Rattle.port_laws.proofs.OwedSays.{OwesNoGroups, owed_other}
 
 -- A SESSION OPENS with nothing published, taken or told
-guest_opened : (role : Role) (base : ℕ) (groups : List (List ℕ)) (sid : ℕ) → GuestCounts role (opened_session base) groups (opened_log sid)
-guest_opened Responder base groups sid = tt
-guest_opened Initiator base groups sid = record { named = λ is. true_false is; behind = λ is. tt; waits = λ is. false_true is; answered = λ is fresh. true_false fresh }
+guest_opened : (role : Role) (base : ℕ) (groups : List (List ℕ)) (sid : ℕ) → NoneTold role groups → GuestCounts role (opened_session base) groups (opened_log sid)
+guest_opened Responder base groups sid none = none
+guest_opened Initiator base groups sid none = record { named = λ is. true_false is; behind = λ is. tt; waits = λ is. false_true is; answered = λ is fresh. true_false fresh }
 
 pub opened_counts : (role : Role) (slots : ℕ) (queue : List (List ℕ)) (s : NetEndState) (l : EndLog) (sid : ℕ) → EndCounts role slots queue s l → s.session ≡ None → s.link.to_send ≡ []
     → EndCounts role slots queue (opened_net_end s) (opens_log true sid l)
 opened_counts role slots queue s l sid counts shut empty =
-    let gone : ShutCounts l.published l.gone l.session = shut_counts role slots queue s l counts shut in
+    let gone : ShutCounts role s.groups l.published l.gone l.session = shut_counts role slots queue s l counts shut in
     let long : length (s.frames ++ queue) ≡ length (drop l.gone l.given) = ap length counts.frames in
     let base : l.gone ≡ first_id s + 0 = omega (arith, counts.ids, counts.gone, long, length-append s.frames queue, length-drop l.gone l.given) in
     let there : SessionCounts role slots s.groups l.published l.gone None s.link.begun (opened_session (first_id s)) (opened_log sid) =
@@ -50,8 +50,8 @@ opened_counts role slots queue s l sid counts shut empty =
       right = tt;
       ring = record { all = gone.gone_all ∙ base; left = base; here = refl; seen = refl; infos = refl; asking = refl };
       peer = record { seq = refl; place = sym (zero-mod slots); active = (refl, refl) };
-      guest = guest_opened role (first_id s) s.groups sid;
-      reply = tt;
+      guest = guest_opened role (first_id s) s.groups sid gone.none;
+      reply = refl;
     } in
     record {
       slots_is = counts.slots_is;
@@ -210,28 +210,29 @@ other_right slots groups l said other message v is log =
     let same : said ≡ message = cc in
     subst (λ (x : List ℕ). SaysRightly slots groups v x (spoken x)) same (subst (SaysRightly slots groups v said) (sym other) tt)
 
-handshake_said : (role : Role) (held : NetEndState) (turns : List Turn) → EndStands role (net_core role held) turns → OwedFits held.handshake.phase held.handshake.owed → is_none held.handshake.owed ≡ false
-    → is_up held.link ≡ true → 1 ≤ length held.link.to_send → spoken (half_said turns ++ held.link.to_send) ≡ Other
-handshake_said role held turns stands owes own up some =
+handshake_said : (role : Role) (held : NetEndState) (turns : List Turn) → EndStands role (net_core role held) turns → OwedFits held.handshake.phase held.handshake.owed → OwesNoGroups held.handshake.owed
+    → is_none held.handshake.owed ≡ false → is_up held.link ≡ true → 1 ≤ length held.link.to_send → spoken (half_said turns ++ held.link.to_send) ≡ Other
+handshake_said role held turns stands owes none own up some =
     let carried : CarriesOwed held.handshake.owed (half_said turns ++ held.link.to_send) =
     subst (λ (b : Bool). Carries b held.handshake (half_said turns ++ held.link.to_send)) own (stands.carries (holds_some held.link up some)) in
-    ap spoken carried.is ∙ owed_other held.handshake.phase carried.message (subst (OwedFits held.handshake.phase) carried.owed owes)
+    ap spoken carried.is ∙ owed_other held.handshake.phase carried.message (subst (OwedFits held.handshake.phase) carried.owed owes) (subst OwesNoGroups carried.owed none)
 
 pub not_some : (session : Option NetSession) → is_some session ≡ false → session ≡ None
 not_some None is = refl
 not_some (Some p) is = true_false is
 
 put_handshake : (role : Role) (slots : ℕ) (queue : List (List ℕ)) (held : NetEndState) (l : EndLog) (turns : List Turn) (packet : List ℕ) (sid : ℕ) → EndCounts role slots queue held l
-    → EndStands role (net_core role held) turns → OwedFits held.handshake.phase held.handshake.owed → is_none held.handshake.owed ≡ false → is_up held.link ≡ true → SaysLast held.link turns packet
+    → EndStands role (net_core role held) turns → OwedFits held.handshake.phase held.handshake.owed → OwesNoGroups held.handshake.owed → is_none held.handshake.owed ≡ false → is_up held.link ≡ true
+    → SaysLast held.link turns packet
     → (net_core role (net_put role held)).link ≡ behind_part held.link → net_opens held ≡ opens_by_put held.handshake.role held.handshake.phase
     → PutCounts role slots queue held (net_put role held) l turns packet (net_opens held) sid
-put_handshake role slots queue held l turns packet sid counts stands owes own up last link opens = by_opens (net_opens held) refl
+put_handshake role slots queue held l turns packet sid counts stands owes no_groups own up last link opens = by_opens (net_opens held) refl
   where
     said : List ℕ
     said = half_said turns ++ held.link.to_send
 
     other : spoken said ≡ Other
-    other = handshake_said role held turns stands owes own up last.some
+    other = handshake_said role held turns stands owes no_groups own up last.some
 
     left : unsaid held ≡ None
     left = owing_left (is_none held.handshake.owed) held.link.to_send own
@@ -253,7 +254,7 @@ put_handshake role slots queue held l turns packet sid counts stands owes own up
         ap (λ (r : Role). opened_by_put r (net_opens held) (put_end held)) role_is ∙ ap (λ (b : Bool). opened_by_put Initiator b (put_end held)) is in
         let none : (put_end held).link.to_send ≡ [] = sym (ap (λ (x : NetEndState). x.link.to_send) put_is) ∙ empty in
         let ended : ended_by (half_said turns) packet ≡ Some said = last_ended held.link turns packet last in
-        let gone : ShutCounts l.published l.gone l.session = shut_counts role slots queue held l counts shut in
+        let gone : ShutCounts role held.groups l.published l.gone l.session = shut_counts role slots queue held l counts shut in
         let there : EndCounts role slots queue (put_end held) (says_log (Some said) l) =
         record {
           slots_is = counts.slots_is;
@@ -331,23 +332,23 @@ put_below : (role : Role) (slots : ℕ) (queue : List (List ℕ)) (held : NetEnd
 put_below role slots queue held l turns packet sid counts stands shut down same =
     let below = stands.below down in
     let closed : held.session ≡ None = not_some held.session (stands.opened ∙ ap is_open_in below.down) in
-    let gone : ShutCounts l.published l.gone l.session = shut_counts role slots queue held l counts closed in
+    let gone : ShutCounts role held.groups l.published l.gone l.session = shut_counts role slots queue held l counts closed in
     quiet_put role slots queue held l turns packet sid (ended_by (half_said turns) packet) counts shut refl
     (λ p v session log. none_some p (sym closed ∙ session))
     (put_empty role held shut (same ∙ below.left))
     (λ message v is log. none_some v (sym gone.is ∙ log))
 
 pub put_counts : (role : Role) (slots : ℕ) (queue : List (List ℕ)) (held : NetEndState) (l : EndLog) (turns : List Turn) (packet : List ℕ) (sid : ℕ) → EndCounts role slots queue held l
-    → EndStands role (net_core role held) turns → OwedFits held.handshake.phase held.handshake.owed
+    → EndStands role (net_core role held) turns → OwedFits held.handshake.phase held.handshake.owed → OwesNoGroups held.handshake.owed
     → PutWhat role (net_core role held) turns packet (net_opens held) (net_core role (net_put role held))
     → PutCounts role slots queue held (net_put role held) l turns packet (net_opens held) sid
-put_counts role slots queue held l turns packet sid counts stands owes (PutControl next gone link says same shut is_open) =
+put_counts role slots queue held l turns packet sid counts stands owes none (PutControl next gone link says same shut is_open) =
     put_below role slots queue held l turns packet sid counts stands shut (put_down held.link.phase packet next gone).0 (ap (λ (x : LinkState). x.to_send) link)
-put_counts role slots queue held l turns packet sid counts stands owes (PutReady r at is link says same shut is_open) =
+put_counts role slots queue held l turns packet sid counts stands owes none (PutReady r at is link says same shut is_open) =
     put_below role slots queue held l turns packet sid counts stands shut (ap is_established at) (ap (λ (x : LinkState). x.to_send) link)
-put_counts role slots queue held l turns packet sid counts stands owes (PutMore at link says same shut is_open) =
+put_counts role slots queue held l turns packet sid counts stands owes none (PutMore at link says same shut is_open) =
     put_more role slots queue held l turns packet sid counts stands (ap is_established at) shut says same
-put_counts role slots queue held l turns packet sid counts stands owes (PutOwn own at link says same shut is_open) =
+put_counts role slots queue held l turns packet sid counts stands owes none (PutOwn own at link says same shut is_open) =
     put_own role slots queue held l turns packet sid counts stands own shut says link
-put_counts role slots queue held l turns packet sid counts stands owes (PutHandshake own at link says same opens_is is_open) =
-    put_handshake role slots queue held l turns packet sid counts stands owes own (ap is_established at) says link opens_is
+put_counts role slots queue held l turns packet sid counts stands owes none (PutHandshake own at link says same opens_is is_open) =
+    put_handshake role slots queue held l turns packet sid counts stands owes none own (ap is_established at) says link opens_is

@@ -186,7 +186,8 @@ step_busy role slots queue s l turns at memory reach (Frame frame) left acts ste
     let says = says_of role s at (Fetches step.session step.activity) step.rule in
     let acting = acts says.0.free.up in
     frame_busy frame l.session
-    (active_here role slots queue s l step.session step.activity acting.counts says.0.session says.1 (free_empty role s turns acting.ends says.0.free.quiet))
+    (active_here role slots queue s l step.session step.activity acting.counts says.0.session says.1 (free_empty role s turns acting.ends says.0.free.quiet) IsActive
+    (λ v peer busy. busy.0))
 step_busy role slots queue s l turns at memory reach _ left acts step = record { busy = tt; active = tt }
 
 -- AN END THAT ISN'T IN SESSION has a peer that took nothing

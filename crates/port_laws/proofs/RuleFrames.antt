@@ -32,7 +32,7 @@ use Rattle.port_model.specs.PortLog.{PortLog, after, log_of_end, no_events}
 use Rattle.port_model.specs.PortState.{OfQueue, OnLane, PortEvent, PortState, PortStep, Receives, before, fresh_port}
 use Rattle.port_model.specs.RuleFacts.{IfOpen}
 use Rattle.port_model.specs.Spoken.{RangeAck, Spoken, spoken, spoken_by}
-use Rattle.port_laws.specs.Counted.{ActiveCounts, EndCounts, SaysRightly, unsaid}
+use Rattle.port_laws.specs.Counted.{ActiveCounts, EndCounts, PeerCounts, SaysRightly, unsaid}
 use Rattle.port_laws.proofs.EndCounting.{OpenCounts, empty_unsaid, left_published, left_seen, open_counts, shut_counts}
 use Rattle.port_laws.proofs.PortCounts.{PortCounts, Ready, guest_acts, hub_acts, port_counts, queue_of, ready_before}
 use Rattle.port_laws.proofs.PortRuns.{lawful_along}
@@ -40,6 +40,7 @@ use Rattle.port_laws.proofs.PutCounts.{SaidRight}
 use Rattle.port_laws.proofs.StepCounts.{Acting, sent_right, took_here}
 use Rattle.port_laws.proofs.TookCounts.{TookCounts, free_empty}
 use Rattle.port_laws.proofs.LaneMoves.{holds_up}
+use Rattle.port_laws.proofs.SlotsFound.{Fits, fetched_fits}
 
 -- EITHER END
 pub end_counted : (shape : NetShape) (e : End) (u : PortState) (l : PortLog) → Ready shape u l → EndCounts (role_at e) shape.slots (queue_of e u) (net_end e u.lane) (log_of_end e l)
@@ -124,7 +125,7 @@ range_test k message is =
     let both = and_parts (number_at 2 2 message == 0x0042) (subtype_of message == k) is in
     ap (λ (n : ℕ). spoken_by n (subtype_of message)) (eqb-true (number_at 2 2 message) 0x0042 both.0) ∙ ap (λ (n : ℕ). spoken_by 0x0042 n) (eqb-true (subtype_of message) k both.1)
 
-if_range : (k : ℕ) (ended : Option (List ℕ)) (P : List ℕ → Type 0) → ((message : List ℕ) → ended ≡ Some message → spoken message ≡ spoken_by 0x0042 k → P message) → IfMessage (range_in k ended) P
+pub if_range : (k : ℕ) (ended : Option (List ℕ)) (P : List ℕ → Type 0) → ((message : List ℕ) → ended ≡ Some message → spoken message ≡ spoken_by 0x0042 k → P message) → IfMessage (range_in k ended) P
 if_range k None P holds = tt
 if_range k (Some message) P holds = by_test (is_range k message) refl
   where
@@ -136,7 +137,7 @@ pub if_session : (log : Option SessionLog) (P : SessionLog → Type 0) → ((v :
 if_session None P holds = tt
 if_session (Some v) P holds = holds v refl
 
-sent_said : (shape : NetShape) (e : End) (u : PortState) (l : PortLog) (packet : List ℕ) (opens : Bool) (t : NetLaneState) → Ready shape u l → (step : NetLaneStep u.lane (Steps e (Sent packet opens)) t)
+pub sent_said : (shape : NetShape) (e : End) (u : PortState) (l : PortLog) (packet : List ℕ) (opens : Bool) (t : NetLaneState) → Ready shape u l → (step : NetLaneStep u.lane (Steps e (Sent packet opens)) t)
     → SaidRight shape.slots step.step.held.groups (log_of_end e l) (ended_by (half_said (transcript_of e l.transcript)) packet)
 sent_said shape e u l packet opens t ready step =
     let up : is_up (seen_at e u.lane).state ≡ true =
@@ -199,19 +200,21 @@ sees_event shape u l _ t ready step = tt
 
 -- 5. A FRAME is taken while an INFO isn't answered
 pub active_here : (role : Role) (slots : ℕ) (queue : List (List ℕ)) (s : NetEndState) (l : EndLog) (p : NetSession) (activity : Activity) → EndCounts role slots queue s l → s.session ≡ Some p
-    → p.active ≡ Some activity → s.link.to_send ≡ [] → InSession l.session IsActive
-active_here role slots queue s l p activity counts is active empty =
+    → p.active ≡ Some activity → s.link.to_send ≡ [] → (P : SessionLog → Type 0) → ((v : SessionLog) → PeerCounts slots p v → ActiveCounts slots v (Some activity) → P v) → InSession l.session P
+active_here role slots queue s l p activity counts is active empty P holds =
     let here : OpenCounts role slots s.groups l.published l.gone None s.link.begun p l.session =
     subst (λ (x : Option (List ℕ)). OpenCounts role slots s.groups l.published l.gone x s.link.begun p l.session) (empty_unsaid s empty) (open_counts role slots queue s l p counts is) in
     let busy : ActiveCounts slots here.of_log (Some activity) = subst (ActiveCounts slots here.of_log) active here.counts.peer.active in
-    subst (λ (x : Option SessionLog). InSession x IsActive) (sym here.is) busy.0
+    subst (λ (x : Option SessionLog). InSession x P) (sym here.is) (holds here.of_log here.counts.peer busy)
 
 taking_event : (shape : NetShape) (u : PortState) (l : PortLog) (event : NetEvent) (t : NetLaneState) → Ready shape u l → NetLaneStep u.lane event t → TakingAt l (OnLane event)
 taking_event shape u l (Steps e (Frame frame)) t ready step =
     let says = says_of (role_at e) (net_end e u.lane) (seen_at e u.lane) (Fetches step.step.session step.step.activity) step.step.rule in
-    let acting = end_acts shape e u l ready says.0.free.up in
-    active_here (role_at e) shape.slots (queue_of e u) (net_end e u.lane) (log_of_end e l) step.step.session step.step.activity acting.counts says.0.session says.1
-    (free_empty (role_at e) (net_end e u.lane) (transcript_of e l.transcript) acting.ends says.0.free.quiet)
+    let acting = end_acts shape e u l ready says.0.free.up in (
+      subst Fits step.step.found (fetched_fits (net_end e u.lane) (reach_of e u.lane) step.step.session.place),
+      active_here (role_at e) shape.slots (queue_of e u) (net_end e u.lane) (log_of_end e l) step.step.session step.step.activity acting.counts says.0.session says.1
+          (free_empty (role_at e) (net_end e u.lane) (transcript_of e l.transcript) acting.ends says.0.free.quiet) IsActive (λ v peer busy. busy.0),
+    )
 taking_event shape u l _ t ready step = tt
 
 -- 1. A FRAME THAT IS SENT

@@ -33,7 +33,7 @@ use Rattle.port_model.specs.PortState.{OnLane, PortEvent, PortState, PortStep, b
 use Rattle.port_model.specs.RestLaws.{AllPublished, IdleAt, IsIdle, IsTold}
 use Rattle.port_model.specs.RuleFacts.{IfOpen, IsFree, MayListen}
 use Rattle.channel_laws.proofs.EndsAtRest.{none_waits}
-use Rattle.port_laws.specs.Counted.{ActiveCounts, EndCounts, GroupCounts}
+use Rattle.port_laws.specs.Counted.{ActiveCounts, AnswersRightly, EndCounts, GroupCounts}
 use Rattle.port_laws.proofs.EndCounting.{OpenCounts, empty_unsaid, open_counts}
 use Rattle.port_laws.proofs.PortCounts.{PortCounts, Ready}
 use Rattle.port_laws.proofs.RuleFrames.{along, both_open, end_acts, if_session}
@@ -118,6 +118,7 @@ pub record IdleCounts (role : Role) (slots : ℕ) (queue : List (List ℕ)) (s :
   pub announced : v.seen < v.published → v.asking ≡ true
   pub all : l.published + length queue ≡ length l.given
   pub unseen : v.published - v.seen ≡ length s.frames
+  pub replied : v.owed ≡ None
 
 pub idle_counts : (role : Role) (slots : ℕ) (queue : List (List ℕ)) (s : NetEndState) (l : EndLog) (v : SessionLog) (p : NetSession) → EndCounts role slots queue s l → FramesStand s → s.session ≡ Some p → l.session ≡ Some v
     → s.link.to_send ≡ [] → MayListen p → NothingLeft role s p → IdleCounts role slots queue s l v
@@ -136,6 +137,7 @@ idle_counts role slots queue s l v p counts stands session log empty listens lef
           here.counts.ring.asking ∙ asks_if (nat_lt p.seen p.published) p.asking (lt-ltb p.seen p.published below) left.announced;
       all = omega (arith, here.counts.ring.all, stood.ids, stood.seen, stood.held, past, counts.ids);
       unseen = omega (arith, here.counts.ring.seen, here.counts.ring.here, stood.held, past);
+      replied = subst (λ (o : Option GroupsReply). AnswersRightly o here.of_log.owed) listens.0 here.counts.reply;
     } in
     subst (IdleCounts role slots queue s l) same there
 
@@ -161,6 +163,7 @@ guest_idle shape u l ready idles =
       announced = counts.announced;
       told = subst (λ (x : SessionLog). IsTold l x x.membership) same
           (idle_told both.p.untold both.p u.lane.guest.groups l.members l here.of_log refl (left.told refl) here.counts.guest ready.members refl);
+      replied = counts.replied;
     })
 
 -- THE HUB'S END: where a frame moved to it, or could have, one is left to publish
@@ -200,7 +203,7 @@ hub_idle shape s l kept ready idles =
       | inl none ↦ inl (omega (arith, none, counts.all))
       | inr full ↦ inr (omega (arith, full, counts.unseen, slots_same, ready.hub.slots_is, shape_slots))
     ] in
-    record { answered = counts.answered; published = all; announced = counts.announced; told = tt })
+    record { answered = counts.answered; published = all; announced = counts.announced; told = tt; replied = counts.replied })
 
 -- NOTHING WAITS
 idle_waits : (shape : NetShape) (e : End) (u : PortState) (l : PortLog) → Ready shape u l → port_rule (role_at e) (net_end e u.lane) (seen_at e u.lane) ≡ Idles → waiting_for e l.wire.wire ≡ []

@@ -27,7 +27,8 @@ use Rattle.port_model.specs.RestLaws.{TwoIdleAt}
 use Rattle.port_model.specs.RuleFacts.{IfOpen, MayListen}
 use Rattle.port_laws.specs.Counted.{GroupCounts, unsaid}
 use Rattle.port_laws.specs.NetCore.{lane_core, one_if}
-use Rattle.port_laws.specs.NoneUntold.{NoneUntoldAt}
+use Rattle.port_laws.specs.GroupsTold.{told_in}
+use Rattle.port_laws.specs.NoneUntold.{KnowsAll, NoneUntoldAt}
 use Rattle.port_laws.proofs.EndCounting.{OpenCounts, empty_unsaid}
 use Rattle.port_laws.proofs.Outbox.{count_groups, listed, outbox}
 use Rattle.port_laws.proofs.PortCounts.{before_guest, before_wire, ready_before}
@@ -39,7 +40,8 @@ use Rattle.port_laws.proofs.RuleIdle.{rule_left}
 use Rattle.port_laws.proofs.RuleNoneLeft.{heard_all, moved_guest, before_entries, no_first, some_log}
 use Rattle.port_laws.proofs.RuleRest.{up_state}
 use Rattle.port_laws.proofs.RuleTwoIdle.{IdlesKept, idles_kept, two_idle_event}
-use Rattle.port_laws.proofs.Talking.{owed_replies, reply_in}
+use Rattle.port_laws.proofs.RuleGroups.{hub_told}
+use Rattle.port_laws.proofs.Talking.{AllTold, owed_replies, reply_in}
 use Rattle.port_laws.proofs.TalkGuest.{TalkStands}
 use Rattle.port_laws.proofs.TalkRuns.{KeptTalk, before_talk, port_talk}
 use Rattle.port_laws.proofs.TookCounts.{free_empty}
@@ -59,7 +61,8 @@ told_by true false idle none = true_false idle
 told_by true true idle none = true_false none
 
 both_told : (shape : NetShape) (u : PortState) (l : PortLog) → Finds shape u l → TalkStands u.lane l → port_rule Initiator u.lane.guest (seen_at A u.lane) ≡ Idles
-    → port_rule Responder u.lane.hub (seen_at B u.lane) ≡ Idles → l.wire.lossy ≡ false → (l.guest.session ≢ None) × (l.hub.session ≢ None) → InSession l.guest.session (ToldAll l)
+    → port_rule Responder u.lane.hub (seen_at B u.lane) ≡ Idles → l.wire.lossy ≡ false → (l.guest.session ≢ None) × (l.hub.session ≢ None)
+    → InSession l.guest.session (ToldAll l) × InSession l.hub.session (KnowsAll l)
 both_told shape u l finds talk guest_idles hub_idles lossless opened =
     let guest_says = says_of Initiator u.lane.guest (seen_at A u.lane) Idles guest_idles in
     let hub_says = says_of Responder u.lane.hub (seen_at B u.lane) Idles hub_idles in
@@ -76,7 +79,8 @@ both_told shape u l finds talk guest_idles hub_idles lossless opened =
     let empty = free_empty Initiator u.lane.guest l.transcript.client (end_acts shape A u l finds.ready guest_says.0.up).ends guest_says.0.quiet in
     let hub_empty = free_empty Responder u.lane.hub l.transcript.server (end_acts shape B u l finds.ready hub_says.0.up).ends hub_says.0.quiet in
     let talking = talk both.p up other both.is in
-    let asks = ap count_groups (none_out u.lane.guest l.transcript.client l.transcript.server all.mine empty) in
+    let sent = none_out u.lane.guest l.transcript.client l.transcript.server all.mine empty in
+    let asks = ap count_groups sent in
     let answers = ap count_groups (none_out u.lane.hub l.transcript.server l.transcript.client all.theirs hub_empty) in
     let owed : owed_replies u.lane.hub.session ≡ 0 = ap (λ (o : Option GroupsReply). one_if (is_some o)) (ap reply_in hub_both.is ∙ hub_listens.0) in
     let counted = talking.counted in
@@ -87,8 +91,12 @@ both_told shape u l finds talk guest_idles hub_idles lossless opened =
     subst (λ (x : Option (List ℕ)). OpenCounts Initiator shape.slots u.lane.guest.groups l.guest.published l.guest.gone x u.lane.guest.link.begun both.p l.guest.session)
     (empty_unsaid u.lane.guest empty) both.open_is in
     let groups : GroupCounts both.p u.lane.guest.groups here.of_log = here.counts.guest in
-    subst (λ (o : Option SessionLog). InSession o (ToldAll l)) (sym here.is)
-    (groups.named untold ∙ ap (λ (xs : List (List ℕ)). Some xs) finds.ready.members, groups.answered telling untold)
+    let known : u.lane.hub.groups ≡ u.lane.guest.groups = subst (AllTold u.lane.guest.groups u.lane.hub.groups) sent (talking.latest untold) in (
+      subst (λ (o : Option SessionLog). InSession o (ToldAll l)) (sym here.is)
+          (groups.named untold ∙ ap (λ (xs : List (List ℕ)). Some xs) finds.ready.members, groups.answered telling untold),
+      subst (λ (o : Option SessionLog). InSession o (KnowsAll l)) (sym hub.1)
+          (sym (hub_told shape.slots u.queue u.lane.hub l.hub finds.ready.hub ∙ ap told_in hub.1) ∙ known ∙ finds.ready.members),
+    )
 
 -- AN EVENT
 told_event : (shape : NetShape) (s : PortState) (l : PortLog) (event : NetEvent) (t : PortState) → IsNetShape shape → KeptTalk shape s l → IdlesKept s l → TwoIdleAt l (OnLane event)

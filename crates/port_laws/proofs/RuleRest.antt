@@ -1,14 +1,8 @@
 -- Why an end of a port resets itself, where a port is finished, and where its ends may be idle, by the counts of both ends.
-use Rattle.std.proofs.Common.{◌≡◌, ◌≢◌, ℕ, ◌<◌, Bool, true, false, ◌⊎◌, inl, inr, Option, Some, None, List, [], ◌∷◌, length, refl, sym, subst, ap, ◌∙◌, arith}
-use Rattle.std.specs.Prelude.{◌*◌, ◌==◌, ◌&&◌, nat_le, not, slice_index, if◌then◌else◌, ⊤}
-use Rattle.std.proofs.lemmas.Bool.{and_parts, eqb-true, leb-false}
-use Rattle.cookie_copy.specs.declared.fault.CopyFault.{CopyFault}
-use Rattle.cookie_copy.specs.declared.fault.CopyFault.TheVariants as fault
-use Rattle.cookie_copy.specs.declared.fault.Access.TheVariants.{Read}
-use Rattle.cookie_copy.specs.Faults.{first_copy_fault, is_up}
-use Rattle.cookie_copy.specs.Moved.{moved_in}
-use Rattle.cookie_copy.specs.Reach.{Reach}
-use Rattle.dring.specs.Slots.{ready_state}
+use Rattle.std.proofs.Common.{◌≡◌, ℕ, ◌<◌, Bool, true, false, Option, Some, None, List, [], ◌∷◌, length, refl, sym, subst, ap, ◌∙◌, arith}
+use Rattle.std.specs.Prelude.{◌%◌, ◌==◌, ◌&&◌, not}
+use Rattle.std.proofs.lemmas.Bool.{and_parts, eqb-true}
+use Rattle.cookie_copy.specs.Faults.{is_up}
 use Rattle.ldc_link.specs.declared.phase.Role.TheVariants.{Initiator, Responder}
 use Rattle.ldc_queue.specs.declared.end.ChannelState.{ChannelState}
 use Rattle.ldc_queue.specs.declared.end.ChannelState.TheVariants.{Down, Resetting, Up}
@@ -17,31 +11,28 @@ use Rattle.ldc_queue.specs.Wire.{state_of}
 use Rattle.runs.specs.Lawful.{Lawful}
 use Rattle.runs.specs.Run.{Run}
 use Rattle.vio_tag.specs.declared.cause.Cause.{Cause}
-use Rattle.vio_tag.specs.declared.cause.Cause.TheVariants as the_cause
-use Rattle.vnet_msg.specs.declared.desc.NetDesc.{NetDesc}
-use Rattle.vnet_msg.specs.Descriptor.{net_desc_of}
-use Rattle.vnet_msg.specs.Frames.{frame_in, holds_frame, moved_size}
 use Rattle.channel_model.specs.TranscriptLog.{transcript_of}
 use Rattle.channel_model.specs.WireAt.{IsUp}
 use Rattle.channel_model.specs.WireLog.{WireLog}
 use Rattle.port_model.proofs.Refuting.{false_true, true_false}
 use Rattle.port_model.proofs.Ruling.{says_of}
 use Rattle.port_model.specs.EndLog.{EndLog, SessionLog, said_in, said_kind}
-use Rattle.port_model.specs.Fetching.{Fetched, IsFrame, NotReady, Refuses, copied, copy_refused, data_cookies, described, fetched, frame_fault, mark_fault, marked, read, slot_read, slots_cookies}
-use Rattle.port_model.specs.FrameLaws.{InSession, IsFinished, OwnReset, OwnResetAt, SlotCause, TickAt, ToldAll, WorksAt}
+use Rattle.port_model.specs.Fetching.{fetched}
+use Rattle.port_model.specs.FrameLaws.{InSession, IsFinished, OwnReset, OwnResetAt, SlotResets, TickAt, ToldAll, WorksAt}
 use Rattle.port_model.specs.NetEndRule.{Fetches, NetRule, Publishes, Takes, port_rule}
-use Rattle.port_model.specs.NetEndState.{Activity, NetEndState, NetSession}
-use Rattle.port_model.specs.NetEndStep.{FetchFails, Frame, NetFails, Published, Reset}
+use Rattle.port_model.specs.NetEndState.{NetEndState, NetSession}
+use Rattle.port_model.specs.NetEndStep.{Frame, NetFails, Published, Reset}
 use Rattle.port_model.specs.NetEvent.{CalmTick, NetEvent, Steps, Ticked}
 use Rattle.port_model.specs.NetLaneState.{IsNetShape, NetLaneState, NetShape, memory_of, net_end, reach_of, role_at, seen_at}
 use Rattle.port_model.specs.NetLaneStep.{NetLaneStep, is_finished, is_nothing, told_all}
 use Rattle.port_model.specs.PortLog.{PortLog, after, log_of_end, no_events}
 use Rattle.port_model.specs.PortState.{OfQueue, OnLane, PortEvent, PortState, PortStep, before, fresh_port}
 use Rattle.port_model.specs.Spoken.{GroupsInfo, Spoken, spoken}
-use Rattle.port_laws.specs.Counted.{EndCounts, GroupCounts, IsBehind, SaysRightly, UnsaidRight, unsaid}
+use Rattle.port_laws.specs.Counted.{EndCounts, GroupCounts, IsBehind, LastCounts, SaysRightly, UnsaidRight, unsaid}
 use Rattle.port_laws.proofs.EndCounting.{open_counts}
 use Rattle.port_laws.proofs.PortCounts.{Ready, queue_of}
 use Rattle.port_laws.proofs.RuleFrames.{active_here, along, both_open, end_acts, held_frames, none_more}
+use Rattle.port_laws.proofs.SlotsFound.{fails_fit, fetched_fits}
 use Rattle.port_laws.proofs.TookCounts.{free_empty}
 
 -- ONLY AN END THAT IS UP publishes a frame or takes one
@@ -64,74 +55,24 @@ pub port_works : (shape : NetShape) (events : List PortEvent) (s : PortState) �
 port_works shape events s is run = along shape WorksAt is (λ x l event t counts ready step. works_event shape (before event x) l event t.lane ready step.1) (λ l frame. tt) events s run
 
 -- 5. WHY A SLOT REFUSES
-abbrev pub Fits : Fetched → Type 0
-Fits (IsFrame frame new) = ⊤
-Fits (NotReady state) = state ≢ 2
-Fits (Refuses why) = SlotCause why
-
-copy_fits : (why : CopyFault) → Fits (copy_refused why)
-copy_fits fault.BadAlign = (omega arith, omega arith)
-copy_fits _ = (omega arith, omega arith)
-
-marked_fits : (s : NetEndState) (reach : Reach) (slot : ℕ) (desc : NetDesc) (frame : List ℕ) (why : Option CopyFault) → Fits (marked s reach slot desc frame why)
-marked_fits s reach slot desc frame None = tt
-marked_fits s reach slot desc frame (Some why) = copy_fits why
-
-copied_fits : (s : NetEndState) (reach : Reach) (slot : ℕ) (desc : NetDesc) (why : Option CopyFault) → Fits (copied s reach slot desc why)
-copied_fits s reach slot desc None =
-    marked_fits s reach slot desc (frame_in desc.size (moved_in reach.table reach.memory (data_cookies desc) 0 (moved_size desc.size))) (mark_fault s reach slot)
-copied_fits s reach slot desc (Some why) = copy_fits why
-
-not_frame : (size count : ℕ) (a b c d : Bool) → nat_le 14 size ≡ a → nat_le size 1514 ≡ b → nat_le 1 count ≡ c → nat_le count 3 ≡ d → (a && b && c && d) ≡ false
-    → (size < 14) ⊎ ((1514 < size) ⊎ ((count < 1) ⊎ (3 < count)))
-not_frame size count false b c d one two three four is = inl (leb-false 14 size one)
-not_frame size count true false c d one two three four is = inr (inl (leb-false size 1514 two))
-not_frame size count true true false d one two three four is = inr (inr (inl (leb-false 1 count three)))
-not_frame size count true true true false one two three four is = inr (inr (inr (leb-false count 3 four)))
-not_frame size count true true true true one two three four is = true_false is
-
-fits_if : (b : Bool) (one other : Fetched) → (b ≡ true → Fits one) → (b ≡ false → Fits other) → Fits (if b then one else other)
-fits_if true one other yes_ no_ = yes_ refl
-fits_if false one other yes_ no_ = no_ refl
-
-described_fits : (s : NetEndState) (reach : Reach) (slot : ℕ) (desc : NetDesc) → Fits (described s reach slot desc)
-described_fits s reach slot desc =
-    fits_if (holds_frame desc) (copied s reach slot desc (frame_fault reach desc)) (Refuses (the_cause.Frame desc.size desc.count)) (λ is. copied_fits s reach slot desc (frame_fault reach desc))
-    (λ is. not_frame desc.size desc.count (nat_le 14 desc.size) (nat_le desc.size 1514) (nat_le 1 desc.count) (nat_le desc.count 3) refl refl refl refl is)
-
-same_test : (n : ℕ) → (n == 2) ≡ false → n ≢ 2
-same_test n not_ is = true_false (sym (ap (λ (x : ℕ). x == 2) is) ∙ not_)
-
-read_fits : (s : NetEndState) (reach : Reach) (slot : ℕ) (bytes : List ℕ) → Fits (read s reach slot bytes)
-read_fits s reach slot bytes =
-    fits_if (slice_index bytes 0 == ready_state) (described s reach slot (net_desc_of bytes)) (NotReady (slice_index bytes 0)) (λ is. described_fits s reach slot (net_desc_of bytes)) (λ is. same_test (slice_index bytes 0) is)
-
-slot_fits : (s : NetEndState) (reach : Reach) (slot : ℕ) (why : Option CopyFault) → Fits (slot_read s reach slot why)
-slot_fits s reach slot None = read_fits s reach slot (moved_in reach.table reach.memory (slots_cookies s) (64 * slot) 64)
-slot_fits s reach slot (Some why) = copy_fits why
-
-pub fetched_fits : (s : NetEndState) (reach : Reach) (slot : ℕ) → Fits (fetched s reach slot)
-fetched_fits s reach slot = slot_fits s reach slot (first_copy_fault reach.both Read reach.table (slots_cookies s) (64 * slot) 64)
-
-pub fails_fit : (found : Fetched) (activity : Activity) (slot : ℕ) (cause : Cause) → Fits found → FetchFails found activity slot cause → SlotCause cause
-fails_fit (IsFrame frame new) activity slot cause fits fails = absurd fails
-fails_fit (NotReady state) activity slot cause fits fails = subst SlotCause (sym fails.1) fits
-fails_fit (Refuses why) activity slot cause fits fails = subst SlotCause (sym fails) fits
-
 own_reset : (shape : NetShape) (e : End) (u : PortState) (l : PortLog) (cause : Cause) (packet : Option (List ℕ)) (r : NetRule) → Ready shape u l → port_rule (role_at e) (net_end e u.lane) (seen_at e u.lane) ≡ r
-    → NetFails (role_at e) r (net_end e u.lane) (memory_of e u.lane) (reach_of e u.lane) cause packet → OwnReset (log_of_end e l) cause packet
-own_reset shape e u l cause packet (Takes bytes) ready is fails = subst (OwnReset (log_of_end e l) cause) (sym fails.0) tt
+    → NetFails (role_at e) r (net_end e u.lane) (memory_of e u.lane) (reach_of e u.lane) cause packet → OwnReset l.shape.slots (log_of_end e l) cause packet
+own_reset shape e u l cause packet (Takes bytes) ready is fails = subst (OwnReset l.shape.slots (log_of_end e l) cause) (sym fails.0) tt
 own_reset shape e u l cause packet (Fetches p activity) ready is fails =
     let says = says_of (role_at e) (net_end e u.lane) (seen_at e u.lane) (Fetches p activity) is in
     let acting = end_acts shape e u l ready says.0.free.up in
-    subst (OwnReset (log_of_end e l) cause) (sym fails.0) (
-      fails_fit (fetched (net_end e u.lane) (reach_of e u.lane) p.place) activity p.place cause (fetched_fits (net_end e u.lane) (reach_of e u.lane) p.place) fails.1,
-      active_here (role_at e) shape.slots (queue_of e u) (net_end e u.lane) (log_of_end e l) p activity acting.counts says.0.session says.1
-          (free_empty (role_at e) (net_end e u.lane) (transcript_of e l.transcript) acting.ends says.0.free.quiet),
-    )
+    let slots : shape.slots ≡ l.shape.slots = sym (ap (λ (x : NetShape). x.slots) ready.shape_is) in
+    subst (OwnReset l.shape.slots (log_of_end e l) cause) (sym fails.0)
+    (active_here (role_at e) shape.slots (queue_of e u) (net_end e u.lane) (log_of_end e l) p activity acting.counts says.0.session says.1
+    (free_empty (role_at e) (net_end e u.lane) (transcript_of e l.transcript) acting.ends says.0.free.quiet) (SlotResets l.shape.slots cause)
+    (λ v peer busy. (
+      fails_fit (fetched (net_end e u.lane) (reach_of e u.lane) p.place) activity p.place cause l.shape.slots v (fetched_fits (net_end e u.lane) (reach_of e u.lane) p.place) fails.1
+          (peer.place ∙ ap (λ (n : ℕ). v.taken % n) slots) (λ none. sym (subst (LastCounts shape.slots v) none busy.2)),
+      busy.0,
+    )))
 own_reset shape e u l cause packet _ ready is fails = absurd fails
 
-own_reset_event : (shape : NetShape) (u : PortState) (l : PortLog) (event : NetEvent) (t : NetLaneState) → Ready shape u l → NetLaneStep u.lane event t → OwnResetAt l (OnLane event)
+pub own_reset_event : (shape : NetShape) (u : PortState) (l : PortLog) (event : NetEvent) (t : NetLaneState) → Ready shape u l → NetLaneStep u.lane event t → OwnResetAt l (OnLane event)
 own_reset_event shape u l (Steps e (Reset cause packet lost)) t ready step =
     own_reset shape e u l cause packet (port_rule (role_at e) (net_end e u.lane) (seen_at e u.lane)) ready refl step.step.0
 own_reset_event shape u l _ t ready step = tt
@@ -157,7 +98,7 @@ never_behind groups told is behind =
     let below : length groups < length groups = subst (λ (x : Option (List (List ℕ))). IsBehind x groups) is behind in absurd (omega (arith, below))
 
 kept_kind : (k : Spoken) (slots : ℕ) (groups : List (List ℕ)) (message : List ℕ) (v : SessionLog) → SaysRightly slots groups v message k → Told groups v → Told groups (said_kind k message v)
-kept_kind GroupsInfo slots groups message v right is = absurd (never_behind groups v.membership is.membership right)
+kept_kind GroupsInfo slots groups message v right is = absurd (never_behind groups v.membership is.membership right.0)
 kept_kind _ slots groups message v right is = record { membership = is.membership; told = is.told }
 
 kept_left : (left : Option (List ℕ)) (slots : ℕ) (groups : List (List ℕ)) (begun : Bool) (v : SessionLog) → UnsaidRight slots groups begun v left → Told groups v → Told groups (said_in left v)

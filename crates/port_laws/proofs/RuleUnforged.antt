@@ -138,7 +138,8 @@ takes_published shape e u l frame t finds step =
     acts_up (role_at e) f (seen_at e u.lane) (memory_of e u.lane) (reach_of e u.lane) (Frame frame) step.left step.step (state_of e u.lane.wire.wire) (seen_state e u.lane) refl in
     let acting = end_acts shape e u l finds.ready says.0.free.up in
     let active = in_some log.session IsActive
-    (active_here (role_at e) shape.slots queue f log q step.step.activity acting.counts says.0.session says.1 (free_empty (role_at e) f (transcript_of e l.transcript) acting.ends says.0.free.quiet)) in
+    (active_here (role_at e) shape.slots queue f log q step.step.activity acting.counts says.0.session says.1 (free_empty (role_at e) f (transcript_of e l.transcript) acting.ends says.0.free.quiet)
+    IsActive (λ v peer busy. busy.0)) in
     let v : SessionLog = active.0 in
     let mine : log.session ≡ Some v = active.1 in
     let busy : v.asked ≡ v.acks + 1 = active.2 in

@@ -20,17 +20,18 @@ use Rattle.channel_laws.proofs.EndStanding.{stands_step}
 use Rattle.channel_laws.specs.EndCore.{Waits}
 use Rattle.channel_laws.specs.Grounds.{has_named}
 use Rattle.channel_laws.specs.Standing.{EndStands, is_open_in}
+use Rattle.vio_handshake.specs.declared.handshake.Handshake.{Handshake}
 use Rattle.port_model.proofs.Refuting.{false_true}
 use Rattle.port_model.proofs.Ruling.{says_of}
 use Rattle.port_model.specs.EndLog.{EndLog, SessionLog, change, ends_log, more_published, more_taken, publishes_log, takes_log}
 use Rattle.port_model.specs.FramesStand.{CountsStand, FramesStand}
 use Rattle.port_model.specs.NetEndPutting.{net_opens, net_put}
 use Rattle.port_model.specs.NetEndRule.{Fetches, Publishes, Takes, port_rule}
-use Rattle.port_model.specs.NetEndState.{Activity, NetEndState, NetSession, joined_net_end, unseen}
+use Rattle.port_model.specs.NetEndState.{Activity, NetEndState, NetSession, joined_net_end, kept_groups, unseen}
 use Rattle.port_model.specs.NetEndStep.{Blocked, Frame, Idle, Joined, NetAnswer, NetEndStep, NetLeft, NetSends, Published, Reset, Sent, Took, published, taken}
 use Rattle.port_model.specs.PortLog.{after_answer}
 use Rattle.port_model.specs.RuleFacts.{IfOpen}
-use Rattle.port_laws.specs.Counted.{ActiveCounts, Counts, EndCounts, GuestGroups, LastCounts, SessionCounts, unsaid}
+use Rattle.port_laws.specs.Counted.{ActiveCounts, Counts, EndCounts, GuestGroups, LastCounts, NoneTold, SessionCounts, unsaid}
 use Rattle.port_laws.specs.NetCore.{net_core}
 use Rattle.port_laws.specs.NetFits.{NetFits}
 use Rattle.port_laws.proofs.EndCounting.{OpenCounts, ShutCounts, empty_unsaid, frames_leave, gone_within, guest_same, open_counts, shut_counts}
@@ -39,6 +40,7 @@ use Rattle.channel_laws.proofs.HandshakeFitting.{same_fits}
 use Rattle.channel_laws.specs.HandshakeFits.{HandshakeFits, takes_ring}
 use Rattle.port_model.specs.Offers.{port_offer}
 use Rattle.port_laws.proofs.HeldCounts.{SlotsFit, held_counts}
+use Rattle.port_laws.proofs.OwedSays.{OwesNoGroups}
 use Rattle.port_laws.proofs.PutCounts.{PutCounts, SaidRight, put_counts}
 use Rattle.port_laws.proofs.TookCounts.{TookCounts, free_empty, session_open, took_counts}
 use Rattle.port_laws.proofs.LaneMoves.{holds_up}
@@ -50,6 +52,7 @@ pub record Acting (role : Role) (slots : ℕ) (queue : List (List ℕ)) (s : Net
   pub fits : NetFits role s
   pub ends : EndStands role (net_core role s) turns
   pub keeps : HandshakeFits role (port_offer role s.address s.slots) s.handshake
+  pub owes : OwesNoGroups s.handshake.owed
   pub slots_fit : SlotsFit slots
 
 pub counts_stand : (s : NetEndState) (p : NetSession) → FramesStand s → s.session ≡ Some p → CountsStand s p
@@ -60,10 +63,14 @@ kept : (role : Role) (s : NetEndState) → GuestGroups role s.groups → GuestGr
 kept Initiator s groups = groups
 kept Responder s groups = groups
 
+none_kept : (role : Role) (groups : List (List ℕ)) → NoneTold role (kept_groups role groups)
+none_kept Initiator groups = tt
+none_kept Responder groups = refl
+
 lost_all : (role : Role) (slots : ℕ) (queue : List (List ℕ)) (s : NetEndState) (l : EndLog) → EndCounts role slots queue s l → FramesStand s → (session : Option NetSession) → s.session ≡ session
     → (l.published ≡ l.gone + unseen session) × (unseen session ≤ length s.frames)
 lost_all role slots queue s l counts stands None is =
-    let gone : ShutCounts l.published l.gone l.session = shut_counts role slots queue s l counts is in (omega (arith, gone.gone_all), omega arith)
+    let gone : ShutCounts role s.groups l.published l.gone l.session = shut_counts role slots queue s l counts is in (omega (arith, gone.gone_all), omega arith)
 lost_all role slots queue s l counts stands (Some p) is =
     let here : OpenCounts role slots s.groups l.published l.gone (unsaid s) s.link.begun p l.session = open_counts role slots queue s l p counts is in
     let stood : CountsStand s p = counts_stand s p stands is in
@@ -80,7 +87,7 @@ begins_counts role slots queue s l lost counts stands is =
       gone = gone_within (unseen s.session) s.frames queue l.given l.gone lost_here.1 counts.gone counts.frames;
       ids = counts.ids;
       groups = kept role s counts.groups;
-      session = lost_here.0;
+      session = (lost_here.0, none_kept role s.groups);
     } in
     subst (λ (n : ℕ). EndCounts role slots queue (joined_net_end role s) (ends_log n l)) (sym is) there
 
@@ -97,10 +104,12 @@ sent_counts role slots queue s l turns at memory reach packet opens t sid acting
     let counts : EndCounts role slots queue held l =
     held_counts role slots queue s l at reach (port_rule role s at) held
     (record { counts = acting.counts; fits = acting.fits; slots_fit = acting.slots_fit; empty = λ quiet. free_empty role s turns acting.ends quiet }) refl step.holds in
-    let keeps = same_fits role (port_offer role s.address s.slots) s.handshake held.handshake acting.keeps (held_handshake (net_core role s) (net_core role held) core.what core.holds) in
+    let same = held_handshake (net_core role s) (net_core role held) core.what core.holds in
+    let keeps = same_fits role (port_offer role s.address s.slots) s.handshake held.handshake acting.keeps same in
+    let none : OwesNoGroups held.handshake.owed = subst (λ (h : Handshake). OwesNoGroups h.owed) (sym same) acting.owes in
     let what : PutWhat role (net_core role held) turns packet (net_opens held) (net_core role (net_put role held)) =
     end_put role (net_core role s) (net_core role (net_put role held)) turns packet (net_opens held) (says_core role s held packet core puts) held_stands in
-    let here : PutCounts role slots queue held (net_put role held) l turns packet (net_opens held) sid = put_counts role slots queue held l turns packet sid counts held_stands keeps.owed what in
+    let here : PutCounts role slots queue held (net_put role held) l turns packet (net_opens held) sid = put_counts role slots queue held l turns packet sid counts held_stands keeps.owed none what in
     subst (λ (b : Bool). PutCounts role slots queue held t.end l turns packet b sid) (sym step.opens_is)
     (subst (λ (x : NetLeft). PutCounts role slots queue held x.end l turns packet (net_opens held) sid) (sym step.is) here)
 
@@ -124,7 +133,7 @@ published_counts role slots queue s l p counts is empty =
         asking = here.counts.ring.asking;
       };
       peer = record { seq = here.counts.peer.seq; place = here.counts.peer.place; active = here.counts.peer.active };
-      guest = guest_same role p (published p) s.groups s.groups v (more_published v) here.counts.guest refl refl refl refl refl;
+      guest = guest_same role p (published p) s.groups s.groups v (more_published v) here.counts.guest refl refl refl refl refl refl;
       reply = here.counts.reply;
     } in
     record {
@@ -167,9 +176,9 @@ frame_counts role slots queue s l p activity frame counts is active peer empty =
       peer = record {
         seq = here.counts.peer.seq;
         place = next_place p.place v.taken slots s.handshake.draft.peer_slots here.counts.peer.place peer;
-        active = (busy.0, busy.1, (last_before slots v activity.last busy.2, here.counts.peer.place ∙ ap (λ (n : ℕ). n % slots) (less_one v.taken)));
+        active = (busy.0, busy.1, (last_before slots v activity.last busy.2, here.counts.peer.place ∙ ap (λ (n : ℕ). n % slots) (less_one v.taken)), busy.3);
       };
-      guest = guest_same role p (taken s p activity) s.groups s.groups v (more_taken v) here.counts.guest refl refl refl refl refl;
+      guest = guest_same role p (taken s p activity) s.groups s.groups v (more_taken v) here.counts.guest refl refl refl refl refl refl;
       reply = here.counts.reply;
     } in
     record {
@@ -194,7 +203,7 @@ takes_both : (role : Role) → takes_ring role true ≡ true
 takes_both Initiator = refl
 takes_both Responder = refl
 
-peer_slots_known : (role : Role) (slots : ℕ) (queue : List (List ℕ)) (s : NetEndState) (l : EndLog) (turns : List Turn) (p : NetSession) → Acting role slots queue s l turns → s.session ≡ Some p
+pub peer_slots_known : (role : Role) (slots : ℕ) (queue : List (List ℕ)) (s : NetEndState) (l : EndLog) (turns : List Turn) (p : NetSession) → Acting role slots queue s l turns → s.session ≡ Some p
     → s.handshake.draft.peer_slots ≡ slots
 peer_slots_known role slots queue s l turns p acting is =
     acting.keeps.ring (takes_both role) (named_open role s.handshake.phase (session_open role s turns p acting.ends is)) ∙ acting.counts.slots_is

@@ -84,6 +84,7 @@ pub record GuestNotes (s t : NetEndState) (p q : NetSession) (m : List ℕ) : Ty
   pub handshake : t.handshake ≡ s.handshake
   pub sends : t.link.to_send ≡ s.link.to_send
   pub reply : q.reply ≡ p.reply
+  pub untold : q.untold ≡ p.untold
   pub told : is_groups m ≡ true → q.telling ≡ false
   pub same : is_groups m ≡ false → q.telling ≡ p.telling
 
@@ -116,6 +117,7 @@ guest_notes s t p memory new m message of spells (Asks seq ident start end state
         handshake = ap (λ (x : NetEndState). x.handshake) is;
         sends = ap (λ (x : NetEndState). x.link.to_send) is;
         reply = refl;
+        untold = refl;
         told = λ one. wrong (is_groups m) one (range_groups m range);
         same = λ none. refl;
       },
@@ -129,6 +131,7 @@ guest_notes s t p memory new m message of spells (Acks seq ident start end state
         handshake = ap (λ (x : NetEndState). x.handshake) is;
         sends = ap (λ (x : NetEndState). x.link.to_send) is;
         reply = refl;
+        untold = refl;
         told = λ one. wrong (is_groups m) one (range_groups m range);
         same = λ none. refl;
       },
@@ -143,6 +146,7 @@ guest_notes s t p memory new m message of spells (Told set count addresses role 
         handshake = ap (λ (x : NetEndState). x.handshake) is;
         sends = ap (λ (x : NetEndState). x.link.to_send) is;
         reply = refl;
+        untold = refl;
         told = λ one. refl;
         same = λ none. wrong (is_groups m) (groups_groups m groups) none;
       },

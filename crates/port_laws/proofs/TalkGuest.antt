@@ -26,7 +26,7 @@ use Rattle.port_model.specs.PortLog.{PortLog, after}
 use Rattle.port_model.specs.PortState.{OnLane, PortState}
 use Rattle.port_laws.specs.Counted.{left_of, unsaid}
 use Rattle.port_laws.specs.NetCore.{lane_core, net_core, one_if}
-use Rattle.port_laws.proofs.EndCounting.{empty_unsaid}
+use Rattle.port_laws.proofs.EndCounting.{empty_unsaid, shut_counts}
 use Rattle.port_laws.proofs.FormsOwn.{MayForm, PutsIt, formed_by, opens_unsaid, sends_own}
 use Rattle.port_laws.proofs.HearsIn.{AllAgreed, Hears, OwnRead, hears_in, mine_agreed, theirs_agreed}
 use Rattle.port_laws.proofs.MessageDoes.{Does, TakeDoes, message_does}
@@ -117,8 +117,8 @@ shut_unsaid role s turns stands none = by_up (is_up s.link) refl
 
 -- WHAT NO SESSION SAID YET
 low_talk : (sid : ℕ) (groups : List (List ℕ)) (q : NetSession) (asks answers : List (List ℕ)) (session : Option NetSession) (known : List (List ℕ)) → EachLow asks → EachLow answers → session ≡ None
-    → known ≡ [] → q.telling ≡ false → q.reply ≡ None → TalkIn sid groups q asks answers session known
-low_talk sid groups q asks answers session known asks_low answers_low none nothing telling reply =
+    → known ≡ [] → q.telling ≡ false → q.reply ≡ None → q.untold ≡ true → TalkIn sid groups q asks answers session known
+low_talk sid groups q asks answers session known asks_low answers_low none nothing telling reply untold =
     let owed : owed_replies session ≡ 0 = ap (λ (o : Option NetSession). owed_replies o) none in
     subst (TalkIn sid groups q asks answers session) (sym nothing)
     (record {
@@ -129,15 +129,16 @@ low_talk sid groups q asks answers session known asks_low answers_low none nothi
       front = refl;
       reply = subst (λ (o : Option NetSession). RepliesAgree (reply_in o)) (sym none) tt;
       quiet = reply;
+      latest = λ is. true_false (sym untold ∙ is);
     })
 
 pub one_session : {X : Type 0} (o : Option X) (x y : X) → o ≡ Some x → o ≡ Some y → x ≡ y
 one_session {X} o x y one two = let both : Some x ≡ Some y = sym one ∙ two in cc both
 
 -- a session that opens tells nothing yet
-opened_fresh : (s : NetEndState) (base : ℕ) (q : NetSession) → s.session ≡ Some q → s.session ≡ Some (opened_session base) → (q.telling ≡ false) × (q.reply ≡ None)
+opened_fresh : (s : NetEndState) (base : ℕ) (q : NetSession) → s.session ≡ Some q → s.session ≡ Some (opened_session base) → (q.telling ≡ false) × (q.reply ≡ None) × (q.untold ≡ true)
 opened_fresh s base q now is =
-    let same : q ≡ opened_session base = one_session s.session q (opened_session base) now is in (ap (λ (x : NetSession). x.telling) same, ap (λ (x : NetSession). x.reply) same)
+    let same : q ≡ opened_session base = one_session s.session q (opened_session base) now is in (ap (λ (x : NetSession). x.telling) same, ap (λ (x : NetSession). x.reply) same, ap (λ (x : NetSession). x.untold) same)
 
 -- A STEP IN SESSION
 module _ (shape : NetShape) (u t : PortState) (l : PortLog) (left : NetLeft) (p q : NetSession) (session : u.lane.guest.session ≡ Some p) (now : left.end.session ≡ Some q) (other_up : IsUp B u.lane.wire.wire)
@@ -153,13 +154,13 @@ module _ (shape : NetShape) (u t : PortState) (l : PortLog) (left : NetLeft) (p 
 
   -- with the same link, handshake and groups
   quiet_now : (now_is : NetSession) → left.end.session ≡ Some now_is → left.end.groups ≡ s.groups → left.end.handshake ≡ s.handshake → left.end.link.to_send ≡ s.link.to_send → now_is.telling ≡ p.telling
-      → now_is.reply ≡ p.reply → Now l.transcript.client
-  quiet_now now_is is groups handshake sends telling reply =
+      → now_is.reply ≡ p.reply → now_is.untold ≡ p.untold → Now l.transcript.client
+  quiet_now now_is is groups handshake sends telling reply untold =
       let same : now_is ≡ q = some_same left.end.session now_is q is now in
       guest_as s left.end q (outbox s l.transcript.client l.transcript.server) (outbox left.end l.transcript.client l.transcript.server) (outbox u.lane.hub l.transcript.server l.transcript.client)
       u.lane.hub.session u.lane.hub.groups groups handshake (same_outbox s left.end l.transcript.client l.transcript.server handshake sends)
       (same_talk s.handshake.draft.sid s.groups p q (outbox s l.transcript.client l.transcript.server) (outbox u.lane.hub l.transcript.server l.transcript.client) u.lane.hub.session u.lane.hub.session
-      u.lane.hub.groups (ap (λ (x : NetSession). x.telling) (sym same) ∙ telling) (ap (λ (x : NetSession). x.reply) (sym same) ∙ reply) refl was)
+      u.lane.hub.groups (ap (λ (x : NetSession). x.telling) (sym same) ∙ telling) (ap (λ (x : NetSession). x.reply) (sym same) ∙ reply) (ap (λ (x : NetSession). x.untold) (sym same) ∙ untold) refl was)
 
   may_form : GuestSid u.lane → (acting : Acting Initiator shape.slots [] s l.guest l.transcript.client) → MayForm Initiator s.handshake.draft.sid s p
   may_form sid acting = record { session = session; agreed = sid.agreed; small = sid.small; empty = λ quiet. free_empty Initiator s l.transcript.client acting.ends quiet }
@@ -186,7 +187,7 @@ module _ (shape : NetShape) (u t : PortState) (l : PortLog) (left : NetLeft) (p 
           let same : left.end ≡ record s { link = none.link } = cc took in
           let here : Now l.transcript.client =
           quiet_now p (ap (λ (x : NetEndState). x.session) same ∙ session) (ap (λ (x : NetEndState). x.groups) same) (ap (λ (x : NetEndState). x.handshake) same)
-          (ap (λ (x : NetEndState). x.link.to_send) same ∙ none.sends) refl refl in
+          (ap (λ (x : NetEndState). x.link.to_send) same ∙ none.sends) refl refl refl in
           subst (λ (xs : List (List ℕ)). TalkIn left.end.handshake.draft.sid left.end.groups q (outbox left.end l.transcript.client l.transcript.server)
           (unheard (said l.transcript.server) xs ++ listed (unsaid u.lane.hub)) u.lane.hub.session u.lane.hub.groups) (sym none.messages) here
       by_hears (inr (inl one)) =
@@ -214,7 +215,7 @@ module _ (shape : NetShape) (u t : PortState) (l : PortLog) (left : NetLeft) (p 
           (subst (λ (x : NetSession). TalkIn s.handshake.draft.sid s.groups x (outbox s l.transcript.client l.transcript.server)
           (outbox u.lane.hub l.transcript.server (Heard packet ∷ l.transcript.client)) u.lane.hub.session u.lane.hub.groups) same
           (guest_hears s.handshake.draft.sid s.groups p noted.0 (outbox s l.transcript.client l.transcript.server) (outbox u.lane.hub l.transcript.server (Heard packet ∷ l.transcript.client))
-          u.lane.hub.session u.lane.hub.groups one.bytes notes.told notes.same notes.reply before))
+          u.lane.hub.session u.lane.hub.groups one.bytes notes.told notes.same notes.reply notes.untold before))
       by_hears (inr (inr refused)) = let never : GoesOn left.end opens left.own ≡ Resets refused.cause = refused.is in absurd (cc never)
 
 -- EACH ANSWER in session
@@ -226,21 +227,21 @@ guest_in shape u t l (Reset cause packet lost) left p q acts goes session now up
 guest_in shape u t l Idle left p q acts goes session now up other front was =
     let same : left.end ≡ u.lane.guest = ap (λ (x : NetLeft). x.end) acts.step.1 in
     quiet_now shape u t l left p q session now other was p (ap (λ (x : NetEndState). x.session) same ∙ session) (ap (λ (x : NetEndState). x.groups) same) (ap (λ (x : NetEndState). x.handshake) same)
-    (ap (λ (x : NetEndState). x.link.to_send) same) refl refl
+    (ap (λ (x : NetEndState). x.link.to_send) same) refl refl refl
 guest_in shape u t l (Published id) left p q acts goes session now up other front was =
     let step = acts.step in
     let says = says_of Initiator u.lane.guest (seen_at A u.lane) (Publishes step.session step.frame) step.rule in
     let same : left.end ≡ record u.lane.guest { session = Some (published step.session) } = ap (λ (x : NetLeft). x.end) step.is in
     let here : step.session ≡ p = one_session u.lane.guest.session step.session p says.0.in_session.session session in
     quiet_now shape u t l left p q session now other was (published step.session) (ap (λ (x : NetEndState). x.session) same) (ap (λ (x : NetEndState). x.groups) same)
-    (ap (λ (x : NetEndState). x.handshake) same) (ap (λ (x : NetEndState). x.link.to_send) same) (ap (λ (x : NetSession). x.telling) here) (ap (λ (x : NetSession). x.reply) here)
+    (ap (λ (x : NetEndState). x.handshake) same) (ap (λ (x : NetEndState). x.link.to_send) same) (ap (λ (x : NetSession). x.telling) here) (ap (λ (x : NetSession). x.reply) here) (ap (λ (x : NetSession). x.untold) here)
 guest_in shape u t l (Frame frame) left p q acts goes session now up other front was =
     let step = acts.step in
     let says = says_of Initiator u.lane.guest (seen_at A u.lane) (Fetches step.session step.activity) step.rule in
     let same : left.end ≡ record u.lane.guest { session = Some (taken u.lane.guest step.session step.activity); last = frame } = ap (λ (x : NetLeft). x.end) step.is in
     let here : step.session ≡ p = one_session u.lane.guest.session step.session p says.0.session session in
     quiet_now shape u t l left p q session now other was (taken u.lane.guest step.session step.activity) (ap (λ (x : NetEndState). x.session) same) (ap (λ (x : NetEndState). x.groups) same)
-    (ap (λ (x : NetEndState). x.handshake) same) (ap (λ (x : NetEndState). x.link.to_send) same) (ap (λ (x : NetSession). x.telling) here) (ap (λ (x : NetSession). x.reply) here)
+    (ap (λ (x : NetEndState). x.handshake) same) (ap (λ (x : NetEndState). x.link.to_send) same) (ap (λ (x : NetSession). x.telling) here) (ap (λ (x : NetSession). x.reply) here) (ap (λ (x : NetSession). x.untold) here)
 guest_in shape u t l Blocked left p q acts goes session now up other front was =
     let acting = acting_at shape A u l acts.finds up in
     let sid = guest_sid shape u.lane l acts.finds.talks up (ap is_some session) in
@@ -294,12 +295,12 @@ guest_opens shape u t l packet left q acts up other none nothing now =
     ap (λ (x : NetLeft). x.end.session) step.is ∙ ap (λ (b : Bool). (opened_by_put Initiator b (put_end step.held)).session) (sym step.opens_is) in
     let fresh = opened_fresh left.end (first_id (put_end step.held)) q now from in
     low_talk left.end.handshake.draft.sid left.end.groups q (outbox left.end (Said packet ∷ l.transcript.client) l.transcript.server)
-    (outbox u.lane.hub l.transcript.server (Said packet ∷ l.transcript.client)) u.lane.hub.session u.lane.hub.groups asks_low answers_low none_here nothing fresh.0 fresh.1
+    (outbox u.lane.hub l.transcript.server (Said packet ∷ l.transcript.client)) u.lane.hub.session u.lane.hub.groups asks_low answers_low none_here nothing fresh.0 fresh.1 fresh.2
 
 -- A STEP
-pub guest_talk : (shape : NetShape) (u t : PortState) (l : PortLog) (answer : NetAnswer) (left : NetLeft) → Acts shape A u t l answer left → (u.lane.hub.session ≡ None → u.lane.hub.groups ≡ [])
+pub guest_talk : (shape : NetShape) (u t : PortState) (l : PortLog) (answer : NetAnswer) (left : NetLeft) → Acts shape A u t l answer left
     → TalkStands u.lane l → TalkStands t.lane (after l (OnLane (Steps A answer)))
-guest_talk shape u t l answer left acts nothing talk q up other some = as_now (by_session u.lane.guest.session refl)
+guest_talk shape u t l answer left acts talk q up other some = as_now (by_session u.lane.guest.session refl)
   where
     then_ : PortLog
     then_ = after l (OnLane (Steps A answer))
@@ -344,4 +345,4 @@ guest_talk shape u t l answer left acts nothing talk q up other some = as_now (b
         let hub = open_both Responder shape.slots u.queue u.lane.hub l.hub acts.finds.ready.hub in
         let hub_shut : u.lane.hub.session ≡ None = not_some u.lane.hub.session (hub.shut (hub_none shape u l acts.finds other_before none)) in
         subst (λ (given : NetAnswer). Between left.end u.lane.hub (turns_now given l.transcript.client) l.transcript.server q) (sym same)
-        (guest_opens shape u t l opening.0 left q (subst (λ (given : NetAnswer). Acts shape A u t l given left) same acts) up other none (nothing hub_shut) now)
+        (guest_opens shape u t l opening.0 left q (subst (λ (given : NetAnswer). Acts shape A u t l given left) same acts) up other none (shut_counts Responder shape.slots u.queue u.lane.hub l.hub acts.finds.ready.hub hub_shut).none now)

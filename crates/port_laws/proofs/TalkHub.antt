@@ -80,7 +80,7 @@ module _ (shape : NetShape) (u t : PortState) (l : PortLog) (left : NetLeft) (p 
       (subst (λ (xs : List (List ℕ)). TalkIn sid u.lane.guest.groups p (outbox u.lane.guest l.transcript.client l.transcript.server) xs left.end.session u.lane.hub.groups)
       (sym (same_outbox u.lane.hub left.end l.transcript.server l.transcript.client handshake sends))
       (same_talk sid u.lane.guest.groups p p (outbox u.lane.guest l.transcript.client l.transcript.server) (outbox u.lane.hub l.transcript.server l.transcript.client) u.lane.hub.session left.end.session
-      u.lane.hub.groups refl refl same was))
+      u.lane.hub.groups refl refl refl same was))
 
   forms_now : (held : NetEndState) → Acting Responder shape.slots u.queue u.lane.hub l.hub l.transcript.server → MayForm Responder sid u.lane.hub q
       → net_holds (port_rule Responder u.lane.hub (seen_at B u.lane)) u.lane.hub (reach_of B u.lane) ≡ Some held
@@ -312,6 +312,7 @@ shut_same sid groups p asks answers now session after_session known low low_now 
       front = talk.front;
       reply = subst RepliesAgree (sym none_now) tt;
       quiet = talk.quiet;
+      latest = talk.latest;
     }
 
 abbrev HeardAs : PortState → PortLog → NetSession → List (List ℕ) → Option NetSession → List (List ℕ) → Type 0

@@ -1,7 +1,7 @@
 -- Along every run of a port that nobody forged, what is on the way between its ends fits, and no message of a session is refused.
 use Rattle.std.proofs.Common.{◌≡◌, ℕ, true, false, Option, Some, None, List, [], refl, sym, ap, ◌∙◌, subst}
 use Rattle.std.specs.Prelude.{is_some, ⊤}
-use Rattle.ldc_link.specs.declared.phase.Role.TheVariants.{Initiator, Responder}
+use Rattle.ldc_link.specs.declared.phase.Role.TheVariants.{Initiator}
 use Rattle.ldc_queue.specs.declared.end.End.TheVariants.{A, B}
 use Rattle.ldc_queue.specs.Transcript.{Turn}
 use Rattle.runs.specs.Lawful.{log_of, run_lawful}
@@ -9,26 +9,23 @@ use Rattle.runs.specs.Run.{Run}
 use Rattle.channel_model.specs.WireLog.{WireLog}
 use Rattle.port_model.proofs.Moving.{before_keeps}
 use Rattle.port_model.proofs.Refuting.{none_some, true_false}
-use Rattle.port_model.specs.EndLog.{EndLog, SessionLog, change}
 use Rattle.port_model.specs.Groups.{is_in}
 use Rattle.port_model.specs.NetEndState.{NetEndState, NetSession}
-use Rattle.port_model.specs.NetEndStep.{Already, BadLength, Blocked, Frame, Full, Given, GroupsFull, Idle, Joined, Joining, Member, NetAnswer, NetGives, NetJoins, NetLeft, Published, Queued, Reset, Sent, Took, untold}
+use Rattle.port_model.specs.NetEndStep.{Already, BadLength, Full, Given, GroupsFull, Joining, Member, NetGives, NetJoins, Queued, untold}
 use Rattle.port_model.specs.NetEvent.{Asked, CalmTick, Declines, Gives, Injects, Joins, Loses, NetEvent, Pokes, Steps, Ticked, on_wire}
-use Rattle.port_model.specs.NetLaneState.{IsNetShape, NetLaneState, NetShape, reach_of, seen_at}
-use Rattle.port_model.specs.NetLaneStep.{EndSteps, NetLaneStep, moved_on}
-use Rattle.port_model.specs.PortLog.{PortLog, after, after_answer, no_events}
+use Rattle.port_model.specs.NetLaneState.{IsNetShape, NetLaneState, NetShape}
+use Rattle.port_model.specs.NetLaneStep.{NetLaneStep, moved_on}
+use Rattle.port_model.specs.PortLog.{PortLog, after, no_events}
 use Rattle.port_model.specs.PortState.{OfQueue, OnLane, PortEvent, PortState, PortStep, Receives, before, fresh_port}
 use Rattle.port_laws.specs.NetCore.{lane_core}
 use Rattle.port_laws.proofs.GroupsLearnt.{Fresh, fresh_more}
 use Rattle.port_laws.proofs.PortCounts.{PortCounts, before_guest, before_queue}
 use Rattle.port_laws.proofs.PortTalks.{PortTalks, port_talks}
-use Rattle.port_laws.proofs.PutCounts.{not_some}
-use Rattle.port_laws.proofs.RingActs.{Finds, open_both, step_now}
-use Rattle.port_laws.proofs.RingEvents.{Goes}
+use Rattle.port_laws.proofs.RingActs.{Finds, open_both}
 use Rattle.port_laws.proofs.RingRuns.{finds_before, fresh_kept, was_clean}
 use Rattle.port_laws.proofs.Talking.{guest_joins}
 use Rattle.port_laws.proofs.TalkGuest.{Between, TalkStands, guest_talk}
-use Rattle.port_laws.proofs.TalkHub.{hub_talk, shut_after}
+use Rattle.port_laws.proofs.TalkHub.{hub_talk}
 use Rattle.port_laws.proofs.WayRuns.{KeptWays, acts_of, never_alone, ways_step}
 use Rattle.port_laws.proofs.Outbox.{outbox}
 
@@ -36,53 +33,6 @@ use Rattle.port_laws.proofs.Outbox.{outbox}
 fresh_event : (u : NetLaneState) (l : PortLog) (event : NetEvent) (t : NetLaneState) → u.guest.groups ≡ l.members → NetLaneStep u event t → Fresh [] l.members → Fresh [] (after l (OnLane event)).members
 fresh_event u l (Joins (Member address)) t are step fresh = fresh_more [] l.members address fresh (subst (λ (xs : List (List ℕ)). is_in xs address ≡ false) are step.0.0)
 fresh_event u l _ t are step fresh = fresh
-
--- THE SWITCH'S END without a session knows no groups
-abbrev pub KnowsNone : NetEndState → Type 0
-KnowsNone s = s.session ≡ None → s.groups ≡ []
-
-change_none : (f : SessionLog → SessionLog) (log : Option SessionLog) → change f log ≡ None → log ≡ None
-change_none f None is = refl
-change_none f (Some v) is = absurd (cc is)
-
-shut_before : (slots : ℕ) (turns : List Turn) (answer : NetAnswer) (l : EndLog) → Goes answer → (after_answer slots turns answer l).session ≡ None → l.session ≡ None
-shut_before slots turns (Took packet true) l goes is = absurd (cc is)
-shut_before slots turns (Sent packet true) l goes is = absurd (cc is)
-shut_before slots turns Blocked l goes is = is
-shut_before slots turns Idle l goes is = is
-shut_before slots turns (Joined lost) l goes is = absurd goes
-shut_before slots turns (Reset cause packet lost) l goes is = absurd goes
-shut_before slots turns _ l goes is = change_none _ l.session is
-
-hub_none : (shape : NetShape) (u t : PortState) (l : PortLog) (answer : NetAnswer) → Finds shape u l → (step : EndSteps B u.lane answer t.lane) → PortCounts shape t (after l (OnLane (Steps B answer))) → Goes answer
-    → KnowsNone u.lane.hub → KnowsNone t.lane.hub
-hub_none shape u t l answer finds step counts goes had none =
-    let now = step_now B u.lane t.lane answer step in
-    let log = (open_both Responder shape.slots t.queue t.lane.hub (after l (OnLane (Steps B answer))).hub counts.hub).none none in
-    let before_log : l.hub.session ≡ None = shut_before l.shape.slots l.transcript.server answer l.hub goes log in
-    let both = open_both Responder shape.slots u.queue u.lane.hub l.hub finds.ready.hub in
-    let shut : u.lane.hub.session ≡ None = not_some u.lane.hub.session (both.shut before_log) in
-    let here = shut_after u.lane.hub (seen_at B u.lane) u.lane.hub_memory (reach_of B u.lane) answer step.left shut goes step.step in
-    ap (λ (x : NetEndState). x.groups) now.end ∙ here.left.groups ∙ had shut
-
-none_event : (shape : NetShape) (u t : PortState) (l : PortLog) (event : NetEvent) → OfQueue u event → Finds shape u l → NetLaneStep u.lane event t.lane → PortCounts shape t (after l (OnLane event))
-    → KnowsNone u.lane.hub → KnowsNone t.lane.hub
-none_event shape u t l (Steps A answer) of_queue finds step counts had = subst KnowsNone (sym (step_now A u.lane t.lane answer step).peer_end) had
-none_event shape u t l (Steps B (Joined lost)) of_queue finds step counts had = λ none. ap (λ (x : NetEndState). x.groups) (step_now B u.lane t.lane (Joined lost) step).end ∙ ap (λ (x : NetLeft). x.end.groups) step.step.2
-none_event shape u t l (Steps B (Reset cause packet lost)) of_queue finds step counts had =
-    λ none. ap (λ (x : NetEndState). x.groups) (step_now B u.lane t.lane (Reset cause packet lost) step).end ∙ ap (λ (x : NetLeft). x.end.groups) step.step.2
-none_event shape u t l (Steps B (Took packet opens)) of_queue finds step counts had = hub_none shape u t l (Took packet opens) finds step counts tt had
-none_event shape u t l (Steps B (Sent packet opens)) of_queue finds step counts had = hub_none shape u t l (Sent packet opens) finds step counts tt had
-none_event shape u t l (Steps B Blocked) of_queue finds step counts had = hub_none shape u t l Blocked finds step counts tt had
-none_event shape u t l (Steps B Idle) of_queue finds step counts had = hub_none shape u t l Idle finds step counts tt had
-none_event shape u t l (Steps B (Published id)) of_queue finds step counts had = hub_none shape u t l (Published id) finds step counts tt had
-none_event shape u t l (Steps B (Frame frame)) of_queue finds step counts had = hub_none shape u t l (Frame frame) finds step counts tt had
-none_event shape u t l (Asked B lost) of_queue finds step counts had = λ none. ap (λ (x : NetLaneState). x.hub.groups) step.1
-none_event shape u t l (Ticked queued lost) of_queue finds step counts had = subst (λ (x : NetLaneState). KnowsNone x.hub) (sym step.1.1) had
-none_event shape u t l (Gives B given) of_queue finds step counts had = absurd of_queue
-none_event shape u t l (Injects e packet) of_queue finds step counts had = subst (λ (x : NetLaneState). KnowsNone x.hub) (sym step.2) had
-none_event shape u t l (Pokes A at bytes) of_queue finds step counts had = subst (λ (x : NetLaneState). KnowsNone x.hub) (sym step.1) had
-none_event shape u t l _ of_queue finds step counts had = subst (λ (x : NetLaneState). KnowsNone x.hub) (sym step.1) had
 
 -- A GUEST that is given a frame, or joins a group
 given_talk : (s : NetEndState) (given : Given) (t hub : NetEndState) (client server : List Turn) (p : NetSession) → NetGives s given t → (s.session ≡ Some p → Between s hub client server p) → t.session ≡ Some p → Between t hub client server p
@@ -93,9 +43,9 @@ given_talk s (Full frame) t hub client server p gives had is =
 given_talk s (Queued id frame) t hub client server p gives had is =
     subst (λ (x : NetEndState). Between x hub client server p) (sym gives.4) (had (ap (λ (x : NetEndState). x.session) (sym gives.4) ∙ is))
 
-untold_some : (session : Option NetSession) (q : NetSession) → untold session ≡ Some q → (p : NetSession) × (session ≡ Some p) × (q.telling ≡ p.telling) × (q.reply ≡ p.reply)
+untold_some : (session : Option NetSession) (q : NetSession) → untold session ≡ Some q → (p : NetSession) × (session ≡ Some p) × (q.telling ≡ p.telling) × (q.reply ≡ p.reply) × (q.untold ≡ true)
 untold_some None q is = absurd (cc is)
-untold_some (Some p) q is = let same : record p { untold = true } ≡ q = cc is in (p, refl, ap (λ (x : NetSession). x.telling) (sym same), ap (λ (x : NetSession). x.reply) (sym same))
+untold_some (Some p) q is = let same : record p { untold = true } ≡ q = cc is in (p, refl, ap (λ (x : NetSession). x.telling) (sym same), ap (λ (x : NetSession). x.reply) (sym same), ap (λ (x : NetSession). x.untold) (sym same))
 
 joined_talk : (s : NetEndState) (joining : Joining) (t hub : NetEndState) (client server : List Turn) (q : NetSession) → NetJoins s joining t → ((p : NetSession) → s.session ≡ Some p → Between s hub client server p)
     → t.session ≡ Some q → Between t hub client server q
@@ -106,51 +56,47 @@ joined_talk s (GroupsFull address) t hub client server q joins had is =
 joined_talk s (Member address) t hub client server q joins had is =
     let there = untold_some s.session q (ap (λ (x : NetEndState). x.session) (sym joins.3) ∙ is) in
     subst (λ (x : NetEndState). Between x hub client server q) (sym joins.3)
-    (guest_joins s.handshake.draft.sid s.groups address there.0 q (outbox s client server) (outbox hub server client) hub.session hub.groups there.2 there.3 (had there.0 there.1))
+    (guest_joins s.handshake.draft.sid s.groups address there.0 q (outbox s client server) (outbox hub server client) hub.session hub.groups there.2 there.3 there.4 (had there.0 there.1))
 
 -- AN EVENT
 lane_talk : (shape : NetShape) (u t : PortState) (l : PortLog) (event : NetEvent) → OfQueue u event → Finds shape u l → NetLaneStep u.lane event t.lane → (moved_on l.wire (on_wire event)).forged ≡ false
-    → PortCounts shape t (after l (OnLane event)) → PortTalks shape (lane_core t.lane) (after l (OnLane event)) → Fresh [] u.lane.guest.groups → KnowsNone u.lane.hub → TalkStands u.lane l
+    → PortCounts shape t (after l (OnLane event)) → PortTalks shape (lane_core t.lane) (after l (OnLane event)) → Fresh [] u.lane.guest.groups → TalkStands u.lane l
     → TalkStands t.lane (after l (OnLane event))
-lane_talk shape u t l (Steps A answer) of_queue finds step clean counts talks fresh nothing talk = guest_talk shape u t l answer step.left (acts_of shape A u t l answer finds step counts talks) nothing talk
-lane_talk shape u t l (Steps B answer) of_queue finds step clean counts talks fresh nothing talk = hub_talk shape u t l answer step.left (acts_of shape B u t l answer finds step counts talks) fresh talk
-lane_talk shape u t l (Asked A lost) of_queue finds step clean counts talks fresh nothing talk = λ p up other some. none_some p (sym (ap (λ (x : NetLaneState). x.guest.session) step.1) ∙ some)
-lane_talk shape u t l (Asked B lost) of_queue finds step clean counts talks fresh nothing talk =
+lane_talk shape u t l (Steps A answer) of_queue finds step clean counts talks fresh talk = guest_talk shape u t l answer step.left (acts_of shape A u t l answer finds step counts talks) talk
+lane_talk shape u t l (Steps B answer) of_queue finds step clean counts talks fresh talk = hub_talk shape u t l answer step.left (acts_of shape B u t l answer finds step counts talks) fresh talk
+lane_talk shape u t l (Asked A lost) of_queue finds step clean counts talks fresh talk = λ p up other some. none_some p (sym (ap (λ (x : NetLaneState). x.guest.session) step.1) ∙ some)
+lane_talk shape u t l (Asked B lost) of_queue finds step clean counts talks fresh talk =
     λ p up other some.
     let here : u.lane.guest.session ≡ Some p = sym (ap (λ (x : NetLaneState). x.guest.session) step.1) ∙ some in
     let both = open_both Initiator shape.slots [] u.lane.guest l.guest finds.ready.guest in
     never_alone shape u l _ finds (λ gone. true_false (sym (ap is_some here) ∙ both.shut gone)) (sym (ap (λ (x : NetLaneState). x.wire.wire.end_a) step.1) ∙ up)
-lane_talk shape u t l (Ticked queued lost) of_queue finds step clean counts talks fresh nothing talk = λ p up other some. none_some p (sym (ap (λ (x : NetLaneState). x.guest.session) step.1.1) ∙ some)
-lane_talk shape u t l (CalmTick queued) of_queue finds step clean counts talks fresh nothing talk =
+lane_talk shape u t l (Ticked queued lost) of_queue finds step clean counts talks fresh talk = λ p up other some. none_some p (sym (ap (λ (x : NetLaneState). x.guest.session) step.1.1) ∙ some)
+lane_talk shape u t l (CalmTick queued) of_queue finds step clean counts talks fresh talk =
     subst (λ (x : NetLaneState). TalkStands x (after l (OnLane (CalmTick queued)))) (sym step.1) talk
-lane_talk shape u t l (Gives A given) of_queue finds step clean counts talks fresh nothing talk =
+lane_talk shape u t l (Gives A given) of_queue finds step clean counts talks fresh talk =
     subst (λ (x : NetLaneState). TalkStands x (after l (OnLane (Gives A given)))) (sym step.1)
     (λ p up other some. given_talk u.lane.guest given t.lane.guest u.lane.hub l.transcript.client l.transcript.server p step.0 (λ is. talk p up other is) some)
-lane_talk shape u t l (Gives B given) of_queue finds step clean counts talks fresh nothing talk = absurd of_queue
-lane_talk shape u t l (Joins joining) of_queue finds step clean counts talks fresh nothing talk =
+lane_talk shape u t l (Gives B given) of_queue finds step clean counts talks fresh talk = absurd of_queue
+lane_talk shape u t l (Joins joining) of_queue finds step clean counts talks fresh talk =
     subst (λ (x : NetLaneState). TalkStands x (after l (OnLane (Joins joining)))) (sym step.1)
     (λ p up other some. joined_talk u.lane.guest joining t.lane.guest u.lane.hub l.transcript.client l.transcript.server p step.0 (λ q is. talk q up other is) some)
-lane_talk shape u t l (Loses A packet) of_queue finds step clean counts talks fresh nothing talk =
+lane_talk shape u t l (Loses A packet) of_queue finds step clean counts talks fresh talk =
     subst (λ (x : NetLaneState). TalkStands x (after l (OnLane (Loses A packet)))) (sym step.1) (λ p up other some. talk p up other some)
-lane_talk shape u t l (Loses B packet) of_queue finds step clean counts talks fresh nothing talk =
+lane_talk shape u t l (Loses B packet) of_queue finds step clean counts talks fresh talk =
     subst (λ (x : NetLaneState). TalkStands x (after l (OnLane (Loses B packet)))) (sym step.1) (λ p up other some. talk p up other some)
-lane_talk shape u t l (Injects e packet) of_queue finds step clean counts talks fresh nothing talk = true_false clean
-lane_talk shape u t l (Pokes e at bytes) of_queue finds step clean counts talks fresh nothing talk = true_false clean
-lane_talk shape u t l (Declines d) of_queue finds step clean counts talks fresh nothing talk =
+lane_talk shape u t l (Injects e packet) of_queue finds step clean counts talks fresh talk = true_false clean
+lane_talk shape u t l (Pokes e at bytes) of_queue finds step clean counts talks fresh talk = true_false clean
+lane_talk shape u t l (Declines d) of_queue finds step clean counts talks fresh talk =
     subst (λ (x : NetLaneState). TalkStands x (after l (OnLane (Declines d)))) (sym step.1) (λ p up other some. talk p up other some)
 
 -- ALONG EVERY RUN
 pub record KeptTalk (shape : NetShape) (s : PortState) (l : PortLog) : Type 0 where
   pub ways : KeptWays shape s l
   pub fresh : Fresh [] l.members
-  pub nothing : l.wire.forged ≡ false → KnowsNone s.lane.hub
   pub talk : l.wire.forged ≡ false → TalkStands s.lane l
 
 pub before_talk : (event : NetEvent) (s : PortState) (l : PortLog) → TalkStands s.lane l → TalkStands (before event s).lane l
 before_talk event s l talk = before_keeps (λ (x : PortState). TalkStands x.lane l) event s (λ frame frames p up other some. talk p up other some) talk
-
-before_none : (event : NetEvent) (s : PortState) → KnowsNone s.lane.hub → KnowsNone (before event s).lane.hub
-before_none event s had = before_keeps (λ (x : PortState). KnowsNone x.lane.hub) event s (λ frame frames. had) had
 
 talk_step : (shape : NetShape) → IsNetShape shape → (s : PortState) (l : PortLog) (event : PortEvent) (t : PortState) → KeptTalk shape s l → PortStep s event t → KeptTalk shape t (after l event)
 talk_step shape is s l (OnLane event) t had step =
@@ -159,19 +105,15 @@ talk_step shape is s l (OnLane event) t had step =
     record {
       ways = ways;
       fresh = fresh_event (before event s).lane l event t.lane are step.1 had.fresh;
-      nothing = λ clean.
-          let was : l.wire.forged ≡ false = was_clean l.wire event clean in
-          none_event shape (before event s) t l event (before_queue event s step.0) (finds_before shape s l event is had.ways.kept was) step.1 ways.kept.counts (before_none event s (had.nothing was));
       talk = λ clean.
           let wire : t.lane.wire.forged ≡ false = ap (λ (w : WireLog). w.forged) ways.kept.counts.wire ∙ clean in
           let was : l.wire.forged ≡ false = was_clean l.wire event clean in
           lane_talk shape (before event s) t l event (before_queue event s step.0) (finds_before shape s l event is had.ways.kept was) step.1 clean ways.kept.counts
-          (port_talks shape t (after l (OnLane event)) is ways.kept.counts wire) (subst (Fresh []) (sym are) had.fresh) (before_none event s (had.nothing was)) (before_talk event s l (had.talk was));
+          (port_talks shape t (after l (OnLane event)) is ways.kept.counts wire) (subst (Fresh []) (sym are) had.fresh) (before_talk event s l (had.talk was));
     }
 talk_step shape is s l (Receives frame) t had step = record {
   ways = ways_step shape is s l (Receives frame) t had.ways step;
   fresh = had.fresh;
-  nothing = λ clean. subst (λ (x : PortState). KnowsNone x.lane.hub) (sym step.2) (had.nothing clean);
   talk = λ clean. subst (λ (x : PortState). TalkStands x.lane (after l (Receives frame))) (sym step.2) (had.talk clean);
 }
 
@@ -182,6 +124,5 @@ port_talk shape events s is run =
     (record {
       ways = record { kept = fresh_kept shape is; ways = λ clean up other some. absurd (some refl) };
       fresh = tt;
-      nothing = λ clean none. refl;
       talk = λ clean p up other some. none_some p some;
     }) run).1

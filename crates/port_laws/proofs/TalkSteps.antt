@@ -15,6 +15,7 @@ use Rattle.port_model.proofs.Refuting.{none_some}
 use Rattle.port_model.specs.Groups.{membership, seven}
 use Rattle.port_model.specs.NetEndPutting.{groups_answer}
 use Rattle.port_model.specs.NetEndState.{GroupsReply, NetEndState, NetSession}
+use Rattle.port_model.specs.Spoken.{addresses_of}
 use Rattle.port_laws.specs.Counted.{AreGroups, unsaid}
 use Rattle.port_laws.proofs.FormsOwn.{Formed, Kept, PutsIt, Ranged, Replied, Told}
 use Rattle.port_laws.proofs.OwnBytes.{membership_reads, seven_six}
@@ -48,6 +49,7 @@ outbox_heard peer theirs mine packet m is front =
 record Member (sid : ℕ) (groups : List (List ℕ)) : Type 0 where
   says : SaysGroups Initiator sid (canonical (membership sid groups))
   tells : (known : ℕ) → known ≤ length groups → TellsSome groups known (canonical (membership sid groups))
+  all : addresses_of (canonical (membership sid groups)) ≡ groups
 
 member : (sid : ℕ) (groups : List (List ℕ)) → AreGroups groups → sid < 2 ^ 32 → Member sid groups
 member sid groups are small =
@@ -65,6 +67,7 @@ member sid groups are small =
         more = most;
         inside = omega arith;
       };
+      all = membership_reads sid groups are;
     }
 
 -- THE GUEST forms a message, or none
@@ -85,13 +88,13 @@ guest_forms s held p sid client server answers session known is are small draft 
   handshake = ap (λ (x : NetEndState). x.handshake) same;
   talk = subst (λ (x : NetEndState). TalkIn sid s.groups p (outbox x client server) answers session known) (sym same) talk;
 }
-guest_forms s held p sid client server answers session known is are small draft (Ranged m q forms says telling reply) talk = record {
+guest_forms s held p sid client server answers session known is are small draft (Ranged m q forms says telling reply untold) talk = record {
   q = q;
   session_is = forms.session;
   groups = forms.groups;
   handshake = forms.handshake;
   talk = subst (λ (xs : List (List ℕ)). TalkIn sid s.groups q xs answers session known) (sym (outbox_more s held client server m forms.none forms.now))
-      (guest_ranges sid s.groups p q (outbox s client server) answers session known m says telling reply talk);
+      (guest_ranges sid s.groups p q (outbox s client server) answers session known m says telling reply untold talk);
 }
 guest_forms s held p sid client server answers session known is are small draft (Replied m q r forms owes same none telling) talk = none_some r (sym talk.quiet ∙ owes)
 guest_forms s held p sid client server answers session known is are small draft (Told m q forms role same before now reply) talk =
@@ -104,7 +107,7 @@ guest_forms s held p sid client server answers session known is are small draft 
       handshake = forms.handshake;
       talk = subst (λ (xs : List (List ℕ)). TalkIn sid s.groups q xs answers session known) (sym (outbox_more s held client server m forms.none forms.now))
           (guest_tells sid s.groups p q (outbox s client server) answers session known m (subst (SaysGroups Initiator sid) (sym here) one.says)
-          (λ n most. subst (TellsSome s.groups n) (sym here) (one.tells n most)) before now reply talk);
+          (λ n most. subst (TellsSome s.groups n) (sym here) (one.tells n most)) (ap addresses_of here ∙ one.all) before now reply talk);
     }
 
 -- THE SWITCH'S END forms a message, or none
@@ -132,7 +135,7 @@ hub_forms s held q sid groups p asks client server is (Kept same) talk = record 
   handshake = ap (λ (x : NetEndState). x.handshake) same;
   talk = subst (λ (x : NetEndState). TalkIn sid groups p asks (outbox x server client) x.session s.groups) (sym same) talk;
 }
-hub_forms s held q sid groups p asks client server is (Ranged m now forms says telling reply) talk = record {
+hub_forms s held q sid groups p asks client server is (Ranged m now forms says telling reply untold) talk = record {
   q = now;
   session_is = forms.session;
   groups_are = forms.groups;

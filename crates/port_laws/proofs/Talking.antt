@@ -7,6 +7,7 @@ use Rattle.std.proofs.lemmas.List.{length-take, take-append-le}
 use Rattle.ldc_link.specs.declared.phase.Role.TheVariants.{Initiator, Responder}
 use Rattle.ldc_packet.specs.declared.packet.Subtype.TheVariants.{Ack}
 use Rattle.vio_tag.specs.Spelling.{envelope_at}
+use Rattle.port_model.proofs.Refuting.{true_false}
 use Rattle.port_model.specs.NetEndState.{GroupsReply, NetSession}
 use Rattle.port_model.specs.Spoken.{addresses_of}
 use Rattle.port_laws.specs.NetCore.{one_if}
@@ -29,6 +30,42 @@ reply_in (Some q) = q.reply
 abbrev pub owed_replies : Option NetSession → ℕ
 owed_replies session = one_if (is_some (reply_in session))
 
+-- the first message of groups that is under way names all, and where none is under way all are known
+abbrev pub ToldBy : Bool → List ℕ → List (List ℕ) → Type 0 → Type 0
+ToldBy true m groups Rest = addresses_of m ≡ groups
+ToldBy false m groups Rest = Rest
+
+abbrev pub AllTold : List (List ℕ) → List (List ℕ) → List (List ℕ) → Type 0
+AllTold groups known [] = known ≡ groups
+AllTold groups known (m ∷ asks) = ToldBy (is_groups m) m groups (AllTold groups known asks)
+
+told_by : (b : Bool) (m : List ℕ) (groups : List (List ℕ)) (P Q : Type 0) → (P → Q) → ToldBy b m groups P → ToldBy b m groups Q
+told_by true m groups P Q means told = told
+told_by false m groups P Q means told = means told
+
+told_past : (m : List ℕ) (groups : List (List ℕ)) (Rest : Type 0) → is_groups m ≡ false → Rest → ToldBy (is_groups m) m groups Rest
+told_past m groups Rest not_ rest = subst (λ (b : Bool). ToldBy b m groups Rest) (sym not_) rest
+
+one_none : (b : Bool) (n : ℕ) → one_if b + n ≡ 0 → b ≡ false
+one_none false n is = refl
+one_none true n is = absurd (omega (arith, is))
+
+told_more : (groups known asks : List (List ℕ)) (m : List ℕ) → is_groups m ≡ false → AllTold groups known asks → AllTold groups known (asks ++ m ∷ [])
+told_more groups known [] m not_ told = told_past m groups (known ≡ groups) not_ told
+told_more groups known (x ∷ asks) m not_ told =
+    told_by (is_groups x) x groups (AllTold groups known asks) (AllTold groups known (asks ++ m ∷ [])) (told_more groups known asks m not_) told
+
+told_last : (groups known asks : List (List ℕ)) (m : List ℕ) → is_groups m ≡ true → addresses_of m ≡ groups → count_groups asks ≡ 0 → AllTold groups known (asks ++ m ∷ [])
+told_last groups known [] m is all none = subst (λ (b : Bool). ToldBy b m groups (known ≡ groups)) (sym is) all
+told_last groups known (x ∷ asks) m is all none =
+    told_past x groups (AllTold groups known (asks ++ m ∷ [])) (one_none (is_groups x) (count_groups asks) none)
+    (told_last groups known asks m is all (omega (arith, none)))
+
+none_told : (groups known asks : List (List ℕ)) → count_groups asks ≡ 0 → known ≡ groups → AllTold groups known asks
+none_told groups known [] none all = all
+none_told groups known (x ∷ asks) none all =
+    told_past x groups (AllTold groups known asks) (one_none (is_groups x) (count_groups asks) none) (none_told groups known asks (omega (arith, none)) all)
+
 -- BOTH ENDS: the guest in this session with its groups, what it asks and what is answered, and the switch's end
 pub record TalkIn (sid : ℕ) (groups : List (List ℕ)) (p : NetSession) (asks answers : List (List ℕ)) (session : Option NetSession) (known : List (List ℕ)) : Type 0 where
   pub asks_fit : EachFits Initiator sid asks
@@ -38,6 +75,7 @@ pub record TalkIn (sid : ℕ) (groups : List (List ℕ)) (p : NetSession) (asks 
   pub front : known ≡ take (length known) groups
   pub reply : RepliesAgree (reply_in session)
   pub quiet : p.reply ≡ None
+  pub latest : p.untold ≡ false → AllTold groups known asks
 
 known_few : (groups known : List (List ℕ)) → known ≡ take (length known) groups → length known ≤ length groups
 known_few groups known front =
@@ -45,8 +83,8 @@ known_few groups known front =
 
 -- THE GUEST says a range
 pub guest_ranges : (sid : ℕ) (groups : List (List ℕ)) (p q : NetSession) (asks answers : List (List ℕ)) (session : Option NetSession) (known : List (List ℕ)) (m : List ℕ)
-    → SaysRange Initiator sid m → q.telling ≡ p.telling → q.reply ≡ p.reply → TalkIn sid groups p asks answers session known → TalkIn sid groups q (asks ++ m ∷ []) answers session known
-guest_ranges sid groups p q asks answers session known m says telling reply talk =
+    → SaysRange Initiator sid m → q.telling ≡ p.telling → q.reply ≡ p.reply → q.untold ≡ p.untold → TalkIn sid groups p asks answers session known → TalkIn sid groups q (asks ++ m ∷ []) answers session known
+guest_ranges sid groups p q asks answers session known m says telling reply untold talk =
     let counted = talk.counted in
     let none = says.none in
     record {
@@ -57,13 +95,18 @@ guest_ranges sid groups p q asks answers session known m says telling reply talk
       front = talk.front;
       reply = talk.reply;
       quiet = reply ∙ talk.quiet;
+      latest = λ is. told_more groups known asks m (one_none (is_groups m) 0 none) (talk.latest (sym untold ∙ is));
     }
+
+one_some : (b : Bool) → one_if b + 0 ≡ 1 → b ≡ true
+one_some true is = refl
+one_some false is = absurd (omega (arith, is))
 
 -- it tells its groups
 pub guest_tells : (sid : ℕ) (groups : List (List ℕ)) (p q : NetSession) (asks answers : List (List ℕ)) (session : Option NetSession) (known : List (List ℕ)) (m : List ℕ)
-    → SaysGroups Initiator sid m → ((known_of : ℕ) → known_of ≤ length groups → TellsSome groups known_of m) → p.telling ≡ false → q.telling ≡ true → q.reply ≡ p.reply
+    → SaysGroups Initiator sid m → ((known_of : ℕ) → known_of ≤ length groups → TellsSome groups known_of m) → addresses_of m ≡ groups → p.telling ≡ false → q.telling ≡ true → q.reply ≡ p.reply
     → TalkIn sid groups p asks answers session known → TalkIn sid groups q (asks ++ m ∷ []) answers session known
-guest_tells sid groups p q asks answers session known m says tells before now reply talk =
+guest_tells sid groups p q asks answers session known m says tells all before now reply talk =
     let counted = talk.counted in
     let one = says.one in
     record {
@@ -74,6 +117,7 @@ guest_tells sid groups p q asks answers session known m says tells before now re
       front = talk.front;
       reply = talk.reply;
       quiet = reply ∙ talk.quiet;
+      latest = λ is. told_last groups known asks m (one_some (is_groups m) one) all (omega (arith, counted, ap one_if before));
     }
 
 -- it hears what comes first
@@ -82,9 +126,9 @@ told_now true was now rest is told same = omega (arith, is, one_most was, ap one
 told_now false was now rest is told same = omega (arith, is, ap one_if (same refl))
 
 pub guest_hears : (sid : ℕ) (groups : List (List ℕ)) (p q : NetSession) (asks answers : List (List ℕ)) (session : Option NetSession) (known : List (List ℕ)) (m : List ℕ)
-    → (is_groups m ≡ true → q.telling ≡ false) → (is_groups m ≡ false → q.telling ≡ p.telling) → q.reply ≡ p.reply → TalkIn sid groups p asks (m ∷ answers) session known
+    → (is_groups m ≡ true → q.telling ≡ false) → (is_groups m ≡ false → q.telling ≡ p.telling) → q.reply ≡ p.reply → q.untold ≡ p.untold → TalkIn sid groups p asks (m ∷ answers) session known
     → TalkIn sid groups q asks answers session known
-guest_hears sid groups p q asks answers session known m told same reply talk =
+guest_hears sid groups p q asks answers session known m told same reply untold talk =
     let counted = talk.counted in
     record {
       asks_fit = talk.asks_fit;
@@ -94,6 +138,7 @@ guest_hears sid groups p q asks answers session known m told same reply talk =
       front = talk.front;
       reply = talk.reply;
       quiet = reply ∙ talk.quiet;
+      latest = λ is. talk.latest (sym untold ∙ is);
     }
 
 pub is_telling : (sid : ℕ) (groups : List (List ℕ)) (p : NetSession) (asks answers : List (List ℕ)) (session : Option NetSession) (known : List (List ℕ)) (m : List ℕ)
@@ -122,6 +167,7 @@ hub_ranges sid groups p asks answers session now known m fits none same talk =
       front = talk.front;
       reply = subst RepliesAgree (sym same) talk.reply;
       quiet = talk.quiet;
+      latest = talk.latest;
     }
 
 -- it answers
@@ -140,6 +186,7 @@ hub_replies sid groups p asks answers session now known m r says before none tal
       front = talk.front;
       reply = subst RepliesAgree (sym none) tt;
       quiet = talk.quiet;
+      latest = talk.latest;
     }
 
 -- it hears what speaks of no groups
@@ -156,6 +203,7 @@ hub_hears sid groups p asks answers session now known m not_ same talk =
       front = talk.front;
       reply = subst RepliesAgree (sym same) talk.reply;
       quiet = talk.quiet;
+      latest = λ is. subst (λ (b : Bool). ToldBy b m groups (AllTold groups known asks)) not_ (talk.latest is);
     }
 
 -- it hears groups, which it knows then
@@ -181,12 +229,15 @@ hub_learns sid groups p asks answers session now known m r some is before after_
       front = front_taken some.many groups some.inside;
       reply = subst RepliesAgree (sym after_is) agrees;
       quiet = talk.quiet;
+      latest = λ untold.
+          none_told groups (take some.many groups) asks (omega (arith, counted, one, most))
+          (sym some.is ∙ subst (λ (b : Bool). ToldBy b m groups (AllTold groups known asks)) is (talk.latest untold));
     })
 
 -- NOTHING of this changes
 pub same_talk : (sid : ℕ) (groups : List (List ℕ)) (p q : NetSession) (asks answers : List (List ℕ)) (session now : Option NetSession) (known : List (List ℕ))
-    → q.telling ≡ p.telling → q.reply ≡ p.reply → reply_in now ≡ reply_in session → TalkIn sid groups p asks answers session known → TalkIn sid groups q asks answers now known
-same_talk sid groups p q asks answers session now known telling reply same talk =
+    → q.telling ≡ p.telling → q.reply ≡ p.reply → q.untold ≡ p.untold → reply_in now ≡ reply_in session → TalkIn sid groups p asks answers session known → TalkIn sid groups q asks answers now known
+same_talk sid groups p q asks answers session now known telling reply untold same talk =
     let counted = talk.counted in
     let owed : owed_replies now ≡ owed_replies session = ap (λ (o : Option GroupsReply). one_if (is_some o)) same in
     record {
@@ -197,6 +248,7 @@ same_talk sid groups p q asks answers session now known telling reply same talk 
       front = talk.front;
       reply = subst RepliesAgree (sym same) talk.reply;
       quiet = reply ∙ talk.quiet;
+      latest = λ is. talk.latest (sym untold ∙ is);
     }
 
 -- the guest joins one more group
@@ -217,8 +269,8 @@ more_tells groups address known (m ∷ asks) tells = (
 )
 
 pub guest_joins : (sid : ℕ) (groups : List (List ℕ)) (address : List ℕ) (p q : NetSession) (asks answers : List (List ℕ)) (session : Option NetSession) (known : List (List ℕ))
-    → q.telling ≡ p.telling → q.reply ≡ p.reply → TalkIn sid groups p asks answers session known → TalkIn sid (groups ++ address ∷ []) q asks answers session known
-guest_joins sid groups address p q asks answers session known telling reply talk =
+    → q.telling ≡ p.telling → q.reply ≡ p.reply → q.untold ≡ true → TalkIn sid groups p asks answers session known → TalkIn sid (groups ++ address ∷ []) q asks answers session known
+guest_joins sid groups address p q asks answers session known telling reply untold talk =
     let counted = talk.counted in
     record {
       asks_fit = talk.asks_fit;
@@ -228,4 +280,5 @@ guest_joins sid groups address p q asks answers session known telling reply talk
       front = talk.front ∙ sym (take-append-le (length known) groups (address ∷ []) (known_few groups known talk.front));
       reply = talk.reply;
       quiet = reply ∙ talk.quiet;
+      latest = λ is. true_false (sym untold ∙ is);
     }

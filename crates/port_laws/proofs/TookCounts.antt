@@ -165,7 +165,7 @@ took_counts role slots queue s t l turns memory packet opens new sid taking take
         → GoesOn t opens new ≡ by_handshake role (seen k) memory take → TookCounts role slots queue s t l turns packet opens sid
     shut_take k bytes how ended closed take is = by_take take is
       where
-        gone : ShutCounts l.published l.gone l.session
+        gone : ShutCounts role s.groups l.published l.gone l.session
         gone = shut_counts role slots queue s l taking.counts closed
 
         with_shake : Handshake → NetEndState

@@ -1,15 +1,17 @@
 -- How an end of a port stands to the log of what happened to it. A message of its session that its link still holds counts
 -- as said already: what the end notes of it changed as it was formed.
 use Rattle.std.specs.Prelude.{◌≡◌, ℕ, ◌+◌, ◌-◌, ◌%◌, ◌<◌, ◌≤◌, Bool, true, false, is_none, is_some, List, [], ◌∷◌, ◌++◌, length, drop, Option, Some, None, ⊤}
+use Rattle.std.specs.List.{AllByRecursion}
 use Rattle.ldc_link.specs.declared.phase.Role.{Role}
 use Rattle.ldc_link.specs.declared.phase.Role.TheVariants.{Initiator, Responder}
 use Rattle.ldc_packet.specs.declared.packet.Subtype.{Subtype}
 use Rattle.ldc_packet.specs.declared.packet.Subtype.TheVariants.{Ack, Info, Nack}
+use Rattle.ldc_packet.specs.Spelling.{subtype_code}
 use Rattle.channel_model.specs.Ranges.{wrapped}
-use Rattle.port_model.specs.EndLog.{EndLog, SessionLog, said_in}
-use Rattle.port_model.specs.FrameLaws.{Acknowledges, Announces}
+use Rattle.port_model.specs.EndLog.{EndLog, GroupsFields, SessionLog, said_in}
+use Rattle.port_model.specs.FrameLaws.{Acknowledges, Announces, SpeaksOfGroups}
 use Rattle.port_model.specs.NetEndState.{Activity, GroupsReply, NetEndState, NetSession}
-use Rattle.port_model.specs.Spoken.{GroupsAck, GroupsInfo, Other, RangeAck, RangeInfo, Spoken, spoken}
+use Rattle.port_model.specs.Spoken.{GroupsAck, GroupsInfo, GroupsNack, Other, RangeAck, RangeInfo, Spoken, spoken}
 
 -- the message of its session that its link holds, if it holds one
 abbrev pub left_of : (own : Bool) → List ℕ → Option (List ℕ)
@@ -37,7 +39,7 @@ LastCounts slots v (Some last) = (v.answered < v.taken) × (last ≡ (v.taken - 
 abbrev pub ActiveCounts : ℕ → SessionLog → Option Activity → Type 0
 ActiveCounts slots v None = (v.asked ≡ v.acks) × (v.answered ≡ v.taken)
 ActiveCounts slots v (Some activity) =
-    (v.asked ≡ v.acks + 1) × (activity.start ≡ v.answered % slots) × LastCounts slots v activity.last
+    (v.asked ≡ v.acks + 1) × (activity.start ≡ v.answered % slots) × LastCounts slots v activity.last × (activity.seq ≡ wrapped v.asked)
 
 pub record PeerCounts (slots : ℕ) (p : NetSession) (v : SessionLog) : Type 0 where
   pub seq : p.seq ≡ wrapped (v.asked + 1)
@@ -55,16 +57,23 @@ pub record GroupCounts (p : NetSession) (groups : List (List ℕ)) (v : SessionL
   pub waits : p.telling ≡ true → (v.told ≡ false) × (is_some v.membership ≡ true)
   pub answered : p.telling ≡ false → p.untold ≡ false → v.told ≡ true
 
+-- the switch's end has the list that it was told
 abbrev pub GuestCounts : Role → NetSession → List (List ℕ) → SessionLog → Type 0
 GuestCounts Initiator p groups v = GroupCounts p groups v
-GuestCounts Responder p groups v = ⊤
+GuestCounts Responder p groups v = groups ≡ v.groups
+
+-- and without a session none
+abbrev pub NoneTold : Role → List (List ℕ) → Type 0
+NoneTold Initiator groups = ⊤
+NoneTold Responder groups = groups ≡ []
 
 -- WHAT THE LINK HOLDS of the session is right to say as the log stands, and takes one packet
 abbrev pub SaysRightly : ℕ → List (List ℕ) → SessionLog → List ℕ → Spoken → Type 0
 SaysRightly slots groups s message RangeInfo = Announces slots s message
 SaysRightly slots groups s message RangeAck = Acknowledges slots s message
-SaysRightly slots groups s message GroupsInfo = IsBehind s.membership groups
-SaysRightly slots groups s message GroupsAck = ⊤
+SaysRightly slots groups s message GroupsInfo = IsBehind s.membership groups × SpeaksOfGroups GroupsInfo s message
+SaysRightly slots groups s message GroupsAck = SpeaksOfGroups GroupsAck s message
+SaysRightly slots groups s message GroupsNack = SpeaksOfGroups GroupsNack s message
 SaysRightly slots groups s message Other = ⊤
 
 pub record HoldsRightly (slots : ℕ) (groups : List (List ℕ)) (begun : Bool) (s : SessionLog) (message : List ℕ) : Type 0 where
@@ -82,9 +91,18 @@ IsAnswer Info = ⊥
 IsAnswer Ack = ⊤
 IsAnswer Nack = ⊤
 
-abbrev pub AnswersRightly : Option GroupsReply → Type 0
-AnswersRightly None = ⊤
-AnswersRightly (Some reply) = IsAnswer reply.subtype
+abbrev pub reply_fields : GroupsReply → GroupsFields
+reply_fields reply = record { subtype = subtype_code reply.subtype; set = reply.set % 256; count = reply.count % 256; seven = reply.addresses }
+
+pub record AnswersFor (reply : GroupsReply) (owed : Option GroupsFields) : Type 0 where
+  pub answer : IsAnswer reply.subtype
+  pub few : length reply.addresses ≡ 7
+  pub long : AllByRecursion (λ (address : List ℕ). length address ≡ 6) reply.addresses
+  pub fields : owed ≡ Some (reply_fields reply)
+
+abbrev pub AnswersRightly : Option GroupsReply → Option GroupsFields → Type 0
+AnswersRightly None owed = owed ≡ None
+AnswersRightly (Some reply) owed = AnswersFor reply owed
 
 -- AN OPEN SESSION
 pub record SessionCounts (role : Role) (slots : ℕ) (groups : List (List ℕ)) (published gone : ℕ) (left : Option (List ℕ)) (begun : Bool) (p : NetSession)
@@ -93,11 +111,11 @@ pub record SessionCounts (role : Role) (slots : ℕ) (groups : List (List ℕ)) 
   pub ring : RingCounts p published gone (said_in left s)
   pub peer : PeerCounts slots p (said_in left s)
   pub guest : GuestCounts role p groups (said_in left s)
-  pub reply : AnswersRightly p.reply
+  pub reply : AnswersRightly p.reply (said_in left s).owed
 
--- without one, all that was published is gone
+-- without one, all that was published is gone, and the switch's end knows no groups
 abbrev pub Counts : Role → ℕ → List (List ℕ) → ℕ → ℕ → Option (List ℕ) → Bool → Option NetSession → Option SessionLog → Type 0
-Counts role slots groups published gone left begun None None = published ≡ gone
+Counts role slots groups published gone left begun None None = (published ≡ gone) × NoneTold role groups
 Counts role slots groups published gone left begun (Some p) (Some s) = SessionCounts role slots groups published gone left begun p s
 Counts role slots groups published gone left begun _ _ = ⊥
 

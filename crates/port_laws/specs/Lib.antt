@@ -6,6 +6,7 @@ pub mod Counted
 pub mod Remaining
 pub mod RemainingSteps
 pub mod Crossing
+pub mod GroupsTold
 pub mod InOrder
 pub mod PortCauses
 pub mod RingHolds

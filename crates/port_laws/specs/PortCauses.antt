@@ -1,5 +1,5 @@
 -- What a session of a port makes of a message of rings or groups: it takes it, or resets its end for a cause.
-use Rattle.std.specs.Prelude.{ℕ, ◌+◌, ◌%◌, ◌&&◌, nat_le, nat_lt, if◌then◌else◌, List, Option, Some, None}
+use Rattle.std.specs.Prelude.{ℕ, ◌+◌, ◌%◌, ◌==◌, ◌&&◌, nat_le, nat_lt, not, if◌then◌else◌, List, Option, Some, None}
 use Rattle.ldc_link.specs.declared.phase.Role.{Role}
 use Rattle.ldc_link.specs.declared.phase.Role.TheVariants.{Initiator, Responder}
 use Rattle.ldc_packet.specs.declared.packet.Subtype.{Subtype}
@@ -15,16 +15,17 @@ use Rattle.channel_model.specs.Ranges.{is_other}
 use Rattle.dring.specs.Slots.{range_length}
 use Rattle.channel_laws.specs.PacketCauses.{packet_cause}
 use Rattle.port_model.specs.NetEndState.{NetEndState, NetSession}
-use Rattle.port_model.specs.NetEndTaking.{ends_outside, first_undone}
+use Rattle.port_model.specs.NetEndTaking.{first_undone}
 use Rattle.port_model.specs.NetLaneState.{NetLaneState, memory_of, net_end, role_at}
 
--- AN INFO names another ring than the peer's, hasn't the next number, doesn't begin at the next slot, or names an end that is no slot
+-- AN INFO names another ring than the peer's, hasn't the next number, doesn't begin at the next slot, or names an end and not one of the
+-- peer's slots
 abbrev pub info_cause : NetEndState → NetSession → (seq ident start end : ℕ) → Option Cause
 info_cause s session seq ident start end =
     if is_other s.handshake.draft.ident_peer ident then Some (the_cause.Ident s.handshake.draft.ident_peer ident)
     else if is_other session.seq seq then Some (the_cause.Seq session.seq seq)
     else if is_other session.place start then Some (the_cause.Slot session.place start)
-    else if ends_outside s end then Some (the_cause.RangeEnd end)
+    else if not (end == 0xffffffff) && nat_le s.handshake.draft.peer_slots end then Some (the_cause.RangeEnd end)
     else None
 
 -- AN ACK names another ring than the own, doesn't begin at the first frame that isn't acknowledged, goes beyond what is published, or names a

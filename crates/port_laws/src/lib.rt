@@ -19,7 +19,10 @@ pub use core_laws::{
     open_sessions_of_a_port_are_one, sessions_of_a_port_open_in_order,
 };
 pub use frame_laws::an_ack_alone_lets_frames_go;
-pub use group_laws::a_guest_joins_each_group_once;
+pub use group_laws::{
+    a_guest_joins_each_group_once, each_answer_to_groups_is_the_one_that_is_owed,
+    the_switch_knows_the_groups_that_its_session_told,
+};
 pub use remaining_laws::{
     each_frame_of_a_guest_crosses_once, each_step_of_a_port_but_a_calm_one_lowers_what_remains,
     little_remains_on_a_port_that_nobody_forged,
@@ -27,7 +30,8 @@ pub use remaining_laws::{
     what_remains_on_a_port_falls_by_what_an_end_does,
 };
 pub use reset_laws::{
-    a_packet_resets_a_session_of_a_port_for_its_first_cause, resets_of_a_port_say_why,
+    a_packet_resets_a_session_of_a_port_for_its_first_cause,
+    a_slot_that_is_not_done_is_one_that_an_ack_names, resets_of_a_port_say_why,
 };
 pub use rest_laws::{
     a_calm_turn_finishes_a_port, a_tick_is_calm_where_the_port_is_finished,
@@ -43,8 +47,9 @@ pub use ring_laws::{
 pub use rule_laws::{
     a_frame_is_queued_or_refused_rightly, a_frame_is_taken_while_an_announcement_waits,
     an_end_holds_the_frames_that_it_was_given, each_ack_names_the_frames_taken_since_the_last,
-    each_announcement_begins_at_the_first_frame_left, frames_are_published_in_order,
-    lost_frames_are_published_and_not_acknowledged, no_ack_goes_beyond_what_is_published,
+    each_announcement_begins_at_the_first_frame_left, each_announcement_that_is_taken_is_the_next,
+    frames_are_published_in_order, lost_frames_are_published_and_not_acknowledged,
+    no_ack_goes_beyond_what_is_published,
 };
 pub use wire_laws::{
     a_port_opens_behind_its_handshake, an_end_of_a_port_resets_itself_behind_a_loss_alone,

@@ -22,8 +22,8 @@ pub fn only_an_end_that_is_up_moves_frames()
 {}
 
 /// Along every run of a port, forged or not, an end that resets itself without a packet does so for a slot of the peer's
-/// ring. A DRING_DATA INFO that it took isn't answered then. The slot isn't READY, the descriptor is that of no frame, or
-/// a copy is refused.
+/// ring. A DRING_DATA INFO that it took isn't answered then. The next slot isn't READY and none was taken for that INFO,
+/// the descriptor is that of no frame, or a copy is refused.
 pub fn an_end_resets_itself_without_a_packet_for_a_slot()
     ensures { (shape : NetShape) (events : List PortEvent) (s : PortState) → IsNetShape shape → Run PortStep (fresh_port shape) events s
         → Lawful OwnResetAt after (no_events shape) events }
@@ -37,7 +37,7 @@ pub fn a_tick_is_calm_where_the_port_is_finished()
 {}
 
 /// Along every run of a port, forged or not, an end is idle only where nothing waits for it. In session it answered each
-/// DRING_DATA INFO, and published each frame; the switch's end may have published as many as its ring has slots. Where
+/// DRING_DATA INFO and MCAST_INFO, and published each frame; the switch's end may have published as many as its ring has slots. Where
 /// some aren't acknowledged it said an INFO behind which no ACK came. A guest told its groups as they are, or no answer
 /// came yet.
 pub fn an_idle_end_of_a_port_has_nothing_to_do()

@@ -49,7 +49,8 @@ pub fn no_frame_is_left_where_both_ends_are_idle()
 {}
 
 /// On a port that nobody forged, where nothing was lost since the queues were last emptied, no group is left untold
-/// where one end is idle directly after the other. The guest told all groups that it joined, and was answered.
+/// where one end is idle directly after the other. The guest told all groups that it joined, and was answered. The
+/// switch's end has exactly those, in their order.
 pub fn no_group_is_left_untold_where_both_ends_are_idle()
     ensures { (shape : NetShape) (events : List PortEvent) (s : PortState) → IsNetShape shape → Run PortStep (fresh_port shape) events s
         → Lawful NoneUntoldAt after (no_events shape) events }

@@ -3,7 +3,7 @@
 ghost use Rattle.std.specs.Prelude.{◌≡◌, ◌++◌, drop, List};
 ghost use Rattle.runs.specs.Lawful.{log_of, Lawful};
 ghost use Rattle.runs.specs.Run.{Run};
-ghost use Rattle.port_model.specs.FrameLaws.{AcknowledgesAt, AdmissionAt, AnnouncesAt, LostAt, PublishedAt, SeesAt, TakingAt};
+ghost use Rattle.port_model.specs.FrameLaws.{AcknowledgesAt, AdmissionAt, AnnouncesAt, AsksAt, LostAt, PublishedAt, SeesAt, TakingAt};
 ghost use Rattle.port_model.specs.NetLaneState.{IsNetShape, NetShape};
 ghost use Rattle.port_model.specs.PortLog.{after, no_events};
 ghost use Rattle.port_model.specs.PortState.{fresh_port, PortEvent, PortState, PortStep};
@@ -45,15 +45,23 @@ pub fn no_ack_goes_beyond_what_is_published()
         → Lawful SeesAt after (no_events shape) events }
 {}
 
-/// Along every run of a port, forged or not, an end takes a frame only in an open session. There the DRING_DATA INFO that
-/// it took are one more than the DRING_DATA ACK that it said.
+/// Along every run of a port, forged or not, the DRING_DATA INFO that an end takes in a session have the numbers 1, 2 and
+/// so on. Each begins at the slot of the frame that the end takes next, and names no end or a slot of the ring. The end
+/// answered the one before.
+pub fn each_announcement_that_is_taken_is_the_next()
+    ensures { (shape : NetShape) (events : List PortEvent) (s : PortState) → IsNetShape shape → Run PortStep (fresh_port shape) events s
+        → Lawful AsksAt after (no_events shape) events }
+{}
+
+/// Along every run of a port, forged or not, a frame that an end takes has 14 to 1,514 bytes. An end takes one only in an
+/// open session. There the DRING_DATA INFO that it took are one more than the DRING_DATA ACK that it said.
 pub fn a_frame_is_taken_while_an_announcement_waits()
     ensures { (shape : NetShape) (events : List PortEvent) (s : PortState) → IsNetShape shape → Run PortStep (fresh_port shape) events s
         → Lawful TakingAt after (no_events shape) events }
 {}
 
-/// Along every run of a port, forged or not, each DRING_DATA ACK that an end says in a session has state 2. It names the
-/// slots of the frames that the end took since its ACK before, of which there is one at least.
+/// Along every run of a port, forged or not, each DRING_DATA ACK that an end says in a session has state 2, and the number
+/// of the INFO that it answers. It names the slots of the frames that the end took since its ACK before, of which there is one at least.
 pub fn each_ack_names_the_frames_taken_since_the_last()
     ensures { (shape : NetShape) (events : List PortEvent) (s : PortState) → IsNetShape shape → Run PortStep (fresh_port shape) events s
         → Lawful AcknowledgesAt after (no_events shape) events }

@@ -6,3 +6,5 @@ pub mod FramesTaken
 pub mod FramesKept
 pub mod OneStep
 pub mod SomeStep
+pub mod SlotsLooked
+pub mod GroupSets

@@ -1,9 +1,20 @@
 -- What happened to an end of a port: the frames that it was given, and its sessions, counted without bound.
-use Rattle.std.specs.Prelude.{ℕ, ◌+◌, ◌-◌, Bool, true, false, List, [], ◌∷◌, ◌++◌, length, Option, Some, None}
-use Rattle.channel_model.specs.Messages.{end_of, start_of}
+use Rattle.std.specs.Prelude.{ℕ, ◌+◌, ◌-◌, ◌%◌, Bool, true, false, List, [], ◌∷◌, ◌++◌, length, Option, Some, None}
+use Rattle.channel_model.specs.Messages.{end_of, start_of, subtype_of}
 use Rattle.dring.specs.Slots.{range_length}
 use Rattle.port_model.specs.Groups.{groups_after}
-use Rattle.port_model.specs.Spoken.{GroupsAck, GroupsInfo, Other, RangeAck, RangeInfo, Spoken, addresses_of, count_of, set_of, seven_of, spoken}
+use Rattle.port_model.specs.Spoken.{GroupsAck, GroupsInfo, GroupsNack, Other, RangeAck, RangeInfo, Spoken, addresses_of, count_of, set_of, seven_of, spoken}
+
+-- what an MCAST_INFO says: its subtype, 1 INFO, 2 ACK, 4 NACK; its set and its count, each one byte; its seven addresses
+pub record GroupsFields : Type 0 where
+  pub subtype : ℕ
+  pub set : ℕ
+  pub count : ℕ
+  pub seven : List (List ℕ)
+
+abbrev pub groups_fields : List ℕ → GroupsFields
+groups_fields message =
+    record { subtype = subtype_of message; set = set_of message % 256; count = count_of message % 256; seven = seven_of message }
 
 -- the open session
 pub record SessionLog : Type 0 where
@@ -23,8 +34,9 @@ pub record SessionLog : Type 0 where
   -- the addresses of the last MCAST_INFO that it said, and that it was answered
   pub membership : Option (List (List ℕ))
   pub told : Bool
-  -- the list that it was told
+  -- the list that it was told, and the answer that it owes to the MCAST_INFO that it took
   pub groups : List (List ℕ)
+  pub owed : Option GroupsFields
 
 -- a session that it opened: its sid, how many frames it had published before, and how many it published in it
 pub record OpenedLog : Type 0 where
@@ -66,6 +78,7 @@ opened_log sid = record {
   membership = None;
   told = false;
   groups = [];
+  owed = None;
 }
 
 -- THE SESSION after a message that was said whole, and after one that was heard
@@ -73,12 +86,24 @@ abbrev pub said_kind : Spoken → List ℕ → SessionLog → SessionLog
 said_kind RangeInfo message s = record s { infos = s.infos + 1; asking = true }
 said_kind RangeAck message s = record s { acks = s.acks + 1; answered = s.taken }
 said_kind GroupsInfo message s = record s { membership = Some (addresses_of message); told = false }
-said_kind GroupsAck message s = s
+said_kind GroupsAck message s = record s { owed = None }
+said_kind GroupsNack message s = record s { owed = None }
 said_kind Other message s = s
 
 abbrev pub list_after : Option (List (List ℕ)) → List (List ℕ) → List (List ℕ)
 list_after None groups = groups
 list_after (Some behind) groups = behind
+
+-- the same fields, agreed to where the list comes out
+abbrev pub answer_code : Option (List (List ℕ)) → ℕ
+answer_code None = 4
+answer_code (Some behind) = 2
+
+abbrev pub answer_to : List ℕ → Option (List (List ℕ)) → GroupsFields
+answer_to message behind = record (groups_fields message) { subtype = answer_code behind }
+
+abbrev pub hears_groups : List ℕ → Option (List (List ℕ)) → SessionLog → SessionLog
+hears_groups message behind s = record s { groups = list_after behind s.groups; owed = Some (answer_to message behind) }
 
 abbrev pub range_of : ℕ → List ℕ → ℕ
 range_of slots message = range_length slots (start_of message) (end_of message)
@@ -87,8 +112,9 @@ abbrev pub heard_kind : ℕ → Spoken → List ℕ → SessionLog → SessionLo
 heard_kind slots RangeInfo message s = record s { asked = s.asked + 1 }
 heard_kind slots RangeAck message s = record s { seen = s.seen + range_of slots message; asking = false }
 heard_kind slots GroupsInfo message s =
-    record s { groups = list_after (groups_after (set_of message) (count_of message) (seven_of message) s.groups) s.groups }
+    hears_groups message (groups_after (set_of message) (count_of message) (seven_of message) s.groups) s
 heard_kind slots GroupsAck message s = record s { told = true }
+heard_kind slots GroupsNack message s = s
 heard_kind slots Other message s = s
 
 abbrev pub said_in : Option (List ℕ) → SessionLog → SessionLog

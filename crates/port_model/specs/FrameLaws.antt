@@ -4,21 +4,21 @@ use Rattle.ldc_queue.specs.declared.end.End.{End}
 use Rattle.ldc_queue.specs.declared.end.End.TheVariants.{A, B}
 use Rattle.vio_tag.specs.declared.cause.Cause.{Cause}
 use Rattle.vio_tag.specs.declared.cause.Cause.TheVariants as the_cause
-use Rattle.vnet_msg.specs.Frames.{is_frame_length}
+use Rattle.vnet_msg.specs.Frames.{IsFrame, is_frame_length}
 use Rattle.channel_model.specs.HandshakeOrder.{HandshakeOrder}
-use Rattle.channel_model.specs.Messages.{end_of, range_ended, seq_of, start_of}
+use Rattle.channel_model.specs.Messages.{end_of, ended_by, range_ended, range_in, seq_of, start_of}
 use Rattle.channel_model.specs.Ranges.{wrapped}
 use Rattle.channel_model.specs.Sayings.{half_heard, half_said}
 use Rattle.channel_model.specs.TranscriptLog.{TranscriptLog, hears, says, transcript_of}
 use Rattle.channel_model.specs.WireAt.{IsUp}
-use Rattle.port_model.specs.EndLog.{EndLog, SessionLog, held, lost_in, range_of}
+use Rattle.port_model.specs.EndLog.{EndLog, SessionLog, groups_fields, held, lost_in, range_of}
 use Rattle.port_model.specs.Groups.{is_in}
 use Rattle.port_model.specs.NetEndStep.{Already, BadLength, Frame, Full, Given, GroupsFull, Joined, Joining, Member, Published, Queued, Reset, Sent, Took}
 use Rattle.port_model.specs.NetEvent.{Asked, CalmTick, Gives, Joins, Steps, Ticked}
 use Rattle.port_model.specs.NetLaneState.{role_at}
 use Rattle.port_model.specs.PortLog.{PortLog, log_of_end}
 use Rattle.port_model.specs.PortState.{OnLane, PortEvent}
-use Rattle.port_model.specs.Spoken.{state_of}
+use Rattle.port_model.specs.Spoken.{GroupsAck, GroupsInfo, GroupsNack, Spoken, count_of, set_of, spoken, state_of}
 
 -- a session that is open; or where one is
 abbrev pub InSession : Option SessionLog → (SessionLog → Type 0) → Type 0
@@ -125,16 +125,31 @@ SeesAt l (OnLane (Steps e (Took packet opens))) =
     IfMessage (range_ended 2 (half_heard (transcript_of e l.transcript)) packet) (SeesPublished l.shape.slots s))
 SeesAt l _ = ⊤
 
--- 5. A FRAME is taken while an INFO that was taken isn't answered. The answer names the slots of those that were taken
--- since the answer before, of which there is one. A reset that a step gave without a packet comes then too, for a slot.
+-- An INFO that an end takes has the next number, begins at the slot of the next frame, and names no end or a slot of the
+-- ring; it answered the one before.
+pub record Asks (slots : ℕ) (s : SessionLog) (message : List ℕ) : Type 0 where
+  pub next : seq_of message ≡ wrapped (s.asked + 1)
+  pub begins : start_of message ≡ s.taken % slots
+  pub ends : (end_of message ≡ 0xffffffff) ⊎ (end_of message < slots)
+  pub rests : s.asked ≡ s.acks
+
+abbrev pub AsksAt : PortLog → PortEvent → Type 0
+AsksAt l (OnLane (Steps e (Took packet opens))) =
+    IfSession (log_of_end e l).session (λ (s : SessionLog).
+    IfMessage (range_ended 1 (half_heard (transcript_of e l.transcript)) packet) (Asks l.shape.slots s))
+AsksAt l _ = ⊤
+
+-- 5. A FRAME of 14 to 1,514 bytes is taken while an INFO that was taken isn't answered. The answer has the number of that
+-- INFO, and names the slots of those that were taken since the answer before, of which there is one. A reset that a step gave without a packet comes then too, for a slot.
 abbrev pub IsActive : SessionLog → Type 0
 IsActive s = s.asked ≡ s.acks + 1
 
 abbrev pub TakingAt : PortLog → PortEvent → Type 0
-TakingAt l (OnLane (Steps e (Frame frame))) = InSession (log_of_end e l).session IsActive
+TakingAt l (OnLane (Steps e (Frame frame))) = IsFrame frame × InSession (log_of_end e l).session IsActive
 TakingAt l _ = ⊤
 
 pub record Acknowledges (slots : ℕ) (s : SessionLog) (message : List ℕ) : Type 0 where
+  pub seq : seq_of message ≡ wrapped s.asked
   pub state : state_of message ≡ 2
   pub begins : start_of message ≡ s.answered % slots
   pub ends : end_of message ≡ (s.taken - 1) % slots
@@ -146,16 +161,57 @@ AcknowledgesAt l (OnLane (Steps e (Sent packet opens))) =
     IfMessage (range_ended 2 (half_said (transcript_of e l.transcript)) packet) (Acknowledges l.shape.slots s))
 AcknowledgesAt l _ = ⊤
 
-abbrev pub SlotCause : Cause → Type 0
-SlotCause (the_cause.NotReady slot state) = state ≢ 2
-SlotCause (the_cause.Frame size count) = (size < 14) ⊎ ((1514 < size) ⊎ ((count < 1) ⊎ (3 < count)))
-SlotCause (the_cause.Copy fault) = (1 ≤ fault) × (fault ≤ 6)
-SlotCause _ = ⊥
+abbrev pub SlotCause : (slots : ℕ) → Cause → SessionLog → Type 0
+SlotCause slots (the_cause.NotReady slot state) s = (slot ≡ s.taken % slots) × (s.taken ≡ s.answered) × (state ≢ 2)
+SlotCause slots (the_cause.Frame size count) s = (size < 14) ⊎ ((1514 < size) ⊎ ((count < 1) ⊎ (3 < count)))
+SlotCause slots (the_cause.Copy fault) s = (1 ≤ fault) × (fault ≤ 6)
+SlotCause slots _ s = ⊥
 
-abbrev pub OwnReset : EndLog → Cause → Option (List ℕ) → Type 0
-OwnReset l cause None = SlotCause cause × InSession l.session IsActive
-OwnReset l cause (Some packet) = ⊤
+abbrev pub SlotResets : (slots : ℕ) → Cause → SessionLog → Type 0
+SlotResets slots cause s = SlotCause slots cause s × IsActive s
+
+abbrev pub OwnReset : (slots : ℕ) → EndLog → Cause → Option (List ℕ) → Type 0
+OwnReset slots l cause None = InSession l.session (SlotResets slots cause)
+OwnReset slots l cause (Some packet) = ⊤
 
 abbrev pub OwnResetAt : PortLog → PortEvent → Type 0
-OwnResetAt l (OnLane (Steps e (Reset cause packet lost))) = OwnReset (log_of_end e l) cause packet
+OwnResetAt l (OnLane (Steps e (Reset cause packet lost))) = OwnReset l.shape.slots (log_of_end e l) cause packet
 OwnResetAt l _ = ⊤
+
+-- An ACK for which an end resets itself begins at its first frame that isn't acknowledged and goes no further than what is
+-- published. It names the slot, which isn't DONE, by one of its turns.
+pub record NamesUndone (slots slot state : ℕ) (s : SessionLog) (message : List ℕ) : Type 0 where
+  pub begins : start_of message ≡ s.seen % slots
+  pub within : s.seen + range_of slots message ≤ s.published
+  pub turn : ℕ
+  pub named : turn < range_of slots message
+  pub slot_is : slot ≡ (s.seen + turn) % slots
+  pub state_is : state ≢ 4
+
+abbrev pub SomeMessage : Option (List ℕ) → (List ℕ → Type 0) → Type 0
+SomeMessage None Holds = ⊥
+SomeMessage (Some message) Holds = Holds message
+
+abbrev pub ended_in : List ℕ → Option (List ℕ) → Option (List ℕ)
+ended_in half None = None
+ended_in half (Some packet) = ended_by half packet
+
+abbrev pub UndoneAt : PortLog → PortEvent → Type 0
+UndoneAt l (OnLane (Steps e (Reset (the_cause.NotDone slot state) packet lost))) =
+    InSession (log_of_end e l).session (λ (s : SessionLog).
+    SomeMessage (range_in 2 (ended_in (half_heard (transcript_of e l.transcript)) packet)) (NamesUndone l.shape.slots slot state s))
+UndoneAt l _ = ⊤
+
+-- OF GROUPS an end says its own by set 1, seven at most; and the answer that it owes: the fields that it took, agreed to
+-- exactly where a list came out
+abbrev pub SpeaksOfGroups : Spoken → SessionLog → List ℕ → Type 0
+SpeaksOfGroups GroupsInfo s message = (set_of message ≡ 1) × (count_of message ≤ 7)
+SpeaksOfGroups GroupsAck s message = s.owed ≡ Some (groups_fields message)
+SpeaksOfGroups GroupsNack s message = s.owed ≡ Some (groups_fields message)
+SpeaksOfGroups _ s message = ⊤
+
+abbrev pub GroupsSaidAt : PortLog → PortEvent → Type 0
+GroupsSaidAt l (OnLane (Steps e (Sent packet opens))) =
+    IfSession (log_of_end e l).session (λ (s : SessionLog).
+    IfMessage (ended_by (half_said (transcript_of e l.transcript)) packet) (λ (message : List ℕ). SpeaksOfGroups (spoken message) s message))
+GroupsSaidAt l _ = ⊤

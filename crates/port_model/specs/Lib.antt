@@ -1,10 +1,12 @@
 pub mod Offers
 pub mod Groups
+pub mod GroupSets
 pub mod NetEndState
 pub mod NetEndRule
 pub mod Fetching
 pub mod NetEndPutting
 pub mod NetEndTaking
+pub mod SlotsLooked
 pub mod NetEndStep
 pub mod NetLaneState
 pub mod NetEvent

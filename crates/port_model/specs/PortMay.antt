@@ -5,7 +5,7 @@ use Rattle.vnet_msg.specs.Frames.{memory_pages}
 use Rattle.channel_model.specs.ResetSays.{WireResetAt}
 use Rattle.channel_model.specs.WireAt.{Sizes, WireAnswersAt, WireGapAt, WireHeardAt, WireSaidAt, WireTableAt, WireUnforgedAt}
 use Rattle.channel_model.specs.WireEvent.{WireEvent}
-use Rattle.port_model.specs.FrameLaws.{AcknowledgesAt, AdmissionAt, AnnouncesAt, JoiningAt, LostAt, OpeningsAt, OwnResetAt, PublishedAt, SeesAt, TakingAt, TickAt, WorksAt}
+use Rattle.port_model.specs.FrameLaws.{AcknowledgesAt, AdmissionAt, AnnouncesAt, AsksAt, GroupsSaidAt, JoiningAt, LostAt, OpeningsAt, OwnResetAt, PublishedAt, SeesAt, TakingAt, TickAt, UndoneAt, WorksAt}
 use Rattle.port_model.specs.NetEvent.{on_wire}
 use Rattle.port_model.specs.NetLaneState.{NetShape}
 use Rattle.port_model.specs.PortLog.{PortLog, after, no_events}
@@ -44,9 +44,12 @@ pub record PortMay (l : PortLog) (event : PortEvent) : Type 0 where
   pub lost : LostAt l event
   pub announces : AnnouncesAt l event
   pub sees : SeesAt l event
+  pub asks : AsksAt l event
   pub taking : TakingAt l event
   pub acknowledges : AcknowledgesAt l event
   pub own_resets : OwnResetAt l event
+  pub undone : UndoneAt l event
+  pub groups_said : GroupsSaidAt l event
   -- rest, and where nobody forges
   pub idle : IdleAt l event
   pub unforged : UnforgedAt l event

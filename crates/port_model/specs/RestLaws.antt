@@ -10,7 +10,7 @@ use Rattle.port_model.specs.NetEvent.{Steps}
 use Rattle.port_model.specs.PortLog.{PortLog, log_of_end}
 use Rattle.port_model.specs.PortState.{OnLane, PortEvent}
 
--- 6. AN IDLE END has nothing to take. In session it answered each INFO; it published each frame, or at the switch's end
+-- 6. AN IDLE END has nothing to take. In session it answered each INFO, of frames and of groups; it published each frame, or at the switch's end
 -- as many as its ring has slots; where some aren't acknowledged, it said an INFO behind which no ACK came; and a guest
 -- told its groups as they are, or no answer came yet.
 abbrev pub AllPublished : End → PortLog → SessionLog → Type 0
@@ -30,6 +30,7 @@ pub record IsIdle (e : End) (l : PortLog) (s : SessionLog) : Type 0 where
   pub published : AllPublished e l s
   pub announced : s.seen < s.published → s.asking ≡ true
   pub told : AllTold e l s
+  pub replied : s.owed ≡ None
 
 abbrev pub IdleAt : PortLog → PortEvent → Type 0
 IdleAt l (OnLane (Steps e Idle)) = (waiting_for e l.wire.wire ≡ []) × IfSession (log_of_end e l).session (IsIdle e l)

@@ -5,18 +5,20 @@ use Rattle.vio_tag.specs.Spelling.{addresses_at}
 use Rattle.channel_model.specs.Messages.{subtype_of}
 
 pub data Spoken : Type 0 where
-  -- DRING_DATA INFO and ACK, MCAST_INFO INFO and ACK
+  -- DRING_DATA INFO and ACK, MCAST_INFO INFO, ACK and NACK
   RangeInfo : Spoken
   RangeAck : Spoken
   GroupsInfo : Spoken
   GroupsAck : Spoken
+  GroupsNack : Spoken
   Other : Spoken
 
 abbrev pub range_spoken : ℕ → Spoken
 range_spoken subtype = if subtype == 1 then RangeInfo else if subtype == 2 then RangeAck else Other
 
 abbrev pub groups_spoken : ℕ → Spoken
-groups_spoken subtype = if subtype == 1 then GroupsInfo else if subtype == 2 then GroupsAck else Other
+groups_spoken subtype =
+    if subtype == 1 then GroupsInfo else if subtype == 2 then GroupsAck else if subtype == 4 then GroupsNack else Other
 
 -- by its envelope, DRING_DATA 0x0042 or MCAST_INFO 0x0101, and its subtype
 abbrev pub spoken_by : (envelope subtype : ℕ) → Spoken

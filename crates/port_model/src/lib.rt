@@ -10,4 +10,5 @@ mod step_laws;
 pub use frame_laws::frames_stand_in_order;
 pub use step_laws::{
     an_end_always_has_a_step, an_end_has_one_step, an_end_resets_itself_for_its_own_causes,
+    lists_of_groups_are_sets, slots_are_looked_at_in_ring_order,
 };

@@ -1,14 +1,18 @@
 // What follows from the definition of a step.
 
-ghost use Rattle.std.specs.Prelude.{◌≡◌, ℕ, List, Option};
+ghost use Rattle.std.specs.Prelude.{◌≡◌, ◌↔◌, ◌+◌, ◌%◌, ◌<◌, ◌&&◌, ◌||◌, ℕ, List, None, not, Option, slice_get, Some, true};
 ghost use Rattle.ldc_link.specs.declared.phase.Role.{Role};
 ghost use Rattle.vio_tag.specs.declared.cause.Cause.{Cause};
 ghost use Rattle.channel_model.specs.Seeing.{Seen};
 ghost use Rattle.cookie_copy.specs.Reach.{Reach};
 ghost use Rattle.channel_model.specs.WireEvent.{ByStep, giver};
+ghost use Rattle.port_model.specs.Groups.{groups_after, is_in, with_groups, without_groups};
+ghost use Rattle.port_model.specs.GroupSets.{ComesOf, IsRefused, Once};
 ghost use Rattle.port_model.specs.NetEndRule.{NetRule};
 ghost use Rattle.port_model.specs.NetEndState.{NetEndState};
 ghost use Rattle.port_model.specs.NetEndStep.{NetAnswer, NetEndStep, NetFails, NetLeft};
+ghost use Rattle.port_model.specs.NetEndTaking.{first_undone, slot_state};
+ghost use Rattle.port_model.specs.SlotsLooked.{FirstUndone};
 ghost use Rattle.port_model.specs.StepStands.{CanStep};
 
 /// An end that resets itself does so for a cause of its own: never for one that a script, a restart or a tick gives. So
@@ -30,4 +34,26 @@ pub fn an_end_has_one_step()
 pub fn an_end_always_has_a_step()
     ensures { (role : Role) (s : NetEndState) (at : Seen) (memory : List ℕ) (reach : Reach) → CanStep s at
         → (answer : NetAnswer) × (left : NetLeft) × NetEndStep role s at memory reach answer left }
+{}
+
+/// Lists of groups are sets of addresses. An address is in a list where it has a place there. A message of set 1 adds
+/// those that it names, each once, and one of set 0 takes them away. It is refused that names more than seven, whose set
+/// is another, or by which there would be more than seven.
+pub fn lists_of_groups_are_sets()
+    ensures among { (groups : List (List ℕ)) (a : List ℕ) → (is_in groups a ≡ true) ↔ ((i : ℕ) × (slice_get groups i ≡ Some a)) }
+    ensures joined { (groups named : List (List ℕ)) (a : List ℕ) → is_in (with_groups groups named) a ≡ (is_in groups a || is_in named a) }
+    ensures left { (groups named : List (List ℕ)) (a : List ℕ) → is_in (without_groups groups named) a ≡ (is_in groups a && not (is_in named a)) }
+    ensures once { (groups named : List (List ℕ)) → Once groups → Once (with_groups groups named) }
+    ensures refused { (set count : ℕ) (seven groups : List (List ℕ)) → (groups_after set count seven groups ≡ None) ↔ IsRefused set count seven groups }
+    ensures comes { (set count : ℕ) (seven groups behind : List (List ℕ)) → groups_after set count seven groups ≡ Some behind
+        → ComesOf set count seven groups behind }
+{}
+
+/// Where an end looks for a slot that isn't DONE, it looks at so many slots in the order of the ring, from a number on.
+/// Either each is DONE. Or it finds one that isn't, with its state, and each before it is DONE.
+pub fn slots_are_looked_at_in_ring_order()
+    ensures none { (slots : ℕ) (memory : List ℕ) (number count i : ℕ) → first_undone slots memory number count ≡ None → i < count
+        → slot_state ((number + i) % slots) memory ≡ 4 }
+    ensures first { (slots : ℕ) (memory : List ℕ) (number count : ℕ) (cause : Cause) → first_undone slots memory number count ≡ Some cause
+        → FirstUndone slots memory number count cause }
 {}
