@@ -11,6 +11,7 @@ pub mod Finishing
 pub mod Moving
 pub mod LaneCounts
 pub mod LaneFronts
+pub mod EntryRuns
 pub mod Places
 pub mod BothFronts
 pub mod RoundsMade

@@ -94,12 +94,21 @@ module _ {S V : Type 0} (K : LaneKind S V) where
     step = subst (AllStep K 0 lanes k event) (sym is) (set_steps 0 k k lanes s event t (λ i. nothing.gives i event) (own_place k) there step);
   }
 
-module _ {S V E : Type 0} (K : LaneKind S V) (N : Entries V E) (said : ℕ → E → List V) (reads : Reads K N said) (silent : IsSilent K) where
-  -- ONE EVENT
-  pub silent_run : (own : Bool) (j : ℕ) (s : S) (event : V) (t : S) → K.is_silent event ≡ true → Run K.Step s (own_or own event (K.gets j event)) t → s ≡ t
+-- A SILENT EVENT leaves all lanes as they were
+module _ {S V : Type 0} (K : LaneKind S V) (silent : IsSilent K) where
+  silent_run : (own : Bool) (j : ℕ) (s : S) (event : V) (t : S) → K.is_silent event ≡ true → Run K.Step s (own_or own event (K.gets j event)) t → s ≡ t
   silent_run true j s event t is run = silent.same s event run.0 run.1 is ∙ run.2
   silent_run false j s event t is run = subst (λ (l : List V). Run K.Step s l t) (silent.gives j event is) run
 
+  pub same_lanes : (j k : ℕ) (lanes : List S) (event : V) (behind : List S) → K.is_silent event ≡ true → AllStep K j lanes k event behind → lanes ≡ behind
+  same_lanes j k [] event [] is step = refl
+  same_lanes j k (s ∷ lanes) event (t ∷ behind) is step =
+      ap (λ (x : S). x ∷ lanes) (silent_run (j == k) j s event t is step.0) ∙ ap (λ (l : List S). t ∷ l) (same_lanes (j + 1) k lanes event behind is step.1)
+  same_lanes j k [] event (t ∷ behind) is step = absurd step
+  same_lanes j k (s ∷ lanes) event [] is step = absurd step
+
+module _ {S V E : Type 0} (K : LaneKind S V) (N : Entries V E) (said : ℕ → E → List V) (reads : Reads K N said) (silent : IsSilent K) where
+  -- ONE EVENT
   told_run : (j k : ℕ) (s : S) (event : V) (t : S) → Run K.Step s (own_or (j == k) event (K.gets j event)) t → Run K.Step s (happened said j (N.of_lane k event ∷ [])) t
   told_run j k s event t run =
       subst (λ (l : List V). Run K.Step s l t) (sym (append-nil (said j (N.of_lane k event)) ∙ reads.of_lane j k event)) run
@@ -113,7 +122,7 @@ module _ {S V E : Type 0} (K : LaneKind S V) (N : Entries V E) (said : ℕ → E
 
   lane_moves : (quiet : Bool) (j k : ℕ) (s : S) (event : V) (t : S) → K.is_silent event ≡ quiet → Run K.Step s (own_or (j == k) event (K.gets j event)) t
       → Run K.Step s (happened said j (if quiet then [] else N.of_lane k event ∷ [])) t
-  lane_moves true j k s event t is run = silent_run (j == k) j s event t is run
+  lane_moves true j k s event t is run = silent_run K silent (j == k) j s event t is run
   lane_moves false j k s event t is run = told_run j k s event t run
 
   event_moves : (j k : ℕ) (lanes : List S) (event : V) (behind : List S) → AllStep K j lanes k event behind

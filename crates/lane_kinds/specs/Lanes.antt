@@ -41,6 +41,11 @@ pub record StepOf {S V : Type 0} (K : LaneKind S V) (k : ℕ) (lanes : List S) (
   pub sees : K.Sees lanes k event
   pub step : AllStep K 0 lanes k event behind
 
+-- and the lane is one of them
+pub record EntryOf {S V : Type 0} (K : LaneKind S V) (k : ℕ) (lanes : List S) (event : V) (behind : List S) : Type 0 where
+  pub within : k < length lanes
+  pub step : StepOf K k lanes event behind
+
 -- A TURN of a lane; and turns, from the lane with this number on
 pub record MakesTurn {S V : Type 0} (K : LaneKind S V) (k : ℕ) (lanes : List S) (events : List V) (behind : List S) : Type 0 where
   pub of_turn : K.IsTurn events

@@ -1,6 +1,6 @@
 -- A condition on each entry of a part. Each entry of a line's part has it where each step of an end and each tick has it, and what may come of requests and calls.
 -- In a settle the names of lanes that are left over must have it too, and its answer.
-use Rattle.std.proofs.Common.{◌≡◌, ℕ, ◌+◌, ◌<◌, List, [], ◌∷◌, ◌++◌, length, replicate, refl, sym, ◌∙◌, ap, subst, arith}
+use Rattle.std.proofs.Common.{◌≡◌, ℕ, ◌<◌, List, [], ◌∷◌, ◌++◌, length, replicate, refl, sym, ◌∙◌, ap, subst, arith}
 use Rattle.std.specs.Prelude.{⊤}
 use Rattle.ldc_queue.specs.declared.end.End.{End}
 use Rattle.vdisk_msg.specs.declared.request.Request.{Request}
