@@ -6,7 +6,7 @@ use Rattle.std.specs.Prelude.{◌==◌, ◌&&◌, if◌then◌else◌}
 use Rattle.runs.specs.Run.{Run, run_append}
 use Rattle.lane_kinds.proofs.Lanes.{other_test}
 use Rattle.lane_kinds.specs.Both.{Skips}
-use Rattle.lane_kinds.specs.Lanes.{AllMove, AllStep, Entries, GivesNothing, IsSilent, LaneKind, MakeTurns, Reads, StepOf, TickAll, TicksIf, all_calm, gets_tick, happened, lanes_of, left_names, own_or, round_entries, tick_entries, turn_entries}
+use Rattle.lane_kinds.specs.Lanes.{AllMove, AllStep, EachOf, Entries, GivesNothing, IsSilent, LaneKind, MakeTurns, Reads, StepOf, TickAll, TicksIf, all_calm, gets_tick, happened, lanes_of, left_names, own_or, round_entries, tick_entries, turn_entries}
 use Rattle.lane_kinds.specs.Laws.{Ends, Leads}
 
 pub happened_both : {V E : Type 0} (said : ℕ → E → List V) (j : ℕ) (before behind : List E) → happened said j (before ++ behind) ≡ happened said j before ++ happened said j behind
@@ -16,6 +16,12 @@ happened_both {V} {E} said j (x ∷ before) behind =
 
 pub one_more : (k n m : ℕ) → k ≡ 0 + n → m ≡ n + 1 → k + 1 ≡ 0 + m
 one_more k n m place long = omega (arith, place, long)
+
+-- A CONDITION ON EACH holds of each
+pub each_there : {S : Type 0} (P : S → Type 0) (lanes : List S) (k : ℕ) (s : S) → EachOf P lanes → slice_get lanes k ≡ Some s → P s
+each_there P [] k s all there = absurd (cc there)
+each_there P (x ∷ lanes) zero s all there = let same : x ≡ s = cc there in subst P same all.0
+each_there P (x ∷ lanes) (suc k) s all there = each_there P lanes k s all.1 there
 
 -- WHAT A PART SAYS of the lanes
 module _ {S V E : Type 0} (Step : S → V → S → Type 0) (said : ℕ → E → List V) where
@@ -38,6 +44,25 @@ module _ {S V E : Type 0} (Step : S → V → S → Type 0) (said : ℕ → E �
   both_move j [] (m ∷ between) behind one two first second = absurd first
   both_move j (s ∷ lanes) [] behind one two first second = absurd first
   both_move j (s ∷ lanes) (m ∷ between) [] one two first second = absurd second
+
+  -- a lane among those that were moved
+  pub lane_moved : (j k n : ℕ) (lanes : List S) (part : List E) (behind : List S) (s t : S) → n ≡ j + k → AllMove Step said j lanes part behind → slice_get lanes k ≡ Some s
+      → slice_get behind k ≡ Some t → Run Step s (happened said n part) t
+  lane_moved j k n [] part behind s t is moves there after = absurd (cc there)
+  lane_moved j k n (x ∷ lanes) part [] s t is moves there after = absurd moves
+  lane_moved j zero n (x ∷ lanes) part (y ∷ behind) s t is moves there after =
+      let here : j ≡ n = omega (arith, is) in
+      let before : x ≡ s = cc there in
+      let now : y ≡ t = cc after in
+      subst (λ (i : ℕ). Run Step s (happened said i part) t) here
+      (subst (λ (l : S). Run Step l (happened said j part) t) before (subst (λ (l : S). Run Step x (happened said j part) l) now moves.0))
+  lane_moved j (suc k) n (x ∷ lanes) part (y ∷ behind) s t is moves there after = lane_moved (j + 1) k n lanes part behind s t (omega (arith, is)) moves.1 there after
+
+  pub many_moved : (j : ℕ) (lanes : List S) (part : List E) (behind : List S) → AllMove Step said j lanes part behind → length behind ≡ length lanes
+  many_moved j [] part [] moves = refl
+  many_moved j (s ∷ lanes) part (t ∷ behind) moves = ap suc (many_moved (j + 1) lanes part behind moves.1)
+  many_moved j [] part (t ∷ behind) moves = absurd moves
+  many_moved j (s ∷ lanes) part [] moves = absurd moves
 
   pub none_both : (j : ℕ) (one two : List E) → happened said j one ≡ [] → happened said j two ≡ [] → happened said j (one ++ two) ≡ []
   none_both j one two first second = happened_both said j one two ∙ ap (λ (l : List V). l ++ happened said j two) first ∙ second

@@ -204,6 +204,11 @@ EachMarked P [] [] = ⊤
 EachMarked P (s ∷ lanes) (had ∷ marks) = P s had × EachMarked P lanes marks
 EachMarked P _ _ = ⊥
 
+-- a condition on each with its number, from this one on
+abbrev pub EachAt : {S : Type 0} → (ℕ → S → Type 0) → ℕ → List S → Type 0
+EachAt P j [] = ⊤
+EachAt P j (s ∷ lanes) = P j s × EachAt P (j + 1) lanes
+
 -- it is finished, or had its tick; and where nobody forged it, it is finished, also beside lanes that somebody forged
 pub record IsAtRest {S V : Type 0} (K : LaneKind S V) (Unforged : S → Type 0) (s : S) (had : Bool) : Type 0 where
   pub ticked : (K.waits_on s ≡ false) ⊎ (had ≡ true)
