@@ -244,6 +244,16 @@ module _ {S V E : Type 0} (K : LaneKind S V) (N : Entries V E) (k : ℕ) (stuck 
     answer = laws.answer;
   }
 
+-- THE LANES STAY as many
+module _ {S V : Type 0} (K : LaneKind S V) where
+  pub run_many : (k : ℕ) (lanes : List S) (events : List V) (behind : List S) → Run (StepOf K k) lanes events behind → length behind ≡ length lanes
+  run_many k lanes [] behind run = ap (λ (l : List S). length l) (sym run)
+  run_many k lanes (event ∷ events) behind run = run_many k run.0 events behind run.2 ∙ as_many K 0 k lanes event run.0 run.1.step
+
+  pub turns_many : (k : ℕ) (lanes : List S) (turns : List (List V)) (behind : List S) → MakeTurns K k lanes turns behind → length behind ≡ length lanes
+  turns_many k lanes [] behind made = ap (λ (l : List S). length l) (sym made)
+  turns_many k lanes (r ∷ turns) behind made = turns_many (k + 1) made.0 turns behind made.2 ∙ run_many k lanes r made.0 made.1.run
+
 -- NAMES
 module _ {S V E : Type 0} (K : LaneKind S V) (N : Entries V E) where
   loud_here : (quiet waits more : Bool) (x : E) (rest : List E) → (quiet && more) ≡ false → (more ≡ false → 1 ≤ length rest)
@@ -258,16 +268,8 @@ module _ {S V E : Type 0} (K : LaneKind S V) (N : Entries V E) where
   loud_named k (r ∷ turns) (s ∷ lanes) long loud =
       loud_here (all_calm K r) (K.waits_on s) (are_still K turns) (N.left_over k) (left_names K N (k + 1) turns lanes) loud (λ more. loud_named (k + 1) turns lanes (omega (arith, long)) more)
 
-  pub run_many : (k : ℕ) (lanes : List S) (events : List V) (behind : List S) → Run (StepOf K k) lanes events behind → length behind ≡ length lanes
-  run_many k lanes [] behind run = ap (λ (l : List S). length l) (sym run)
-  run_many k lanes (event ∷ events) behind run = run_many k run.0 events behind run.2 ∙ as_many K 0 k lanes event run.0 run.1.step
-
-  pub turns_many : (k : ℕ) (lanes : List S) (turns : List (List V)) (behind : List S) → MakeTurns K k lanes turns behind → length behind ≡ length lanes
-  turns_many k lanes [] behind made = ap (λ (l : List S). length l) (sym made)
-  turns_many k lanes (r ∷ turns) behind made = turns_many (k + 1) made.0 turns behind made.2 ∙ run_many k lanes r made.0 made.1.run
-
   round_many : (lanes : List S) (turns : List (List V)) (behind : List S) → MakeRound K lanes turns behind → length turns ≡ length behind
-  round_many lanes turns behind made = made.many ∙ sym (turns_many 0 lanes turns behind made.turns_made)
+  round_many lanes turns behind made = made.many ∙ sym (turns_many K 0 lanes turns behind made.turns_made)
 
   module _ (Reached Unforged Lossless : S → Type 0) (laws : LaneRests K Reached Unforged Lossless) (waits : TickWaits K Reached) where
     named_where : (quiet waiting : Bool) (x : E) (rest : List E) → waiting ≡ true → 1 ≤ length ((if quiet && (if waiting then false else true) then [] else x ∷ []) ++ rest)

@@ -86,7 +86,7 @@ module _ {S V E : Type 0} (K : LaneKind S V) (N : Entries V E) where
     steps = up.steps ++ r ∷ [];
     made = turns_more 0 k start up.steps w r v (place_is k (length up.steps) up.many) up.made turn;
     many = one_longer k (length (up.steps ++ r ∷ [])) (length up.steps) (length-append up.steps (r ∷ [])) up.many;
-    within = next_within k (length w) (length start) there (turns_many K N 0 start up.steps w up.made);
+    within = next_within k (length w) (length start) there (turns_many K 0 start up.steps w up.made);
     leaves = ap₂ (λ (x y : List E). x ++ y) up.leaves leaves ∙ sym (entries_more 0 k up.steps r (place_is k (length up.steps) up.many));
     marks = ap (λ (n : ℕ). take n (slice_set quiet k calm)) (after_one k) ∙ take_set_one quiet k calm less ∙ ap (λ (l : List Bool). l ++ calm ∷ []) up.marks
         ∙ ap (λ (x : Bool). map (all_calm K) up.steps ++ x ∷ []) calm_is ∙ sym (map_both (all_calm K) up.steps (r ∷ []));
@@ -105,7 +105,7 @@ module _ {S V E : Type 0} (K : LaneKind S V) (N : Entries V E) where
   round_quiet k quiet start entries now up all is = marks_say up.steps ∙ ap all_true (sym up.marks) ∙ is
 
   pub round_many : (k : ℕ) (quiet : List Bool) (start : List S) (entries : List E) (now : List S) → RoundUpTo K N k quiet start entries now → length now ≡ length start
-  round_many k quiet start entries now up = turns_many K N 0 start up.steps now up.made
+  round_many k quiet start entries now up = turns_many K 0 start up.steps now up.made
 
   -- where memory is wanted, before the next lane's turn or within it
   same_within : (n k m : ℕ) → n ≡ k → k ≤ m → n ≤ m
@@ -135,7 +135,7 @@ module _ {S V E : Type 0} (K : LaneKind S V) (N : Entries V E) where
     within = same_within (length up.steps) k (length start) up.many up.within;
     begun = begun;
     run = subst (λ (n : ℕ). Run (StepOf K n) w begun v) (sym up.many) run;
-    next = inr (still_within (length up.steps) k (length w) (length start) up.many there (turns_many K N 0 start up.steps w up.made), begins);
+    next = inr (still_within (length up.steps) k (length w) (length start) up.many there (turns_many K 0 start up.steps w up.made), begins);
     is = ap₂ (λ (x y : List E). x ++ y) up.leaves (is ∙ ap (λ (n : ℕ). turn_entries K N n begun) (sym up.many));
   }
 

@@ -11,6 +11,8 @@ pub mod Finishing
 pub mod Moving
 pub mod LaneCounts
 pub mod LaneFronts
+pub mod EntryRuns
+pub mod Ticked
 pub mod Places
 pub mod BothFronts
 pub mod RoundsMade

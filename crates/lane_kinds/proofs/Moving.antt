@@ -6,7 +6,7 @@ use Rattle.std.specs.Prelude.{◌==◌, ◌&&◌, if◌then◌else◌}
 use Rattle.runs.specs.Run.{Run, run_append}
 use Rattle.lane_kinds.proofs.Lanes.{other_test}
 use Rattle.lane_kinds.specs.Both.{Skips}
-use Rattle.lane_kinds.specs.Lanes.{AllMove, AllStep, Entries, GivesNothing, IsSilent, LaneKind, MakeTurns, Reads, StepOf, TickAll, TicksIf, all_calm, gets_tick, happened, lanes_of, left_names, own_or, round_entries, tick_entries, turn_entries}
+use Rattle.lane_kinds.specs.Lanes.{AllMove, AllStep, EachOf, Entries, GivesNothing, IsSilent, LaneKind, MakeTurns, Reads, StepOf, TickAll, TicksIf, all_calm, gets_tick, happened, lanes_of, left_names, own_or, round_entries, tick_entries, turn_entries}
 use Rattle.lane_kinds.specs.Laws.{Ends, Leads}
 
 pub happened_both : {V E : Type 0} (said : ℕ → E → List V) (j : ℕ) (before behind : List E) → happened said j (before ++ behind) ≡ happened said j before ++ happened said j behind
@@ -16,6 +16,12 @@ happened_both {V} {E} said j (x ∷ before) behind =
 
 pub one_more : (k n m : ℕ) → k ≡ 0 + n → m ≡ n + 1 → k + 1 ≡ 0 + m
 one_more k n m place long = omega (arith, place, long)
+
+-- A CONDITION ON EACH holds of each
+pub each_there : {S : Type 0} (P : S → Type 0) (lanes : List S) (k : ℕ) (s : S) → EachOf P lanes → slice_get lanes k ≡ Some s → P s
+each_there P [] k s all there = absurd (cc there)
+each_there P (x ∷ lanes) zero s all there = let same : x ≡ s = cc there in subst P same all.0
+each_there P (x ∷ lanes) (suc k) s all there = each_there P lanes k s all.1 there
 
 -- WHAT A PART SAYS of the lanes
 module _ {S V E : Type 0} (Step : S → V → S → Type 0) (said : ℕ → E → List V) where
@@ -38,6 +44,25 @@ module _ {S V E : Type 0} (Step : S → V → S → Type 0) (said : ℕ → E �
   both_move j [] (m ∷ between) behind one two first second = absurd first
   both_move j (s ∷ lanes) [] behind one two first second = absurd first
   both_move j (s ∷ lanes) (m ∷ between) [] one two first second = absurd second
+
+  -- a lane among those that were moved
+  pub lane_moved : (j k n : ℕ) (lanes : List S) (part : List E) (behind : List S) (s t : S) → n ≡ j + k → AllMove Step said j lanes part behind → slice_get lanes k ≡ Some s
+      → slice_get behind k ≡ Some t → Run Step s (happened said n part) t
+  lane_moved j k n [] part behind s t is moves there after = absurd (cc there)
+  lane_moved j k n (x ∷ lanes) part [] s t is moves there after = absurd moves
+  lane_moved j zero n (x ∷ lanes) part (y ∷ behind) s t is moves there after =
+      let here : j ≡ n = omega (arith, is) in
+      let before : x ≡ s = cc there in
+      let now : y ≡ t = cc after in
+      subst (λ (i : ℕ). Run Step s (happened said i part) t) here
+      (subst (λ (l : S). Run Step l (happened said j part) t) before (subst (λ (l : S). Run Step x (happened said j part) l) now moves.0))
+  lane_moved j (suc k) n (x ∷ lanes) part (y ∷ behind) s t is moves there after = lane_moved (j + 1) k n lanes part behind s t (omega (arith, is)) moves.1 there after
+
+  pub many_moved : (j : ℕ) (lanes : List S) (part : List E) (behind : List S) → AllMove Step said j lanes part behind → length behind ≡ length lanes
+  many_moved j [] part [] moves = refl
+  many_moved j (s ∷ lanes) part (t ∷ behind) moves = ap suc (many_moved (j + 1) lanes part behind moves.1)
+  many_moved j [] part (t ∷ behind) moves = absurd moves
+  many_moved j (s ∷ lanes) part [] moves = absurd moves
 
   pub none_both : (j : ℕ) (one two : List E) → happened said j one ≡ [] → happened said j two ≡ [] → happened said j (one ++ two) ≡ []
   none_both j one two first second = happened_both said j one two ∙ ap (λ (l : List V). l ++ happened said j two) first ∙ second
@@ -94,12 +119,21 @@ module _ {S V : Type 0} (K : LaneKind S V) where
     step = subst (AllStep K 0 lanes k event) (sym is) (set_steps 0 k k lanes s event t (λ i. nothing.gives i event) (own_place k) there step);
   }
 
-module _ {S V E : Type 0} (K : LaneKind S V) (N : Entries V E) (said : ℕ → E → List V) (reads : Reads K N said) (silent : IsSilent K) where
-  -- ONE EVENT
-  pub silent_run : (own : Bool) (j : ℕ) (s : S) (event : V) (t : S) → K.is_silent event ≡ true → Run K.Step s (own_or own event (K.gets j event)) t → s ≡ t
+-- A SILENT EVENT leaves all lanes as they were
+module _ {S V : Type 0} (K : LaneKind S V) (silent : IsSilent K) where
+  silent_run : (own : Bool) (j : ℕ) (s : S) (event : V) (t : S) → K.is_silent event ≡ true → Run K.Step s (own_or own event (K.gets j event)) t → s ≡ t
   silent_run true j s event t is run = silent.same s event run.0 run.1 is ∙ run.2
   silent_run false j s event t is run = subst (λ (l : List V). Run K.Step s l t) (silent.gives j event is) run
 
+  pub same_lanes : (j k : ℕ) (lanes : List S) (event : V) (behind : List S) → K.is_silent event ≡ true → AllStep K j lanes k event behind → lanes ≡ behind
+  same_lanes j k [] event [] is step = refl
+  same_lanes j k (s ∷ lanes) event (t ∷ behind) is step =
+      ap (λ (x : S). x ∷ lanes) (silent_run (j == k) j s event t is step.0) ∙ ap (λ (l : List S). t ∷ l) (same_lanes (j + 1) k lanes event behind is step.1)
+  same_lanes j k [] event (t ∷ behind) is step = absurd step
+  same_lanes j k (s ∷ lanes) event [] is step = absurd step
+
+module _ {S V E : Type 0} (K : LaneKind S V) (N : Entries V E) (said : ℕ → E → List V) (reads : Reads K N said) (silent : IsSilent K) where
+  -- ONE EVENT
   told_run : (j k : ℕ) (s : S) (event : V) (t : S) → Run K.Step s (own_or (j == k) event (K.gets j event)) t → Run K.Step s (happened said j (N.of_lane k event ∷ [])) t
   told_run j k s event t run =
       subst (λ (l : List V). Run K.Step s l t) (sym (append-nil (said j (N.of_lane k event)) ∙ reads.of_lane j k event)) run
@@ -113,7 +147,7 @@ module _ {S V E : Type 0} (K : LaneKind S V) (N : Entries V E) (said : ℕ → E
 
   lane_moves : (quiet : Bool) (j k : ℕ) (s : S) (event : V) (t : S) → K.is_silent event ≡ quiet → Run K.Step s (own_or (j == k) event (K.gets j event)) t
       → Run K.Step s (happened said j (if quiet then [] else N.of_lane k event ∷ [])) t
-  lane_moves true j k s event t is run = silent_run (j == k) j s event t is run
+  lane_moves true j k s event t is run = silent_run K silent (j == k) j s event t is run
   lane_moves false j k s event t is run = told_run j k s event t run
 
   event_moves : (j k : ℕ) (lanes : List S) (event : V) (behind : List S) → AllStep K j lanes k event behind

@@ -41,6 +41,11 @@ pub record StepOf {S V : Type 0} (K : LaneKind S V) (k : ℕ) (lanes : List S) (
   pub sees : K.Sees lanes k event
   pub step : AllStep K 0 lanes k event behind
 
+-- and the lane is one of them
+pub record EntryOf {S V : Type 0} (K : LaneKind S V) (k : ℕ) (lanes : List S) (event : V) (behind : List S) : Type 0 where
+  pub within : k < length lanes
+  pub step : StepOf K k lanes event behind
+
 -- A TURN of a lane; and turns, from the lane with this number on
 pub record MakesTurn {S V : Type 0} (K : LaneKind S V) (k : ℕ) (lanes : List S) (events : List V) (behind : List S) : Type 0 where
   pub of_turn : K.IsTurn events
@@ -198,6 +203,11 @@ abbrev pub EachMarked : {S : Type 0} → (S → Bool → Type 0) → List S → 
 EachMarked P [] [] = ⊤
 EachMarked P (s ∷ lanes) (had ∷ marks) = P s had × EachMarked P lanes marks
 EachMarked P _ _ = ⊥
+
+-- a condition on each with its number, from this one on
+abbrev pub EachAt : {S : Type 0} → (ℕ → S → Type 0) → ℕ → List S → Type 0
+EachAt P j [] = ⊤
+EachAt P j (s ∷ lanes) = P j s × EachAt P (j + 1) lanes
 
 -- it is finished, or had its tick; and where nobody forged it, it is finished, also beside lanes that somebody forged
 pub record IsAtRest {S V : Type 0} (K : LaneKind S V) (Unforged : S → Type 0) (s : S) (had : Bool) : Type 0 where

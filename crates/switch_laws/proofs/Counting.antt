@@ -24,7 +24,7 @@ loud_moves : (k : ℕ) (event : SwitchEvent) → is_calm event ≡ false → 1 �
 loud_moves k (OnPort (OnLane (Steps e Blocked))) is = absurd (cc is)
 loud_moves k _ is = omega (arith)
 
-port_moves : LaneMoves ports of_ports moves
+pub port_moves : LaneMoves ports of_ports moves
 port_moves = record { silent_calm = silent_calm; loud = loud_moves; tick = λ k s. omega (arith) }
 
 pub runs_out_moving : (start : List PortState) (part : List SwitchEntry) (behind : List PortState) → RunsOut switch start part behind
@@ -37,7 +37,7 @@ step_none k j (OnPort (OnLane (Steps e answer))) own = refl
 step_none k j (Switched frame out full) own = refl
 step_none k j _ own = absurd own.1
 
-ticks : LaneTicks ports of_ports port_ticks
+pub ticks : LaneTicks ports of_ports port_ticks
 ticks = record { turn_steps = turn_steps; step = step_none; tick = λ k j s. refl; left = λ k j. refl; answer = λ k. refl }
 
 pub one_tick : (start : List PortState) (part : List SwitchEntry) (behind : List PortState) (k : ℕ) → SettlePart switch start part behind → sum_over (port_ticks k) part ≤ 1
@@ -80,7 +80,7 @@ turn_once k e j [] turn = absurd turn
 turn_once k e j (one ∷ []) turn = absurd turn
 turn_once k e j (one ∷ two ∷ three ∷ events) turn = absurd turn
 
-unsticks : (k : ℕ) (e : End) → LaneUnsticks ports of_ports k (port_stuck k e) (port_blocked k e) moves
+pub unsticks : (k : ℕ) (e : End) → LaneUnsticks ports of_ports k (port_stuck k e) (port_blocked k e) moves
 unsticks k e = record {
   moving = port_moves;
   most = stuck_most k e;

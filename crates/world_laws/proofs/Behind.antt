@@ -56,7 +56,7 @@ finished_by : (had : Bool) (s : LaneState) (r : LaneRound) (t : LaneState) → W
 finished_by had s r t at made quiet clean runs (inl finished) = finished
 finished_by had s r t at made quiet clean runs (inr ticked) = (quiet_finished s r t at.reached clean (at.whole ticked) runs made quiet).finished
 
-lane_ends : (had : Bool) (s : LaneState) (r : LaneRound) (t : LaneState) → Whole s had → CalmTurn disk_kind s r t → gets_tick t had ≡ false → EndsFinished t had
+pub lane_ends : (had : Bool) (s : LaneState) (r : LaneRound) (t : LaneState) → Whole s had → CalmTurn disk_kind s r t → gets_tick t had ≡ false → EndsFinished t had
 lane_ends had s r t at turn none =
     let made : MakesRound s r t = record { of_turn = turn.of_turn; run = turn.run } in
     let keeps : StepKeeps s t = round_keeps s r t made in

@@ -28,7 +28,7 @@ each_clean (s ∷ lanes) reached unforged = (record { reached = reached.0; unfor
 pub are_clean : (lanes : List LaneState) → Each IsReached lanes → Each IsUnforged lanes → AreClean lanes
 are_clean lanes reached unforged = record { few = tt; clean = each_clean lanes reached unforged }
 
-falls : Falls disks AreClean remaining_on
+pub falls : Falls disks AreClean remaining_on
 falls = all_fall disk_kind IsClean remaining disk_falls disk_entries
 
 pub keeps : Keeps disks (λ lanes marks. AreClean lanes)
@@ -41,7 +41,7 @@ lane_sum a b n p q one more = omega (arith, one, more)
 one_more : (b n m q : ℕ) → m ≡ n + 1 → b ≤ 69 * (n + 1) + 32 * q → b ≤ 69 * m + 32 * q
 one_more b n m q is most = omega (arith, is, most)
 
-remains_on_most : (lanes : List LaneState) → Each IsClean lanes → remaining_on lanes ≤ 69 * length lanes + 32 * pending_on lanes
+pub remains_on_most : (lanes : List LaneState) → Each IsClean lanes → remaining_on lanes ≤ 69 * length lanes + 32 * pending_on lanes
 remains_on_most [] all = omega (arith)
 remains_on_most (s ∷ lanes) all =
     let at = all.0.reached in

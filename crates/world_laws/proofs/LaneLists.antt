@@ -6,15 +6,14 @@ use Rattle.runs.specs.Run.{Run}
 use Rattle.disk_model.specs.DiskEvent.{DiskEvent}
 use Rattle.disk_model.specs.LaneState.{LaneState}
 use Rattle.disk_model.specs.LaneStep.{LaneStep}
-use Rattle.world_laws.specs.Along.{LanesMove, happened}
+use Rattle.lane_kinds.proofs.Moving as kind
+use Rattle.world_laws.specs.Along.{LanesMove, event_at, happened}
 use Rattle.world_laws.specs.Rounds.{Each}
 use Rattle.world_laws.specs.Settle.{OfLane, SettleEntry}
 
 -- A CONDITION ON EACH holds of each, and stays where one that has it is set
 pub each_there : (P : LaneState → Type 0) (lanes : List LaneState) (k : ℕ) (s : LaneState) → Each P lanes → slice_get lanes k ≡ Some s → P s
-each_there P [] k s all there = absurd (cc there)
-each_there P (x ∷ lanes) zero s all there = let same : x ≡ s = cc there in subst P same all.0
-each_there P (x ∷ lanes) (suc k) s all there = each_there P lanes k s all.1 there
+each_there P lanes k s all there = kind.each_there P lanes k s all there
 
 pub each_all : (P : LaneState → Type 0) (lanes : List LaneState) → ((k : ℕ) (s : LaneState) → slice_get lanes k ≡ Some s → P s) → Each P lanes
 each_all P [] all = tt
@@ -36,18 +35,7 @@ other_event j n event other = none_where (n == j) event (λ same. other (eqb-tru
 -- A LANE AMONG THOSE that were moved
 pub lane_moved : (j k n : ℕ) (lanes : List LaneState) (part : List SettleEntry) (behind : List LaneState) (s t : LaneState) → n ≡ j + k → LanesMove j lanes part behind
     → slice_get lanes k ≡ Some s → slice_get behind k ≡ Some t → Run LaneStep s (happened n part) t
-lane_moved j k n [] part behind s t is moves there after = absurd (cc there)
-lane_moved j k n (x ∷ lanes) part [] s t is moves there after = absurd moves
-lane_moved j zero n (x ∷ lanes) part (y ∷ behind) s t is moves there after =
-    let here : j ≡ n = omega (arith, is) in
-    let before : x ≡ s = cc there in
-    let now : y ≡ t = cc after in
-    subst (λ (i : ℕ). Run LaneStep s (happened i part) t) here
-    (subst (λ (l : LaneState). Run LaneStep l (happened j part) t) before (subst (λ (l : LaneState). Run LaneStep x (happened j part) l) now moves.0))
-lane_moved j (suc k) n (x ∷ lanes) part (y ∷ behind) s t is moves there after = lane_moved (j + 1) k n lanes part behind s t (omega (arith, is)) moves.1 there after
+lane_moved j k n lanes part behind s t is moves there after = kind.lane_moved LaneStep event_at j k n lanes part behind s t is moves there after
 
 pub many_moved : (j : ℕ) (lanes : List LaneState) (part : List SettleEntry) (behind : List LaneState) → LanesMove j lanes part behind → length behind ≡ length lanes
-many_moved j [] part [] moves = refl
-many_moved j (s ∷ lanes) part (t ∷ behind) moves = ap suc (many_moved (j + 1) lanes part behind moves.1)
-many_moved j [] part (t ∷ behind) moves = absurd moves
-many_moved j (s ∷ lanes) part [] moves = absurd moves
+many_moved j lanes part behind moves = kind.many_moved LaneStep event_at j lanes part behind moves

@@ -2,6 +2,7 @@
 use Rattle.std.specs.Prelude.{◌≡◌, ◌⊎◌, ℕ, ◌+◌, Bool, true, false, List, [], ◌∷◌, ⊤}
 use Rattle.runs.specs.Lawful.{log_of}
 use Rattle.runs.specs.Run.{Run}
+use Rattle.lane_kinds.specs.Lanes.{EachAt}
 use Rattle.lane_laws.specs.DiskLog.{after, nothing_yet}
 use Rattle.disk_model.specs.ClientState.{is_finished}
 use Rattle.disk_model.specs.DiskEvent.{DiskEvent}
@@ -27,8 +28,7 @@ pub record EndsIn (k : ℕ) (part : List SettleEntry) (t : LaneState) : Type 0 w
   pub whole : IsUnforged t → t.stopped ≡ false → t.wire.lossy ≡ false → HaveFinished t
 
 abbrev pub LanesEnd : ℕ → List SettleEntry → List LaneState → Type 0
-LanesEnd j part [] = ⊤
-LanesEnd j part (t ∷ behind) = EndsIn j part t × LanesEnd (j + 1) part behind
+LanesEnd j part behind = EachAt (λ k t. EndsIn k part t) j behind
 
 -- Both ends of a lane are still after its two steps, but for a stopped server's: in the log of whatever run led to it.
 abbrev pub IsStillBehind : LaneState → LaneRound → LaneState → Type 0

@@ -1,4 +1,5 @@
--- A settle over the lanes of disks: what their rounds and ticks leave in the journal, and the part that it gives.
+-- The entries of a settle over the lanes of disks and the ports of a switch. And a settle over disks: what their rounds and ticks leave in
+-- the journal, and the part that it gives.
 use Rattle.std.specs.Prelude.{ℕ, ◌+◌, ◌*◌, Bool, if◌then◌else◌, List, [], ◌∷◌, length}
 use Rattle.lane_kinds.specs.Lanes.{Entries}
 use Rattle.lane_kinds.specs.Lanes as lanes
@@ -6,14 +7,17 @@ use Rattle.lane_kinds.specs.Rounds.{Rounds}
 use Rattle.lane_kinds.specs.Settles as settle
 use Rattle.disk_model.specs.DiskEvent.{DiskEvent}
 use Rattle.disk_model.specs.LaneState.{LaneState}
+use Rattle.switch_laws.specs.Events.{SwitchEvent}
 use Rattle.world_laws.specs.DiskKind.{disk_kind, is_silent}
 use Rattle.world_laws.specs.Rounds.{LaneRound}
 
--- AN ENTRY of the part: an event of the lane with this number, or the answer of the settle
+-- AN ENTRY of the part: an event of the disk's lane with this number, or of the port with it; or the answer of the settle
 pub data SettleEntry : Type 0 where
   OfLane : (lane : ℕ) (event : DiskEvent) → SettleEntry
+  OfPort : (port : ℕ) (event : SwitchEvent) → SettleEntry
   Settled : SettleEntry
   Unsettled : (lane : ℕ) → SettleEntry
+  UnsettledPort : (port : ℕ) → SettleEntry
 
 abbrev pub disk_entries : Entries DiskEvent SettleEntry
 disk_entries = record { of_lane = OfLane; left_over = Unsettled; settled = Settled }

@@ -1,0 +1,4 @@
+pub mod Running
+pub mod Isolating
+pub mod Settling
+pub mod Resting

@@ -1,0 +1,4 @@
+pub mod Domain
+pub mod Along
+pub mod Frames
+pub mod Settling

@@ -1,0 +1,15 @@
+//! A world of disks and ports: the disks over one image, and beside them the ports of one switch. Here is what its
+//! journal says of each kind, what a settle over all of them does, and what each entry leaves of the others. It has no
+//! code.
+#![tactic(auto)]
+
+mod run_laws;
+mod settle_laws;
+
+pub use run_laws::{
+    an_entry_of_a_disk_leaves_all_other_lanes, an_entry_of_a_port_leaves_all_other_lanes,
+    each_kind_runs_by_the_one_journal, each_port_runs_by_its_events,
+};
+pub use settle_laws::{
+    a_settle_of_unforged_disks_and_ports_ends_settled, disks_and_ports_are_finished_behind_a_settle,
+};
