@@ -13,8 +13,15 @@ use Rattle.vio_io.specs.Stores.{IsUnitRange, KeepsOutside, ReadsRange, WritesRan
 use Rattle.disk_model.specs.ServerState.{Ends, Flushes, Gathers, Gives, Progress, Reads, Work, Writes}
 use Rattle.cookie_copy.specs.Reach.{Reach}
 use Rattle.disk_model.specs.ServerWork.{MovesIn, data_cookies, desc_of, gathers_next, length_of, or_ends, reads_next, unit_block}
-use Rattle.descriptor_work.specs.declared.answers.ServerOut.TheVariants as out
+use Rattle.descriptor_work.specs.declared.answers.StoreCall.{StoreCall}
+use Rattle.descriptor_work.specs.declared.answers.UnitCopy.{UnitCopy}
 use Rattle.descriptor_work.specs.Pieces.{PieceIn, PieceOn, StoredFor}
+
+abbrev copied : ℕ → Option CopyFault → UnitCopy
+copied unit fault = record { unit = unit; fault = fault }
+
+abbrev called : ℕ → ℕ → ℕ → Bool → StoreCall
+called operation block count failed = record { operation = operation; block = block; count = count; failed = failed }
 
 given_fault : (work : Work) (unit : ℕ) (bytes shown : List ℕ) (cookies : List Cookie) (reach : Reach) (fault : Option CopyFault)
     → cookies ≡ data_cookies work → shown ≡ bytes
@@ -29,7 +36,7 @@ pub piece_given : (work : Work) (unit : ℕ) (bytes shown new : List ℕ) (cooki
     → work.progress ≡ Gives unit bytes → cookies ≡ data_cookies work → shown ≡ bytes → next ≡ reads_next (desc_of work).size unit
     → first_copy_fault reach.both Write reach.table cookies (8192 * unit) (length shown) ≡ None
     → new ≡ moved_out reach.table reach.memory cookies (8192 * unit) shown
-    → PieceIn work reach (out.Moved unit None) (record work { progress = next }) new
+    → PieceIn work reach (copied unit None) (record work { progress = next }) new
 piece_given work unit bytes shown new cookies reach next is by held goes fault moved = record {
   next = next;
   moved = subst (λ (p : Progress). MovesIn p work reach unit None next new) (sym is) (
@@ -45,7 +52,7 @@ piece_given work unit bytes shown new cookies reach next is by held goes fault m
 pub piece_not_given : (work : Work) (unit : ℕ) (bytes shown new : List ℕ) (cookies : List Cookie) (reach : Reach) (why : CopyFault)
     → work.progress ≡ Gives unit bytes → cookies ≡ data_cookies work → shown ≡ bytes
     → first_copy_fault reach.both Write reach.table cookies (8192 * unit) (length shown) ≡ Some why → new ≡ reach.memory
-    → PieceIn work reach (out.Moved unit (Some why)) (record work { progress = Ends 22 }) new
+    → PieceIn work reach (copied unit (Some why)) (record work { progress = Ends 22 }) new
 piece_not_given work unit bytes shown new cookies reach why is by held fault kept = record {
   next = Ends 22;
   moved = subst (λ (p : Progress). MovesIn p work reach unit (Some why) (Ends 22) new) (sym is)
@@ -58,7 +65,7 @@ pub piece_gathered : (work : Work) (unit size : ℕ) (bytes : List ℕ) (cookies
     → work.progress ≡ Gathers unit → cookies ≡ data_cookies work → size ≡ length_of work unit
     → first_copy_fault reach.both Read reach.table cookies (8192 * unit) size ≡ None
     → bytes ≡ moved_in reach.table reach.memory cookies (8192 * unit) size
-    → PieceIn work reach (out.Moved unit None) (record work { progress = Writes unit bytes }) reach.memory
+    → PieceIn work reach (copied unit None) (record work { progress = Writes unit bytes }) reach.memory
 piece_gathered work unit size bytes cookies reach is by long fault moved =
     let next : Progress = Writes unit bytes in
     record {
@@ -77,7 +84,7 @@ piece_gathered work unit size bytes cookies reach is by long fault moved =
 pub piece_not_gathered : (work : Work) (unit size : ℕ) (cookies : List Cookie) (reach : Reach) (why : CopyFault)
     → work.progress ≡ Gathers unit → cookies ≡ data_cookies work → size ≡ length_of work unit
     → first_copy_fault reach.both Read reach.table cookies (8192 * unit) size ≡ Some why
-    → PieceIn work reach (out.Moved unit (Some why)) (record work { progress = Ends 22 }) reach.memory
+    → PieceIn work reach (copied unit (Some why)) (record work { progress = Ends 22 }) reach.memory
 piece_not_gathered work unit size cookies reach why is by long fault = record {
   next = Ends 22;
   moved = subst (λ (p : Progress). MovesIn p work reach unit (Some why) (Ends 22) reach.memory) (sym is) (
@@ -94,11 +101,11 @@ piece_not_gathered work unit size cookies reach why is by long fault = record {
 pub piece_read : (failed : Bool) (first unit block size count place : ℕ) (next : Progress) (work : Work) (told new : Option (List ℕ)) (gave : List ℕ)
     → next ≡ or_ends failed (Gives unit gave) → work.progress ≡ Reads unit → block ≡ unit_block work unit → size ≡ length_of work unit → count ≡ size / 512
     → place ≡ 512 * (first + block) → (failed ≡ false → length gave ≡ size) → (failed ≡ false → ReadsRange told place gave) → new ≡ told
-    → PieceOn first work told (out.Stored 1 block count failed) (record work { progress = next }) new
+    → PieceOn first work told (called 1 block count failed) (record work { progress = next }) new
 piece_read false first unit block size count place next work told new gave goes is at long counted placed held told_is same = record {
   gave = gave;
   next = next;
-  stored = subst (λ (p : Progress). StoredFor (out.Stored 1 block count false) first (record work { progress = p }) gave next told new) (sym is) (
+  stored = subst (λ (p : Progress). StoredFor (called 1 block count false) first (record work { progress = p }) gave next told new) (sym is) (
     (record { operation_is = refl; block_is = at; count_is = counted ∙ ap (λ (n : ℕ). n / 512) long }, held refl ∙ long, goes),
     (subst (λ (k : ℕ). ReadsRange told k gave) placed (told_is refl), same),
   );
@@ -107,7 +114,7 @@ piece_read false first unit block size count place next work told new gave goes 
 piece_read true first unit block size count place next work told new gave goes is at long counted placed held told_is same = record {
   gave = [];
   next = next;
-  stored = subst (λ (p : Progress). StoredFor (out.Stored 1 block count true) first (record work { progress = p }) [] next told new) (sym is)
+  stored = subst (λ (p : Progress). StoredFor (called 1 block count true) first (record work { progress = p }) [] next told new) (sym is)
       ((record { operation_is = refl; block_is = at; count_is = counted ∙ ap (λ (n : ℕ). n / 512) long }, refl, goes), same);
   is = refl;
 }
@@ -117,11 +124,11 @@ pub piece_written : (failed : Bool) (first unit block count place : ℕ) (bytes 
     → next ≡ or_ends failed (gathers_next (desc_of work).size unit) → work.progress ≡ Writes unit bytes → block ≡ unit_block work unit → shown ≡ bytes
     → count ≡ length shown / 512 → place ≡ 512 * (first + block)
     → (failed ≡ false → WritesRange told new place shown) → KeepsOutside told new place (length shown)
-    → PieceOn first work told (out.Stored 2 block count failed) (record work { progress = next }) new
+    → PieceOn first work told (called 2 block count failed) (record work { progress = next }) new
 piece_written false first unit block count place bytes shown next work told new goes is at held counted placed written outside = record {
   gave = [];
   next = next;
-  stored = subst (λ (p : Progress). StoredFor (out.Stored 2 block count false) first (record work { progress = p }) [] next told new) (sym is) (
+  stored = subst (λ (p : Progress). StoredFor (called 2 block count false) first (record work { progress = p }) [] next told new) (sym is) (
     (record { operation_is = refl; block_is = at; count_is = counted ∙ ap (λ (xs : List ℕ). length xs / 512) held }, refl, goes),
     subst (λ (xs : List ℕ). WritesRange told new (512 * (first + block)) xs) held
         (subst (λ (k : ℕ). WritesRange told new k shown) placed (written refl)),
@@ -131,7 +138,7 @@ piece_written false first unit block count place bytes shown next work told new 
 piece_written true first unit block count place bytes shown next work told new goes is at held counted placed written outside = record {
   gave = [];
   next = next;
-  stored = subst (λ (p : Progress). StoredFor (out.Stored 2 block count true) first (record work { progress = p }) [] next told new) (sym is) (
+  stored = subst (λ (p : Progress). StoredFor (called 2 block count true) first (record work { progress = p }) [] next told new) (sym is) (
     (record { operation_is = refl; block_is = at; count_is = counted ∙ ap (λ (xs : List ℕ). length xs / 512) held }, refl, goes),
     subst (λ (xs : List ℕ). KeepsOutside told new (512 * (first + block)) (length xs)) held
         (subst (λ (k : ℕ). KeepsOutside told new k (length shown)) placed outside),
@@ -177,11 +184,11 @@ next_test unit size other is =
 
 -- flushed, or not
 pub piece_flushed : (failed : Bool) (first : ℕ) (next : Progress) (work : Work) (told new : Option (List ℕ)) → next ≡ or_ends failed (Ends 0)
-    → work.progress ≡ Flushes → new ≡ told → PieceOn first work told (out.Stored 3 0 0 failed) (record work { progress = next }) new
+    → work.progress ≡ Flushes → new ≡ told → PieceOn first work told (called 3 0 0 failed) (record work { progress = next }) new
 piece_flushed failed first next work told new goes is same = record {
   gave = [];
   next = next;
-  stored = subst (λ (p : Progress). StoredFor (out.Stored 3 0 0 failed) first (record work { progress = p }) [] next told new) (sym is)
+  stored = subst (λ (p : Progress). StoredFor (called 3 0 0 failed) first (record work { progress = p }) [] next told new) (sym is)
       ((refl, refl, refl, refl, goes), same);
   is = refl;
 }

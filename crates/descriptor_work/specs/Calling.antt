@@ -1,13 +1,11 @@
--- What a step of a disk's server reaches by its channel, and what it does to the store.
-use Rattle.std.specs.Prelude.{◌≡◌, ℕ, ◌+◌, ◌≤◌, ◌==◌, Bool, if◌then◌else◌, List, Option, ⊤}
+-- What a piece of a descriptor reaches by the channel, and what a call of the store does to it.
+use Rattle.std.specs.Prelude.{◌≡◌, ℕ, ◌==◌, Bool, if◌then◌else◌, List, Option}
 use Rattle.cookie_copy.specs.Faults.{both_up}
 use Rattle.ldc_queue.specs.ChannelView.{ChannelView}
 use Rattle.map_table.specs.declared.table.Entry.{Entry}
 use Rattle.vio_io.specs.Causes.{FaultsAfter, next_count}
 use Rattle.vio_io.specs.declared.store.Store.{Ghosts}
 use Rattle.cookie_copy.specs.Reach.{Reach}
-use Rattle.descriptor_work.specs.declared.answers.ServerOut.{ServerOut}
-use Rattle.descriptor_work.specs.declared.answers.ServerOut.TheVariants as out
 
 -- what the server reaches by the channel: the client's memory, by its table
 abbrev pub reach_over : ChannelView → List (Option Entry) → List ℕ → Reach
@@ -20,14 +18,3 @@ pub record CalledOnce {D : Type 0} (store : Ghosts D) (operation : ℕ) (failed 
   pub flushes : store.flushes new ≡ (if operation == 3 then next_count (store.flushes old) else store.flushes old)
   pub writes : store.writes new ≡ (if operation == 2 then next_count (store.writes old) else store.writes old)
   pub faults : FaultsAfter failed (store.faults old) (store.faults new)
-
--- WHAT A STEP DOES TO THE STORE: a unit and a flush are one call of it, whether it failed or not; by every other step
--- it stays
-abbrev pub StoreAfter : {D : Type 0} → Ghosts D → ServerOut → D → D → Type 0
-StoreAfter store (out.Stored operation block count failed) old new = CalledOnce store operation failed old new
-StoreAfter store _ old new = new ≡ old
-
--- what is read or written lies in a disk of so many blocks
-abbrev pub WithinDisk : ℕ → ServerOut → Type 0
-WithinDisk blocks (out.Stored operation block count failed) = block + count ≤ blocks
-WithinDisk blocks _ = ⊤

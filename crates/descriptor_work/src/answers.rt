@@ -1,50 +1,19 @@
-use cookie_copy::CopyFault;
-use vio_tag::Cause;
+// What the pieces of a descriptor were.
 
-/// What a step of a disk's server was. Packets are the 64 bytes of a queue's entry.
+use cookie_copy::CopyFault;
+
+/// A call of the store: it read (1) or wrote (2) `count` blocks of the disk from `block` on, or flushed (3) the store.
 #[derive(Clone, Copy, Debug, PartialEq, Eq)]
-pub enum ServerOut {
-    /// There was nothing to do.
-    Idle,
-    /// A packet is to be put, and the client's queue is full.
-    Blocked,
-    /// The end wasn't `Up`: it was configured, and begins anew.
-    Joined,
-    /// It took this packet, and its session opened by it or didn't.
-    Took {
-        packet: [u8; 64],
-        opens: bool,
-    },
-    /// It put this packet.
-    Sent {
-        packet: [u8; 64],
-        opens: bool,
-    },
-    /// It fetched the descriptor of this slot and marked it ACCEPTED.
-    Desc {
-        slot: u32,
-        bytes: [u8; 128],
-    },
-    /// It copied this unit of the descriptor in or out, or the copy was refused.
-    Moved {
-        unit: u32,
-        fault: Option<CopyFault>,
-    },
-    /// It read (1) or wrote (2) `count` blocks of the disk from `block` on, or flushed (3) the store, which failed or didn't.
-    Stored {
-        operation: u8,
-        block: u64,
-        count: u32,
-        failed: bool,
-    },
-    /// The descriptor of this slot is DONE, with this status.
-    Finished {
-        slot: u32,
-        status: u32,
-    },
-    /// It began anew for a cause, which may lie in a packet that it took.
-    Reset {
-        cause: Cause,
-        packet: Option<[u8; 64]>,
-    },
+pub struct StoreCall {
+    pub operation: u8,
+    pub block: u64,
+    pub count: u32,
+    pub failed: bool,
+}
+
+/// A unit was copied in or out, or the copy was refused.
+#[derive(Clone, Copy, Debug, PartialEq, Eq)]
+pub struct UnitCopy {
+    pub unit: u32,
+    pub fault: Option<CopyFault>,
 }

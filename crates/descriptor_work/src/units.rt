@@ -6,13 +6,13 @@ ghost use Rattle.vdisk_msg.specs.Check.{first_defect, most_bytes};
 ghost use Rattle.vdisk_msg.specs.Descriptor.{disk_desc_of};
 ghost use Rattle.vdisk_msg.specs.Pieces.{refusal_status, unit_count};
 ghost use Rattle.disk_model.specs.ServerWork.{data_cookies, desc_of, first_progress, first_progress_of, gathers_next, length_of, or_ends, reads_next, unit_block, unit_length};
-ghost use Rattle.descriptor_work.specs.Calling.{StoreAfter, WithinDisk, reach_over};
+ghost use Rattle.descriptor_work.specs.Calling.{CalledOnce, reach_over};
 ghost use Rattle.descriptor_work.specs.Fields.{progress_of, work_with};
 ghost use Rattle.descriptor_work.specs.Pieces.{PieceIn, PieceOn};
 ghost use Rattle.descriptor_work.specs.Units.{IsUnit};
 ghost use Rattle.descriptor_work.specs.declared.work.Progress.TheVariants as kept;
 
-use crate::answers::ServerOut;
+use crate::answers::{StoreCall, UnitCopy};
 use crate::descriptor::Descriptor;
 use crate::unit::{UNIT, UnitBuffer};
 use crate::work::{Progress, Work};
@@ -151,28 +151,27 @@ impl Work {
         region: Region,
         buffer: &mut UnitBuffer,
         store: &mut D,
-        out: &mut ServerOut,
-    )
+    ) -> StoreCall
         requires progress { self.old.progress ≡ kept.Reads unit }
         requires unit { IsUnit region.blocks unit (disk_desc_of self.old.descriptor) }
         requires region { 512 * (region.first + region.blocks) ≤ D.size store.old }
-        ensures piece { PieceOn region.first (work_with self.old buffer.old) (D.content store.old) out.new
+        ensures piece { PieceOn region.first (work_with self.old buffer.old) (D.content store.old) result
             (work_with self.new buffer.new) (D.content store.new) }
-        ensures store { StoreAfter D.Store out.new store.old store.new }
+        ensures store { CalledOnce D.Store result.operation result.failed store.old store.new }
         ensures size { D.size store.new ≡ D.size store.old }
-        ensures within { WithinDisk region.blocks out.new }
+        ensures within { result.block + result.count ≤ region.blocks }
     {
         let block = self.unit_block(unit, region.blocks);
         let size = self.unit_size(unit, region.blocks);
         let at = store_place(store, region, block);
         let failed = buffer.read(store, at, size).is_err();
         self.progress = or_ends(failed, Progress::Gives { unit });
-        *out = ServerOut::Stored {
+        StoreCall {
             operation: VD_OP_BREAD,
             block,
             count: block_count(size),
             failed,
-        };
+        }
     }
 
     /// A unit is written to the store.
@@ -182,48 +181,47 @@ impl Work {
         region: Region,
         buffer: &UnitBuffer,
         store: &mut D,
-        out: &mut ServerOut,
-    )
+    ) -> StoreCall
         requires progress { self.old.progress ≡ kept.Writes unit }
         requires unit { IsUnit region.blocks unit (disk_desc_of self.old.descriptor) }
         requires held { length buffer.now ≡ length_of (work_with self.old buffer.now) unit }
         requires region { 512 * (region.first + region.blocks) ≤ D.size store.old }
-        ensures piece { PieceOn region.first (work_with self.old buffer.now) (D.content store.old) out.new
+        ensures piece { PieceOn region.first (work_with self.old buffer.now) (D.content store.old) result
             (work_with self.new buffer.now) (D.content store.new) }
-        ensures store { StoreAfter D.Store out.new store.old store.new }
+        ensures store { CalledOnce D.Store result.operation result.failed store.old store.new }
         ensures size { D.size store.new ≡ D.size store.old }
-        ensures within { WithinDisk region.blocks out.new }
+        ensures within { result.block + result.count ≤ region.blocks }
     {
         let block = self.unit_block(unit, region.blocks);
         let bytes = buffer.bytes();
         let at = store_place(store, region, block);
         let failed = store.write_at(at, bytes).is_err();
         self.progress = or_ends(failed, self.gathers_next(unit));
-        *out = ServerOut::Stored {
+        StoreCall {
             operation: VD_OP_BWRITE,
             block,
             count: block_count(bytes.len()),
             failed,
-        };
+        }
     }
 
     /// The store is flushed.
-    pub fn flush<D: Store>(&mut self, store: &mut D, out: &mut ServerOut)
+    pub fn flush<D: Store>(&mut self, store: &mut D) -> StoreCall
         requires progress { self.old.progress ≡ kept.Flushes }
         ensures piece { (first : ℕ) (bytes : List ℕ) → PieceOn first (work_with self.old bytes) (D.content store.old)
-            out.new (work_with self.new bytes) (D.content store.new) }
-        ensures store { StoreAfter D.Store out.new store.old store.new }
+            result (work_with self.new bytes) (D.content store.new) }
+        ensures store { CalledOnce D.Store result.operation result.failed store.old store.new }
         ensures size { D.size store.new ≡ D.size store.old }
-        ensures within { (blocks : ℕ) → WithinDisk blocks out.new }
+        ensures within { (blocks : ℕ) → result.block + result.count ≤ blocks }
     {
         let failed = store.flush().is_err();
         self.progress = or_ends(failed, Progress::Ends { status: OK });
-        *out = ServerOut::Stored {
+        StoreCall {
             operation: VD_OP_FLUSH,
             block: 0,
             count: 0,
             failed,
-        };
+        }
     }
 
     // The next unit of a write, or the status 0 where there is none.
@@ -250,12 +248,11 @@ impl Work {
         channel: &Channel,
         table: &MapTable,
         memory: &mut Memory,
-        out: &mut ServerOut,
-    )
+    ) -> UnitCopy
         requires progress { self.old.progress ≡ kept.Gives unit }
         requires unit { IsUnit blocks unit (disk_desc_of self.old.descriptor) }
         requires pages { PagesWithin table.now (length memory.old) }
-        ensures piece { PieceIn (work_with self.old buffer.now) (reach_over channel.now table.now memory.old) out.new
+        ensures piece { PieceIn (work_with self.old buffer.now) (reach_over channel.now table.now memory.old) result
             (work_with self.new buffer.now) memory.new }
         ensures same_length { length memory.new ≡ length memory.old }
     {
@@ -271,14 +268,14 @@ impl Work {
         ) {
             Ok(()) => {
                 self.progress = self.reads_next(unit);
-                *out = ServerOut::Moved { unit, fault: None };
+                UnitCopy { unit, fault: None }
             }
             Err(fault) => {
                 self.progress = Progress::Ends { status: EINVAL };
-                *out = ServerOut::Moved {
+                UnitCopy {
                     unit,
                     fault: Some(fault),
-                };
+                }
             }
         }
     }
@@ -292,12 +289,11 @@ impl Work {
         channel: &Channel,
         table: &MapTable,
         memory: &Memory,
-        out: &mut ServerOut,
-    )
+    ) -> UnitCopy
         requires progress { self.old.progress ≡ kept.Gathers unit }
         requires unit { IsUnit blocks unit (disk_desc_of self.old.descriptor) }
         requires pages { PagesWithin table.now (length memory.now) }
-        ensures piece { PieceIn (work_with self.old buffer.old) (reach_over channel.now table.now memory.now) out.new
+        ensures piece { PieceIn (work_with self.old buffer.old) (reach_over channel.now table.now memory.now) result
             (work_with self.new buffer.new) memory.now }
     {
         let offset = UNIT * unit as u64;
@@ -305,14 +301,14 @@ impl Work {
         match buffer.copy_in(channel, table, memory, self.cookies(), offset, size) {
             Ok(()) => {
                 self.progress = Progress::Writes { unit };
-                *out = ServerOut::Moved { unit, fault: None };
+                UnitCopy { unit, fault: None }
             }
             Err(fault) => {
                 self.progress = Progress::Ends { status: EINVAL };
-                *out = ServerOut::Moved {
+                UnitCopy {
                     unit,
                     fault: Some(fault),
-                };
+                }
             }
         }
     }

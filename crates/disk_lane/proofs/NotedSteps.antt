@@ -24,8 +24,8 @@ use Rattle.descriptor_work.specs.Calling.{reach_over}
 use Rattle.vdisk_server.specs.Answering.{Serves, channel_after as server_channel_after, server_event}
 use Rattle.vdisk_server.specs.Answering.{sees as server_sees}
 use Rattle.vdisk_server.specs.InLane.{lane_after}
-use Rattle.descriptor_work.specs.declared.answers.ServerOut.{ServerOut}
-use Rattle.descriptor_work.specs.declared.answers.ServerOut.TheVariants as server_out
+use Rattle.vdisk_server.specs.declared.answers.ServerOut.{ServerOut}
+use Rattle.vdisk_server.specs.declared.answers.ServerOut.TheVariants as server_out
 use Rattle.disk_lane.proofs.EndsUp.{behind_down, behind_up, client_joins, client_resets, server_joins, server_resets}
 use Rattle.disk_lane.specs.Noted.{noted}
 

@@ -15,8 +15,8 @@ use Rattle.disk_model.specs.Served.{Served, ServedStep}
 use Rattle.disk_model.specs.ServerRule.{server_rule}
 use Rattle.lane_laws.proofs.RingPages.{same_pages}
 use Rattle.vdisk_server.specs.Answering.{server_event}
-use Rattle.descriptor_work.specs.declared.answers.ServerOut.{ServerOut}
-use Rattle.descriptor_work.specs.declared.answers.ServerOut.TheVariants as out
+use Rattle.vdisk_server.specs.declared.answers.ServerOut.{ServerOut}
+use Rattle.vdisk_server.specs.declared.answers.ServerOut.TheVariants as out
 
 pub reached_fresh : (shape : Shape) → IsShape shape → IsReached (fresh shape)
 reached_fresh shape sound = record { shape = shape; sound = sound; events = []; run = refl }

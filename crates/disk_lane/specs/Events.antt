@@ -9,9 +9,9 @@ use Rattle.disk_model.specs.DiskEvent.{CalmReset, CalmRestart, CalmStart, CalmSt
 use Rattle.vdisk_client.specs.declared.answers.ClientOut.{ClientOut}
 use Rattle.vdisk_client.specs.declared.answers.ClientOut.TheVariants as client_out
 use Rattle.vio_io.specs.declared.store.Store.{Ghosts}
-use Rattle.descriptor_work.specs.Calling.{StoreAfter}
+use Rattle.vdisk_server.specs.OnStore.{StoreAfter}
 use Rattle.vdisk_server.specs.Answering.{server_event}
-use Rattle.descriptor_work.specs.declared.answers.ServerOut.{ServerOut}
+use Rattle.vdisk_server.specs.declared.answers.ServerOut.{ServerOut}
 
 -- what a server answers that runs or not
 abbrev pub answered : Bool → ServerOut → Option ServerOut

@@ -9,7 +9,7 @@ ghost use Rattle.disk_model.specs.LaneState.{fresh, IsShape};
 ghost use Rattle.disk_model.specs.LaneStep.{LaneStep, stored_blocks};
 ghost use Rattle.disk_model.specs.Served.{Served};
 ghost use Rattle.vdisk_client.specs.Calls.{TellsLength, admitted, client_event, front_count};
-ghost use Rattle.descriptor_work.specs.Calling.{StoreAfter};
+ghost use Rattle.vdisk_server.specs.OnStore.{StoreAfter};
 ghost use Rattle.vdisk_server.specs.Answering.{server_event};
 ghost use Rattle.disk_lane.specs.Events.{ResetsOwn, lost_event, reset_event, restart_event, start_event, stop_event, tick_event};
 ghost use Rattle.disk_lane.specs.Noted.{noted};

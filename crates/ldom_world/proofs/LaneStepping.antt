@@ -25,8 +25,8 @@ use Rattle.vdisk_msg.specs.Requested.{buffer_of, buffer_place}
 use Rattle.vdisk_msg.specs.Requests.{given_count}
 use Rattle.vdisk_msg.specs.declared.request.Request.{Request}
 use Rattle.vio_io.specs.declared.store.Store.{Ghosts}
-use Rattle.descriptor_work.specs.declared.answers.ServerOut.{ServerOut}
-use Rattle.descriptor_work.specs.declared.answers.ServerOut.TheVariants as server_out
+use Rattle.disk_lane.specs.answers.ServerOut.{ServerOut}
+use Rattle.disk_lane.specs.answers.ServerOut.TheVariants as server_out
 use Rattle.vio_tag.specs.declared.cause.Cause.{Cause}
 use Rattle.disk_law.specs.ListState.{as_image}
 

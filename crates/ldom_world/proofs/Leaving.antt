@@ -16,8 +16,8 @@ use Rattle.vdisk_client.specs.Calls.{client_event}
 use Rattle.vdisk_client.specs.declared.answers.ClientOut.{ClientOut}
 use Rattle.vdisk_client.specs.declared.answers.ClientOut.TheVariants as client_out
 use Rattle.disk_lane.specs.Answering.{server_event}
-use Rattle.descriptor_work.specs.declared.answers.ServerOut.{ServerOut}
-use Rattle.descriptor_work.specs.declared.answers.ServerOut.TheVariants as server_out
+use Rattle.disk_lane.specs.answers.ServerOut.{ServerOut}
+use Rattle.disk_lane.specs.answers.ServerOut.TheVariants as server_out
 
 -- AN ENTRY that was put, and tells the event in whatever line it is
 pub recorded : (k : ℕ) (event : DiskEvent) (x : Entry) (s t : JournalState) → PutsEntry s x t

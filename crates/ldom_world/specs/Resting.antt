@@ -4,8 +4,8 @@ use Rattle.disk_model.specs.DiskEvent.{DiskEvent, Off, OnWire, Switches}
 use Rattle.channel_model.specs.WireEvent.{Idle}
 use Rattle.vdisk_client.specs.declared.answers.ClientOut.{ClientOut}
 use Rattle.vdisk_client.specs.declared.answers.ClientOut.TheVariants as client_out
-use Rattle.descriptor_work.specs.declared.answers.ServerOut.{ServerOut}
-use Rattle.descriptor_work.specs.declared.answers.ServerOut.TheVariants as server_out
+use Rattle.disk_lane.specs.answers.ServerOut.{ServerOut}
+use Rattle.disk_lane.specs.answers.ServerOut.TheVariants as server_out
 
 -- an end idled, or its server is stopped: a settle leaves it out
 abbrev pub left_out : DiskEvent → Bool

@@ -1,6 +1,6 @@
 -- A packet that is put, as the lane's step has it.
-use Rattle.std.proofs.Common.{◌≡◌, ◌≢◌, ℕ, ◌+◌, ◌<◌, ◌≤◌, Bool, true, false, List, [], ◌∷◌, length, drop, Option, Some, None, is_some, inl, inr, refl, sym, ◌∙◌, ap, subst, arith, length-drop}
-use Rattle.std.specs.Prelude.{if◌then◌else◌, nat_le, IfSome}
+use Rattle.std.proofs.Common.{◌≡◌, ◌≢◌, ℕ, ◌+◌, ◌^◌, ◌<◌, ◌≤◌, Bool, true, false, List, [], ◌∷◌, length, drop, Option, Some, None, is_some, inl, inr, refl, sym, ◌∙◌, ap, subst, arith, length-drop}
+use Rattle.std.specs.Prelude.{if◌then◌else◌, nat_le}
 use Rattle.std.proofs.lemmas.Bool.{cases_lt, le-leb, lt-leb, lt-ltb, le-ltb}
 use Rattle.std.proofs.lemmas.List.{drop_all}
 use Rattle.ldc_link.specs.Calls.{Puts as PutsPacket, Sends}
@@ -20,7 +20,9 @@ use Rattle.channel_model.specs.EndPuts.{ComesUp, EndsOwn, EndsHandshake, Goes, P
 use Rattle.vdisk_client.specs.Calls.{Steps, rule_of}
 use Rattle.vdisk_client.specs.declared.answers.ClientOut.{ClientOut}
 use Rattle.vdisk_client.specs.declared.answers.ClientOut.TheVariants as out
-use Rattle.vdisk_client.specs.Putting.{HoldsOwn, PutsHeld, cleared_if, kind_after, noted}
+use Rattle.vdisk_client.specs.declared.putting.PutOf.{PutOf}
+use Rattle.vdisk_client.specs.declared.putting.PutOf.TheVariants as the_put
+use Rattle.vdisk_client.specs.Putting.{CanCount, CountsMore, HoldsOwn, PutsHeld, cleared_if, kind_of, noted, put_of}
 use Rattle.vdisk_client.specs.Standing.{CountsStand, SessionStands, Stands}
 
 -- THE KIND of a put, by the link after it
@@ -43,21 +45,19 @@ goes_or_ends k message own =
           ∙ ap (λ (b : Bool). ending b own) (sym (le-leb (length message) 56 few))
     ]
 
-kind_at : (p : LinkPhase) (k : LinkState) (own : Bool) → k.phase ≡ p → kind_after (is_established p) (record (behind_put k) { phase = phase_behind_put p; to_send = left_behind_put p k.to_send }) own ≡ kind_in p k own
-kind_at phase.OwesVersInfo k own is = refl
-kind_at phase.AwaitsVersAck k own is = refl
-kind_at phase.OwesRts k own is = refl
-kind_at phase.AwaitsRtr k own is = refl
-kind_at phase.OwesRdx k own is = refl
-kind_at phase.AwaitsVersInfo k own is = refl
-kind_at phase.OwesVersAck k own is = refl
-kind_at (phase.OwesVersNack major) k own is = refl
-kind_at phase.AwaitsRts k own is = refl
-kind_at phase.OwesRtr k own is = refl
-kind_at phase.AwaitsRdx k own is = refl
-kind_at phase.Established k own is = goes_or_ends (record (behind_put k) { phase = phase.Established; to_send = drop 56 k.to_send }) k.to_send own
+part_kind : (k : LinkState) (own : Bool) → kind_of (put_of true own) k ≡ (if owes k then Goes else (if own then EndsOwn else EndsHandshake))
+part_kind k true = refl
+part_kind k false = refl
 
-kind_same : (k : LinkState) (own : Bool) → kind_after (is_up k) (behind_put k) own ≡ put_kind k own
+kind_at : (p : LinkPhase) (k : LinkState) (own : Bool) → k.phase ≡ p
+    → kind_of (put_of (is_established p) own) (record (behind_put k) { phase = phase_behind_put p; to_send = left_behind_put p k.to_send }) ≡ kind_in p k own
+kind_at phase.Established k own is =
+    let behind : LinkState = record (behind_put k) { phase = phase.Established; to_send = drop 56 k.to_send } in
+    part_kind behind own ∙ goes_or_ends behind k.to_send own
+kind_at phase.OwesRdx k own is = refl
+kind_at p k own is = refl
+
+kind_same : (k : LinkState) (own : Bool) → kind_of (put_of (is_up k) own) (behind_put k) ≡ put_kind k own
 kind_same k own = kind_at k.phase k own refl
 
 -- the session after a put doesn't depend on the link but by the kind
@@ -83,13 +83,13 @@ puts_behind : (k m : LinkState) (bytes : List ℕ) → PutsPacket k bytes m → 
 puts_behind k m bytes puts = with_behind (owed_packet k) (behind_put k) m puts.packet puts.next
 
 pub put_sent : (held t : ClientState) (m : LinkState) (c d : ChannelView) (memory new bytes : List ℕ) (opens : Bool) → Sends A held.link c (send.Sent bytes) m d
-    → t ≡ noted (kind_after (is_up held.link) m (is_announcing held.session)) (record held { link = m })
-    → opens ≡ put_opens (kind_after (is_up held.link) m (is_announcing held.session)) held.handshake
+    → t ≡ noted (kind_of (put_of (is_up held.link) (is_announcing held.session)) m) (record held { link = m })
+    → opens ≡ put_opens (kind_of (put_of (is_up held.link) (is_announcing held.session)) m) held.handshake
     → new ≡ cleared_if opens held.slots memory → PutsHeld held c memory (out.Sent bytes opens) t d new
 put_sent held t m c d memory new bytes opens sends is opens_is cleared =
     let own : Bool = is_announcing held.session in
     let behind : m ≡ behind_put held.link = puts_behind held.link m bytes sends.0 in
-    let kind : kind_after (is_up held.link) m own ≡ put_kind held.link own = ap (λ (k : LinkState). kind_after (is_up held.link) k own) behind ∙ kind_same held.link own in
+    let kind : kind_of (put_of (is_up held.link) own) m ≡ put_kind held.link own = ap (λ (k : LinkState). kind_of (put_of (is_up held.link) own) k) behind ∙ kind_same held.link own in
     let opened : opens ≡ put_opens (put_kind held.link own) held.handshake = opens_is ∙ ap (λ (k : PutKind). put_opens k held.handshake) kind in
     let whole : t ≡ client_put held =
     is ∙ ap (λ (k : PutKind). noted k (record held { link = m })) kind ∙ ap (λ (k : LinkState). noted (put_kind held.link own) (record held { link = k })) behind ∙ noted_put held in
@@ -142,8 +142,7 @@ announce_steps s t session c d memory new answer rule puts =
     puts_steps s (announcing session (holding (announcement s session) s)) t c d memory new answer (ap (λ (r : ClientRule). client_holds r s) rule) puts
 
 -- A MESSAGE THAT THE LINK HOLDS is somebody's
-counted_infos : (pending next : ℕ) (session : Option ClientSession) → next < 18446744073709551616 → SessionStands pending next session
-    → IfSome session (λ (x : ClientSession). x.announcing ≡ true → x.infos < 18446744073709551615)
+counted_infos : (pending next : ℕ) (session : Option ClientSession) → next < 2 ^ 64 → SessionStands pending next session → CanCount session
 counted_infos pending next None small stands = tt
 counted_infos pending next (Some session) small stands = λ own.
     omega (arith, stands.infos, stands.announcing own, stands.published, stands.ids, small)
@@ -198,3 +197,36 @@ offered_some p k up some = absurd (cc up)
 -- a link that is up owes what it is offered
 pub offered_owes : (k : LinkState) (message : List ℕ) → is_up k ≡ true → 1 ≤ length message → owes (offered message k) ≡ true
 offered_owes k message up some = offered_some k.phase (offered message k) up some
+
+-- WHAT IS PUT tells of what it is: of a message of the handshake, that it owes one, and of the client's own INFO, that it can be counted
+handshake_put : (up own : Bool) (whose : PutOf) → whose ≡ put_of up own → whose ≡ the_put.Handshake → (up ≡ true) × (own ≡ false)
+handshake_put true false whose is handshake = (refl, refl)
+handshake_put true true whose is handshake = absurd (cc (is, handshake))
+handshake_put false own whose is handshake = absurd (cc (is, handshake))
+
+pub handshake_owes : (s : ClientState) (whose : PutOf) → HoldsOwn s → owes s.link ≡ true → whose ≡ put_of (is_up s.link) (is_announcing s.session) → whose ≡ the_put.Handshake
+    → is_some s.handshake.owed ≡ true
+handshake_owes s whose holds owes is handshake =
+    let known = handshake_put (is_up s.link) (is_announcing s.session) whose is handshake in
+    holds.owed (owes_some s.link known.0 owes) known.1
+
+own_put : (up own : Bool) (whose : PutOf) → whose ≡ put_of up own → whose ≡ the_put.Own → own ≡ true
+own_put true true whose is own = refl
+own_put true false whose is own = absurd (cc (is, own))
+own_put false own whose is own_is = absurd (cc (is, own_is))
+
+counts_own : (session : Option ClientSession) → CanCount session → is_announcing session ≡ true → CountsMore session
+counts_own None can own = tt
+counts_own (Some session) can own = can own
+
+pub own_counts : (s : ClientState) (whose : PutOf) → HoldsOwn s → whose ≡ put_of (is_up s.link) (is_announcing s.session) → whose ≡ the_put.Own → CountsMore s.session
+own_counts s whose holds is own = counts_own s.session holds.infos (own_put (is_up s.link) (is_announcing s.session) whose is own)
+
+-- a message of the handshake is said where the client announces nothing
+quiet_announces : (s : ClientState) (own : Bool) → is_announcing s.session ≡ own → Stands s → s.link.to_send ≡ [] → own ≡ false
+quiet_announces s false is stands none = refl
+quiet_announces s true is stands none = absurd (stands.transcript.announces is none)
+
+pub says_handshake : (s : ClientState) → Stands s → is_up s.link ≡ true → owes s.link ≡ false → the_put.Handshake ≡ put_of true (is_announcing s.session)
+says_handshake s stands up nothing =
+    ap (put_of true) (sym (quiet_announces s (is_announcing s.session) refl stands (owes_none s.link up nothing)))

@@ -37,6 +37,7 @@ other_session s session other stands is same = record {
   opened = λ _. stands.transcript.opened (ap is_some is);
   quiet = λ down. absurd (cc (is, (stands.transcript.quiet down).closed));
   holds = λ some whose. stands.transcript.holds some (ap is_announcing is ∙ sym same ∙ whose);
+  announces = λ own. stands.transcript.announces (ap is_announcing is ∙ sym same ∙ own);
   owed = stands.transcript.owed;
 }
 

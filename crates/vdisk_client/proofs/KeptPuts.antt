@@ -1,7 +1,7 @@
 -- A client stands as it should after a put.
-use Rattle.std.proofs.Common.{◌≡◌, ◌≢◌, ℕ, ◌≤◌, Bool, true, false, List, [], ◌∷◌, length, drop, Option, Some, None, is_some, refl, ◌∙◌, ap, subst, arith}
+use Rattle.std.proofs.Common.{◌≡◌, ◌≢◌, ℕ, ◌≤◌, Bool, true, false, List, [], ◌∷◌, length, drop, Option, Some, None, is_some, refl, ◌∙◌, ap, subst, arith, length-drop}
 use Rattle.std.specs.Prelude.{nat_le}
-use Rattle.std.proofs.lemmas.Bool.{leb-true}
+use Rattle.std.proofs.lemmas.Bool.{le-leb, leb-true}
 use Rattle.std.proofs.lemmas.List.{drop_all}
 use Rattle.ldc_link.specs.declared.phase.LinkPhase.{LinkPhase}
 use Rattle.ldc_link.specs.declared.phase.LinkPhase.TheVariants as phase
@@ -15,7 +15,9 @@ use Rattle.vio_handshake.specs.declared.handshake.Phase.{Phase}
 use Rattle.vio_handshake.specs.declared.handshake.Phase.TheVariants.{Open, PeerReadyTaken}
 use Rattle.vio_handshake.specs.Rules.{opens_by_put, put_in, handshake_sent}
 use Rattle.vio_handshake.specs.State.{handshake_up}
+use Rattle.vio_tag.proofs.Canonical.{length_canonical}
 use Rattle.vio_tag.specs.declared.message.Message.{Message}
+use Rattle.vio_tag.specs.Spelling.{canonical}
 use Rattle.disk_model.specs.ClientPutting.{announced, announcement, announcing, client_holds, client_put, holding, is_announcing, opened_if, session_behind}
 use Rattle.disk_model.specs.ClientRule.{Announces, ClientRule, Completes, Joins, Publishes, Puts, Idles, Says, Takes, client_rule}
 use Rattle.disk_model.specs.ClientState.{ClientSession, ClientState}
@@ -30,6 +32,9 @@ use Rattle.vdisk_client.specs.Standing.{CountsStand, IsBegun, IsInitiators, IsQu
 pub record SameLink (k m : LinkState) : Type 0 where
   pub role : m.role ≡ k.role
   pub whole : m.whole ≡ k.whole
+
+none_announces : (session : Option ClientSession) → session ≡ None → is_announcing session ≡ true → ⊥
+none_announces session is own = absurd (cc (own, ap is_announcing is))
 
 -- a packet of the link's handshake
 down_stands : (s : ClientState) (m : LinkState) → Stands s → is_up s.link ≡ false → SameLink s.link m → m.to_send ≡ s.link.to_send → IsInitiators m.phase → is_up m ≡ false
@@ -46,6 +51,7 @@ down_stands s m stands down same left phase still =
         opened = stands.transcript.opened;
         quiet = λ _. record { owed = quiet.owed; closed = quiet.closed; to_send = left ∙ quiet.to_send };
         holds = λ some. absurd (some (left ∙ quiet.to_send));
+        announces = λ own. absurd (none_announces s.session quiet.closed own);
         owed = stands.transcript.owed;
       };
       requests = stands.requests;
@@ -71,6 +77,7 @@ up_stands s m stands down same left phase up =
         opened = λ some. absurd (none_open s.session quiet.closed some);
         quiet = λ other. absurd (not_true (is_up m) up other);
         holds = λ some. absurd (some (left ∙ quiet.to_send));
+        announces = λ own. absurd (none_announces s.session quiet.closed own);
         owed = up_owes s.handshake stands.transcript.owed;
       };
       requests = stands.requests;
@@ -78,9 +85,9 @@ up_stands s m stands down same left phase up =
     }
 
 -- a part that isn't the last
-part_stands : (s : ClientState) (m : LinkState) → Stands s → is_up s.link ≡ true → SameLink s.link m → (m.to_send ≢ [] → s.link.to_send ≢ []) → IsInitiators m.phase → is_up m ≡ true
+part_stands : (s : ClientState) (m : LinkState) → Stands s → is_up s.link ≡ true → SameLink s.link m → (m.to_send ≢ [] → s.link.to_send ≢ []) → m.to_send ≢ [] → IsInitiators m.phase → is_up m ≡ true
     → Stands (record s { link = m })
-part_stands s m stands was same left phase up = record {
+part_stands s m stands was same left more phase up = record {
   transcript = record {
     link = same.role ∙ stands.transcript.link;
     phase = phase;
@@ -90,6 +97,7 @@ part_stands s m stands was same left phase up = record {
     opened = stands.transcript.opened;
     quiet = λ other. absurd (not_true (is_up m) up other);
     holds = λ some. stands.transcript.holds (left some);
+    announces = λ own. more;
     owed = stands.transcript.owed;
   };
   requests = stands.requests;
@@ -112,6 +120,10 @@ announced_open : (session : Option ClientSession) → is_some (announced session
 announced_open None some = some
 announced_open (Some session) some = refl
 
+announced_not : (session : Option ClientSession) → is_announcing (announced session) ≡ true → ⊥
+announced_not None own = absurd (cc own)
+announced_not (Some session) own = absurd (cc own)
+
 -- the last part of the client's own INFO
 own_stands : (s : ClientState) (m : LinkState) → Stands s → is_up s.link ≡ true → SameLink s.link m → m.to_send ≡ [] → IsInitiators m.phase → is_up m ≡ true → is_announcing s.session ≡ true
     → Stands (record s { link = m; session = announced s.session })
@@ -125,6 +137,7 @@ own_stands s m stands was same left phase up own = record {
     opened = λ some. stands.transcript.opened (announced_open s.session some);
     quiet = λ other. absurd (not_true (is_up m) up other);
     holds = λ some. absurd (some left);
+    announces = λ other. absurd (announced_not s.session other);
     owed = stands.transcript.owed;
   };
   requests = stands.requests;
@@ -152,10 +165,14 @@ opened_counts true s ids stands = record {
 }
 opened_counts false s ids stands = stands
 
+opened_not : (b : Bool) (s : ClientState) → is_announcing s.session ≡ false → is_announcing (opened_if b s) ≡ true → ⊥
+opened_not true s other own = absurd (cc own)
+opened_not false s other own = absurd (cc (other, own))
+
 -- the last part of what the handshake owed
-handshake_stands : (s : ClientState) (m : LinkState) → Stands s → is_up s.link ≡ true → SameLink s.link m → m.to_send ≡ [] → IsInitiators m.phase → is_up m ≡ true
+handshake_stands : (s : ClientState) (m : LinkState) → Stands s → is_up s.link ≡ true → SameLink s.link m → m.to_send ≡ [] → IsInitiators m.phase → is_up m ≡ true → is_announcing s.session ≡ false
     → Stands (record s { link = m; handshake = handshake_sent s.handshake; session = opened_if (opens_by_put s.handshake.role s.handshake.phase) s })
-handshake_stands s m stands was same left phase up =
+handshake_stands s m stands was same left phase up other =
     let keeps : HandshakeKeeps s.handshake (handshake_sent s.handshake) = sent_keeps s.handshake stands.transcript.handshake in
     record {
       transcript = record {
@@ -167,6 +184,7 @@ handshake_stands s m stands was same left phase up =
         opened = session_open (opens_by_put s.handshake.role s.handshake.phase) s (handshake_sent s.handshake) (opens_open s.handshake.role s.handshake.phase s.handshake) (λ some. keeps.opened (stands.transcript.opened some));
         quiet = λ other. absurd (not_true (is_up m) up other);
         holds = λ some. absurd (some left);
+        announces = λ own. absurd (opened_not (opens_by_put s.handshake.role s.handshake.phase) s other own);
         owed = sent_owes s.handshake stands.transcript.owed;
       };
       requests = stands.requests;
@@ -198,14 +216,20 @@ nothing_left : (message : List ℕ) → drop 56 message ≢ [] → message ≢ [
 nothing_left [] some none = some none
 nothing_left (byte ∷ message) some none = absurd (cc none)
 
+some_left : (message : List ℕ) → nat_le (length message) 56 ≡ false → drop 56 message ≢ []
+some_left message more none =
+    let long : length (drop 56 message) ≡ 0 = ap (λ (xs : List ℕ). length xs) none in
+    let few : nat_le (length message) 56 ≡ true = le-leb (length message) 56 (omega (arith, long, length-drop 56 message)) in
+    absurd (not_true (nat_le (length message) 56) few more)
+
 -- whose message ends, if it does
 end_at : (b own : Bool) (s : ClientState) → Stands s → is_up s.link ≡ true → nat_le (length s.link.to_send) 56 ≡ b → is_announcing s.session ≡ own
     → Stands (record s { link = part_at s; handshake = handshake_behind (ending b own) s.handshake; session = session_behind (ending b own) s })
-end_at false own s stands up left whose = part_stands s (part_at s) stands up (record { role = refl; whole = refl }) (nothing_left s.link.to_send) tt refl
+end_at false own s stands up left whose = part_stands s (part_at s) stands up (record { role = refl; whole = refl }) (nothing_left s.link.to_send) (some_left s.link.to_send left) tt refl
 end_at true true s stands up left whose =
     own_stands s (part_at s) stands up (record { role = refl; whole = refl }) (drop_all 56 s.link.to_send (leb-true (length s.link.to_send) 56 left)) tt refl whose
 end_at true false s stands up left whose =
-    handshake_stands s (part_at s) stands up (record { role = refl; whole = refl }) (drop_all 56 s.link.to_send (leb-true (length s.link.to_send) 56 left)) tt refl
+    handshake_stands s (part_at s) stands up (record { role = refl; whole = refl }) (drop_all 56 s.link.to_send (leb-true (length s.link.to_send) 56 left)) tt refl whose
 
 phase_at : (p : LinkPhase) (s : ClientState) → Stands s → s.link.phase ≡ p → IsInitiators p → Stands (put_at p s)
 phase_at phase.OwesVersInfo s stands is begins = down_stands s (put_at phase.OwesVersInfo s).link stands (ap is_established is) (record { role = refl; whole = refl }) refl tt refl
@@ -224,6 +248,11 @@ phase_at phase.Established s stands is begins = end_at (nat_le (length s.link.to
 pub put_stands : (s : ClientState) → Stands s → Stands (client_put s)
 put_stands s stands = phase_at s.link.phase s stands refl stands.transcript.phase
 
+some_bytes : (message : Message) → canonical message ≢ []
+some_bytes message none =
+    let long : length (canonical message) ≡ 0 = ap (λ (xs : List ℕ). length xs) none in
+    absurd (omega (arith, long, length_canonical message))
+
 -- A MESSAGE THAT THE LINK HOLDS: one that the handshake owes, or the client's own INFO
 holding_stands : (s : ClientState) (message : Message) → Stands s → s.handshake.owed ≡ Some message → Stands (holding message s)
 holding_stands s message stands owed = record {
@@ -236,6 +265,7 @@ holding_stands s message stands owed = record {
     opened = stands.transcript.opened;
     quiet = λ down. absurd (cc (owed, (stands.transcript.quiet down).owed));
     holds = λ _ _. ap is_some owed;
+    announces = λ _. some_bytes message;
     owed = stands.transcript.owed;
   };
   requests = stands.requests;
@@ -255,6 +285,7 @@ announcing_stands s session message stands says =
         opened = λ _. stands.transcript.opened (ap is_some says.is_open);
         quiet = λ down. absurd (cc (says.is_open, (stands.transcript.quiet down).closed));
         holds = λ _ other. absurd (cc other);
+        announces = λ _. some_bytes message;
         owed = stands.transcript.owed;
       };
       requests = stands.requests;

@@ -52,6 +52,7 @@ linked_stands s m stands took none = record {
         let quiet : IsQuiet s.link s.handshake s.session = stands.transcript.quiet (sym took.up ∙ down) in
         record { owed = quiet.owed; closed = quiet.closed; to_send = took.to_send ∙ quiet.to_send };
     holds = λ some. stands.transcript.holds (λ nothing. some (took.to_send ∙ nothing));
+    announces = λ own nothing. stands.transcript.announces own (sym took.to_send ∙ nothing);
     owed = stands.transcript.owed;
   };
   requests = stands.requests;
@@ -85,6 +86,7 @@ module _ (s : ClientState) (stands : Stands s) (up : is_up s.link ≡ true) (fre
       opened = λ some. keeps.opened (stands.transcript.opened some);
       quiet = λ down. absurd (not_true (is_up s.link) up down);
       holds = λ some whose. absurd (owed_not (stands.transcript.holds some whose));
+      announces = stands.transcript.announces;
       owed = owed;
     };
     requests = stands.requests;
@@ -112,6 +114,7 @@ module _ (s : ClientState) (stands : Stands s) (up : is_up s.link ≡ true) (fre
           opened = λ _. stands.transcript.opened (ap is_some is);
           quiet = λ down. absurd (not_true (is_up s.link) up down);
           holds = λ some whose. absurd (owed_not (stands.transcript.holds some (ap is_announcing is ∙ whose)));
+          announces = λ own. stands.transcript.announces (ap is_announcing is ∙ own);
           owed = stands.transcript.owed;
         };
         requests = stands.requests;

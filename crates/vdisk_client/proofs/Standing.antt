@@ -1,5 +1,5 @@
 -- A client stands as it should before its first call and after each.
-use Rattle.std.proofs.Common.{◌≡◌, ℕ, ◌+◌, ◌<◌, ◌≤◌, Bool, true, false, [], ◌∷◌, ◌++◌, length, Option, Some, None, refl, sym, subst, arith, length-append}
+use Rattle.std.proofs.Common.{◌≡◌, ℕ, ◌-◌, ◌^◌, ◌+◌, ◌<◌, ◌≤◌, Bool, true, false, [], ◌∷◌, ◌++◌, length, Option, Some, None, refl, sym, subst, arith, length-append}
 use Rattle.ldc_link.specs.declared.phase.Role.{Role}
 use Rattle.ldc_link.specs.declared.phase.Role.TheVariants.{Initiator, Responder}
 use Rattle.ldc_link.specs.LinkState.{first_phase, is_established}
@@ -40,6 +40,7 @@ joined_transcript s transcript =
       opened = λ some. absurd (cc some);
       quiet = λ _. record { owed = refl; closed = refl; to_send = refl };
       holds = λ some. absurd (some refl);
+      announces = λ own. absurd (cc own);
       owed = joined_owes s.handshake transcript.owed;
     }
 
@@ -58,6 +59,7 @@ fresh_stands blocks slots few_blocks some most form = record {
     opened = λ some. absurd (cc some);
     quiet = λ _. record { owed = refl; closed = refl; to_send = refl };
     holds = λ some. absurd (some refl);
+    announces = λ own. absurd (cc own);
     owed = record { offer = form; owed = tt };
   };
   requests = record {
@@ -90,7 +92,7 @@ more_session pending next None counts = tt
 more_session pending next (Some session) counts = more_counts pending next session counts
 
 pushed_stands : (s : ClientState) (request : Request) → Stands s → defect s.blocks request ≡ None → IsRequest request → length s.pending < s.slots
-    → s.next_id < 18446744073709551615 → Stands (record s { pending = s.pending ++ request ∷ []; next_id = s.next_id + 1 })
+    → s.next_id < 2 ^ 64 - 1 → Stands (record s { pending = s.pending ++ request ∷ []; next_id = s.next_id + 1 })
 pushed_stands s request stands admitted fill room small =
     let long : length (s.pending ++ request ∷ []) ≡ length s.pending + 1 = length-append s.pending (request ∷ []) in
     record {

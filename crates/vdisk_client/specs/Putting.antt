@@ -12,12 +12,21 @@ use Rattle.ldc_queue.specs.ChannelView.{ChannelView}
 use Rattle.vdisk_client.specs.Calls.{channel_after, sees}
 use Rattle.vdisk_client.specs.declared.answers.ClientOut.{ClientOut}
 use Rattle.vdisk_client.specs.declared.answers.ClientOut.TheVariants as out
+use Rattle.vdisk_client.specs.declared.putting.PutOf.{PutOf}
+use Rattle.vdisk_client.specs.declared.putting.PutOf.TheVariants as the_put
 
--- of a link that was up or wasn't, as it is after a put: it comes up by RDX, goes on, or has ended a message
-abbrev pub kind_after : Bool → LinkState → Bool → PutKind
-kind_after was_up k own =
-    if is_up k then (if was_up then (if owes k then Goes else (if own then EndsOwn else EndsHandshake)) else ComesUp)
-    else Goes
+-- what the packet is that is put next, of a link that is up or isn't: a part of the client's own INFO, or of a message
+-- that the handshake owes
+abbrev pub put_of : Bool → Bool → PutOf
+put_of false own = the_put.Control
+put_of true true = the_put.Own
+put_of true false = the_put.Handshake
+
+-- what such a packet brings about, by the link after it: the link comes up by RDX, or a message ends where no more is owed
+abbrev pub kind_of : PutOf → LinkState → PutKind
+kind_of the_put.Control k = if is_up k then ComesUp else Goes
+kind_of the_put.Handshake k = if owes k then Goes else EndsHandshake
+kind_of the_put.Own k = if owes k then Goes else EndsOwn
 
 -- the handshake and the session after it, and the memory, whose ring is cleared as the session opens
 abbrev pub noted : PutKind → ClientState → ClientState
@@ -33,6 +42,10 @@ PutsHeld held c memory (out.Sent packet opens) t d new =
     × (t ≡ client_put held) × (new ≡ memory_put held memory) × (d ≡ channel_after (out.Sent packet opens) c)
 PutsHeld held c memory out.Blocked t d new = ((sees c).room ≡ false) × (t ≡ held) × (new ≡ memory) × (d ≡ c)
 PutsHeld held c memory _ t d new = ⊥
+
+-- an INFO more can be counted, and so can one that the link holds
+abbrev pub CountsMore : Option ClientSession → Type 0
+CountsMore session = IfSome session (λ (x : ClientSession). x.infos < 2 ^ 64 - 1)
 
 -- an INFO that the link holds can be counted
 abbrev pub CanCount : Option ClientSession → Type 0

@@ -51,7 +51,7 @@ pub record IsBegun (h : Handshake) : Type 0 where
 
 -- THE LINK AND THE HANDSHAKE, each an initiator's, the link without a whole message between calls: a handshake that
 -- began where the link is up, and is through where the session is open. A message that the link holds is the client's
--- own, or the handshake owes it.
+-- own, or the handshake owes it; and where the client announces, the link holds its INFO.
 pub record Transcripts (k : LinkState) (h : Handshake) (session : Option ClientSession) : Type 0 where
   pub link : k.role ≡ Initiator
   pub phase : IsInitiators k.phase
@@ -61,6 +61,7 @@ pub record Transcripts (k : LinkState) (h : Handshake) (session : Option ClientS
   pub opened : is_some session ≡ true → h.phase ≡ Open
   pub quiet : is_up k ≡ false → IsQuiet k h session
   pub holds : k.to_send ≢ [] → is_announcing session ≡ false → is_some h.owed ≡ true
+  pub announces : is_announcing session ≡ true → k.to_send ≢ []
   pub owed : OwesWell h
 
 abbrev pub TranscriptStands : ClientState → Type 0

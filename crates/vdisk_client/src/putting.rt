@@ -1,6 +1,6 @@
 // What is put: the rest of a message, a message that the handshake owes, or the INFO that announces what was published.
 
-ghost use Rattle.std.specs.Prelude.{◌≡◌, ◌≢◌, ◌-◌, ◌<◌, ◌≤◌, [], length, true, false, Some, IfNone, IfSome, is_some, slice_get};
+ghost use Rattle.std.specs.Prelude.{◌≡◌, ◌≢◌, ◌-◌, ◌<◌, ◌≤◌, [], length, true, false, Some, is_some, slice_get};
 ghost use Rattle.dring.specs.Slots.{free_slots};
 ghost use Rattle.ldc_link.specs.LinkState.{is_up};
 ghost use Rattle.ldc_link.specs.Putting.{owes};
@@ -23,13 +23,24 @@ use vio_tag::{Message, MsgBody, encode};
 /// The ring goes on to be worked (`VIO_DRING_ACTIVE` of Linux's vio.h).
 const VIO_DRING_ACTIVE: u8 = 1;
 
+/// What a packet is that is put.
+#[derive(Clone, Copy)]
+pub(crate) enum PutOf {
+    /// One of the link's handshake.
+    Control,
+    /// A part of a message of the session's handshake.
+    Handshake,
+    /// A part of the client's INFO.
+    Own,
+}
+
 impl ClientEnd {
     ghost use Rattle.disk_model.specs.ClientPutting.{announcement, holding, is_announcing};
     ghost use Rattle.disk_model.specs.ClientRule.{Announces, Says, announces, in_session, publishes, puts_first, says};
     ghost use Rattle.disk_model.specs.ClientState.{first_id, opened_session};
-    ghost use Rattle.channel_model.specs.EndPuts.{EndsHandshake, ending, put_opens};
+    ghost use Rattle.channel_model.specs.EndPuts.{EndsHandshake, put_opens};
     ghost use Rattle.vdisk_client.specs.Calls.{Steps, rule_of};
-    ghost use Rattle.vdisk_client.specs.Putting.{CanCount, HoldsOwn, PutsHeld, cleared_if, kind_after, noted};
+    ghost use Rattle.vdisk_client.specs.Putting.{CountsMore, HoldsOwn, PutsHeld, cleared_if, kind_of, noted, put_of};
     ghost use Rattle.disk_requests.specs.Room.{HoldsRing};
     ghost use Rattle.vdisk_client.specs.Standing.{RequestsStand, Stands};
 
@@ -50,7 +61,7 @@ impl ClientEnd {
         ensures same_length { length memory.new ≡ length memory.old }
     {
         if self.link.owes() {
-            return self.put(channel, memory, out);
+            return self.put(self.next_put(), channel, memory, out);
         }
         if owes_message {
             return self.say_owed(channel, memory, out);
@@ -93,7 +104,7 @@ impl ClientEnd {
         ensures same_length { length memory.new ≡ length memory.old }
     {
         self.offer(message);
-        self.put(channel, memory, out);
+        self.put(PutOf::Handshake, channel, memory, out);
     }
 
     /// In session: the next pending request is published, and where all are, those that aren't announced are announced
@@ -158,7 +169,7 @@ impl ClientEnd {
         let message = self.announcement(&session);
         self.offer(&message);
         self.session = Some(session.with_info());
-        self.put(channel, memory, out);
+        self.put(PutOf::Own, channel, memory, out);
     }
 
     /// The INFO of the slots from the first that isn't announced to the last that is published.
@@ -198,20 +209,33 @@ impl ClientEnd {
         let _offered = self.link.offer(&bytes[..len]);
     }
 
+    /// What the packet is that the link owes: a message is the client's own INFO, or what the handshake owes.
+    fn next_put(&self) -> PutOf
+        ensures { result ≡ put_of (is_up self.now.link) (is_announcing self.now.session) }
+    {
+        if !self.link.is_up() {
+            return PutOf::Control;
+        }
+        match self.session {
+            Some(session) if session.is_announcing() => PutOf::Own,
+            _ => PutOf::Handshake,
+        }
+    }
+
     /// Puts the packet that the link owes.
-    fn put(&mut self, channel: &mut Channel, memory: &mut Memory, out: &mut ClientOut)
+    fn put(&mut self, whose: PutOf, channel: &mut Channel, memory: &mut Memory, out: &mut ClientOut)
         requires up { channel.old.wire.end_a ≡ Up }
         requires owes { owes self.old.link ≡ true }
+        requires whose { whose ≡ put_of (is_up self.old.link) (is_announcing self.old.session) }
         requires own { HoldsOwn self.old }
         requires requests { RequestsStand self.old }
         requires room { HoldsRing self.old.slots memory.old }
         ensures put { PutsHeld self.old channel.old memory.old out.new self.new channel.new memory.new }
         ensures same_length { length memory.new ≡ length memory.old }
     {
-        let was_up = self.link.is_up();
         match self.link.send(channel, End::A) {
             SendOut::Sent(packet) => {
-                let opens = self.note_put(was_up, memory);
+                let opens = self.note_put(whose, memory);
                 *out = ClientOut::Sent { packet, opens };
             }
             SendOut::Blocked => *out = ClientOut::Blocked,
@@ -219,59 +243,65 @@ impl ClientEnd {
         }
     }
 
-    /// A packet was put, of a link that was up or wasn't: it came up by that, or the message went on or ended. Tells
-    /// whether the session opened.
-    fn note_put(&mut self, was_up: bool, memory: &mut Memory) -> bool
-        requires owed { was_up ≡ true → is_announcing self.old.session ≡ false
-            → is_some self.old.handshake.owed ≡ true }
-        requires infos { CanCount self.old.session }
+    /// A packet was put. Tells whether the session opened.
+    fn note_put(&mut self, whose: PutOf, memory: &mut Memory) -> bool
+        requires owed { whose ≡ PutOf.Handshake → is_some self.old.handshake.owed ≡ true }
+        requires infos { whose ≡ PutOf.Own → CountsMore self.old.session }
         requires requests { RequestsStand self.old }
         requires room { HoldsRing self.old.slots memory.old }
-        ensures opens { result
-            ≡ put_opens (kind_after was_up self.old.link (is_announcing self.old.session)) self.old.handshake }
-        ensures state { self.new ≡ noted (kind_after was_up self.old.link (is_announcing self.old.session)) self.old }
+        ensures opens { result ≡ put_opens (kind_of whose self.old.link) self.old.handshake }
+        ensures state { self.new ≡ noted (kind_of whose self.old.link) self.old }
         ensures memory { memory.new ≡ cleared_if result self.old.slots memory.old }
         ensures same_length { length memory.new ≡ length memory.old }
     {
-        if !self.link.is_up() || (was_up && self.link.owes()) {
-            return false;
-        }
-        if was_up {
-            return self.end_message(memory);
-        }
-        self.handshake.link_up();
-        false
-    }
-
-    /// The message that the link held was put whole: the client's own INFO, or what the handshake owed.
-    fn end_message(&mut self, memory: &mut Memory) -> bool
-        requires owed { is_announcing self.old.session ≡ false → is_some self.old.handshake.owed ≡ true }
-        requires infos { CanCount self.old.session }
-        requires requests { RequestsStand self.old }
-        requires room { HoldsRing self.old.slots memory.old }
-        ensures opens { result ≡ put_opens (ending true (is_announcing self.old.session)) self.old.handshake }
-        ensures state { self.new ≡ noted (ending true (is_announcing self.old.session)) self.old }
-        ensures memory { memory.new ≡ cleared_if result self.old.slots memory.old }
-        ensures same_length { length memory.new ≡ length memory.old }
-    {
-        match self.announcing() {
-            Some(session) => {
-                self.session = Some(session.announced_all());
+        match whose {
+            PutOf::Control => {
+                self.note_control();
                 false
             }
-            None => self.end_owed(memory),
+            PutOf::Handshake => self.note_part(memory),
+            PutOf::Own => {
+                self.note_info();
+                false
+            }
         }
     }
 
-    /// The session, where the link holds an INFO of it.
-    fn announcing(&self) -> Option<OpenSession>
-        ensures some { IfSome result
-            (λ session. (self.now.session ≡ Some session) × (session.announcing ≡ true)) }
-        ensures none { IfNone result (is_announcing self.now.session ≡ false) }
+    /// A packet of the link's handshake was put: the session's begins where the link came up by it.
+    fn note_control(&mut self)
+        ensures { self.new ≡ noted (kind_of PutOf.Control self.old.link) self.old }
     {
-        match self.session {
-            Some(session) if session.is_announcing() => Some(session),
-            _ => None,
+        if self.link.is_up() {
+            self.handshake.link_up();
+        }
+    }
+
+    /// A part of what the handshake owed was put. The session may open by the last.
+    fn note_part(&mut self, memory: &mut Memory) -> bool
+        requires owed { is_some self.old.handshake.owed ≡ true }
+        requires requests { RequestsStand self.old }
+        requires room { HoldsRing self.old.slots memory.old }
+        ensures opens { result ≡ put_opens (kind_of PutOf.Handshake self.old.link) self.old.handshake }
+        ensures state { self.new ≡ noted (kind_of PutOf.Handshake self.old.link) self.old }
+        ensures memory { memory.new ≡ cleared_if result self.old.slots memory.old }
+        ensures same_length { length memory.new ≡ length memory.old }
+    {
+        if self.link.owes() {
+            return false;
+        }
+        self.end_owed(memory)
+    }
+
+    /// A part of the INFO was put: by the last all that is published is announced.
+    fn note_info(&mut self)
+        requires { CountsMore self.old.session }
+        ensures { self.new ≡ noted (kind_of PutOf.Own self.old.link) self.old }
+    {
+        if self.link.owes() {
+            return;
+        }
+        if let Some(session) = self.session {
+            self.session = Some(session.announced_all());
         }
     }
 

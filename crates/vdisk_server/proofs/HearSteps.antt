@@ -22,8 +22,8 @@ use Rattle.disk_model.specs.ServerState.{ServerState, joined_server}
 use Rattle.disk_model.specs.ServerStep.{ServerFails}
 use Rattle.disk_model.specs.ServerTaking.{GoesOn, HearsWhole, Resets, ServerTake, ServerTakes, reads}
 use Rattle.cookie_copy.specs.Reach.{Reach}
-use Rattle.descriptor_work.specs.declared.answers.ServerOut.{ServerOut}
-use Rattle.descriptor_work.specs.declared.answers.ServerOut.TheVariants as out
+use Rattle.vdisk_server.specs.declared.answers.ServerOut.{ServerOut}
+use Rattle.vdisk_server.specs.declared.answers.ServerOut.TheVariants as out
 use Rattle.vdisk_server.specs.Answering.{StepsAlone, sees}
 use Rattle.vdisk_server.specs.Hearing.{CanHear, CanHearWhole, DecodesWhole, risen}
 

@@ -14,8 +14,8 @@ use Rattle.disk_model.specs.Served.{Served, ServedStep, StoreDid}
 use Rattle.disk_model.specs.ServerState.{ServerState}
 use Rattle.disk_model.specs.ServerStep.{ServerStep}
 use Rattle.cookie_copy.specs.Reach.{Reach}
-use Rattle.descriptor_work.specs.declared.answers.ServerOut.{ServerOut}
-use Rattle.descriptor_work.specs.declared.answers.ServerOut.TheVariants as out
+use Rattle.vdisk_server.specs.declared.answers.ServerOut.{ServerOut}
+use Rattle.vdisk_server.specs.declared.answers.ServerOut.TheVariants as out
 use Rattle.descriptor_work.specs.Calling.{reach_over}
 use Rattle.vdisk_server.specs.Answering.{Serves, ToldAfter, channel_after, sees, server_event}
 use Rattle.vdisk_server.specs.InLane.{lane_after}

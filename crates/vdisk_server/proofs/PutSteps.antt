@@ -1,6 +1,6 @@
 -- What is put.
 use Rattle.std.proofs.Common.{◌≡◌, ℕ, ◌+◌, ◌<◌, Bool, true, false, List, length, drop, Option, Some, None, inl, inr, length-drop, refl, sym, ap, ◌∙◌, subst, arith}
-use Rattle.std.specs.Prelude.{◌&&◌, not, nat_le, nat_lt, is_none, is_some, if◌then◌else◌}
+use Rattle.std.specs.Prelude.{◌&&◌, not, nat_le, nat_lt, is_none, is_some}
 use Rattle.std.proofs.lemmas.Bool.{cases_lt, le-leb, le-ltb, lt-leb, lt-ltb}
 use Rattle.std.proofs.lemmas.List.{drop_all}
 use Rattle.ldc_link.proofs.Parts.{part_owed_more}
@@ -20,10 +20,12 @@ use Rattle.channel_model.specs.EndPuts.{ComesUp, EndsOwn, EndsHandshake, Goes, P
 use Rattle.disk_model.specs.ServerPutting.{server_holds, server_kind, server_opens, server_put, session_behind}
 use Rattle.disk_model.specs.ServerRule.{server_rule}
 use Rattle.disk_model.specs.ServerState.{ServerState}
-use Rattle.descriptor_work.specs.declared.answers.ServerOut.{ServerOut}
-use Rattle.descriptor_work.specs.declared.answers.ServerOut.TheVariants as out
+use Rattle.vdisk_server.specs.declared.answers.ServerOut.{ServerOut}
+use Rattle.vdisk_server.specs.declared.answers.ServerOut.TheVariants as out
 use Rattle.vdisk_server.specs.Answering.{StepsAlone, sees}
-use Rattle.vdisk_server.specs.Putting.{PutsNext, PutsRightly, message_put, noted}
+use Rattle.vdisk_server.specs.declared.putting.PutOf.{PutOf}
+use Rattle.vdisk_server.specs.declared.putting.PutOf.TheVariants as the_put
+use Rattle.vdisk_server.specs.Putting.{PutsNext, PutsRightly, noted, put_of}
 use Rattle.vdisk_server.specs.Standing.{AnswersLink}
 
 -- WHAT IS PUT
@@ -74,29 +76,36 @@ kind_noted link.Established k own is answers =
     ap (λ (p : LinkPhase). is_some (owed_in (phase_behind_put p) (behind p))) is in
     ap (λ (test : Bool). ending test own) (part_ends (behind link.Established) k.to_send ∙ ap not (sym more))
 
-ended : (test : Bool) (owed : Option Message) (t : ServerState)
-    → (if test then message_put (is_some owed) t else t)
-    ≡ record t { handshake = handshake_behind (ending test (is_none owed)) t.handshake; session = session_behind (ending test (is_none owed)) t.session }
-ended true None t = refl
-ended true (Some message) t = refl
-ended false owed t = refl
-
-message_link : (test handshake : Bool) (s : ServerState) → (if test then message_put handshake s else s).link ≡ s.link
-message_link true true s = refl
-message_link true false s = refl
-message_link false handshake s = refl
+ended : (up more : Bool) (owed : Option Message) (t : ServerState)
+    → noted (put_of up owed) more t
+    ≡ record t { handshake = handshake_behind (ending (up && not more) (is_none owed)) t.handshake; session = session_behind (ending (up && not more) (is_none owed)) t.session }
+ended false more owed t = refl
+ended true true None t = refl
+ended true true (Some message) t = refl
+ended true false None t = refl
+ended true false (Some message) t = refl
 
 pub put_is : (s : ServerState) (k : LinkState) (bytes : List ℕ) → PutsRightly s → PutsPacket s.link bytes k
-    → noted (is_up s.link) (record s { link = k }) ≡ server_put s
+    → noted (put_of (is_up s.link) s.handshake.owed) (owes k) (record s { link = k }) ≡ server_put s
 put_is s k bytes rightly puts =
     let behind : k ≡ behind_put s.link = put_behind s.link k bytes puts in
-    subst (λ (k : LinkState). noted (is_up s.link) (record s { link = k }) ≡ server_put s) (sym behind)
-    (ended (is_up s.link && not (owes (behind_put s.link))) s.handshake.owed (record s { link = behind_put s.link })
+    subst (λ (k : LinkState). noted (put_of (is_up s.link) s.handshake.owed) (owes k) (record s { link = k }) ≡ server_put s) (sym behind)
+    (ended (is_up s.link) (owes (behind_put s.link)) s.handshake.owed (record s { link = behind_put s.link })
     ∙ ap (λ (kind : PutKind). record s { link = behind_put s.link; handshake = handshake_behind kind s.handshake; session = session_behind kind s.session })
     (sym (kind_noted s.link.phase s.link (is_none s.handshake.owed) refl rightly.phase)))
 
-pub noted_link : (test : Bool) (s : ServerState) → (noted test s).link ≡ s.link
-noted_link test s = message_link (test && not (owes s.link)) (is_some s.handshake.owed) s
+pub noted_link : (whose : PutOf) (more : Bool) (s : ServerState) → (noted whose more s).link ≡ s.link
+noted_link the_put.Control more s = refl
+noted_link the_put.Handshake true s = refl
+noted_link the_put.Handshake false s = refl
+noted_link the_put.Own true s = refl
+noted_link the_put.Own false s = refl
+
+-- a message of the handshake is put only where it owes one
+pub handshake_owes : (up : Bool) (owed : Option Message) (whose : PutOf) → whose ≡ put_of up owed → whose ≡ the_put.Handshake → is_some owed ≡ true
+handshake_owes true (Some message) whose is handshake = refl
+handshake_owes true None whose is handshake = absurd (cc (is, handshake))
+handshake_owes false owed whose is handshake = absurd (cc (is, handshake))
 
 -- a responder's session never opens by what it puts
 role_opens : (kind : PutKind) (h : Handshake) (role : Role) → h.role ≡ role → role ≡ Responder → put_opens kind h ≡ false

@@ -17,8 +17,8 @@ use Rattle.disk_model.specs.ServerState.{Progress, ServerSession, ServerState, W
 use Rattle.disk_model.specs.ServerStep.{ServerFails, WorkFails}
 use Rattle.cookie_copy.specs.Reach.{Reach, copy_number}
 use Rattle.disk_model.specs.ServerWork.{CanFetch, EndFails, FetchFails, header_of, slot_at, slot_fetched, with_word, word_fault}
-use Rattle.descriptor_work.specs.declared.answers.ServerOut.{ServerOut}
-use Rattle.descriptor_work.specs.declared.answers.ServerOut.TheVariants as out
+use Rattle.vdisk_server.specs.declared.answers.ServerOut.{ServerOut}
+use Rattle.vdisk_server.specs.declared.answers.ServerOut.TheVariants as out
 use Rattle.descriptor_work.specs.Calling.{reach_over}
 use Rattle.vdisk_server.specs.Answering.{StepsIn, sees}
 use Rattle.vdisk_server.specs.Pieces.{EndedFor, Fetched, IsEnding}

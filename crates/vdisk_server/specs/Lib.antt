@@ -1,5 +1,6 @@
 pub mod Answering
 pub mod InLane
+pub mod OnStore
 pub mod Pieces
 pub mod Putting
 pub mod Hearing

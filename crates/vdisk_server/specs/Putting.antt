@@ -1,15 +1,17 @@
 -- What comes of putting the packet that the link owes.
-use Rattle.std.specs.Prelude.{◌≡◌, Bool, true, false, ◌&&◌, not, is_some, if◌then◌else◌}
+use Rattle.std.specs.Prelude.{◌≡◌, Bool, true, false, Option, Some, None, if◌then◌else◌}
 use Rattle.ldc_link.specs.Calls.{Puts as PutsPacket}
 use Rattle.ldc_queue.specs.ChannelView.{ChannelView, HasRoom, IsFull}
 use Rattle.ldc_queue.specs.declared.end.End.TheVariants.{A}
 use Rattle.ldc_link.specs.declared.phase.Role.TheVariants.{Responder}
-use Rattle.ldc_link.specs.Putting.{owes}
+use Rattle.vio_tag.specs.declared.message.Message.{Message}
 use Rattle.vio_handshake.specs.Rules.{handshake_sent}
 use Rattle.disk_model.specs.ServerPutting.{answered, server_opens, server_put}
 use Rattle.disk_model.specs.ServerState.{ServerState}
-use Rattle.descriptor_work.specs.declared.answers.ServerOut.{ServerOut}
-use Rattle.descriptor_work.specs.declared.answers.ServerOut.TheVariants as out
+use Rattle.vdisk_server.specs.declared.answers.ServerOut.{ServerOut}
+use Rattle.vdisk_server.specs.declared.answers.ServerOut.TheVariants as out
+use Rattle.vdisk_server.specs.declared.putting.PutOf.{PutOf}
+use Rattle.vdisk_server.specs.declared.putting.PutOf.TheVariants as the_put
 use Rattle.vdisk_server.specs.Standing.{AnswersLink}
 
 -- by a server whose link holds the message, where there is room
@@ -24,11 +26,14 @@ pub record PutsRightly (s : ServerState) : Type 0 where
   pub phase : AnswersLink s.link.phase
   pub role : s.handshake.role ≡ Responder
 
--- a message was wholly put: the handshake's where it owes one, else the answer to a range
-abbrev pub message_put : Bool → ServerState → ServerState
-message_put true s = record s { handshake = handshake_sent s.handshake }
-message_put false s = record s { session = answered s.session }
+-- what the packet is that is put next, of a link that is up or isn't: a message is the handshake's where that owes one
+abbrev pub put_of : Bool → Option Message → PutOf
+put_of false owed = the_put.Control
+put_of true (Some message) = the_put.Handshake
+put_of true None = the_put.Own
 
--- a packet was put by a link that was up or wasn't
-abbrev pub noted : Bool → ServerState → ServerState
-noted in_message s = if in_message && not (owes s.link) then message_put (is_some s.handshake.owed) s else s
+-- such a packet was put, and more is owed or the message is put whole
+abbrev pub noted : PutOf → Bool → ServerState → ServerState
+noted the_put.Control more s = s
+noted the_put.Handshake more s = if more then s else record s { handshake = handshake_sent s.handshake }
+noted the_put.Own more s = if more then s else record s { session = answered s.session }

@@ -13,8 +13,9 @@ ghost use Rattle.vdisk_server.specs.Answering.{channel_after};
 ghost use Rattle.vdisk_server.specs.Rules.{in_hand, owed_message, session_owes};
 ghost use Rattle.vdisk_server.specs.Standing.{IsOpen};
 
+use crate::answers::ServerOut;
 use crate::session::RingSession;
-use descriptor_work::{ServerOut, UnitBuffer, Work};
+use descriptor_work::{UnitBuffer, Work};
 use disk_requests::disk_bytes;
 use dring::{PeerRing, slot_of};
 use flat_store::Region;
@@ -190,17 +191,6 @@ impl ServerEnd {
         }
     }
 
-    /// The message that is to be offered next: the handshake's, or the answer to a range that is finished.
-    pub fn owed_message(&self) -> Option<Message>
-        requires { IsOpen self.now.session self.now.handshake.phase }
-        ensures { result ≡ owed_message self.now }
-    {
-        match self.handshake.next() {
-            Some(message) => Some(message),
-            None => self.owed_answer(),
-        }
-    }
-
     /// Whether a message is to be offered next. A message is long, so it is made only where it is said.
     pub fn owes_message(&self) -> bool
         ensures some { result ≡ is_some (owed_message self.now) }
@@ -220,7 +210,7 @@ impl ServerEnd {
     }
 
     /// The INFO's fields, acknowledged, once each descriptor of its range is finished.
-    fn owed_answer(&self) -> Option<Message>
+    pub fn owed_answer(&self) -> Option<Message>
         requires { IsOpen self.now.session self.now.handshake.phase }
         ensures { result ≡ session_owes self.now self.now.session }
     {

@@ -12,10 +12,11 @@ ghost use Rattle.vdisk_server.specs.Pieces.{FetchedOr};
 ghost use Rattle.vdisk_server.specs.Rules.{one_fetched, work_begun};
 ghost use Rattle.vdisk_server.specs.Standing.{RingStands};
 
+use crate::answers::ServerOut;
 use crate::end::ServerEnd;
 use crate::session::RingSession;
 use cookie_copy::CopyFault;
-use descriptor_work::{ServerOut, Work, header_of};
+use descriptor_work::{Work, header_of};
 use dom_memory::Memory;
 use dring::{RingFault, VIO_DESC_ACCEPTED, fetch, mark};
 use ldc_queue::{Channel, End};

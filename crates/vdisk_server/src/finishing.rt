@@ -10,10 +10,11 @@ ghost use Rattle.vdisk_server.specs.Pieces.{EndedFor, IsEnding};
 ghost use Rattle.vdisk_server.specs.Rules.{one_finished, work_ended};
 ghost use Rattle.vdisk_server.specs.Standing.{RingStands};
 
+use crate::answers::ServerOut;
 use crate::end::ServerEnd;
 use crate::fetching::copy_number;
 use crate::session::RingSession;
-use descriptor_work::{Descriptor, ServerOut};
+use descriptor_work::Descriptor;
 use dom_memory::Memory;
 use dring::{VIO_DESC_DONE, mark, put_word};
 use ldc_queue::{Channel, End};

@@ -8,7 +8,7 @@ ghost use Rattle.disk_model.specs.Served.{Served};
 ghost use Rattle.disk_model.specs.ServerState.{ServerState};
 ghost use Rattle.vdisk_server.specs.Answering.{Serves, channel_after, server_event};
 ghost use Rattle.vdisk_server.specs.InLane.{lane_after};
-ghost use Rattle.descriptor_work.specs.declared.answers.ServerOut.{ServerOut};
+ghost use Rattle.vdisk_server.specs.declared.answers.ServerOut.{ServerOut};
 
 /// A step of the server is one of its lane, with what the store gave. It is of a lane whose server runs, whose wire is
 /// what the channel shows, and whose memory and table are those that the step was given. The channel after the step

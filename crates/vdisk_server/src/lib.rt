@@ -6,15 +6,17 @@
 //! but `new` takes memory.
 #![tactic(auto)]
 
+mod answers;
 mod end;
 mod fetching;
 mod finishing;
 mod hearing;
 mod laws;
+mod putting;
 mod rules;
 mod server;
 mod session;
 
-pub use descriptor_work::ServerOut;
+pub use answers::ServerOut;
 pub use laws::steps_are_the_lanes;
 pub use server::Server;

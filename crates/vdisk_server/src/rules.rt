@@ -1,31 +1,26 @@
 // The rules of a step, in their order: the first that applies is the step.
 
-ghost use Rattle.std.specs.Prelude.{◌≡◌, ◌+◌, ◌*◌, ◌≤◌, [], length, None, Some, is_some, true, false};
+ghost use Rattle.std.specs.Prelude.{◌≡◌, ◌+◌, ◌*◌, ◌≤◌, length, None, Some, false};
 ghost use Rattle.cookie_copy.specs.Faults.{PagesWithin, is_up as is_configured};
-ghost use Rattle.ldc_link.specs.LinkState.{is_up, offered};
+ghost use Rattle.ldc_link.specs.LinkState.{is_up};
 ghost use Rattle.ldc_link.specs.Putting.{owes};
 ghost use Rattle.ldc_queue.specs.Wire.{state_of as state_in};
 ghost use Rattle.ldc_queue.specs.declared.end.ChannelState.TheVariants.{Up};
 ghost use Rattle.ldc_queue.specs.declared.end.End.TheVariants.{B};
-ghost use Rattle.vio_tag.specs.Form.{IsWellFormed};
-ghost use Rattle.vio_tag.specs.Spelling.{canonical};
-ghost use Rattle.disk_model.specs.ServerPutting.{answered};
 ghost use Rattle.disk_model.specs.ServerRule.{Joins, server_rule, serves, takes_first};
-ghost use Rattle.descriptor_work.specs.Calling.{StoreAfter, WithinDisk};
+ghost use Rattle.vdisk_server.specs.OnStore.{StoreAfter, WithinDisk};
 ghost use Rattle.vdisk_server.specs.Answering.{SameDisk, Serves, StepsAlone, channel_after, sees};
-ghost use Rattle.vdisk_server.specs.Putting.{PutsNext, PutsRightly, noted};
-ghost use Rattle.vdisk_server.specs.Rules.{owed_message};
 ghost use Rattle.vdisk_server.specs.Standing.{Stands};
 
+use crate::answers::ServerOut;
 use crate::end::ServerEnd;
 use crate::session::RingSession;
-use descriptor_work::{Progress, ServerOut};
+use descriptor_work::Progress;
 use dom_memory::Memory;
-use ldc_link::{SendOut, TakeOut};
+use ldc_link::TakeOut;
 use ldc_queue::{Channel, ChannelState, End};
 use map_table::MapTable;
 use vio_io::Store;
-use vio_tag::{Message, encode};
 
 impl ServerEnd {
     /// One step, whose answer is written into the caller's.
@@ -53,7 +48,7 @@ impl ServerEnd {
             return self.join(channel, out);
         }
         if self.link.owes() {
-            return self.put(channel, out);
+            return self.put(self.next_put(), channel, out);
         }
         if self.owes_message() {
             return self.say_owed(channel, out);
@@ -81,90 +76,6 @@ fn is_up(channel: &Channel) -> bool
     ensures { result ≡ is_configured (state_in B channel.now.wire) }
 {
     matches!(channel.state(End::B), ChannelState::Up)
-}
-
-// What is put.
-impl ServerEnd {
-    // The link owes a packet: it is put, and where it ends a message, what follows is noted.
-    fn put(&mut self, channel: &mut Channel, out: &mut ServerOut)
-        requires up { state_in B channel.old.wire ≡ Up }
-        requires owes { owes self.old.link ≡ true }
-        requires answers { PutsRightly self.old }
-        ensures put { PutsNext self.old channel.old out.new self.new }
-        ensures channel { channel.new ≡ channel_after out.new channel.old }
-        ensures disk { SameDisk self.old self.new }
-    {
-        let in_message = self.link.is_up();
-        match self.link.send(channel, End::B) {
-            SendOut::Sent(packet) => {
-                self.note_put(in_message);
-                *out = ServerOut::Sent {
-                    packet,
-                    opens: false,
-                };
-            }
-            SendOut::Blocked => *out = ServerOut::Blocked,
-            SendOut::Nothing => unreachable!(),
-        }
-    }
-
-    // A packet was put. After the last one of a message it was a message of the handshake, where that owes one, or else the answer
-    // to a range.
-    fn note_put(&mut self, in_message: bool)
-        ensures { self.new ≡ noted in_message self.old }
-    {
-        if !in_message || self.link.owes() {
-            return;
-        }
-        if self.handshake.owes() {
-            let _opens = self.handshake.sent();
-        } else {
-            self.note_answered();
-        }
-    }
-
-    fn note_answered(&mut self)
-        ensures { self.new ≡ record self.old { session = answered self.old.session } }
-    {
-        if let Some(session) = &mut self.session {
-            session.answered = session.asked;
-            session.range = None;
-        }
-    }
-
-    // A message is owed: it is said.
-    fn say_owed(&mut self, channel: &mut Channel, out: &mut ServerOut)
-        requires stands { Stands self.old }
-        requires up { state_in B channel.old.wire ≡ Up }
-        requires free { owes self.old.link ≡ false }
-        requires owed { is_some (owed_message self.old) ≡ true }
-        ensures step { StepsAlone self.old channel.old out.new self.new }
-        ensures channel { channel.new ≡ channel_after out.new channel.old }
-        ensures disk { SameDisk self.old self.new }
-    {
-        match &self.owed_message() {
-            Some(message) => self.say(message, channel, out),
-            None => unreachable!(),
-        }
-    }
-
-    // The message is offered, and its first packet is put.
-    fn say(&mut self, message: &Message, channel: &mut Channel, out: &mut ServerOut)
-        requires up { state_in B channel.old.wire ≡ Up }
-        requires form { IsWellFormed message.now }
-        requires link { is_up self.old.link ≡ true }
-        requires free { self.old.link.to_send ≡ [] }
-        requires answers { PutsRightly self.old }
-        ensures put { PutsNext (record self.old { link = offered (canonical message.now) self.old.link })
-            channel.old out.new self.new }
-        ensures channel { channel.new ≡ channel_after out.new channel.old }
-        ensures disk { SameDisk self.old self.new }
-    {
-        let mut bytes = [0; 256];
-        let length = encode(message, &mut bytes);
-        let _offered = self.link.offer(&bytes[..length]);
-        self.put(channel, out);
-    }
 }
 
 // What is worked.
@@ -197,33 +108,29 @@ impl ServerEnd {
             return self.fetch(session, channel, table, memory, out);
         };
         match work.progress {
-            Progress::Reads { unit } => work.read_unit(
-                unit,
-                self.region,
-                &mut self.unit,
-                store,
-                out,
-            ),
-            Progress::Writes { unit } => work.write_unit(unit, self.region, &self.unit, store, out),
-            Progress::Flushes => work.flush(store, out),
-            Progress::Gives { unit } => work.give_unit(
+            Progress::Reads { unit } => {
+                out.tell_call(work.read_unit(unit, self.region, &mut self.unit, store));
+            }
+            Progress::Writes { unit } => {
+                out.tell_call(work.write_unit(unit, self.region, &self.unit, store));
+            }
+            Progress::Flushes => out.tell_call(work.flush(store)),
+            Progress::Gives { unit } => out.tell_copy(work.give_unit(
                 unit,
                 self.region.blocks,
                 &self.unit,
                 channel,
                 table,
                 memory,
-                out,
-            ),
-            Progress::Gathers { unit } => work.gather_unit(
+            )),
+            Progress::Gathers { unit } => out.tell_copy(work.gather_unit(
                 unit,
                 self.region.blocks,
                 &mut self.unit,
                 channel,
                 table,
                 memory,
-                out,
-            ),
+            )),
             Progress::Ends { status } => self.finish(session, status, channel, table, memory, out),
         }
     }

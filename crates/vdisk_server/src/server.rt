@@ -3,11 +3,11 @@ ghost use Rattle.cookie_copy.specs.Faults.{PagesWithin};
 ghost use Rattle.ldc_queue.specs.ChannelView.{closed_channel, configured_channel};
 ghost use Rattle.ldc_queue.specs.declared.end.End.TheVariants.{B};
 ghost use Rattle.disk_model.specs.ServerState.{fresh_server, joined_server, restarted_server};
-ghost use Rattle.descriptor_work.specs.Calling.{StoreAfter, WithinDisk};
+ghost use Rattle.vdisk_server.specs.OnStore.{StoreAfter, WithinDisk};
 ghost use Rattle.vdisk_server.specs.Answering.{SameDisk, Serves, channel_after};
 
+use crate::answers::ServerOut;
 use crate::end::ServerEnd;
-use descriptor_work::ServerOut;
 use dom_memory::Memory;
 use flat_store::Region;
 use ldc_queue::{Channel, End};

@@ -1,5 +1,5 @@
 -- A packet that is put, as the model's step has it.
-use Rattle.std.proofs.Common.{◌≡◌, ℕ, ◌+◌, ◌<◌, Bool, true, false, List, [], ◌∷◌, length, drop, Option, Some, None, is_some, inl, inr, refl, sym, ◌∙◌, ap, subst, arith, length-drop}
+use Rattle.std.proofs.Common.{◌≡◌, ◌≢◌, ℕ, ◌+◌, ◌<◌, Bool, true, false, List, [], ◌∷◌, length, drop, Option, Some, None, is_some, inl, inr, refl, sym, ◌∙◌, ap, subst, arith, length-drop}
 use Rattle.std.specs.Prelude.{if◌then◌else◌, is_none, nat_le}
 use Rattle.std.proofs.lemmas.Bool.{cases_lt, le-leb, lt-leb, lt-ltb}
 use Rattle.std.proofs.lemmas.List.{drop_all}
@@ -10,11 +10,12 @@ use Rattle.ldc_link.specs.declared.phase.LinkPhase.TheVariants as phase
 use Rattle.ldc_link.specs.declared.phase.Role.{Role}
 use Rattle.ldc_link.specs.declared.phase.Role.TheVariants.{Initiator, Responder}
 use Rattle.ldc_link.specs.LinkState.{LinkState, is_established, is_up}
-use Rattle.ldc_link.specs.Putting.{behind_put, left_behind_put, owed_packet, part_owed, phase_behind_put, with_link}
+use Rattle.ldc_link.specs.Putting.{behind_put, left_behind_put, owed_packet, owes, part_owed, phase_behind_put, with_link}
 use Rattle.ldc_packet.specs.declared.packet.Packet.{Packet}
 use Rattle.ldc_queue.specs.ChannelView.{ChannelView}
 use Rattle.ldc_queue.specs.Wire.{peer_of, waiting_for}
 use Rattle.map_table.specs.declared.table.Entry.{Entry}
+use Rattle.vio_tag.specs.declared.message.Message.{Message}
 use Rattle.vio_handshake.specs.declared.handshake.Handshake.{Handshake}
 use Rattle.vio_handshake.specs.Rules.{opens_by_put}
 use Rattle.channel_model.specs.EndPuts.{ComesUp, EndsHandshake, EndsOwn, Goes, PutKind, ending, handshake_behind, kind_in, put_kind, put_opens}
@@ -25,7 +26,9 @@ use Rattle.port_model.specs.NetEndStep.{NetLeft}
 use Rattle.vnet_port.specs.Calls.{end_at, end_of, role_of}
 use Rattle.vnet_port.specs.declared.net_out.NetOut.{NetOut}
 use Rattle.vnet_port.specs.declared.net_out.NetOut.TheVariants as out
-use Rattle.vnet_port.specs.Putting.{PutsHeld, cleared_if, kind_after, noted, opened_if}
+use Rattle.vnet_port.specs.declared.putting.PutOf.{PutOf}
+use Rattle.vnet_port.specs.declared.putting.PutOf.TheVariants as the_put
+use Rattle.vnet_port.specs.Putting.{PutsHeld, cleared_if, kind_of, next_put, noted, opened_if, put_of}
 use Rattle.port_frames.specs.Memories.{reach_over}
 use Rattle.vnet_port.specs.Stepping.{Steps, channel_after, rule_of}
 
@@ -49,14 +52,29 @@ goes_or_ends k message own =
           ∙ ap (λ (b : Bool). ending b own) (sym (le-leb (length message) 56 few))
     ]
 
+part_kind : (k : LinkState) (own : Bool) → kind_of (put_of true own) k ≡ (if owes k then Goes else (if own then EndsOwn else EndsHandshake))
+part_kind k true = refl
+part_kind k false = refl
+
 kind_at : (p : LinkPhase) (k : LinkState) (own : Bool) → k.phase ≡ p
-    → kind_after (is_established p) (record (behind_put k) { phase = phase_behind_put p; to_send = left_behind_put p k.to_send }) own ≡ kind_in p k own
-kind_at phase.Established k own is = goes_or_ends (record (behind_put k) { phase = phase.Established; to_send = drop 56 k.to_send }) k.to_send own
+    → kind_of (put_of (is_established p) own) (record (behind_put k) { phase = phase_behind_put p; to_send = left_behind_put p k.to_send }) ≡ kind_in p k own
+kind_at phase.Established k own is =
+    let behind : LinkState = record (behind_put k) { phase = phase.Established; to_send = drop 56 k.to_send } in
+    part_kind behind own ∙ goes_or_ends behind k.to_send own
 kind_at phase.OwesRdx k own is = refl
 kind_at p k own is = refl
 
-kind_same : (k : LinkState) (own : Bool) → kind_after (is_up k) (behind_put k) own ≡ put_kind k own
+kind_same : (k : LinkState) (own : Bool) → kind_of (put_of (is_up k) own) (behind_put k) ≡ put_kind k own
 kind_same k own = kind_at k.phase k own refl
+
+-- a message of the handshake is put only where it owes one
+handshake_put : (up : Bool) (owed : Option Message) (whose : PutOf) → whose ≡ put_of up (is_none owed) → whose ≡ the_put.Handshake → owed ≢ None
+handshake_put true None whose is handshake = absurd (cc (is, handshake))
+handshake_put true (Some message) whose is handshake = λ none. absurd (cc none)
+handshake_put false owed whose is handshake = absurd (cc (is, handshake))
+
+pub handshake_owes : (s : NetEndState) (whose : PutOf) → whose ≡ next_put s → whose ≡ the_put.Handshake → s.handshake.owed ≢ None
+handshake_owes s whose is handshake = handshake_put (is_up s.link) s.handshake.owed whose is handshake
 
 -- A SESSION OPENS by a put at the initiator alone
 opens_false : (kind : PutKind) (h : Handshake) → h.role ≡ Responder → put_opens kind h ≡ false
@@ -91,13 +109,13 @@ puts_behind k m bytes puts = with_behind (owed_packet k) (behind_put k) m puts.p
 
 pub put_sent : (held t : NetEndState) (m : LinkState) (c d : ChannelView) (memory new bytes : List ℕ) (opens : Bool) → held.handshake.role ≡ held.link.role
     → Sends (end_of held) held.link c (send.Sent bytes) m d
-    → t ≡ noted (kind_after (is_up held.link) m (is_none held.handshake.owed)) (record held { link = m })
-    → opens ≡ put_opens (kind_after (is_up held.link) m (is_none held.handshake.owed)) held.handshake
+    → t ≡ noted (kind_of (next_put held) m) (record held { link = m })
+    → opens ≡ put_opens (kind_of (next_put held) m) held.handshake
     → new ≡ cleared_if opens held.slots memory → PutsHeld held c memory (out.Sent bytes opens) t d new
 put_sent held t m c d memory new bytes opens same sends is opens_is cleared =
     let own : Bool = is_none held.handshake.owed in
     let behind : m ≡ behind_put held.link = puts_behind held.link m bytes sends.0 in
-    let kind : kind_after (is_up held.link) m own ≡ net_kind held = ap (λ (k : LinkState). kind_after (is_up held.link) k own) behind ∙ kind_same held.link own in
+    let kind : kind_of (put_of (is_up held.link) own) m ≡ net_kind held = ap (λ (k : LinkState). kind_of (put_of (is_up held.link) own) k) behind ∙ kind_same held.link own in
     let opened : opens ≡ net_opens held = opens_is ∙ ap (λ (k : PutKind). put_opens k held.handshake) kind in
     let never : held.link.role ≡ Responder → net_opens held ≡ false = λ responds. opens_false (net_kind held) held.handshake (same ∙ responds) in
     let after : NetEndState = record held { link = behind_put held.link; handshake = handshake_behind (net_kind held) held.handshake } in
@@ -106,8 +124,8 @@ put_sent held t m c d memory new bytes opens same sends is opens_is cleared =
     ∙ opened_same held.link.role (net_opens held) after never in
     let link : t.link ≡ m =
     ap (λ (s : NetEndState). s.link) is
-    ∙ opened_link (put_opens (kind_after (is_up held.link) m own) held.handshake)
-    (record held { link = m; handshake = handshake_behind (kind_after (is_up held.link) m own) held.handshake }) in (
+    ∙ opened_link (put_opens (kind_of (put_of (is_up held.link) own) m) held.handshake)
+    (record held { link = m; handshake = handshake_behind (kind_of (put_of (is_up held.link) own) m) held.handshake }) in (
       lt-ltb (length (waiting_for (peer_of (end_of held)) c.wire) + 1) c.entries sends.1,
       subst (λ (k : LinkState). PutsPacket held.link bytes k) (sym link) sends.0,
       opened,

@@ -11,17 +11,25 @@ use Rattle.vnet_port.specs.Calls.{end_of, role_of}
 use Rattle.vnet_port.specs.Stepping.{channel_after, sees}
 use Rattle.vnet_port.specs.declared.net_out.NetOut.{NetOut}
 use Rattle.vnet_port.specs.declared.net_out.NetOut.TheVariants as out
+use Rattle.vnet_port.specs.declared.putting.PutOf.{PutOf}
+use Rattle.vnet_port.specs.declared.putting.PutOf.TheVariants as the_put
 
--- of a link that was up or wasn't, as it is after a put: it comes up by RDX, goes on, or has ended a message, which is
--- the session's own or the handshake's
-abbrev pub kind_after : Bool → LinkState → Bool → PutKind
-kind_after was_up k own =
-    if is_up k then (if was_up then (if owes k then Goes else (if own then EndsOwn else EndsHandshake)) else ComesUp)
-    else Goes
+-- what the packet is that is put next, of a link that is up or isn't: a part of a message of the session, or of one that
+-- the handshake owes
+abbrev pub put_of : Bool → Bool → PutOf
+put_of false own = the_put.Control
+put_of true true = the_put.Own
+put_of true false = the_put.Handshake
 
 -- a message is of the session where the handshake owes none
-abbrev pub kind_of : Bool → NetEndState → PutKind
-kind_of was_up s = kind_after was_up s.link (is_none s.handshake.owed)
+abbrev pub next_put : NetEndState → PutOf
+next_put s = put_of (is_up s.link) (is_none s.handshake.owed)
+
+-- what such a packet brings about, by the link after it: the link comes up by RDX, or a message ends where no more is owed
+abbrev pub kind_of : PutOf → LinkState → PutKind
+kind_of the_put.Control k = if is_up k then ComesUp else Goes
+kind_of the_put.Handshake k = if owes k then Goes else EndsHandshake
+kind_of the_put.Own k = if owes k then Goes else EndsOwn
 
 -- the session opens, and the ring is cleared
 abbrev pub opened_if : Bool → NetEndState → NetEndState

@@ -12,6 +12,7 @@ ghost use Rattle.port_frames.specs.Memories.{HoldsRing, reach_over};
 
 use crate::net_out::NetOut;
 use crate::port_end::PortEnd;
+use crate::putting::PutOf;
 use dom_memory::Memory;
 use dring::PeerRing;
 use ldc_packet::Subtype;
@@ -108,6 +109,7 @@ impl PortEnd {
     )
         requires up { state_of (end_of self.old) channel.old.wire ≡ Up }
         requires rule { rule_of self.old channel.old ≡ Fetches session activity }
+        requires free { self.old.handshake.owed ≡ None }
         requires open { self.old.handshake.phase ≡ Open }
         requires slot { session.place < self.old.handshake.draft.peer_slots }
         requires few { self.old.handshake.draft.peer_slots ≤ 64 }
@@ -155,6 +157,7 @@ impl PortEnd {
     )
         requires up { state_of (end_of self.old) channel.old.wire ≡ Up }
         requires rule { rule_of self.old channel.old ≡ Fetches session activity }
+        requires free { self.old.handshake.owed ≡ None }
         requires open { self.old.handshake.phase ≡ Open }
         requires frames { FramesStand self.old }
         requires can { CanSay self.old }
@@ -168,7 +171,7 @@ impl PortEnd {
             Some(last) => {
                 let message = self.answer(activity, last);
                 self.session = Some(session.answered());
-                self.say(&message, channel, memory, out);
+                self.say(PutOf::Own, &message, channel, memory, out);
             }
             None => {
                 let slot = session.place;

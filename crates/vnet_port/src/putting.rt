@@ -1,6 +1,6 @@
 // What is put: the rest of a message, one that the handshake owes, or one of the session.
 
-ghost use Rattle.std.specs.Prelude.{◌≡◌, ◌≢◌, ◌*◌, ◌≤◌, [], length, is_none, true, None};
+ghost use Rattle.std.specs.Prelude.{◌≡◌, ◌≢◌, ◌*◌, ◌≤◌, [], length, is_none, false, true, None};
 ghost use Rattle.ldc_link.specs.LinkState.{is_up};
 ghost use Rattle.ldc_link.specs.Putting.{owes};
 ghost use Rattle.ldc_queue.specs.Wire.{state_of};
@@ -16,16 +16,28 @@ use port_frames::ring_of;
 use port_session::PortSession;
 use vio_tag::{Message, encode};
 
+/// What a packet is that is put.
+#[derive(Clone, Copy)]
+pub(crate) enum PutOf {
+    /// One of the link's handshake.
+    Control,
+    /// A part of a message of the session's handshake.
+    Handshake,
+    /// A part of a message of the session.
+    Own,
+}
+
 impl PortEnd {
-    ghost use Rattle.channel_model.specs.EndPuts.{EndsHandshake, ending, put_opens};
+    ghost use Rattle.channel_model.specs.EndPuts.{EndsHandshake, put_opens};
     ghost use Rattle.port_model.specs.NetEndPutting.{cleared_ring, holding};
     ghost use Rattle.port_model.specs.NetEndState.{first_id, opened_net_end};
     ghost use Rattle.vnet_port.specs.Calls.{end_of};
-    ghost use Rattle.vnet_port.specs.Putting.{MayOpen, PutsHeld, cleared_if, kind_of, noted};
+    ghost use Rattle.vnet_port.specs.Putting.{MayOpen, PutsHeld, cleared_if, kind_of, next_put, noted, put_of};
 
     /// Offers a message, and puts its first packet.
     pub(crate) fn say(
         &mut self,
+        whose: PutOf,
         message: &Message,
         channel: &mut Channel,
         memory: &mut Memory,
@@ -35,13 +47,14 @@ impl PortEnd {
         requires form { IsWellFormed message.now }
         requires link { is_up self.old.link ≡ true }
         requires free { self.old.link.to_send ≡ [] }
+        requires whose { whose ≡ put_of true (is_none self.old.handshake.owed) }
         requires may { MayOpen self.old }
         requires room { 64 * self.old.slots ≤ length memory.old }
         ensures put { PutsHeld (holding message.now self.old) channel.old memory.old out.new self.new channel.new memory.new }
         ensures same_length { length memory.new ≡ length memory.old }
     {
         self.offer(message);
-        self.put(channel, memory, out);
+        self.put(whose, channel, memory, out);
     }
 
     /// The link holds this message.
@@ -57,20 +70,40 @@ impl PortEnd {
         let _offered = self.link.offer(&bytes[..len]);
     }
 
+    /// What the packet is that the link owes: a message is the handshake's where that owes one.
+    pub(crate) fn next_put(&self) -> PutOf
+        ensures { result ≡ next_put self.now }
+    {
+        if !self.link.is_up() {
+            return PutOf::Control;
+        }
+        if self.handshake.owes() {
+            PutOf::Handshake
+        } else {
+            PutOf::Own
+        }
+    }
+
     /// Puts the packet that the link owes.
-    pub(crate) fn put(&mut self, channel: &mut Channel, memory: &mut Memory, out: &mut NetOut)
+    pub(crate) fn put(
+        &mut self,
+        whose: PutOf,
+        channel: &mut Channel,
+        memory: &mut Memory,
+        out: &mut NetOut,
+    )
         requires up { state_of (end_of self.old) channel.old.wire ≡ Up }
         requires owes { owes self.old.link ≡ true }
+        requires whose { whose ≡ next_put self.old }
         requires may { MayOpen self.old }
         requires room { 64 * self.old.slots ≤ length memory.old }
         ensures put { PutsHeld self.old channel.old memory.old out.new self.new channel.new memory.new }
         ensures same_length { length memory.new ≡ length memory.old }
     {
         let end = self.end();
-        let was_up = self.link.is_up();
         match self.link.send(channel, end) {
             SendOut::Sent(packet) => {
-                let opens = self.note_put(was_up, memory);
+                let opens = self.note_put(whose, memory);
                 *out = NetOut::Sent { packet, opens };
             }
             SendOut::Blocked => *out = NetOut::Blocked,
@@ -78,36 +111,46 @@ impl PortEnd {
         }
     }
 
-    /// A packet was put, of a link that was up or wasn't: it came up by that, or the message went on or ended. Tells
-    /// whether the session opened.
-    fn note_put(&mut self, was_up: bool, memory: &mut Memory) -> bool
+    /// A packet was put. Tells whether the session opened.
+    fn note_put(&mut self, whose: PutOf, memory: &mut Memory) -> bool
+        requires owed { whose ≡ PutOf.Handshake → self.old.handshake.owed ≢ None }
         requires ids { length self.old.frames ≤ self.old.next_id }
         requires room { 64 * self.old.slots ≤ length memory.old }
-        ensures opens { result ≡ put_opens (kind_of was_up self.old) self.old.handshake }
-        ensures state { self.new ≡ noted (kind_of was_up self.old) self.old }
+        ensures opens { result ≡ put_opens (kind_of whose self.old.link) self.old.handshake }
+        ensures state { self.new ≡ noted (kind_of whose self.old.link) self.old }
         ensures memory { memory.new ≡ cleared_if result self.old.slots memory.old }
         ensures same_length { length memory.new ≡ length memory.old }
     {
-        if !self.link.is_up() || (was_up && self.link.owes()) {
-            return false;
+        match whose {
+            PutOf::Control => {
+                self.note_control();
+                false
+            }
+            PutOf::Handshake => self.note_part(memory),
+            PutOf::Own => false,
         }
-        if was_up {
-            return self.end_message(memory);
-        }
-        self.handshake.link_up();
-        false
     }
 
-    /// The message that the link held was put whole: one of the session, or what the handshake owed.
-    fn end_message(&mut self, memory: &mut Memory) -> bool
+    /// A packet of the link's handshake was put: the session's begins where the link came up by it.
+    fn note_control(&mut self)
+        ensures { self.new ≡ noted (kind_of PutOf.Control self.old.link) self.old }
+    {
+        if self.link.is_up() {
+            self.handshake.link_up();
+        }
+    }
+
+    /// A part of what the handshake owed was put. The session may open by the last.
+    fn note_part(&mut self, memory: &mut Memory) -> bool
+        requires owed { self.old.handshake.owed ≢ None }
         requires ids { length self.old.frames ≤ self.old.next_id }
         requires room { 64 * self.old.slots ≤ length memory.old }
-        ensures opens { result ≡ put_opens (ending true (is_none self.old.handshake.owed)) self.old.handshake }
-        ensures state { self.new ≡ noted (ending true (is_none self.old.handshake.owed)) self.old }
+        ensures opens { result ≡ put_opens (kind_of PutOf.Handshake self.old.link) self.old.handshake }
+        ensures state { self.new ≡ noted (kind_of PutOf.Handshake self.old.link) self.old }
         ensures memory { memory.new ≡ cleared_if result self.old.slots memory.old }
         ensures same_length { length memory.new ≡ length memory.old }
     {
-        if !self.handshake.owes() {
+        if self.link.owes() {
             return false;
         }
         self.end_owed(memory)

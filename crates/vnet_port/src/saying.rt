@@ -1,6 +1,6 @@
 // What an end says: what the handshake owes, and the messages of the session.
 
-ghost use Rattle.std.specs.Prelude.{◌≡◌, ◌<◌, ◌≤◌, length, true, false};
+ghost use Rattle.std.specs.Prelude.{◌≡◌, ◌<◌, ◌≤◌, length, true, false, None, Some};
 ghost use Rattle.ldc_link.specs.Putting.{owes};
 ghost use Rattle.ldc_queue.specs.Wire.{state_of};
 ghost use Rattle.ldc_queue.specs.declared.end.ChannelState.TheVariants.{Up};
@@ -10,6 +10,7 @@ ghost use Rattle.port_frames.specs.Memories.{HoldsRing};
 
 use crate::net_out::NetOut;
 use crate::port_end::PortEnd;
+use crate::putting::PutOf;
 use dom_memory::Memory;
 use ldc_packet::Subtype;
 use ldc_queue::Channel;
@@ -46,7 +47,7 @@ impl PortEnd {
         ensures step { StepsAlone self.old channel.old memory.old out.new self.new channel.new memory.new }
         ensures same_length { length memory.new ≡ length memory.old }
     {
-        self.put(channel, memory, out);
+        self.put(self.next_put(), channel, memory, out);
     }
 
     /// Says the message that the handshake owes.
@@ -59,13 +60,14 @@ impl PortEnd {
     )
         requires up { state_of (end_of self.old) channel.old.wire ≡ Up }
         requires rule { rule_of self.old channel.old ≡ Says message.now }
+        requires owed { self.old.handshake.owed ≡ Some message.now }
         requires form { IsWellFormed message.now }
         requires can { CanSay self.old }
         requires room { HoldsRing self.old.slots memory.old }
         ensures step { StepsAlone self.old channel.old memory.old out.new self.new channel.new memory.new }
         ensures same_length { length memory.new ≡ length memory.old }
     {
-        self.say(message, channel, memory, out);
+        self.say(PutOf::Handshake, message, channel, memory, out);
     }
 
     /// Answers an MCAST_INFO.
@@ -79,6 +81,7 @@ impl PortEnd {
     )
         requires up { state_of (end_of self.old) channel.old.wire ≡ Up }
         requires rule { rule_of self.old channel.old ≡ Replies session reply }
+        requires free { self.old.handshake.owed ≡ None }
         requires open { self.old.handshake.phase ≡ Open }
         requires can { CanSay self.old }
         requires room { HoldsRing self.old.slots memory.old }
@@ -87,7 +90,7 @@ impl PortEnd {
     {
         let message = self.groups_answer(reply);
         self.session = Some(session.replied());
-        self.say(&message, channel, memory, out);
+        self.say(PutOf::Own, &message, channel, memory, out);
     }
 
     /// Tells the switch the whole list of groups.
@@ -100,6 +103,7 @@ impl PortEnd {
     )
         requires up { state_of (end_of self.old) channel.old.wire ≡ Up }
         requires rule { rule_of self.old channel.old ≡ Tells session }
+        requires free { self.old.handshake.owed ≡ None }
         requires open { self.old.handshake.phase ≡ Open }
         requires sized { IsSized self.old.slots self.old.next_id (length self.old.groups) }
         requires can { CanSay self.old }
@@ -109,7 +113,7 @@ impl PortEnd {
     {
         let message = self.membership();
         self.session = Some(session.told());
-        self.say(&message, channel, memory, out);
+        self.say(PutOf::Own, &message, channel, memory, out);
     }
 
     /// Announces the frames that are published and not acknowledged.
@@ -122,6 +126,7 @@ impl PortEnd {
     )
         requires up { state_of (end_of self.old) channel.old.wire ≡ Up }
         requires rule { rule_of self.old channel.old ≡ Announces session }
+        requires free { self.old.handshake.owed ≡ None }
         requires open { self.old.handshake.phase ≡ Open }
         requires counts { CountsStand self.old session }
         requires some { session.seen < session.published }
@@ -134,7 +139,7 @@ impl PortEnd {
     {
         let message = self.announcement(&session);
         self.session = Some(session.announced());
-        self.say(&message, channel, memory, out);
+        self.say(PutOf::Own, &message, channel, memory, out);
     }
 
     /// What the handshake agreed on, while the session is open.

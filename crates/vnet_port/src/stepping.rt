@@ -155,6 +155,7 @@ impl PortEnd {
         requires up { state_of (end_of self.old) channel.old.wire ≡ Up }
         requires rule { rule_of self.old channel.old
             ≡ tells_first (role_of self.old) session (publishes session (slice_get self.old.frames (unseen_in session))) }
+        requires free { self.old.handshake.owed ≡ None }
         requires open { self.old.session ≡ Some session }
         requires can { CanSay self.old }
         requires stands { Stands self.old }

@@ -1,7 +1,7 @@
 use Rattle.std.proofs.Common.{◌≡◌, None, sym, subst, ◌∙◌}
 use Rattle.disk_model.specs.ServerRule.{server_rule, takes_first}
 use Rattle.disk_model.specs.ServerState.{ServerState}
-use Rattle.descriptor_work.specs.declared.answers.ServerOut.TheVariants as out
+use Rattle.vdisk_server.specs.declared.answers.ServerOut.TheVariants as out
 use Rattle.vdisk_server.specs.Answering.{StepsAlone, sees}
 use Rattle.vdisk_server.specs.Standing.{Stands}
 use Rattle.vdisk_server.specs.contracts.end.ServerEnd.{the_view}

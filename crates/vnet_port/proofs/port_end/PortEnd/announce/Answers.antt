@@ -1,12 +1,20 @@
-use Rattle.std.proofs.Common.{◌≡◌, ◌+◌, true, refl, sym, subst}
+use Rattle.std.proofs.Common.{◌≡◌, ◌+◌, true, refl, sym, subst, None, Option, ap}
 use Rattle.cookie_copy.specs.Reach.{Reach}
 use Rattle.port_model.specs.NetEndRule.{Announces}
 use Rattle.port_model.specs.NetEndState.{NetEndState}
 use Rattle.port_model.specs.NetEndPutting.{announcement}
+use Rattle.std.specs.Prelude.{is_none}
+use Rattle.vio_tag.specs.declared.message.Message.{Message}
+use Rattle.vnet_port.specs.Putting.{put_of}
 use Rattle.vnet_port.proofs.Says.{own_steps}
 use Rattle.vnet_port.specs.contracts.port_end.PortEnd.{the_view}
 use Rattle.vnet_port.specs.Stepping.{StepsAlone, rule_of}
 use Rattle.vnet_port.proofs.port_end.PortEnd.announce.Goals as goal
+
+pub say-requires-clause-whose : goal.say-requires-clause-whose
+say-requires-clause-whose c =
+    ap (λ (o : Option Message). put_of true (is_none o))
+    (subst (λ (s : NetEndState). None ≡ s.handshake.owed) (sym c.self.view_is) (sym c.requires.free))
 
 pub returns-clause-step : goal.returns-clause-step
 returns-clause-step c =

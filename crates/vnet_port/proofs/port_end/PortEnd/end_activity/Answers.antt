@@ -1,14 +1,22 @@
-use Rattle.std.proofs.Common.{◌≡◌, ℕ, List, Option, sym, ◌∙◌, ap, subst}
+use Rattle.std.proofs.Common.{◌≡◌, ℕ, List, Option, sym, ◌∙◌, ap, subst, true, None}
 use Rattle.map_table.specs.declared.table.Entry.{Entry}
 use Rattle.port_model.specs.Fetching.{NotReady, fetched}
 use Rattle.port_model.specs.NetEndPutting.{answer}
 use Rattle.port_model.specs.NetEndRule.{Fetches}
 use Rattle.port_model.specs.NetEndState.{Activity, NetEndState}
+use Rattle.std.specs.Prelude.{is_none}
+use Rattle.vio_tag.specs.declared.message.Message.{Message}
+use Rattle.vnet_port.specs.Putting.{put_of}
 use Rattle.vnet_port.proofs.Says.{answer_steps}
 use Rattle.vnet_port.specs.contracts.port_end.PortEnd.{the_view}
 use Rattle.port_frames.specs.Memories.{reach_over}
 use Rattle.vnet_port.specs.Stepping.{Steps, rule_of}
 use Rattle.vnet_port.proofs.port_end.PortEnd.end_activity.Goals as goal
+
+pub say-requires-clause-whose : goal.say-requires-clause-whose
+say-requires-clause-whose c =
+    ap (λ (o : Option Message). put_of true (is_none o))
+    (subst (λ (s : NetEndState). None ≡ s.handshake.owed) (sym c.self.view_is) (sym c.requires.free))
 
 pub returns-in-Some-clause-step : goal.returns-in-Some-clause-step
 returns-in-Some-clause-step c = λ (table : List (Option Entry)) (peer : List ℕ) missing.
