@@ -7,7 +7,9 @@ ghost use Rattle.domain_script.specs.Rows.{row_of};
 ghost use Rattle.domain_script.specs.Spells.{Spells};
 ghost use Rattle.domain_script.specs.Words.{IsName};
 
-use crate::putting::{put_disk, put_end, put_fill, put_lane, put_name, put_number, put_packet, put_row};
+use crate::putting::{
+    put_disk, put_end, put_fill, put_lane, put_name, put_number, put_packet, put_row,
+};
 use crate::rows::RowKind;
 use crate::{DiskDecl, EndName, Event, Names, Request};
 
