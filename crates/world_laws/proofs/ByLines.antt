@@ -1,4 +1,4 @@
--- A script forges no lane, and where none of its lines stops a server, all run.
+-- A script none of whose lines forges anything forges no lane, and where none of them stops a server, all run.
 use Rattle.std.proofs.Common.{ℕ, List, [], ◌∷◌, length, map, refl, sym, subst}
 use Rattle.runs.specs.Run.{Run}
 use Rattle.ldc_queue.specs.declared.end.End.{End}
@@ -15,10 +15,11 @@ use Rattle.world_laws.specs.Settle.{OfLane, SettleEntry}
 use Rattle.world_laws.specs.Sums.{IsUnforged}
 use Rattle.world_laws.proofs.Along.{lane_step}
 use Rattle.world_laws.proofs.LaneLists.{each_set, each_there}
-use Rattle.world_laws.specs.Lines.{AnswersCall, AnswersRequest, Call, Calls, Line, LineBegins, LineMoves, LineStep, Loses, Resets, Restarts, Starts, Stops, Ticks, OfDisk}
+use Rattle.world_laws.specs.Lines.{AnswersCall, AnswersRequest, Call, Calls, Line, LineBegins, LineMoves, LineStep, Injects, Loses, Pokes, Resets, Restarts, Starts, Stops, Ticks, OfDisk}
 use Rattle.world_laws.specs.World.{WorldState, WorldStep, fresh_world}
 use Rattle.world_laws.proofs.RequestKeeping.{IsHonest, IsOnWireHonest, KeepsOn, stays_running, stays_unforged}
 use Rattle.world_laws.proofs.LineEntries.{EachEntry, OnEvent, begins_each, line_each}
+use Rattle.world_laws.specs.Forged.{AllForgeNothing, ForgesNothing}
 use Rattle.world_laws.specs.Running.{AllLeaveRunning, IsRunning, LeavesRunning}
 
 -- STEPS of an end
@@ -62,33 +63,37 @@ asked_on request (Switches event) answers = absurd answers
 asked_on request (Calms event) answers = tt
 
 -- CALLS
-injects_none : (call : Call) (e : End) (packet : List ℕ) → AnswersCall call (OnWire (Injected e packet)) → ⊥
-injects_none (Resets d) e packet answers = answers
-injects_none Restarts e packet answers = answers
-injects_none Stops e packet answers = answers
-injects_none Starts e packet answers = answers
-injects_none (Loses d) e packet answers = answers
-injects_none Ticks e packet answers = answers
+injects_none : (k : ℕ) (call : Call) (e : End) (packet : List ℕ) → ForgesNothing (Calls (OfDisk k) call) → AnswersCall call (OnWire (Injected e packet)) → ⊥
+injects_none k (Resets d) e packet none answers = answers
+injects_none k Restarts e packet none answers = answers
+injects_none k Stops e packet none answers = answers
+injects_none k Starts e packet none answers = answers
+injects_none k (Loses d) e packet none answers = answers
+injects_none k Ticks e packet none answers = answers
+injects_none k (Injects d put) e packet none answers = none
+injects_none k (Pokes d at bytes) e packet none answers = none
 
-pokes_none : (call : Call) (e : End) (at : ℕ) (bytes : List ℕ) → AnswersCall call (OnWire (Poked e at bytes)) → ⊥
-pokes_none (Resets d) e at bytes answers = answers
-pokes_none Restarts e at bytes answers = answers
-pokes_none Stops e at bytes answers = answers
-pokes_none Starts e at bytes answers = answers
-pokes_none (Loses d) e at bytes answers = answers
-pokes_none Ticks e at bytes answers = answers
+pokes_none : (k : ℕ) (call : Call) (e : End) (at : ℕ) (bytes : List ℕ) → ForgesNothing (Calls (OfDisk k) call) → AnswersCall call (OnWire (Poked e at bytes)) → ⊥
+pokes_none k (Resets d) e at bytes none answers = answers
+pokes_none k Restarts e at bytes none answers = answers
+pokes_none k Stops e at bytes none answers = answers
+pokes_none k Starts e at bytes none answers = answers
+pokes_none k (Loses d) e at bytes none answers = answers
+pokes_none k Ticks e at bytes none answers = answers
+pokes_none k (Injects d put) e at bytes none answers = none
+pokes_none k (Pokes d place written) e at bytes none answers = none
 
-call_wire_honest : (call : Call) (event : WireEvent) → AnswersCall call (OnWire event) → IsOnWireHonest event
-call_wire_honest call (Injected e packet) answers = absurd (injects_none call e packet answers)
-call_wire_honest call (Poked e at bytes) answers = absurd (pokes_none call e at bytes answers)
-call_wire_honest call event answers = tt
+call_wire_honest : (k : ℕ) (call : Call) (event : WireEvent) → ForgesNothing (Calls (OfDisk k) call) → AnswersCall call (OnWire event) → IsOnWireHonest event
+call_wire_honest k call (Injected e packet) none answers = absurd (injects_none k call e packet none answers)
+call_wire_honest k call (Poked e at bytes) none answers = absurd (pokes_none k call e at bytes none answers)
+call_wire_honest k call event none answers = tt
 
-call_honest : (call : Call) (event : DiskEvent) → AnswersCall call event → IsHonest event
-call_honest call (OnWire event) answers = call_wire_honest call event answers
-call_honest call (Asks event) answers = tt
-call_honest call (Works event) answers = tt
-call_honest call (Switches event) answers = tt
-call_honest call (Calms event) answers = tt
+call_honest : (k : ℕ) (call : Call) (event : DiskEvent) → ForgesNothing (Calls (OfDisk k) call) → AnswersCall call event → IsHonest event
+call_honest k call (OnWire event) none answers = call_wire_honest k call event none answers
+call_honest k call (Asks event) none answers = tt
+call_honest k call (Works event) none answers = tt
+call_honest k call (Switches event) none answers = tt
+call_honest k call (Calms event) none answers = tt
 
 call_on : (k : ℕ) (call : Call) (event : DiskEvent) → LeavesRunning (Calls (OfDisk k) call) → AnswersCall call event → KeepsOn event
 call_on k call (OnWire event) leaves answers = tt
@@ -100,6 +105,8 @@ call_on k Stops (Switches Stopped) leaves answers = absurd leaves
 call_on k Starts (Switches Stopped) leaves answers = absurd answers
 call_on k (Loses e) (Switches Stopped) leaves answers = absurd answers
 call_on k Ticks (Switches Stopped) leaves answers = absurd answers
+call_on k (Injects e packet) (Switches Stopped) leaves answers = absurd answers
+call_on k (Pokes e at bytes) (Switches Stopped) leaves answers = absurd answers
 call_on k call (Switches Started) leaves answers = tt
 call_on k call (Switches Off) leaves answers = tt
 call_on k call (Calms event) leaves answers = tt
@@ -115,26 +122,30 @@ entries_keep P Q keeps w (OfLane k event ∷ entries) v events run all =
 entries_keep P Q keeps w (entry ∷ entries) v events run all = entries_keep P Q keeps run.0 entries v events.1 run.2 (subst (λ (x : WorldState). Each Q x.lanes) (sym run.1) all)
 
 -- NOBODY FORGES
-line_clean : (w : WorldState) (line : Line) (part : List SettleEntry) (v : WorldState) → LineMoves w line part v → Each IsUnforged w.lanes → Each IsUnforged v.lanes
-line_clean w line part v moves all =
+line_clean : (w : WorldState) (line : Line) (part : List SettleEntry) (v : WorldState) → ForgesNothing line → LineMoves w line part v → Each IsUnforged w.lanes → Each IsUnforged v.lanes
+line_clean w line part v none moves all =
     entries_keep IsHonest IsUnforged stays_unforged w part v
-    (line_each (OnEvent IsHonest) (λ k. step_honest) (λ k. tt) (length w.lanes) (λ k less. tt) tt (λ k. asked_honest) line (λ k call event is answers. call_honest call event answers) w.lanes part v.lanes refl moves.part_of) moves.run all
+    (line_each (OnEvent IsHonest) (λ k. step_honest) (λ k. tt) (length w.lanes) (λ k less. tt) tt (λ k. asked_honest) line
+    (λ k call event is answers. call_honest k call event (subst ForgesNothing is none) answers) w.lanes part v.lanes refl moves.part_of) moves.run all
 
-lines_clean : (w : WorldState) (lines : List (Line × List SettleEntry)) (v : WorldState) → Run LineStep w lines v → Each IsUnforged w.lanes → Each IsUnforged v.lanes
-lines_clean w [] v run all = subst (λ (x : WorldState). Each IsUnforged x.lanes) run all
-lines_clean w (line ∷ lines) v run all = lines_clean run.0 lines v run.2 (line_clean w line.0 line.1 run.0 run.1 all)
+lines_clean : (w : WorldState) (lines : List (Line × List SettleEntry)) (v : WorldState) → AllForgeNothing lines → Run LineStep w lines v → Each IsUnforged w.lanes → Each IsUnforged v.lanes
+lines_clean w [] v none run all = subst (λ (x : WorldState). Each IsUnforged x.lanes) run all
+lines_clean w (line ∷ lines) v none run all = lines_clean run.0 lines v none.1 run.2 (line_clean w line.0 line.1 run.0 none.0 run.1 all)
 
 fresh_clean : (shapes : List Shape) → Each IsUnforged (map fresh shapes)
 fresh_clean [] = tt
 fresh_clean (shape ∷ shapes) = (refl, fresh_clean shapes)
 
-pub unforged_behind : (shapes : List Shape) (image : ImageState) (lines : List (Line × List SettleEntry)) (w : WorldState) → Run LineStep (fresh_world shapes image) lines w → Each IsUnforged w.lanes
-unforged_behind shapes image lines w run = lines_clean (fresh_world shapes image) lines w run (fresh_clean shapes)
+pub unforged_behind : (shapes : List Shape) (image : ImageState) (lines : List (Line × List SettleEntry)) (w : WorldState) → AllForgeNothing lines → Run LineStep (fresh_world shapes image) lines w
+    → Each IsUnforged w.lanes
+unforged_behind shapes image lines w none run = lines_clean (fresh_world shapes image) lines w none run (fresh_clean shapes)
 
+-- a front of a line is none of a call's, so that it forges nothing, whatever the line
 pub unforged_begun : (shapes : List Shape) (image : ImageState) (lines : List (Line × List SettleEntry)) (w : WorldState) (line : Line) (part : List SettleEntry) (v : WorldState)
-    → Run LineStep (fresh_world shapes image) lines w → LineBegins w line part v → Each IsUnforged v.lanes
-unforged_begun shapes image lines w line part v run begun =
-    entries_keep IsHonest IsUnforged stays_unforged w part v (begins_each (OnEvent IsHonest) (λ k. step_honest) (λ k. tt) (length w.lanes) (λ k less. tt) tt line w.lanes part v.lanes refl begun.begins) begun.run (unforged_behind shapes image lines w run)
+    → AllForgeNothing lines → Run LineStep (fresh_world shapes image) lines w → LineBegins w line part v → Each IsUnforged v.lanes
+unforged_begun shapes image lines w line part v none run begun =
+    entries_keep IsHonest IsUnforged stays_unforged w part v (begins_each (OnEvent IsHonest) (λ k. step_honest) (λ k. tt) (length w.lanes) (λ k less. tt) tt line w.lanes part v.lanes refl begun.begins) begun.run
+    (unforged_behind shapes image lines w none run)
 
 -- ALL RUN
 line_runs : (w : WorldState) (line : Line) (part : List SettleEntry) (v : WorldState) → LeavesRunning line → LineMoves w line part v → Each IsRunning w.lanes → Each IsRunning v.lanes

@@ -20,7 +20,7 @@ use Rattle.lane_kinds.proofs.Places.{get_set}
 use Rattle.world_laws.specs.World.{IsWorld, WorldState, WorldStep, fresh_world}
 use Rattle.world_laws.specs.OwnImage.{OwnImage}
 use Rattle.world_laws.proofs.ImageKeeping.{some_is}
-use Rattle.world_laws.proofs.NamedRuns.{forged_before}
+use Rattle.world_laws.proofs.Forging.{forged_before}
 use Rattle.world_laws.proofs.OwnImages.{has_own, of_lane}
 use Rattle.world_laws.proofs.ShapePlaces.{ShapeAt, shape_at, world_holds}
 use Rattle.world_laws.proofs.WorldRuns.{LaneAt, lane_at}
@@ -51,7 +51,7 @@ module _ (shapes : List Shape) (image : ImageState) (first : List ℕ) (k : ℕ)
       let fine : one.after.failed ≡ false = ap (λ (x : LaneState). x.failed) (sym is) ∙ well in
       let own : OwnImage shape first (happened k past) one.lane w.image.told =
       has_own shapes image first k shape world told there past w run one.lane one.there
-      (forged_before shape (happened k past) one.lane event one.after disk.sound lane_run step clean) (failed_before one.lane event one.after step fine) in
+      (forged_before one.lane event one.after step clean) (failed_before one.lane event one.after step fine) in
       run_completion shape (region_of shape first) (happened k past) (of_lane one.lane (region_of shape own.now)) id operation status bytes (of_lane one.after (region_of shape own.now)) disk.sound region_long
       own.run (step, refl) clean fine
 

@@ -1,32 +1,24 @@
 -- A completion in the middle of a run: a disk that nobody forged and whose store didn't fail until the end was so at the completion too.
 use Rattle.std.proofs.Common.{◌≡◌, ℕ, false, Some, List, [], ◌∷◌, ◌++◌, slice_get, ap, ◌∙◌}
 use Rattle.runs.specs.Lawful.{log_of}
-use Rattle.runs.specs.Run.{Run, run_push, run_split}
+use Rattle.runs.specs.Run.{Run, run_split}
 use Rattle.disk_law.specs.ListState.{ImageState}
 use Rattle.lane_laws.specs.DiskLog.{after, nothing_yet}
 use Rattle.disk_model.specs.DiskEvent.{DiskEvent, Done, Works}
-use Rattle.disk_model.specs.LaneState.{IsShape, LaneState, Shape, fresh}
+use Rattle.disk_model.specs.LaneState.{LaneState, Shape}
 use Rattle.disk_model.specs.LaneStep.{LaneStep}
 use Rattle.lane_laws.proofs.LaneRuns.{failed_before}
 use Rattle.lane_laws.specs.Headline.{CompletionShows}
 use Rattle.lane_laws.specs.ImageStep.{region_of}
 use Rattle.world_laws.specs.Along.{happened}
 use Rattle.world_laws.specs.Settle.{OfLane, SettleEntry}
-use Rattle.world_laws.proofs.Along.{lane_runs, lanes_run}
+use Rattle.world_laws.proofs.Along.{lane_runs}
 use Rattle.lane_kinds.proofs.Places.{get_set}
 use Rattle.world_laws.specs.World.{IsWorld, OneMoves, WorldState, WorldStep, fresh_world}
 use Rattle.world_laws.proofs.Contents.{own_completion}
-use Rattle.world_laws.proofs.NamedRuns.{forged_before}
-use Rattle.world_laws.proofs.ShapePlaces.{shape_at}
+use Rattle.world_laws.proofs.Forging.{none_forged}
 
--- A LANE that is whole after a run was whole before it
-forged_past : (shape : Shape) (events : List DiskEvent) (s : LaneState) (later : List DiskEvent) (t : LaneState) → IsShape shape → Run LaneStep (fresh shape) events s → Run LaneStep s later t
-    → t.wire.forged ≡ false → s.wire.forged ≡ false
-forged_past shape events s [] t sound run more unforged = ap (λ (x : LaneState). x.wire.forged) more ∙ unforged
-forged_past shape events s (event ∷ later) t sound run more unforged =
-    forged_before shape events s event more.0 sound run more.1
-    (forged_past shape (events ++ event ∷ []) more.0 later t sound (run_push LaneStep (fresh shape) s more.0 events event run more.1) more.2 unforged)
-
+-- A LANE whose calls didn't fail
 failed_past : (s : LaneState) (later : List DiskEvent) (t : LaneState) → Run LaneStep s later t → t.failed ≡ false → s.failed ≡ false
 failed_past s [] t more well = ap (λ (x : LaneState). x.failed) more ∙ well
 failed_past s (event ∷ later) t more well = failed_before s event more.0 more.1 (failed_past more.0 later t more.2 well)
@@ -44,10 +36,7 @@ module _ (shapes : List Shape) (image : ImageState) (first : List ℕ) (k : ℕ)
       let next : WorldState = parts.2.0 in
       let one : OneMoves at k (Works (Done id operation status bytes)) next = parts.2.1 in
       let here : slice_get next.lanes k ≡ Some one.after = ap (λ (xs : List LaneState). slice_get xs k) one.lanes ∙ get_set at.lanes k one.lane one.after one.there in
-      let through : Run WorldStep (fresh_world shapes image) (before ++ entry ∷ []) next = run_push WorldStep (fresh_world shapes image) at next before entry past one in
-      let reached : Run LaneStep (fresh shape) (happened k (before ++ entry ∷ [])) one.after =
-      (lanes_run shapes image (before ++ entry ∷ []) next through).each k shape one.after there here in
       let later : Run LaneStep one.after (happened k behind) s = lane_runs next behind w k one.after s parts.2.2 here now in
       own_completion shapes image first k shape world told there before at id operation status bytes next one.after past one here
-      (forged_past shape (happened k (before ++ entry ∷ [])) one.after (happened k behind) s (shape_at 0 shapes k shape world.shapes_are there).sound reached later unforged)
+      (none_forged one.after (happened k behind) s later unforged).0
       (failed_past one.after (happened k behind) s later well)

@@ -16,6 +16,10 @@ each_there P [] k s all there = absurd (cc there)
 each_there P (x ∷ lanes) zero s all there = let same : x ≡ s = cc there in subst P same all.0
 each_there P (x ∷ lanes) (suc k) s all there = each_there P lanes k s all.1 there
 
+pub each_all : (P : LaneState → Type 0) (lanes : List LaneState) → ((k : ℕ) (s : LaneState) → slice_get lanes k ≡ Some s → P s) → Each P lanes
+each_all P [] all = tt
+each_all P (s ∷ lanes) all = (all 0 s refl, each_all P lanes (λ k t there. all (suc k) t there))
+
 pub each_set : (P : LaneState → Type 0) (lanes : List LaneState) (k : ℕ) (t : LaneState) → Each P lanes → P t → Each P (slice_set lanes k t)
 each_set P [] k t all holds = tt
 each_set P (x ∷ lanes) zero t all holds = (holds, all.1)

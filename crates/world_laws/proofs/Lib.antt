@@ -19,6 +19,9 @@ pub mod Counting
 pub mod LineEntries
 pub mod RequestKeeping
 pub mod ByLines
+pub mod Forging
+pub mod LeftLanes
+pub mod Pending
 pub mod Checking
 pub mod ImageKeeping
 pub mod UnitPlaces

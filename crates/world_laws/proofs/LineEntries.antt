@@ -1,6 +1,6 @@
 -- A condition on each entry of a part. Each entry of a line's part has it where each step of an end and each tick has it, and what may come of requests and calls.
 -- In a settle the names of lanes that are left over must have it too, and its answer.
-use Rattle.std.proofs.Common.{◌≡◌, ℕ, ◌+◌, ◌<◌, List, [], ◌∷◌, ◌++◌, length, replicate, refl, sym, ◌∙◌, ap, subst, arith}
+use Rattle.std.proofs.Common.{◌≡◌, ℕ, ◌<◌, List, [], ◌∷◌, ◌++◌, length, replicate, refl, sym, ◌∙◌, ap, subst, arith}
 use Rattle.std.specs.Prelude.{⊤}
 use Rattle.ldc_queue.specs.declared.end.End.{End}
 use Rattle.vdisk_msg.specs.declared.request.Request.{Request}
@@ -8,7 +8,7 @@ use Rattle.channel_model.specs.WireEvent.{Idle}
 use Rattle.disk_model.specs.DiskEvent.{DiskEvent, Off, OnWire, Switches}
 use Rattle.disk_model.specs.LaneState.{LaneState}
 use Rattle.lane_kinds.proofs.LaneFronts.{front_each, lanes_each, left_each, of_both, ticked_each, ticks_each}
-use Rattle.lane_kinds.proofs.Leading.{few_lead, front_leads, part_leads, steps_lead}
+use Rattle.lane_kinds.proofs.Leading.{few_lead, front_leads, part_leads, rounds_lead, steps_lead}
 use Rattle.lane_kinds.specs.Lanes.{EachOf}
 use Rattle.lane_kinds.specs.Laws.{Ends, FrontsLead, Leads}
 use Rattle.lane_laws.specs.CalmEnds.{IsStep}
@@ -19,7 +19,8 @@ use Rattle.world_laws.proofs.Moving.{fronts_move}
 use Rattle.world_laws.specs.Along.{LanesMove}
 use Rattle.world_laws.specs.Begun.{RoundFront, SettleFront, fronts}
 use Rattle.world_laws.specs.Rounds.{LaneRound, MakeRound}
-use Rattle.world_laws.specs.Settle.{OfLane, SettleEntry, Settled, Settles, Unsettled, disk_entries, disks, entries_of_rounds, entry_of, left_over, most_rounds, round_entries, tick_entries}
+use Rattle.runs.specs.Run.{Run}
+use Rattle.world_laws.specs.Settle.{GoesOn, OfLane, SettleEntry, SettleRound, Settled, Settles, Settling, Unsettled, disk_entries, disks, entries_of_rounds, entry_of, left_over, most_rounds, round_entries, tick_entries}
 use Rattle.world_laws.specs.DiskKind.{disk_kind, tick}
 use Rattle.world_laws.specs.Lines.{AnswersCall, AnswersRequest, AreSteps, Asked, BeginsPart, Call, Calls, Line, Nothing, OneEntry, PartOf, Rounds, Steps, EndTurn, turn, turns_of, AnswersOn, LaneName, OfDisk, IsStepOf}
 use Rattle.world_laws.specs.Lines as script
@@ -113,7 +114,10 @@ module _ (P : SettleEntry → Type 0) where
         ticks = λ w m part v front. as_many n w part v (ticked_each P disk_kind disk_entries (λ k s. ticks k) 0 w m part v front) (fronts_move.ticks w m part v front);
       }
 
-      -- before its answer, and a front that didn't run out of rounds
+      -- rounds that were made, a settle before its answer, and a front that didn't run out of rounds
+      pub rounds_each : (w : Settling) (rounds : List SettleRound) (v : Settling) → Run GoesOn w rounds v → EachEntry P (entries_of_rounds rounds)
+      rounds_each w rounds v run = (rounds_lead disks (Over (length w.lanes)) (leads (length w.lanes)) w rounds v run refl).0
+
       pub settled_each : (start : List LaneState) (part : List SettleEntry) (behind : List LaneState) (at : Settles start part behind) → EachEntry P (entries_of_rounds at.rounds ++ round_entries 0 at.steps)
       settled_each start part behind at = (steps_lead disks (Over (length start)) (leads (length start)) start part behind at refl).0
 

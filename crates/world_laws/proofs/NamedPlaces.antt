@@ -1,7 +1,6 @@
 -- A place of the image that no accepted write names keeps its byte where nobody forged, whether stores failed or not.
-use Rattle.std.proofs.Common.{◌≡◌, ◌⊎◌, ℕ, zero, suc, ◌+◌, ◌*◌, ◌<◌, ◌≤◌, Bool, true, false, Option, Some, List, [], ◌∷◌, ◌++◌, slice_get, slice_index, inl, inr, refl, sym, ap, ◌∙◌, subst, arith}
-use Rattle.std.specs.Prelude.{◌==◌, if◌then◌else◌, ⊤}
-use Rattle.std.proofs.lemmas.Bool.{eqb-true}
+use Rattle.std.proofs.Common.{◌≡◌, ◌⊎◌, ℕ, zero, suc, ◌+◌, ◌*◌, ◌<◌, ◌≤◌, Bool, false, Option, Some, List, [], ◌∷◌, ◌++◌, slice_get, slice_index, inl, inr, refl, sym, ap, ◌∙◌, subst, arith}
+use Rattle.std.specs.Prelude.{⊤}
 use Rattle.runs.specs.Lawful.{log_of}
 use Rattle.runs.specs.Run.{Run}
 use Rattle.vdisk_msg.specs.declared.desc.DiskDesc.{DiskDesc}
@@ -27,8 +26,6 @@ use Rattle.lane_laws.specs.RuleFacts.{ServerMay}
 use Rattle.lane_laws.proofs.LaneRuns.{before_of, run_contents}
 use Rattle.lane_laws.proofs.ServerChanges.{ServesNow, serves_now}
 use Rattle.lane_laws.proofs.Standing.{Before}
-use Rattle.world_laws.specs.Along.{happened}
-use Rattle.world_laws.specs.Settle.{OfLane, SettleEntry}
 use Rattle.world_laws.specs.NamesNo.{IsApart, NamesNo, NamesNot}
 use Rattle.world_laws.specs.Stays.{StaysAt}
 use Rattle.world_laws.proofs.ImageKeeping.{byte_before, byte_behind}
@@ -50,15 +47,7 @@ apart_push place first [] request all one = (one, tt)
 apart_push place first (x ∷ requests) request all one = (all.0, apart_push place first requests request all.1 one)
 
 -- those that the log of a lane has as accepted
-abbrev pub NamesNotOf : ℕ → ℕ → DiskEvent → Type 0
-NamesNotOf place first (Asks (Accepted id request)) = IsApart place first request
-NamesNotOf place first _ = ⊤
-
-abbrev pub NamesNoOf : ℕ → ℕ → List DiskEvent → Type 0
-NamesNoOf place first [] = ⊤
-NamesNoOf place first (event ∷ events) = NamesNotOf place first event × NamesNoOf place first events
-
-apart_behind : (place first : ℕ) (l : DiskLog) (event : DiskEvent) → NamesNotOf place first event → AllApart place first l.work.issued → AllApart place first (after l event).work.issued
+apart_behind : (place first : ℕ) (l : DiskLog) (event : DiskEvent) → NamesNot place first event → AllApart place first l.work.issued → AllApart place first (after l event).work.issued
 apart_behind place first l (OnWire event) named all = subst (AllApart place first) (sym (wired_keeps l.shape.slots l.transcript l.work event).issued) all
 apart_behind place first l (Asks (Accepted id request)) named all = apart_push place first l.work.issued request all named
 apart_behind place first l (Asks (Full request)) named all = all
@@ -75,32 +64,14 @@ apart_behind place first l (Switches Started) named all = all
 apart_behind place first l (Switches Off) named all = all
 apart_behind place first l (Calms event) named all = all
 
-issued_apart : (place first : ℕ) (l : DiskLog) (events : List DiskEvent) → NamesNoOf place first events → AllApart place first l.work.issued → AllApart place first (log_of after l events).work.issued
+issued_apart : (place first : ℕ) (l : DiskLog) (events : List DiskEvent) → NamesNo place first events → AllApart place first l.work.issued → AllApart place first (log_of after l events).work.issued
 issued_apart place first l [] named all = all
 issued_apart place first l (event ∷ events) named all = issued_apart place first (after l event) events named.1 (apart_behind place first l event named.0 all)
 
--- WHAT HAPPENED TO A LANE names no more than the journal
-names_at : (shapes : List Shape) (place k j : ℕ) (shape : Shape) (event : DiskEvent) (c : Bool) → (c ≡ true → j ≡ k) → slice_get shapes k ≡ Some shape → NamesNot shapes place (OfLane j event)
-    → (more : List DiskEvent) → NamesNoOf place shape.first more → NamesNoOf place shape.first ((if c then event ∷ [] else []) ++ more)
-names_at shapes place k j shape event false same there named more later = later
-names_at shapes place k j shape event true same there named more later =
-    (names_one event (subst (λ (n : ℕ). NamesNot shapes place (OfLane n event)) (same refl) named), later)
-  where
-    names_one : (event : DiskEvent) → NamesNot shapes place (OfLane k event) → NamesNotOf place shape.first event
-    names_one (Asks (Accepted id request)) named = named shape there
-    names_one (Asks (Full request)) named = tt
-    names_one (Asks (Refused why request)) named = tt
-    names_one (OnWire event) named = tt
-    names_one (Works event) named = tt
-    names_one (Switches event) named = tt
-    names_one (Calms event) named = tt
-
-pub names_of : (shapes : List Shape) (place k : ℕ) (shape : Shape) (entries : List SettleEntry) → slice_get shapes k ≡ Some shape → NamesNo shapes place entries
-    → NamesNoOf place shape.first (happened k entries)
-names_of shapes place k shape [] there named = tt
-names_of shapes place k shape (OfLane j event ∷ entries) there named =
-    names_at shapes place k j shape event (j == k) (eqb-true j k) there named.0 (happened k entries) (names_of shapes place k shape entries there named.1)
-names_of shapes place k shape (x ∷ entries) there named = names_of shapes place k shape entries there named.1
+-- of a front of events
+pub names_front : (place first : ℕ) (one two : List DiskEvent) → NamesNo place first (one ++ two) → NamesNo place first one
+names_front place first [] two named = tt
+names_front place first (event ∷ one) two named = (named.0, names_front place first one two named.1)
 
 -- THE REQUEST of a unit that is stored was accepted
 record OfRequest (s : LaneState) (l : DiskLog) (work : Work) : Type 0 where
@@ -155,7 +126,7 @@ stores_byte place first desc request store told size offset operation apart (inl
 stores_byte place first desc request store told size offset operation apart (inr wrote) = apart_byte place first desc request store told size offset operation apart wrote
 
 pub unit_byte : (place : ℕ) (shape : Shape) (events : List DiskEvent) (s : LaneState) (operation block count : ℕ) (failed : Bool) (t : LaneState) (store : List ℕ) (told : Option (List ℕ))
-    → IsShape shape → Run LaneStep (fresh shape) events s → s.wire.forged ≡ false → NamesNoOf place shape.first events → UnitStored shape s operation block count failed t store told
+    → IsShape shape → Run LaneStep (fresh shape) events s → s.wire.forged ≡ false → NamesNo place shape.first events → UnitStored shape s operation block count failed t store told
     → StaysAt place store told
 unit_byte place shape events s operation block count failed t store told sound run unforged named unit =
     let at = seen B s.shape.entries s.wire.wire in

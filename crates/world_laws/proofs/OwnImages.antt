@@ -23,7 +23,7 @@ use Rattle.world_laws.specs.OwnImage.{OwnImage}
 use Rattle.world_laws.specs.Stays.{StaysAround}
 use Rattle.world_laws.proofs.BehindDisks.{still_holds}
 use Rattle.world_laws.proofs.ImageKeeping.{region_apart, some_is}
-use Rattle.world_laws.proofs.NamedRuns.{forged_before}
+use Rattle.world_laws.proofs.Forging.{forged_before}
 use Rattle.world_laws.proofs.ShapePlaces.{shapes_apart}
 use Rattle.world_laws.proofs.WorldRuns.{LaneAt, along_world, lane_at, step_around}
 
@@ -94,7 +94,7 @@ module _ (shapes : List Shape) (image : ImageState) (first : List ℕ) (k : ℕ)
       let sound : IsShape shape = subst IsShape same at.sound in
       let step : LaneStep one.lane event one.after = lane_step one.lane w.image event one.after v.image one.moves in
       let before : OwnImage shape first (happened k past) one.lane w.image.told =
-      has one.lane one.there (forged_before shape (happened k past) one.lane event one.after sound lane_run step unforged) (failed_before one.lane event one.after step well) in
+      has one.lane one.there (forged_before one.lane event one.after step unforged) (failed_before one.lane event one.after step well) in
       let room = still_holds shapes image first before.now past w world told run before.told_is in
       let around : StaysAround at.shape before.now v.image.told = step_around shapes image past w k event v before.now world run one before.told_is room at in
       let ends : shape.first + shape.blocks ≤ blocks_in shapes = subst (λ (x : Shape). x.first + x.blocks ≤ blocks_in shapes) same at.ends in

@@ -101,15 +101,18 @@ rest_same s CalmStop t step = step.1
 rest_same s CalmStart t step = step.1
 rest_same s CalmRestart t step = step.1
 
--- AN HONEST EVENT leaves a lane unforged
+-- AN HONEST EVENT forges nothing
+pub same_forged : (s : LaneState) (event : DiskEvent) (t : LaneState) → IsHonest event → LaneStep s event t → t.wire.forged ≡ s.wire.forged
+same_forged s (OnWire event) t honest step = ap (λ (w : WireLog). w.forged) (wire_only s event t step).wire ∙ moved_forged s.wire event honest
+same_forged s (Asks event) t honest step = ap (λ (x : LaneState). x.wire.forged) step.1
+same_forged s (Works event) t honest step = ap (λ (w : WireLog). w.forged) (work_leaves s event t step).wire
+same_forged s (Switches Stopped) t honest step = ap (λ (x : LaneState). x.wire.forged) step.1
+same_forged s (Switches Started) t honest step = ap (λ (x : LaneState). x.wire.forged) step.1
+same_forged s (Switches Off) t honest step = ap (λ (x : LaneState). x.wire.forged) step.1
+same_forged s (Calms event) t honest step = ap (λ (w : WireLog). w.forged) (as_it_was s t (rest_same s event t step)).wire
+
 pub stays_unforged : (s : LaneState) (event : DiskEvent) (t : LaneState) → IsHonest event → LaneStep s event t → IsUnforged s → IsUnforged t
-stays_unforged s (OnWire event) t honest step clean = ap (λ (w : WireLog). w.forged) (wire_only s event t step).wire ∙ moved_forged s.wire event honest ∙ clean
-stays_unforged s (Asks event) t honest step clean = ap (λ (x : LaneState). x.wire.forged) step.1 ∙ clean
-stays_unforged s (Works event) t honest step clean = ap (λ (w : WireLog). w.forged) (work_leaves s event t step).wire ∙ clean
-stays_unforged s (Switches Stopped) t honest step clean = ap (λ (x : LaneState). x.wire.forged) step.1 ∙ clean
-stays_unforged s (Switches Started) t honest step clean = ap (λ (x : LaneState). x.wire.forged) step.1 ∙ clean
-stays_unforged s (Switches Off) t honest step clean = ap (λ (x : LaneState). x.wire.forged) step.1 ∙ clean
-stays_unforged s (Calms event) t honest step clean = ap (λ (w : WireLog). w.forged) (as_it_was s t (rest_same s event t step)).wire ∙ clean
+stays_unforged s event t honest step clean = same_forged s event t honest step ∙ clean
 
 -- AND EACH BUT A STOP leaves its server running
 pub stays_running : (s : LaneState) (event : DiskEvent) (t : LaneState) → KeepsOn event → LaneStep s event t → IsRunning s → IsRunning t

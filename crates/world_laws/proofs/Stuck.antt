@@ -1,6 +1,7 @@
 -- Over the whole part of a settle, and over a front of it: no end finds no room three times with nothing but Blocked between, and each round
 -- that goes on leaves an entry that is a step other than Blocked, or a tick.
-use Rattle.std.proofs.Common.{ℕ, ◌≤◌, List}
+use Rattle.std.proofs.Common.{ℕ, ◌≤◌, List, length}
+use Rattle.runs.specs.Run.{Run}
 use Rattle.ldc_queue.specs.declared.end.End.{End}
 use Rattle.disk_model.specs.LaneState.{LaneState}
 use Rattle.lane_kinds.proofs.Counting as kind
@@ -13,7 +14,7 @@ use Rattle.world_laws.proofs.DiskLaws.{disk_moves, disk_unsticks}
 use Rattle.world_laws.specs.Begun.{SettleFront, fronts}
 use Rattle.world_laws.specs.DiskKind.{disk_kind}
 use Rattle.world_laws.specs.Moves.{NeverThree, moves, moves_in, stuck}
-use Rattle.world_laws.specs.Settle.{RunsOut, SettleEntry, SettlePart, disk_entries, disks, most_rounds}
+use Rattle.world_laws.specs.Settle.{GoesOn, RunsOut, SettleEntry, SettlePart, SettleRound, Settling, disk_entries, disks, entries_of_rounds, most_rounds}
 
 unsticks : (k : ℕ) (e : End) → Unsticks disks (stuck k e) (blocked k e) moves
 unsticks k e = lanes_unstick disk_kind disk_entries k (stuck k e) (blocked k e) moves (disk_unsticks k e)
@@ -27,3 +28,6 @@ front_never start part behind k e at =
 
 pub out_moves : (start : List LaneState) (part : List SettleEntry) (behind : List LaneState) → RunsOut start part behind → most_rounds start ≤ moves_in part
 out_moves start part behind out = kind.out_moves disks moves_in (lanes_move disk_kind disk_entries moves disk_moves) start part behind out
+
+pub made_move : (w : Settling) (rounds : List SettleRound) (v : Settling) → Run GoesOn w rounds v → length rounds ≤ moves_in (entries_of_rounds rounds)
+made_move w rounds v run = kind.rounds_move disks moves_in (lanes_move disk_kind disk_entries moves disk_moves) w rounds v run

@@ -14,6 +14,7 @@ use Rattle.disk_model.specs.DiskEvent.{DiskEvent, Done, Works}
 use Rattle.disk_model.specs.LaneState.{IsShape, LaneState, Shape, fresh}
 use Rattle.disk_model.specs.LaneStep.{LaneStep}
 use Rattle.world_laws.specs.Along.{event_at, happened}
+use Rattle.world_laws.specs.Forged.{NobodyForges}
 use Rattle.world_laws.specs.Rounds.{Each}
 use Rattle.world_laws.specs.Settle.{OfLane, SettleEntry}
 use Rattle.world_laws.specs.Sums.{IsUnforged}
@@ -26,6 +27,7 @@ use Rattle.world_laws.proofs.EntryCounts.{all_counts, counts_le, lane_le, run_of
 use Rattle.world_laws.proofs.FailedStays.{failed_stays}
 use Rattle.world_laws.proofs.Fives.{five}
 use Rattle.world_laws.proofs.ImageFaults.{few_counted, none_stored, run_faults}
+use Rattle.world_laws.proofs.Forging.{forged_by_events}
 use Rattle.world_laws.proofs.LawFacts.{clean_before, log_clean}
 use Rattle.world_laws.proofs.StatusLaws.{run_tells}
 use Rattle.world_laws.specs.Failures.{NeverFailed, in_entry, is_failed_done, is_failed_store}
@@ -73,10 +75,10 @@ world_tells shapes image entries w k shape are run there =
 
 -- COUNTS
 lane_count : (shapes : List Shape) (image : ImageState) (entries : List SettleEntry) (w : WorldState) (k : ℕ) → AreShapes 0 shapes → Run WorldStep (fresh_world shapes image) entries w
-    → Each IsUnforged w.lanes → k < length shapes → count_by is_failed_done (happened k entries) ≤ count_by is_failed_store (happened k entries)
-lane_count shapes image entries w k are run clean below =
+    → k < length shapes → ((s : LaneState) → slice_get w.lanes k ≡ Some s → s.wire.forged ≡ false) → count_by is_failed_done (happened k entries) ≤ count_by is_failed_store (happened k entries)
+lane_count shapes image entries w k are run below clean =
     let lane = lane_in shapes image entries w k are run below in
-    lane_counted lane.shape (happened k entries) lane.lane lane.sound lane.run (each_there IsUnforged w.lanes k lane.lane clean lane.lane_is)
+    lane_counted lane.shape (happened k entries) lane.lane lane.sound lane.run (clean lane.lane lane.lane_is)
 
 world_le : (shapes : List Shape) (image : ImageState) (entries : List SettleEntry) (w : WorldState) → AreShapes 0 shapes → Run WorldStep (fresh_world shapes image) entries w
     → Each IsUnforged w.lanes → count_by (in_entry is_failed_done) entries ≤ count_by (in_entry is_failed_store) entries
@@ -88,17 +90,34 @@ world_le shapes image entries w are run clean =
       arith,
       all_counts is_failed_done many entries of,
       all_counts is_failed_store many entries of,
-      counts_le is_failed_done is_failed_store 0 many entries (λ j since below. lane_count shapes image entries w j are run clean (omega (arith, below, long))),
+      counts_le is_failed_done is_failed_store 0 many entries
+          (λ j since below. lane_count shapes image entries w j are run (omega (arith, below, long)) (λ s there. each_there IsUnforged w.lanes j s clean there)),
     )
+
+world_faults : (shapes : List Shape) (image : ImageState) (entries : List SettleEntry) (w : WorldState) → Run WorldStep (fresh_world shapes image) entries w
+    → image.faults ≡ 0 → length entries < 2 ^ 63 → w.image.faults ≡ count_by (in_entry is_failed_store) entries
+world_faults shapes image entries w run none short =
+    let n = count_by (in_entry is_failed_store) entries in
+    let most : n ≤ length entries = count_by-le-length (in_entry is_failed_store) entries in
+    run_faults (fresh_world shapes image) entries w run ∙ ap (count_after n) none ∙ few_counted n (omega (arith, most, short))
 
 pub world_counted : (shapes : List Shape) (image : ImageState) (entries : List SettleEntry) (w : WorldState) → AreShapes 0 shapes → Run WorldStep (fresh_world shapes image) entries w
     → Each IsUnforged w.lanes → image.faults ≡ 0 → length entries < 2 ^ 63 → count_by (in_entry is_failed_done) entries ≤ w.image.faults
 world_counted shapes image entries w are run clean none short =
-    let n = count_by (in_entry is_failed_store) entries in
-    let most : n ≤ length entries = count_by-le-length (in_entry is_failed_store) entries in
-    let faults : w.image.faults ≡ n =
-    run_faults (fresh_world shapes image) entries w run ∙ ap (count_after n) none ∙ few_counted n (omega (arith, most, short)) in
-    omega (arith, world_le shapes image entries w are run clean, faults)
+    omega (arith, world_le shapes image entries w are run clean, world_faults shapes image entries w run none short)
+
+-- and of one lane that nobody forged, whatever was forged of others
+pub disk_counted : (shapes : List Shape) (image : ImageState) (entries : List SettleEntry) (w : WorldState) (k : ℕ) → AreShapes 0 shapes → Run WorldStep (fresh_world shapes image) entries w
+    → k < length shapes → NobodyForges (happened k entries) → image.faults ≡ 0 → length entries < 2 ^ 63 → count_by is_failed_done (happened k entries) ≤ w.image.faults
+disk_counted shapes image entries w k are run below unforged none short =
+    let lane = lane_in shapes image entries w k are run below in
+    let clean : lane.lane.wire.forged ≡ false = (forged_by_events lane.shape (happened k entries) lane.lane lane.run).1 unforged in
+    omega (
+      arith,
+      lane_counted lane.shape (happened k entries) lane.lane lane.sound lane.run clean,
+      lane_le is_failed_store k entries,
+      world_faults shapes image entries w run none short,
+    )
 
 -- AN IMAGE THAT NEVER FAILED
 fresh_well : (shapes : List Shape) → Each NeverFailed (map fresh shapes)

@@ -13,6 +13,7 @@ pub mod WorldAlong
 pub mod Requests
 pub mod Accepted
 pub mod Running
+pub mod Forged
 pub mod Stays
 pub mod NamesNo
 pub mod OwnImage

@@ -5,7 +5,7 @@ use Rattle.ldc_queue.specs.declared.end.End.{End}
 use Rattle.ldc_queue.specs.declared.end.End.TheVariants.{A, B}
 use Rattle.vdisk_msg.specs.declared.request.Request.{Request}
 use Rattle.vio_tag.specs.declared.cause.Cause.TheVariants as the_cause
-use Rattle.channel_model.specs.WireEvent.{Declines, Lost, NothingLost, Reset}
+use Rattle.channel_model.specs.WireEvent.{Declines, Injected, InjectedFull, Lost, NotInjected, NothingLost, PokeRefused, Poked, Reset}
 use Rattle.disk_model.specs.DiskEvent.{Accepted, Asks, CalmReset, CalmRestart, CalmStart, CalmStop, CalmTick, DiskEvent, Full, OnWire, Refused, Calms, Started, Stopped, Switches}
 use Rattle.disk_model.specs.LaneState.{LaneState}
 use Rattle.lane_laws.specs.CalmEnds.{IsStep}
@@ -25,6 +25,9 @@ pub data Call : Type 0 where
   Starts : Call
   Loses : (e : End) → Call
   Ticks : Call
+  -- a packet waits for the end as if its peer had put it; and bytes are written into the end's memory from this place on
+  Injects : (e : End) (packet : List ℕ) → Call
+  Pokes : (e : End) (at : ℕ) (bytes : List ℕ) → Call
 
 pub data Line : Type 0 where
   -- a blank line or a declaration
@@ -57,6 +60,11 @@ AnswersCall (Loses e) (OnWire (Lost d packet)) = d ≡ e
 AnswersCall (Loses e) (OnWire (Declines (NothingLost d))) = d ≡ e
 AnswersCall Ticks (OnWire (Reset A the_cause.Tick packet lost)) = ⊤
 AnswersCall Ticks (Calms CalmTick) = ⊤
+AnswersCall (Injects e packet) (OnWire (Injected d put)) = (d ≡ e) × (put ≡ packet)
+AnswersCall (Injects e packet) (OnWire (Declines (NotInjected d put))) = (d ≡ e) × (put ≡ packet)
+AnswersCall (Injects e packet) (OnWire (Declines (InjectedFull d put))) = (d ≡ e) × (put ≡ packet)
+AnswersCall (Pokes e at bytes) (OnWire (Poked d place written)) = (d ≡ e) × (place ≡ at) × (written ≡ bytes)
+AnswersCall (Pokes e at bytes) (OnWire (Declines (PokeRefused d place count))) = (d ≡ e) × (place ≡ at) × (count ≡ length bytes)
 AnswersCall call _ = ⊥
 
 -- one event of one lane

@@ -1,13 +1,15 @@
 -- Counts over the part of a settle: entries that are steps other than Blocked, or ticks; how often an end found no room with nothing but
--- Blocked between; and how many ticks a lane got.
-use Rattle.std.specs.Prelude.{ℕ, ◌+◌, Bool, true, false, ◌&&◌, ◌==◌, if◌then◌else◌, List}
+-- Blocked between; and how many ticks a lane got. And why a lane is left over.
+use Rattle.std.specs.Prelude.{◌≡◌, ◌⊎◌, ℕ, ◌+◌, Bool, true, false, ◌&&◌, ◌==◌, if◌then◌else◌, List, ◌∷◌, ◌++◌, Some, slice_get}
 use Rattle.ldc_queue.specs.declared.end.End.{End}
 use Rattle.ldc_queue.specs.declared.end.End.TheVariants.{A, B}
 use Rattle.vio_tag.specs.declared.cause.Cause.TheVariants as the_cause
 use Rattle.channel_model.specs.WireEvent.{Blocked, Reset}
 use Rattle.disk_model.specs.DiskEvent.{DiskEvent, OnWire}
+use Rattle.disk_model.specs.LaneState.{LaneState}
 use Rattle.lane_kinds.specs.Stuck as ends
 use Rattle.lane_kinds.specs.Stuck.{sum_over}
+use Rattle.world_laws.specs.DiskKind.{is_calm, waits_on}
 use Rattle.world_laws.specs.Settle.{OfLane, SettleEntry}
 
 abbrev pub moves : SettleEntry → ℕ
@@ -42,3 +44,20 @@ ticks k _ = 0
 
 abbrev pub ticks_in : ℕ → List SettleEntry → ℕ
 ticks_in k part = sum_over (ticks k) part
+
+-- THIS LANE MOVED in a part: by a step that isn't calm, or by a tick
+pub record MovedIn (x : ℕ) (part : List SettleEntry) : Type 0 where
+  pub before : List SettleEntry
+  pub event : DiskEvent
+  pub later : List SettleEntry
+  pub is : part ≡ before ++ OfLane x event ∷ later
+  pub loud : is_calm event ≡ false
+
+-- or it waits where the part led to: it isn't finished, though its server runs
+pub record WaitsIn (x : ℕ) (lanes : List LaneState) : Type 0 where
+  pub lane : LaneState
+  pub there : slice_get lanes x ≡ Some lane
+  pub waits : waits_on lane ≡ true
+
+abbrev pub IsLeftOver : ℕ → List SettleEntry → List LaneState → Type 0
+IsLeftOver x part behind = MovedIn x part ⊎ WaitsIn x behind

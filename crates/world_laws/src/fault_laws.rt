@@ -11,6 +11,7 @@ ghost use Rattle.disk_model.specs.DiskEvent.{DiskEvent, Done, Finished, Works};
 ghost use Rattle.disk_model.specs.LaneState.{fresh, IsShape, LaneState, Shape};
 ghost use Rattle.disk_model.specs.LaneStep.{LaneStep};
 ghost use Rattle.world_laws.specs.Along.{happened};
+ghost use Rattle.world_laws.specs.Forged.{NobodyForges};
 ghost use Rattle.world_laws.specs.Rounds.{Each};
 ghost use Rattle.world_laws.specs.Settle.{OfLane, SettleEntry};
 ghost use Rattle.world_laws.specs.Sums.{IsUnforged};
@@ -42,8 +43,9 @@ pub fn statuses_tell_failing_stores()
 
 /// On a lane that nobody forged there are no more completions with the status 5 than calls of the store that failed. So
 /// it is whatever was lost, reset, stopped or restarted on the way there. In a world the image's count of faults is
-/// that of the start, and one higher for each call that failed, of any lane. So where it began at 0 and nobody forged a
-/// lane, the completions with the status 5 of all lanes together are no more than it counts.
+/// that of the start, and one higher for each call that failed, of any lane. Let it begin at 0. Then the completions
+/// with the status 5 of a lane that nobody forged are no more than it counts, whatever was forged of others. So are
+/// those of all lanes together, where nobody forged one.
 pub fn failed_completions_are_counted()
     ensures lane { (shape : Shape) (events : List DiskEvent) (s : LaneState)
         → IsShape shape → Run LaneStep (fresh shape) events s → s.wire.forged ≡ false
@@ -51,6 +53,10 @@ pub fn failed_completions_are_counted()
     ensures image { (w : WorldState) (entries : List SettleEntry) (v : WorldState)
         → Run WorldStep w entries v
         → v.image.faults ≡ count_after (count_by (in_entry is_failed_store) entries) w.image.faults }
+    ensures disk { (shapes : List Shape) (image : ImageState) (entries : List SettleEntry) (w : WorldState) (k : ℕ)
+        → AreShapes 0 shapes → Run WorldStep (fresh_world shapes image) entries w
+        → k < length shapes → NobodyForges (happened k entries) → image.faults ≡ 0 → length entries < 2 ^ 63
+        → count_by is_failed_done (happened k entries) ≤ w.image.faults }
     ensures world { (shapes : List Shape) (image : ImageState) (entries : List SettleEntry) (w : WorldState)
         → AreShapes 0 shapes → Run WorldStep (fresh_world shapes image) entries w → Each IsUnforged w.lanes
         → image.faults ≡ 0 → length entries < 2 ^ 63

@@ -12,11 +12,9 @@ ghost use Rattle.lane_laws.specs.Blocks.{after_requests};
 ghost use Rattle.lane_laws.specs.Headline.{CompletionShows, HoldsDone};
 ghost use Rattle.lane_laws.specs.ImageStep.{region_of};
 ghost use Rattle.world_laws.specs.Along.{happened};
-ghost use Rattle.world_laws.specs.Rounds.{Each};
 ghost use Rattle.world_laws.specs.Settle.{OfLane, SettleEntry};
-ghost use Rattle.world_laws.specs.Sums.{IsUnforged};
 ghost use Rattle.world_laws.specs.World.{fresh_world, IsWorld, LaneMoves, OneMoves, WorldState, WorldStep};
-ghost use Rattle.world_laws.specs.NamesNo.{NamesNo};
+ghost use Rattle.world_laws.specs.NamesNo.{AllLeaveAlone};
 ghost use Rattle.world_laws.specs.OwnImage.{OwnImage};
 ghost use Rattle.world_laws.specs.Stays.{StaysAround, StaysAt, StaysBehind};
 
@@ -101,12 +99,12 @@ pub fn each_disk_holds_what_is_done()
         ≡ after_requests (region_of shape first) (log_of after (nothing_yet shape) (happened k entries)).work.issued }
 {}
 
-/// On a world whose lanes nobody forged, whether stores failed or not, take a place of a told image that lies in no
-/// write that a disk accepted. It keeps its byte, and the image its length, whatever was lost, reset, stopped or
-/// restarted.
+/// Take a place of a told image that each disk leaves alone. It lies outside of the disk's region; or nobody forged the
+/// disk and it lies in no write that the disk accepted. It keeps its byte, and the image its length, whatever was lost,
+/// reset, stopped or restarted, whether stores failed or not, and whatever was forged of other disks.
 pub fn images_keep_what_no_write_names()
     ensures { (shapes : List Shape) (image : ImageState) (first : List ℕ) (place : ℕ)
         → IsWorld shapes image → image.told ≡ Some first → (entries : List SettleEntry) (w : WorldState)
-        → Run WorldStep (fresh_world shapes image) entries w → Each IsUnforged w.lanes → NamesNo shapes place entries
+        → Run WorldStep (fresh_world shapes image) entries w → AllLeaveAlone shapes place entries
         → StaysAt place first w.image.told }
 {}

@@ -1,6 +1,6 @@
 // What follows for the requests of a world's disks.
 
-ghost use Rattle.std.specs.Prelude.{◌≡◌, ◌≤◌, ℕ, List, Some, drop, length, slice_get};
+ghost use Rattle.std.specs.Prelude.{◌≡◌, ◌≤◌, ◌↔◌, ℕ, false, List, Some, drop, length, slice_get};
 ghost use Rattle.runs.specs.Run.{Run};
 ghost use Rattle.disk_law.specs.Issued.{completed, issued, Admission, CompletesOnceInOrder};
 ghost use Rattle.disk_law.specs.ListState.{ImageState};
@@ -9,12 +9,13 @@ ghost use Rattle.disk_model.specs.LaneState.{fresh, IsShape, LaneState, Shape};
 ghost use Rattle.disk_model.specs.LaneStep.{LaneStep};
 ghost use Rattle.world_laws.specs.Along.{happened};
 ghost use Rattle.world_laws.specs.Rounds.{Each};
-ghost use Rattle.world_laws.specs.Settle.{SettleEntry};
+ghost use Rattle.world_laws.specs.Settle.{SettleEntry, pending_on};
 ghost use Rattle.world_laws.specs.Sums.{IsUnforged};
 ghost use Rattle.world_laws.specs.Lines.{Line, LineBegins, LineStep};
 ghost use Rattle.world_laws.specs.World.{AreShapes, WorldState, WorldStep, fresh_world};
 ghost use Rattle.world_laws.specs.Accepted.{accepted_in, next_ids};
-ghost use Rattle.world_laws.specs.Requests.{requests_of};
+ghost use Rattle.world_laws.specs.Requests.{pending_of, requests_of};
+ghost use Rattle.world_laws.specs.Forged.{AllForgeNothing, NobodyForges};
 ghost use Rattle.world_laws.specs.Running.{AllLeaveRunning, IsRunning};
 
 /// In every run of a world, forged or not, whether the store fails or not: what the journal says of a disk's requests
@@ -52,17 +53,21 @@ pub fn requests_of_a_lane_are_pending_in_order()
         → AreShapes 0 shapes → Run WorldStep (fresh_world shapes image) entries w
         → slice_get shapes k ≡ Some shape → slice_get w.lanes k ≡ Some s
         → s.client.next_id ≡ length (issued (requests_of (happened k entries))) }
+    ensures of_world { (shapes : List Shape) (image : ImageState) (entries : List SettleEntry) (w : WorldState)
+        → AreShapes 0 shapes → Run WorldStep (fresh_world shapes image) entries w
+        → pending_on w.lanes ≡ pending_of 0 (length shapes) entries }
 {}
 
-/// The lines of a script forge no packet and write into no memory. So nobody forged any lane of the world that they
-/// lead to, also where want of memory cut a line. And where no line stops a server, each runs.
+/// Where no line of a script injects a packet or pokes into a memory, nobody forged any lane of the world that they lead
+/// to, also where want of memory cut a line. And where no line stops a server, each runs.
 pub fn nobody_forges_by_lines()
     ensures unforged { (shapes : List Shape) (image : ImageState) (lines : List (Line × List SettleEntry))
         (w : WorldState)
-        → Run LineStep (fresh_world shapes image) lines w → Each IsUnforged w.lanes }
+        → AllForgeNothing lines → Run LineStep (fresh_world shapes image) lines w → Each IsUnforged w.lanes }
     ensures begun { (shapes : List Shape) (image : ImageState) (lines : List (Line × List SettleEntry))
         (w : WorldState) (line : Line) (part : List SettleEntry) (v : WorldState)
-        → Run LineStep (fresh_world shapes image) lines w → LineBegins w line part v → Each IsUnforged v.lanes }
+        → AllForgeNothing lines → Run LineStep (fresh_world shapes image) lines w → LineBegins w line part v
+        → Each IsUnforged v.lanes }
     ensures running { (shapes : List Shape) (image : ImageState) (lines : List (Line × List SettleEntry))
         (w : WorldState)
         → AllLeaveRunning lines → Run LineStep (fresh_world shapes image) lines w → Each IsRunning w.lanes }
@@ -70,6 +75,18 @@ pub fn nobody_forges_by_lines()
         (w : WorldState) (line : Line) (part : List SettleEntry) (v : WorldState)
         → AllLeaveRunning lines → Run LineStep (fresh_world shapes image) lines w → LineBegins w line part v
         → Each IsRunning v.lanes }
+{}
+
+/// A lane's state says whether somebody forged it: nobody did exactly where none of its events forges. So it is of each
+/// lane of a world by what the journal says happened to it, whatever happened to the others.
+pub fn forging_is_told()
+    ensures lane { (shape : Shape) (events : List DiskEvent) (s : LaneState)
+        → Run LaneStep (fresh shape) events s → (s.wire.forged ≡ false) ↔ NobodyForges events }
+    ensures world { (shapes : List Shape) (image : ImageState) (entries : List SettleEntry) (w : WorldState)
+        (k : ℕ) (shape : Shape) (s : LaneState)
+        → Run WorldStep (fresh_world shapes image) entries w
+        → slice_get shapes k ≡ Some shape → slice_get w.lanes k ≡ Some s
+        → (s.wire.forged ≡ false) ↔ NobodyForges (happened k entries) }
 {}
 
 /// The next ids of a world's clients together are as many as the requests that its journal says were accepted; so each

@@ -1,6 +1,6 @@
 // What follows for a settle over lanes that were reached, each by a run of its own.
 
-ghost use Rattle.std.specs.Prelude.{◌≡◌, ℕ, true, false, [], ◌∷◌, ◌≤◌, ◌+◌, ◌<◌, List, length};
+ghost use Rattle.std.specs.Prelude.{◌≡◌, ℕ, true, false, [], ◌∷◌, ◌++◌, ◌≤◌, ◌+◌, ◌<◌, List, length};
 ghost use Rattle.runs.specs.Run.{Run};
 ghost use Rattle.ldc_queue.specs.declared.end.End.{End};
 ghost use Rattle.ldc_queue.specs.declared.end.End.TheVariants.{A, B};
@@ -12,10 +12,10 @@ ghost use Rattle.disk_model.specs.Reached.{IsReached};
 ghost use Rattle.world_laws.specs.Along.{LanesMove};
 ghost use Rattle.world_laws.specs.Begun.{SettleFront};
 ghost use Rattle.world_laws.specs.Ended.{AllStill, EndsFinished, LanesEnd};
-ghost use Rattle.world_laws.specs.Moves.{moves_in, NeverThree, ticks_in};
+ghost use Rattle.world_laws.specs.Moves.{moves_in, IsLeftOver, NeverThree, ticks_in};
 ghost use Rattle.world_laws.specs.Rounds.{are_quiet, Each, EachMarked, LaneRound, MakeRound};
 ghost use Rattle.world_laws.specs.Settle.{begin, GoesOn, IsLast, left_over, most_rounds, RunsOut};
-ghost use Rattle.world_laws.specs.Settle.{SettleEntry, Settled, SettlePart, SettleRound, Settles, Settling};
+ghost use Rattle.world_laws.specs.Settle.{SettleEntry, Settled, SettlePart, SettleRound, Settles, Settling, Unsettled, entries_of_rounds};
 ghost use Rattle.world_laws.specs.DiskKind.{waits_on};
 ghost use Rattle.world_laws.specs.Sums.{IsUnforged, remaining_on};
 
@@ -58,7 +58,8 @@ pub fn all_ends_are_still_behind_a_quiet_round()
 
 /// In the part of a settle no end of a lane finds no room three times with nothing but Blocked between. Where the
 /// rounds ran out, the steps other than Blocked and the ticks in it are at least as many as the most rounds. For each
-/// round that isn't the last leaves one. Then at least one lane is named.
+/// round that isn't the last leaves one. Then at least one lane is named. Each that is named moved in the rounds, or it
+/// isn't finished though its server runs.
 pub fn each_round_of_a_settle_moves()
     ensures stuck { (start : List LaneState) (part : List SettleEntry) (behind : List LaneState) (k : ℕ) (e : End)
         → SettlePart start part behind → NeverThree k e 0 part }
@@ -67,6 +68,10 @@ pub fn each_round_of_a_settle_moves()
     ensures names { (start : List LaneState) (part : List SettleEntry) (behind : List LaneState)
         (out : RunsOut start part behind) → Each IsReached start
         → 1 ≤ length (left_over 0 out.last.steps behind) }
+    ensures left { (start : List LaneState) (part : List SettleEntry) (behind : List LaneState)
+        (out : RunsOut start part behind) (x : ℕ) (before later : List SettleEntry)
+        → left_over 0 out.last.steps behind ≡ before ++ Unsettled x ∷ later
+        → IsLeftOver x (entries_of_rounds (out.rounds ++ out.last ∷ [])) behind }
 {}
 
 /// The part of a settle says what happened to each lane. The lane is run by the events that its entries have, one after

@@ -1,0 +1,31 @@
+-- Who forges a lane: events that put a packet which no end put, or write bytes into a memory that its end never wrote.
+use Rattle.std.specs.Prelude.{◌≡◌, ℕ, Bool, true, false, List, [], ◌∷◌, ⊤}
+use Rattle.channel_model.specs.WireEvent.{Injected, Poked}
+use Rattle.disk_model.specs.DiskEvent.{DiskEvent, OnWire}
+use Rattle.world_laws.specs.Along.{happened}
+use Rattle.world_laws.specs.Lines.{Calls, Injects, Line, Pokes}
+use Rattle.world_laws.specs.Settle.{SettleEntry}
+
+abbrev pub forges : DiskEvent → Bool
+forges (OnWire (Injected e packet)) = true
+forges (OnWire (Poked e at bytes)) = true
+forges _ = false
+
+-- NOBODY FORGED a lane among these events
+abbrev pub NobodyForges : List DiskEvent → Type 0
+NobodyForges [] = ⊤
+NobodyForges (event ∷ events) = (forges event ≡ false) × NobodyForges events
+
+-- nor any lane, by these entries of a world's journal
+abbrev pub NobodyForgesAny : List SettleEntry → Type 0
+NobodyForgesAny entries = (k : ℕ) → NobodyForges (happened k entries)
+
+-- A LINE FORGES NOTHING where it injects no packet and pokes into no memory
+abbrev pub ForgesNothing : Line → Type 0
+ForgesNothing (Calls lane (Injects e packet)) = ⊥
+ForgesNothing (Calls lane (Pokes e at bytes)) = ⊥
+ForgesNothing _ = ⊤
+
+abbrev pub AllForgeNothing : List (Line × List SettleEntry) → Type 0
+AllForgeNothing [] = ⊤
+AllForgeNothing (line ∷ lines) = ForgesNothing line.0 × AllForgeNothing lines
