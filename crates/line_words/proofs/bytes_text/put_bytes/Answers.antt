@@ -33,7 +33,7 @@ loop-size-preserved g c =
           ∙ ap (λ (l : List ℕ). (i.so_far ++ piece) ++ encode_lower (unpacked (drop (at + 1) lengths) l)) (sym back);
       gathers = gathers_behind _ _ _ c.loop-size.text c.put_piece.new.text c.args.text.now i.so_far piece i.gathers
           (subst (λ (l : List ℕ). Gathers (g.K.Sink.written c.loop-size.out) (g.K.Sink.written c.put_piece.new.out) c.put_piece.new.text (c.loop-size.text ++ encode_lower l)) block c.in_ok-put_piece.ensures.told);
-      unfailed = c.in_ok-put_piece.ensures.ok ∙ i.unfailed;
+      unfailed = c.in_ok-put_piece.ensures.faults.unfailed (λ is. cc) ∙ i.unfailed;
     }
 
 pub returns-clause-told : goal.returns-clause-told

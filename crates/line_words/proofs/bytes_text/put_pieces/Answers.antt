@@ -19,7 +19,7 @@ loop-piece-preserved g c =
       so_far = i.so_far ++ piece;
       whole = hex_piece i.so_far (encode_lower c.args.bytes.now) c.loop-piece.rest.now c.in-Some.piece.now c.in-Some.behind.now 512 i.whole cut.0 cut.1;
       gathers = gathers_behind _ _ _ c.loop-piece.text c.put_piece.new.text c.args.text.now i.so_far piece i.gathers c.in_ok-put_piece.ensures.told;
-      unfailed = c.in_ok-put_piece.ensures.ok ∙ i.unfailed;
+      unfailed = c.in_ok-put_piece.ensures.faults.unfailed (λ is. cc) ∙ i.unfailed;
     }
 
 pub returns-clause-told : goal.returns-clause-told
