@@ -1,5 +1,5 @@
 -- An end that finds no room has a packet to put.
-use Rattle.std.proofs.Common.{◌≡◌, ◌≢◌, ◌<◌, ◌≤◌, Bool, true, false, Option, Some, None, ◌++◌, length, sym, ap, ◌∙◌, subst, arith, refl, inl, inr, ◌+◌}
+use Rattle.std.proofs.Common.{◌≡◌, ◌≢◌, ◌<◌, ◌≤◌, Bool, true, false, Option, Some, None, ◌++◌, length, sym, ap, ◌∙◌, subst, arith, refl, inl, inr}
 use Rattle.ldc_link.specs.declared.phase.Role.TheVariants.{Initiator, Responder}
 use Rattle.ldc_link.specs.LinkState.{LinkState}
 use Rattle.ldc_link.specs.Putting.{owes, owes_control, owes_in}

@@ -1,5 +1,5 @@
 -- An end does what its session has to do before it takes a packet, and a client takes before it publishes.
-use Rattle.std.proofs.Common.{◌≡◌, ℕ, ◌+◌, ◌-◌, ◌≤◌, Bool, true, false, Option, Some, None, List, refl, sym, ap, ◌∙◌, subst, arith, length, length-drop, []}
+use Rattle.std.proofs.Common.{◌≡◌, ℕ, ◌+◌, ◌-◌, ◌≤◌, Bool, true, false, Option, Some, None, List, refl, sym, ap, ◌∙◌, subst, arith, length, length-drop}
 use Rattle.std.specs.Prelude.{◌&&◌, ◌||◌, is_none, is_some}
 use Rattle.cookie_copy.specs.Reach.{Reach}
 use Rattle.ldc_link.specs.LinkState.{LinkState}
