@@ -133,12 +133,12 @@ takes_ack : (shape : Shape) (c t : ClientState) (turns : List Turn) (packet : Li
     → ClientAcked c turns packet t → Behind shape turns packet done k t
 takes_ack shape c t turns packet done k counted acks =
     let bytes = acks.hears.bytes in
-    let n = range_length c.slots acks.start acks.end in
-    let session = acks.session in
-    let before : session.acked ≡ range_sum shape.slots 2 (heard turns) = ap acked_of (sym acks.session_is) ∙ counted.acked in
+    let n = range_length c.slots acks.ack.start acks.ack.end in
+    let session = acks.ack.session in
+    let before : session.acked ≡ range_sum shape.slots 2 (heard turns) = ap acked_of (sym acks.ack.session_is) ∙ counted.acked in
     let adds : length_in shape.slots (range_in 2 (Some bytes)) ≡ n =
-    heard_range shape.slots 2 bytes acks.message acks.seq acks.ident acks.start acks.end acks.state acks.hears.spells (ap subtype_code acks.subtype_is) acks.body_is
-    ∙ ap (λ (x : ℕ). range_length x acks.start acks.end) (sym counted.slots) in
+    heard_range shape.slots 2 bytes acks.message acks.ack.seq acks.ack.ident acks.ack.start acks.ack.end acks.ack.state acks.hears.spells (ap subtype_code acks.ack.subtype_is) acks.ack.body_is
+    ∙ ap (λ (x : ℕ). range_length x acks.ack.start acks.ack.end) (sym counted.slots) in
     let acked : session.acked + n ≡ range_sum shape.slots 2 (heard (Heard_ packet ∷ turns)) =
     acked_more _ _ _ _ _ n before (ap (range_sum shape.slots 2) acks.hears.messages) (sum_more shape.slots 2 (heard turns) bytes) adds in
     subst (Behind shape turns packet done k) (sym acks.is) (record {
@@ -146,13 +146,13 @@ takes_ack shape c t turns packet done k counted acks =
       holds = λ other is on.
           let same : record session { acked = session.acked + n } ≡ other = some_same is in
           ap (λ (xs : List ℕ). half_said turns ++ xs) acks.left
-          ∙ counted.holds session acks.session_is (ap (λ (x : ClientSession). x.announcing) same ∙ on)
+          ∙ counted.holds session acks.ack.session_is (ap (λ (x : ClientSession). x.announcing) same ∙ on)
           ∙ ap (λ (x : ClientSession). canonical (announcement c x)) same;
-      announced = ap announced_of (sym acks.session_is) ∙ counted.announced;
-      infos = ap infos_of (sym acks.session_is) ∙ counted.infos;
+      announced = ap announced_of (sym acks.ack.session_is) ∙ counted.announced;
+      infos = ap infos_of (sym acks.ack.session_is) ∙ counted.infos;
       acked = acked;
       agrees = hears_agrees shape c (acknowledged (record c { link = acks.link }) session n) turns packet done k counted
-          (record { same = acked_session c.session session n acks.session_is; acked = acked });
+          (record { same = acked_session c.session session n acks.ack.session_is; acked = acked });
     })
 
 pub client_takes_counting : (shape : Shape) (c t : ClientState) (turns : List Turn) (packet : List ℕ) (done : ℕ) (k : Option ClientCounts) → ClientRests c turns → c.handshake.owed ≡ None

@@ -165,7 +165,7 @@ client_takes_so s t turns packet b taking is (inr (inl took)) =
     (ap (λ (x : ClientState). is_some x.session) took.is)
 client_takes_so s t turns packet b taking is (inr (inr acked)) =
     takes_by s t b taking is (λ up. ap (λ (x : ClientState). is_up x.link) acked.is ∙ acked.stays)
-    (ap (λ (x : ClientState). is_announcing x.session) acked.is ∙ ap is_announcing (sym acked.session_is)) (ap (λ (x : ClientState). is_some x.session) acked.is ∙ ap is_some (sym acked.session_is))
+    (ap (λ (x : ClientState). is_announcing x.session) acked.is ∙ ap is_announcing (sym acked.ack.session_is)) (ap (λ (x : ClientState). is_some x.session) acked.is ∙ ap is_some (sym acked.ack.session_is))
 
 -- IT PUTS A PACKET, and announces nothing more
 abbrev pub Announcing : Option ClientSession → Handshake → Blockage → Type 0

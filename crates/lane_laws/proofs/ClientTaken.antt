@@ -1,22 +1,20 @@
 -- What a client makes of a packet that it takes, where it doesn't reset itself: no message is whole by it, or one of the handshake is, or
 -- an acknowledgement of its ranges.
-use Rattle.std.proofs.Common.{◌≡◌, ℕ, ◌+◌, ◌<◌, ◌≤◌, Bool, true, false, Some, None, List, [], ◌∷◌, ◌++◌, refl, sym, ap, ◌∙◌, Option, ◌⊎◌, inl, inr}
+use Rattle.std.proofs.Common.{◌≡◌, ℕ, Bool, true, false, Some, None, List, [], ◌∷◌, ◌++◌, refl, sym, ap, ◌∙◌, Option, ◌⊎◌, inl, inr}
 use Rattle.std.specs.Prelude.{⊤}
 use Rattle.ldc_link.specs.Following.{Follows}
 use Rattle.ldc_link.specs.LinkState.{LinkState, cleared, is_up}
-use Rattle.ldc_packet.specs.declared.packet.Subtype.TheVariants.{Ack}
 use Rattle.ldc_queue.specs.Transcript.{Heard as Heard_, Turn}
 use Rattle.vio_tag.specs.declared.message.Message.{Message}
-use Rattle.vio_tag.specs.declared.message.MsgBody.TheVariants.{DringData}
 use Rattle.vio_tag.specs.Form.{IsWellFormed}
 use Rattle.vio_tag.specs.Spelling.{SpellsMessage}
 use Rattle.vio_handshake.specs.declared.handshake.Handshake.{Handshake}
-use Rattle.vio_handshake.specs.Rules.{handshake_take, sid_fault}
-use Rattle.disk_model.specs.ClientState.{ClientSession, ClientState, slot_in}
+use Rattle.vio_handshake.specs.Rules.{handshake_take}
+use Rattle.disk_model.specs.ClientState.{ClientState}
 use Rattle.disk_model.specs.ClientTaking.{ClientTake, ClientTakes, GoesOn, Resets, acknowledged}
 use Rattle.dring.specs.Slots.{range_length}
 use Rattle.channel_model.specs.Sayings.{heard}
-use Rattle.lane_laws.proofs.ClientAnswers.{Answers, GoesBy, HandshakesTo, comes_to, goes_by}
+use Rattle.lane_laws.proofs.ClientAnswers.{Acks, Answers, GoesBy, HandshakesTo, comes_to, goes_by}
 use Rattle.channel_laws.proofs.Apart.{none_is_some}
 use Rattle.channel_laws.proofs.EndStanding.{heard_leaves}
 use Rattle.channel_laws.proofs.EndCases.{HearsUp, link_hears}
@@ -56,21 +54,8 @@ pub record ClientAcked (s : ClientState) (turns : List Turn) (packet : List ℕ)
   pub stays : is_up link ≡ true
   pub message : Message
   pub hears : HearsMessage turns packet message
-  pub session : ClientSession
-  pub seq : ℕ
-  pub ident : ℕ
-  pub start : ℕ
-  pub end : ℕ
-  pub state : ℕ
-  pub session_is : s.session ≡ Some session
-  pub subtype_is : message.subtype ≡ Ack
-  pub body_is : message.body ≡ DringData seq ident start end state
-  pub sid_is : sid_fault s.handshake.sid message.sid ≡ None
-  pub ident_is : ident ≡ s.handshake.draft.ident_own
-  pub begins : start ≡ slot_in s session.acked
-  pub ends : end < s.slots
-  pub within : session.acked + range_length s.slots start end ≤ session.announced
-  pub is : t ≡ acknowledged (record s { link = link }) session (range_length s.slots start end)
+  pub ack : Acks s message
+  pub is : t ≡ acknowledged (record s { link = link }) ack.session (range_length s.slots ack.start ack.end)
 
 abbrev pub ClientTook : ClientState → List Turn → List ℕ → ClientState → Type 0
 ClientTook s turns packet t = ClientHearsPart s turns packet t ⊎ (ClientHandshakes s turns packet t ⊎ ClientAcked s turns packet t)
@@ -95,29 +80,7 @@ answers s turns packet k message left up stays hears = record {
   goes = λ opens h to.
       inr (inl (record { link = k; left = left; up = up; stays = stays; message = message; hears = hears; opens = opens; handshake = h; took = took_to s.handshake message opens h to; is = refl }));
   faults = λ cause is. tt;
-  acks = λ a. inr (inr (record {
-    link = k;
-    left = left;
-    up = up;
-    stays = stays;
-    message = message;
-    hears = hears;
-    session = a.session;
-    seq = a.seq;
-    ident = a.ident;
-    start = a.start;
-    end = a.end;
-    state = a.state;
-    session_is = a.session_is;
-    subtype_is = a.subtype_is;
-    body_is = a.body_is;
-    sid_is = a.sid_is;
-    ident_is = a.ident_is;
-    begins = a.begins;
-    ends = a.ends;
-    within = a.within;
-    is = refl;
-  }));
+  acks = λ a. inr (inr (record { link = k; left = left; up = up; stays = stays; message = message; hears = hears; ack = a; is = refl }));
   refuses = λ cause refuses. tt;
 }
 

@@ -57,7 +57,7 @@ size_of (suc (suc (suc (suc (suc (suc (suc zero))))))) n is some most = inr (inr
 size_of (suc (suc (suc (suc (suc (suc (suc (suc zero)))))))) n is some most = inr (inr (inr (inr (inr (inr (inr (omega (arith, is))))))))
 size_of (suc (suc (suc (suc (suc (suc (suc (suc (suc k))))))))) n is some most = absurd (omega (arith, is, most, positive k))
 
-wraps_in : (n m : ℕ) → IsSize n → m % 18446744073709551616 % n ≡ m % n
+wraps_in : (n m : ℕ) → IsSize n → m % 2 ^ 64 % n ≡ m % n
 wraps_in n m (inl is) = rw is (omega arith)
 wraps_in n m (inr (inl is)) = rw is (omega arith)
 wraps_in n m (inr (inr (inl is))) = rw is (omega arith)

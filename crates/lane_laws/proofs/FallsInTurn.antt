@@ -63,8 +63,8 @@ took_spends s t turns packet (inl part) = same_spends s t (ap (λ (c : ClientSta
 took_spends s t turns packet (inr (inl handshakes)) =
     same_spends s t (ap (λ (c : ClientState). c.pending) handshakes.is) (ap (λ (c : ClientState). c.session) handshakes.is)
 took_spends s t turns packet (inr (inr acks)) =
-    let next : ClientState = acknowledged (record s { link = acks.link }) acks.session (range_length s.slots acks.start acks.end) in
-    subst (ClientSpends 0 0 s) (sym acks.is) (session_spends 0 0 s next (Some acks.session) acks.session_is (omega arith) (omega arith) (λ asked. omega arith))
+    let next : ClientState = acknowledged (record s { link = acks.link }) acks.ack.session (range_length s.slots acks.ack.start acks.ack.end) in
+    subst (ClientSpends 0 0 s) (sym acks.is) (session_spends 0 0 s next (Some acks.ack.session) acks.ack.session_is (omega arith) (omega arith) (λ asked. omega arith))
 
 pub client_takes : (shape : Shape) (events : List DiskEvent) (s : LaneState) (packet : List ℕ) (opens : Bool) (t : LaneState) → IsShape shape → Run LaneStep (fresh shape) events s → s.wire.forged ≡ false
     → LaneStep s (OnWire (Took A packet opens)) t → ClientFalls 0 0 s.client t.client
@@ -97,22 +97,22 @@ abbrev AsksMore : LaneState → LaneState → Type 0
 AsksMore s t = (asked_in s.server.session < asked_in t.server.session) × (asked_in t.server.session ≤ total_at s.wire.wire.end_a s.client)
 
 asks_more : (s t : LaneState) (l next : DiskLog) (turns : List Turn) (packet : List ℕ) (opens : Bool) → (asks : ServerAsked s.server turns packet t.server opens) → l.transcript.server ≡ turns → next.transcript.server ≡ Heard_ packet ∷ turns
-    → next.shape.slots ≡ l.shape.slots → t.client ≡ s.client → t.wire.wire.end_a ≡ s.wire.wire.end_a → AskedWithin s l asks.session
-    → AskedWithin t next (behind_ask s.server asks.session asks.range)
+    → next.shape.slots ≡ l.shape.slots → t.client ≡ s.client → t.wire.wire.end_a ≡ s.wire.wire.end_a → AskedWithin s l asks.info.session
+    → AskedWithin t next (behind_ask s.server asks.info.session asks.info.range)
     → AsksMore s t
 asks_more s t l next turns packet opens asks transcript then_transcript shape client wire was now =
     let slots = s.server.handshake.draft.peer_slots in
-    let behind : ServerSession = behind_ask s.server asks.session asks.range in
+    let behind : ServerSession = behind_ask s.server asks.info.session asks.info.range in
     let session_is : t.server.session ≡ Some behind = ap (λ (v : ServerState). v.session) asks.is in
-    let sum_was : asks.session.asked ≡ range_sum l.shape.slots 1 (heard turns) = was.asked ∙ ap (λ (x : List Turn). range_sum l.shape.slots 1 (heard x)) transcript in
+    let sum_was : asks.info.session.asked ≡ range_sum l.shape.slots 1 (heard turns) = was.asked ∙ ap (λ (x : List Turn). range_sum l.shape.slots 1 (heard x)) transcript in
     let sum_now : behind.asked ≡ range_sum l.shape.slots 1 (heard turns ++ asks.hears.bytes ∷ []) =
     now.asked ∙ ap (λ (n : ℕ). range_sum n 1 (heard next.transcript.server)) shape ∙ ap (λ (x : List Turn). range_sum l.shape.slots 1 (heard x)) then_transcript ∙ ap (range_sum l.shape.slots 1) asks.hears.messages in
-    let more : asks.session.asked ≤ behind.asked = omega (arith, sum_was, sum_now, sum_front l.shape.slots 1 (heard turns) (asks.hears.bytes ∷ [])) in
-    let above : asks.session.asked < behind.asked =
-    more_asked slots asks.session.asked behind.asked asks.range.start asks.range.end was.small more refl (omega (arith, asks.ends)) was.slots in
+    let more : asks.info.session.asked ≤ behind.asked = omega (arith, sum_was, sum_now, sum_front l.shape.slots 1 (heard turns) (asks.hears.bytes ∷ [])) in
+    let above : asks.info.session.asked < behind.asked =
+    more_asked slots asks.info.session.asked behind.asked asks.info.range.start asks.info.range.end was.small more refl (omega (arith, asks.info.ends)) was.slots in
     let most : total_at s.wire.wire.end_a s.client ≡ total (length s.client.pending) s.client.session = ap (λ (x : ChannelState). total_at x s.client) was.up in
     let same : total (length t.client.pending) t.client.session ≡ total (length s.client.pending) s.client.session = ap (λ (c : ClientState). total (length c.pending) c.session) client in (
-      subst (λ (o : Option ServerSession). asked_in o < asked_in t.server.session) (sym asks.session_is) (subst (λ (o : Option ServerSession). asks.session.asked < asked_in o) (sym session_is) above),
+      subst (λ (o : Option ServerSession). asked_in o < asked_in t.server.session) (sym asks.info.session_is) (subst (λ (o : Option ServerSession). asks.info.session.asked < asked_in o) (sym session_is) above),
       subst (λ (o : Option ServerSession). asked_in o ≤ total_at s.wire.wire.end_a s.client) (sym session_is) (omega (arith, now.within, most, same)),
     )
 
@@ -126,9 +126,9 @@ by_asked shape events s packet opens t sound run clean up step asks =
     let behind : log_of after (nothing_yet shape) more ≡ after l event = log_append after (nothing_yet shape) events (event ∷ []) in
     let clean_t : t.wire.forged ≡ false = ap (λ (x : LaneState). x.wire.forged) step.1.is ∙ clean in
     let up_t : t.wire.wire.end_b ≡ Up = ap (λ (x : LaneState). x.wire.wire.end_b) step.1.is ∙ up in
-    let now = asked_within shape more t (behind_ask s.server asks.session asks.range) sound then_run clean_t up_t (ap (λ (v : ServerState). v.session) asks.is) in
+    let now = asked_within shape more t (behind_ask s.server asks.info.session asks.info.range) sound then_run clean_t up_t (ap (λ (v : ServerState). v.session) asks.is) in
     asks_more s t l (after l event) l.transcript.server packet opens asks refl refl refl (ap (λ (x : LaneState). x.client) step.1.is) (ap (λ (x : LaneState). x.wire.wire.end_a) step.1.is)
-    (asked_within shape events s asks.session sound run clean up asks.session_is) (subst (λ (x : DiskLog). AskedWithin t x (behind_ask s.server asks.session asks.range)) behind now)
+    (asked_within shape events s asks.info.session sound run clean up asks.info.session_is) (subst (λ (x : DiskLog). AskedWithin t x (behind_ask s.server asks.info.session asks.info.range)) behind now)
 
 pub server_takes : (shape : Shape) (events : List DiskEvent) (s : LaneState) (packet : List ℕ) (opens : Bool) (t : LaneState) → IsShape shape → Run LaneStep (fresh shape) events s → s.wire.forged ≡ false
     → LaneStep s (OnWire (Took B packet opens)) t → ServerTurn (total_at s.wire.wire.end_a s.client) s.server t.server

@@ -27,7 +27,8 @@ use Rattle.lane_laws.proofs.BlockWrites.{after_append, take_more}
 use Rattle.lane_laws.proofs.Completions.{run_shows}
 use Rattle.lane_laws.proofs.Disturbing.{run_later}
 use Rattle.lane_laws.proofs.Holding.{run_holds, run_settled}
-use Rattle.lane_laws.proofs.LaneRuns.{AlongContents, contents_step, failed_before, run_contents}
+use Rattle.lane_laws.proofs.FailedRuns.{failed_before}
+use Rattle.lane_laws.proofs.LaneRuns.{AlongContents, contents_step, run_contents}
 use Rattle.lane_laws.proofs.LastWrites.{last_write}
 use Rattle.lane_laws.proofs.NearRuns.{fresh_is_near, run_near, run_step}
 use Rattle.lane_laws.proofs.Statuses.{run_done_zero}

@@ -1,19 +1,15 @@
 -- Along every run of a lane that nobody forged: its near counts stand to its log; and while no store failed, its buffers and its server hold
 -- what was asked.
-use Rattle.std.proofs.Common.{◌≡◌, ℕ, Bool, true, false, Option, List, [], refl, sym, ap, ◌∙◌, subst, arith}
-use Rattle.std.specs.Prelude.{◌||◌, ⊤}
+use Rattle.std.proofs.Common.{◌≡◌, ℕ, Bool, false, List, [], refl, sym, ap, ◌∙◌, subst, arith}
+use Rattle.std.specs.Prelude.{⊤}
 use Rattle.runs.specs.Lawful.{log_of, run_lawful}
 use Rattle.runs.specs.Run.{Run}
 use Rattle.ldc_queue.specs.declared.end.ChannelState.TheVariants.{Up}
-use Rattle.ldc_queue.specs.declared.end.End.{End}
-use Rattle.ldc_queue.specs.declared.end.End.TheVariants.{A, B}
-use Rattle.vio_tag.specs.declared.cause.Cause.{Cause}
-use Rattle.channel_model.specs.WireEvent.{Blocked, ByRestart, ByScript, ByStep, ByTick, Declines, Giver, Idle, Injected, Joined, Lost, Poked, Reset, Sent, Took, WireEvent, giver}
 use Rattle.channel_model.specs.WireLog.{WireLog}
 use Rattle.lane_laws.specs.DiskLog.{DiskLog, after, nothing_yet}
-use Rattle.disk_model.specs.DiskEvent.{Asks, Calm, CalmReset, CalmRestart, CalmStart, CalmStop, CalmTick, Desc, DiskEvent, Done, Finished, Misplaced, Moved, Off, OnWire, Published, Calms, Started, Stopped, Stored, Switched, Switches, Worked, Works}
+use Rattle.disk_model.specs.DiskEvent.{Asks, Desc, DiskEvent, Done, Finished, Misplaced, Moved, OnWire, Published, Calms, Stored, Switches, Works}
 use Rattle.disk_model.specs.LaneState.{IsShape, LaneState, Shape, fresh}
-use Rattle.disk_model.specs.LaneStep.{EndOnWire, LaneStep, ResetBy, RestStep, ServerWorks, TurnStep, WireStep, WorkStep}
+use Rattle.disk_model.specs.LaneStep.{LaneStep, ServerWorks}
 use Rattle.lane_laws.proofs.Agreeing.{always_agree, server_alive}
 use Rattle.lane_laws.proofs.CarriedRuns.{all_step}
 use Rattle.lane_laws.proofs.LaneCounting.{run_knows}
@@ -25,6 +21,7 @@ use Rattle.lane_laws.specs.Standing.{LaneInvariant}
 use Rattle.lane_laws.specs.Contents.{ContentsStand}
 use Rattle.lane_laws.specs.LaneView.{view_of}
 use Rattle.lane_laws.proofs.CallChanges.{asks_changes, calm_changes, turn_changes, wire_changes}
+use Rattle.lane_laws.proofs.FailedRuns.{failed_before, stored_well}
 use Rattle.lane_laws.proofs.DoneChanges.{done_changes, finished_changes, published_changes}
 use Rattle.lane_laws.proofs.PlacedViews.{placed}
 use Rattle.lane_laws.proofs.ServerChanges.{moved_changes}
@@ -53,76 +50,6 @@ lane_changes s l (Works (Stored operation block count failed)) t before contents
 lane_changes s l (Works Misplaced) t before contents facts clean not step = absurd step
 lane_changes s l (Switches event) t before contents facts clean not step = turn_changes s l event t before contents step
 lane_changes s l (Calms event) t before contents facts clean not step = calm_changes s event t step
-
--- A STORE that failed stays so
-either_false : (a b : Bool) → (a || b) ≡ false → (a ≡ false) × (b ≡ false)
-either_false false b is = (refl, is)
-either_false true b is = absurd (cc is)
-
-end_failed : (e : End) (s : LaneState) (event : WireEvent) (t : LaneState) → EndOnWire e s event t → t.failed ≡ s.failed
-end_failed A s event t step = ap (λ (x : LaneState). x.failed) step.is
-end_failed B s event t step = ap (λ (x : LaneState). x.failed) step.1.is
-
-reset_failed : (by : Giver) (e : End) (s : LaneState) (cause : Cause) (packet : Option (List ℕ)) (lost : ℕ) (t : LaneState) → ResetBy by e s cause packet lost t → t.failed ≡ s.failed
-reset_failed ByStep e s cause packet lost t step = end_failed e s (Reset e cause packet lost) t step
-reset_failed ByScript A s cause packet lost t step = ap (λ (x : LaneState). x.failed) step.2
-reset_failed ByScript B s cause packet lost t step = ap (λ (x : LaneState). x.failed) step.1.2
-reset_failed ByRestart A s cause packet lost t step = absurd step
-reset_failed ByRestart B s cause packet lost t step = ap (λ (x : LaneState). x.failed) step.1.2
-reset_failed ByTick A s cause packet lost t step = ap (λ (x : LaneState). x.failed) step.1.2
-reset_failed ByTick B s cause packet lost t step = absurd step
-
-poked_failed : (e : End) (s : LaneState) (at : ℕ) (bytes : List ℕ) (t : LaneState) → WireStep s (Poked e at bytes) t → t.failed ≡ s.failed
-poked_failed A s at bytes t step = ap (λ (x : LaneState). x.failed) step.1
-poked_failed B s at bytes t step = absurd step
-
-pub wire_failed : (s : LaneState) (event : WireEvent) (t : LaneState) → WireStep s event t → t.failed ≡ s.failed
-wire_failed s (Joined e lost) t step = end_failed e s (Joined e lost) t step
-wire_failed s (Took e packet opens) t step = end_failed e s (Took e packet opens) t step
-wire_failed s (Sent e packet opens) t step = end_failed e s (Sent e packet opens) t step
-wire_failed s (Idle e) t step = end_failed e s (Idle e) t step
-wire_failed s (Blocked e) t step = end_failed e s (Blocked e) t step
-wire_failed s (Reset e cause packet lost) t step = reset_failed (giver cause) e s cause packet lost t step
-wire_failed s (Lost e packet) t step = ap (λ (x : LaneState). x.failed) step.1
-wire_failed s (Injected e packet) t step = ap (λ (x : LaneState). x.failed) step.2
-wire_failed s (Poked e at bytes) t step = poked_failed e s at bytes t step
-wire_failed s (Declines d) t step = ap (λ (x : LaneState). x.failed) step.1
-
-served_failed : (s : LaneState) (gave : List ℕ) (event : Worked) (t : LaneState) → ServerWorks s gave event t → t.failed ≡ false → s.failed ≡ false
-served_failed s gave event t step not = (either_false s.failed _ (sym (ap (λ (x : LaneState). x.failed) step.is) ∙ not)).0
-
-work_failed : (s : LaneState) (event : Worked) (t : LaneState) → WorkStep s event t → t.failed ≡ false → s.failed ≡ false
-work_failed s (Published id) t step not = sym (ap (λ (x : LaneState). x.failed) step.is) ∙ not
-work_failed s (Done id operation status bytes) t step not = sym (ap (λ (x : LaneState). x.failed) step.is) ∙ not
-work_failed s (Desc slot bytes) t step not = served_failed s step.0 (Desc slot bytes) t step.1 not
-work_failed s (Moved unit fault) t step not = served_failed s step.0 (Moved unit fault) t step.1 not
-work_failed s (Stored operation block count failed) t step not = served_failed s step.0 (Stored operation block count failed) t step.1 not
-work_failed s (Finished slot status) t step not = served_failed s step.0 (Finished slot status) t step.1 not
-work_failed s Misplaced t step not = absurd step
-
-pub turn_failed : (s : LaneState) (event : Switched) (t : LaneState) → TurnStep s event t → t.failed ≡ s.failed
-turn_failed s Stopped t step = ap (λ (x : LaneState). x.failed) step.1
-turn_failed s Started t step = ap (λ (x : LaneState). x.failed) step.1
-turn_failed s Off t step = ap (λ (x : LaneState). x.failed) step.1
-
-pub rest_failed : (s : LaneState) (event : Calm) (t : LaneState) → RestStep s event t → t.failed ≡ s.failed
-rest_failed s CalmTick t step = ap (λ (x : LaneState). x.failed) step.1
-rest_failed s CalmStop t step = ap (λ (x : LaneState). x.failed) step.1
-rest_failed s CalmStart t step = ap (λ (x : LaneState). x.failed) step.1
-rest_failed s (CalmReset A) t step = absurd step
-rest_failed s (CalmReset B) t step = ap (λ (x : LaneState). x.failed) step.1
-rest_failed s CalmRestart t step = ap (λ (x : LaneState). x.failed) step.1
-
-pub failed_before : (s : LaneState) (event : DiskEvent) (t : LaneState) → LaneStep s event t → t.failed ≡ false → s.failed ≡ false
-failed_before s (OnWire event) t step not = sym (wire_failed s event t step) ∙ not
-failed_before s (Asks event) t step not = sym (ap (λ (x : LaneState). x.failed) step.1) ∙ not
-failed_before s (Works event) t step not = work_failed s event t step not
-failed_before s (Switches event) t step not = sym (turn_failed s event t step) ∙ not
-failed_before s (Calms event) t step not = sym (rest_failed s event t step) ∙ not
-
--- a unit whose store didn't fail
-pub stored_well : (s : LaneState) (gave : List ℕ) (operation block count : ℕ) (failed : Bool) (t : LaneState) → ServerWorks s gave (Stored operation block count failed) t → t.failed ≡ false → failed ≡ false
-stored_well s gave operation block count failed t step not = (either_false s.failed failed (sym (ap (λ (x : LaneState). x.failed) step.is) ∙ not)).1
 
 -- THE COUNTS after an event
 near_behind : (s : LaneState) (l : DiskLog) (event : DiskEvent) (t : LaneState) → Before s l → StepFacts s l event t → LaneInvariant t (after l event) → LaneStep s event t → NearStands t (after l event)

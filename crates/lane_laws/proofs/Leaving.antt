@@ -63,7 +63,7 @@ took_leaves c turns packet t (inr (inl handshakes)) =
     record { ever = ap (λ (x : ClientState). x.ever_published) handshakes.is; keeps = keeps_same c.session t.session (ap (λ (x : ClientState). x.session) handshakes.is) }
 took_leaves c turns packet t (inr (inr acked)) = record {
   ever = ap (λ (x : ClientState). x.ever_published) acked.is;
-  keeps = subst (λ (o : Option ClientSession). Keeps c.session o) (sym (ap (λ (x : ClientState). x.session) acked.is)) (keeps_some c.session acked.session _ acked.session_is refl refl);
+  keeps = subst (λ (o : Option ClientSession). Keeps c.session o) (sym (ap (λ (x : ClientState). x.session) acked.is)) (keeps_some c.session acked.ack.session _ acked.ack.session_is refl refl);
 }
 
 pub client_took : (c : ClientState) (turns : List Turn) (packet : List ℕ) (t : ClientState) → Follows c.link turns → c.link.whole ≡ None → ClientTakes c packet (GoesOn t) → ClientLeaves c t

@@ -1,5 +1,5 @@
 -- What remains on a lane that nobody forged is at most 36, and 16 for each pending request; where a packet was lost, at most 69 and 32.
-use Rattle.std.proofs.Common.{◌≡◌, ◌≢◌, ℕ, ◌+◌, ◌-◌, ◌*◌, ◌%◌, ◌≤◌, ◌<◌, Bool, true, false, Option, Some, None, List, length, refl, sym, ap, ◌∙◌, subst, arith}
+use Rattle.std.proofs.Common.{◌≡◌, ◌≢◌, ℕ, ◌^◌, ◌+◌, ◌-◌, ◌*◌, ◌%◌, ◌≤◌, ◌<◌, Bool, true, false, Option, Some, None, List, length, refl, sym, ap, ◌∙◌, subst, arith}
 use Rattle.std.specs.Prelude.{is_some}
 use Rattle.runs.specs.Lawful.{log_of}
 use Rattle.runs.specs.Run.{Run}
@@ -49,7 +49,7 @@ front_counts slots subtype xs ys front =
     subst (λ (zs : List (List ℕ)). range_count subtype zs + range_sum slots subtype xs ≤ range_sum slots subtype zs + range_count subtype xs) (sym front.1) (counts_front slots subtype xs front.0)
 
 -- what the server serves
-left_of : (asked finished : ℕ) → asked < 18446744073709551616 → finished ≤ asked → ((asked + 18446744073709551616) - finished) % 18446744073709551616 + finished ≡ asked
+left_of : (asked finished : ℕ) → asked < 2 ^ 64 → finished ≤ asked → ((asked + 2 ^ 64) - finished) % 2 ^ 64 + finished ≡ asked
 left_of asked finished small most = omega (arith, small, most)
 
 serves_most : (work : Option Work) (n : ℕ) → FewPieces work → (work ≢ None → 1 ≤ n) → work_left n work ≤ 10 * n
@@ -92,7 +92,7 @@ range_more slots None d stands = omega (arith, stands)
 range_more slots (Some range) d stands = omega (arith, stands.0)
 
 -- counts that are as many modulo 2^64 and below it, and requests and answers along both directions
-small_same : (a b n m : ℕ) → a ≡ wrapped b → m ≡ n → m < 18446744073709551616 → b ≤ n → a ≡ b
+small_same : (a b n m : ℕ) → a ≡ wrapped b → m ≡ n → m < 2 ^ 64 → b ≤ n → a ≡ b
 small_same a b n m is same small most = omega (arith, is, same, small, most)
 
 more_left : (left finished asked f n : ℕ) → left + finished ≡ asked → finished ≡ f → asked ≡ n → f + 1 ≤ n → 1 ≤ left

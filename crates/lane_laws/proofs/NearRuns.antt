@@ -28,7 +28,8 @@ use Rattle.lane_laws.specs.Near.{FrontShows, IsNear, NearView}
 use Rattle.lane_laws.specs.NearContent.{PendingPuts, Shows}
 use Rattle.lane_laws.specs.ReadsNear.{BlocksShow}
 use Rattle.lane_laws.proofs.BehindRing.{range_behind, ring_end}
-use Rattle.lane_laws.proofs.LaneRuns.{AtStep, at_step, failed_before, lane_changes, run_contents, stored_well}
+use Rattle.lane_laws.proofs.FailedRuns.{failed_before, stored_well}
+use Rattle.lane_laws.proofs.LaneRuns.{AtStep, at_step, lane_changes, run_contents}
 use Rattle.lane_laws.proofs.NearViews.{kind_near}
 use Rattle.lane_laws.proofs.PlacedViews.{placed}
 use Rattle.lane_laws.proofs.Standing.{Before}

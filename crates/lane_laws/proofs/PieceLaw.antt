@@ -1,5 +1,5 @@
 -- Each piece of a descriptor is the next that it owes, of its own operation, place and size, and refused for its own fault.
-use Rattle.std.proofs.Common.{◌≡◌, ℕ, zero, suc, ◌+◌, ◌-◌, ◌*◌, ◌/◌, ◌%◌, ◌<◌, ◌≤◌, min, Bool, true, false, Option, Some, List, [], ◌∷◌, ◌++◌, take, refl, sym, ap, ◌∙◌, subst, arith}
+use Rattle.std.proofs.Common.{◌≡◌, ℕ, ◌^◌, zero, suc, ◌+◌, ◌-◌, ◌*◌, ◌/◌, ◌%◌, ◌<◌, ◌≤◌, min, Bool, true, false, Option, Some, List, [], ◌∷◌, ◌++◌, take, refl, sym, ap, ◌∙◌, subst, arith}
 use Rattle.std.specs.Prelude.{if◌then◌else◌, ◌==◌, slice_index}
 use Rattle.std.proofs.lemmas.Bool.{eqb-true}
 use Rattle.dring.specs.Slots.{ready_state}
@@ -39,7 +39,7 @@ pub record Working (s : LaneState) (l : DiskLog) : Type 0 where
 record AtWork (s : LaneState) (l : DiskLog) (session : ServerSession) (work : Work) : Type 0 where
   counts : ServerCounts
   is : l.work.server ≡ Some counts
-  finished : session.finished ≡ counts.finished % 18446744073709551616
+  finished : session.finished ≡ counts.finished % 2 ^ 64
   desc : counts.desc ≡ work.bytes
   owed : counts.owed ≡ owed_of (desc_of work) work.progress
   unit : UnitIn (unit_count (desc_of work).size) work.progress

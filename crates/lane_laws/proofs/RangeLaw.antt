@@ -269,22 +269,22 @@ IsBody bytes seq ident start end state = SpellsBody bytes (DringData seq ident s
 acknowledges : (l : DiskLog) (packet : List ℕ) (s t : ClientState) → s.handshake ≡ client_handshake l → ClientCounted l.shape s l.transcript.client l.work.done l.work.client
     → ClientAcked s l.transcript.client packet t → HearsAck l packet
 acknowledges l packet s t shaken counted acked =
-    let session = acked.session in
+    let session = acked.ack.session in
     let slots = l.shape.slots in
     let bytes = acked.hears.bytes in
-    let of : OfClient session l.work.done l.work.client = of_client s.session session l.work.done l.work.client acked.session_is counted.agrees in
-    let fields : IsBody bytes acked.seq acked.ident acked.start acked.end acked.state = subst (SpellsBody bytes) acked.body_is acked.hears.spells.body in
-    let spans : range_length s.slots acked.start acked.end ≡ range_length slots (start_of bytes) (end_of bytes) =
-    ap (λ (n : ℕ). range_length n acked.start acked.end) counted.slots ∙ ap (λ (x : ℕ). range_length slots x acked.end) fields.2 ∙ ap (range_length slots (start_of bytes)) fields.3 in
+    let of : OfClient session l.work.done l.work.client = of_client s.session session l.work.done l.work.client acked.ack.session_is counted.agrees in
+    let fields : IsBody bytes acked.ack.seq acked.ack.ident acked.ack.start acked.ack.end acked.ack.state = subst (SpellsBody bytes) acked.ack.body_is acked.hears.spells.body in
+    let spans : range_length s.slots acked.ack.start acked.ack.end ≡ range_length slots (start_of bytes) (end_of bytes) =
+    ap (λ (n : ℕ). range_length n acked.ack.start acked.ack.end) counted.slots ∙ ap (λ (x : ℕ). range_length slots x acked.ack.end) fields.2 ∙ ap (range_length slots (start_of bytes)) fields.3 in
     if_some (range_ended 2 (half_heard l.transcript.client) packet) _ bytes
     (ap (range_in 2) (heard_some l.transcript.client packet bytes acked.hears.messages)
-    ∙ range_is 2 bytes (acked.hears.spells.envelope ∙ ap envelope_code acked.body_is) (acked.hears.spells.subtype ∙ ap subtype_code acked.subtype_is))
+    ∙ range_is 2 bytes (acked.hears.spells.envelope ∙ ap envelope_code acked.ack.body_is) (acked.hears.spells.subtype ∙ ap subtype_code acked.ack.subtype_is))
     (in_client l.work.client of.counts (λ (k : ClientCounts). Acknowledges slots (client_handshake l) k bytes) of.is (record {
-      names = names_ring s.handshake (client_handshake l) acked.message.sid bytes s.handshake.draft.ident_own acked.hears.spells.sid shaken acked.sid_is
-          (sym fields.1 ∙ acked.ident_is) (λ (h : Handshake). h.draft.ident_own) refl;
-      begins = sym fields.2 ∙ acked.begins ∙ ap (λ (n : ℕ). session.acked % n) counted.slots ∙ ap (λ (n : ℕ). n % slots) of.agree.acked;
-      ends = omega (arith, fields.3, acked.ends, counted.slots);
-      announced = omega (arith, spans, acked.within, of.agree.acked, of.agree.announced);
+      names = names_ring s.handshake (client_handshake l) acked.message.sid bytes s.handshake.draft.ident_own acked.hears.spells.sid shaken acked.ack.sid_is
+          (sym fields.1 ∙ acked.ack.ident_is) (λ (h : Handshake). h.draft.ident_own) refl;
+      begins = sym fields.2 ∙ acked.ack.begins ∙ ap (λ (n : ℕ). session.acked % n) counted.slots ∙ ap (λ (n : ℕ). n % slots) of.agree.acked;
+      ends = omega (arith, fields.3, acked.ack.ends, counted.slots);
+      announced = omega (arith, spans, acked.ack.within, of.agree.acked, of.agree.announced);
     }))
 
 heard_ack : (l : DiskLog) (packet : List ℕ) (s t : ClientState) → s.handshake ≡ client_handshake l → ClientCounted l.shape s l.transcript.client l.work.done l.work.client → ClientTook s l.transcript.client packet t
@@ -302,27 +302,27 @@ HearsInfo l packet = OfServerRange l (range_ended 1 (half_heard l.transcript.ser
 asks_for : (l : DiskLog) (packet : List ℕ) (s t : ServerState) (opens : Bool) → IsShape l.shape → s.handshake ≡ server_handshake l → ServerRests s l.transcript.server → TakesFree s
     → ServerCounted l.shape s l.transcript.server l.work.server → ServerAsked s l.transcript.server packet t opens → HearsInfo l packet
 asks_for l packet s t opens sound shaken rests free counted asks =
-    let session = asks.session in
+    let session = asks.info.session in
     let turns = l.transcript.server in
     let slots = l.shape.slots in
-    let range = asks.range in
+    let range = asks.info.range in
     let bytes = asks.hears.bytes in
-    let of : OfServer session s.work l.work.server = of_server s.session session s.work l.work.server asks.session_is counted.agrees in
+    let of : OfServer session s.work l.work.server = of_server s.session session s.work l.work.server asks.info.session_is counted.agrees in
     let c = of.counts in
-    let order : InServerOrder slots session c turns = order_in slots s.session session l.work.server c turns asks.session_is of.is counted.order in
-    let own : s.handshake.draft.peer_slots ≡ slots = own_slots l.shape s turns l.work.server rests (ap is_some asks.session_is) counted in
-    let fields : IsBody bytes range.seq asks.ident range.start range.end range.state = subst (SpellsBody bytes) asks.body_is asks.hears.spells.body in
+    let order : InServerOrder slots session c turns = order_in slots s.session session l.work.server c turns asks.info.session_is of.is counted.order in
+    let own : s.handshake.draft.peer_slots ≡ slots = own_slots l.shape s turns l.work.server rests (ap is_some asks.info.session_is) counted in
+    let fields : IsBody bytes range.seq asks.info.ident range.start range.end range.state = subst (SpellsBody bytes) asks.info.body_is asks.hears.spells.body in
     if_some (range_ended 1 (half_heard turns) packet) _ bytes
     (ap (range_in 1) (heard_some turns packet bytes asks.hears.messages)
-    ∙ range_is 1 bytes (asks.hears.spells.envelope ∙ ap envelope_code asks.body_is) (asks.hears.spells.subtype ∙ ap subtype_code asks.subtype_is))
+    ∙ range_is 1 bytes (asks.hears.spells.envelope ∙ ap envelope_code asks.info.body_is) (asks.hears.spells.subtype ∙ ap subtype_code asks.info.subtype_is))
     (in_server l.work.server c (λ (d : ServerCounts). AsksFor slots turns (server_handshake l) d bytes) of.is (record {
-      names = names_ring s.handshake (server_handshake l) asks.message.sid bytes s.handshake.draft.ident_peer asks.hears.spells.sid shaken asks.sid_is
-          (sym fields.1 ∙ asks.ident_is) (λ (h : Handshake). h.draft.ident_peer) refl;
-      next = sym fields.0 ∙ asks.next ∙ order.seq ∙ ap (λ (n : ℕ). wrapped (n + 1)) (sym (infos_are turns));
-      begins = sym fields.2 ∙ asks.begins ∙ ap (λ (n : ℕ). session.asked % n) own
+      names = names_ring s.handshake (server_handshake l) asks.message.sid bytes s.handshake.draft.ident_peer asks.hears.spells.sid shaken asks.info.sid_is
+          (sym fields.1 ∙ asks.info.ident_is) (λ (h : Handshake). h.draft.ident_peer) refl;
+      next = sym fields.0 ∙ asks.info.next ∙ order.seq ∙ ap (λ (n : ℕ). wrapped (n + 1)) (sym (infos_are turns));
+      begins = sym fields.2 ∙ asks.info.begins ∙ ap (λ (n : ℕ). session.asked % n) own
           ∙ slot_of_count slots session.asked c.asked sound.slots sound.some_slots sound.most_slots of.agree.asked;
-      ends = omega (arith, fields.3, asks.ends, own);
-      answered = subst (λ (r : Option SlotRange). RangeStands slots r c) (free.range session asks.session_is) order.range;
+      ends = omega (arith, fields.3, asks.info.ends, own);
+      answered = subst (λ (r : Option SlotRange). RangeStands slots r c) (free.range session asks.info.session_is) order.range;
     }))
 
 heard_info : (l : DiskLog) (packet : List ℕ) (s t : ServerState) (opens : Bool) → IsShape l.shape → s.handshake ≡ server_handshake l → ServerRests s l.transcript.server → TakesFree s
@@ -424,10 +424,10 @@ client_no_other s t turns packet (inr (inl took)) = record {
 }
 client_no_other s t turns packet (inr (inr acked)) = record {
   ranges = λ other not.
-      other_none other turns packet acked.message acked.hears (apart 2 other acked.hears.bytes (acked.hears.spells.subtype ∙ ap subtype_code acked.subtype_is) not);
+      other_none other turns packet acked.message acked.hears (apart 2 other acked.hears.bytes (acked.hears.spells.subtype ∙ ap subtype_code acked.ack.subtype_is) not);
   groups = λ message some.
       whole_is turns packet message acked.message acked.hears
-      (data_no_group acked.hears.bytes acked.message acked.seq acked.ident acked.start acked.end acked.state acked.hears.spells acked.body_is) some;
+      (data_no_group acked.hears.bytes acked.message acked.ack.seq acked.ack.ident acked.ack.start acked.ack.end acked.ack.state acked.hears.spells acked.ack.body_is) some;
 }
 
 server_no_other : (s t : ServerState) (turns : List Turn) (packet : List ℕ) (opens : Bool) → ServerTook s turns packet t opens → HearsNoOther 1 turns packet
@@ -445,10 +445,10 @@ server_no_other s t turns packet opens (inr (inl took)) = record {
 }
 server_no_other s t turns packet opens (inr (inr asks)) = record {
   ranges = λ other not.
-      other_none other turns packet asks.message asks.hears (apart 1 other asks.hears.bytes (asks.hears.spells.subtype ∙ ap subtype_code asks.subtype_is) not);
+      other_none other turns packet asks.message asks.hears (apart 1 other asks.hears.bytes (asks.hears.spells.subtype ∙ ap subtype_code asks.info.subtype_is) not);
   groups = λ message some.
       whole_is turns packet message asks.message asks.hears
-      (data_no_group asks.hears.bytes asks.message asks.range.seq asks.ident asks.range.start asks.range.end asks.range.state asks.hears.spells asks.body_is) some;
+      (data_no_group asks.hears.bytes asks.message asks.info.range.seq asks.info.ident asks.info.range.start asks.info.range.end asks.info.range.state asks.hears.spells asks.info.body_is) some;
 }
 
 -- EACH EVENT

@@ -9,7 +9,7 @@ use Rattle.disk_model.specs.LaneStep.{LaneStep, ServerWorks}
 use Rattle.disk_model.specs.Served as served
 use Rattle.lane_laws.specs.ImageStep.{ImageStep, SameAround, region_of}
 use Rattle.lane_laws.proofs.FirstStays.{log_shape, run_first}
-use Rattle.lane_laws.proofs.LaneRuns.{stored_well}
+use Rattle.lane_laws.proofs.FailedRuns.{stored_well}
 use Rattle.lane_laws.proofs.NearRuns.{run_step}
 use Rattle.lane_laws.proofs.Regions.{InRegion, around_same, store_region}
 

@@ -1,5 +1,5 @@
 -- The work of a server: what remains falls.
-use Rattle.std.proofs.Common.{◌≡◌, ◌≢◌, ℕ, ◌+◌, ◌-◌, ◌*◌, ◌%◌, ◌/◌, ◌≤◌, ◌<◌, Bool, true, false, Option, Some, None, List, refl, sym, ap, ◌∙◌, subst, arith}
+use Rattle.std.proofs.Common.{◌≡◌, ◌≢◌, ℕ, ◌^◌, ◌+◌, ◌-◌, ◌*◌, ◌%◌, ◌/◌, ◌≤◌, ◌<◌, Bool, true, false, Option, Some, None, List, refl, sym, ap, ◌∙◌, subst, arith}
 use Rattle.std.specs.Prelude.{not, nat_le, nat_lt, ◌&&◌, ◌||◌, ◌==◌, if◌then◌else◌}
 use Rattle.std.proofs.lemmas.Bool.{eqb-false, leb-true, ltb-true}
 use Rattle.cookie_copy.specs.declared.fault.CopyFault.{CopyFault}
@@ -159,15 +159,15 @@ few_pieces desc blocks = few_checked (first_defect desc blocks 0x0e) desc blocks
 
 -- WHERE THE COUNTS fit into 8 bytes
 counts_of : (open_one : Option ServerSession) (session : ServerSession) → open_one ≡ Some session → CountsFit open_one
-    → (session.asked < 18446744073709551616) × (session.finished < 18446744073709551616)
+    → (session.asked < 2 ^ 64) × (session.finished < 2 ^ 64)
 counts_of open_one session is fit = subst CountsFit is fit
 
-some_left : (asked finished : ℕ) → finished ≢ asked → asked < 18446744073709551616 → finished < 18446744073709551616
-    → 1 ≤ ((asked + 18446744073709551616) - finished) % 18446744073709551616
+some_left : (asked finished : ℕ) → finished ≢ asked → asked < 2 ^ 64 → finished < 2 ^ 64
+    → 1 ≤ ((asked + 2 ^ 64) - finished) % 2 ^ 64
 some_left asked finished other fits also = omega (arith, other, fits, also)
 
-one_less : (asked finished : ℕ) → finished ≢ asked → asked < 18446744073709551616 → finished < 18446744073709551616
-    → ((asked + 18446744073709551616) - (finished + 1) % 18446744073709551616) % 18446744073709551616 + 1 ≤ ((asked + 18446744073709551616) - finished) % 18446744073709551616
+one_less : (asked finished : ℕ) → finished ≢ asked → asked < 2 ^ 64 → finished < 2 ^ 64
+    → ((asked + 2 ^ 64) - (finished + 1) % 2 ^ 64) % 2 ^ 64 + 1 ≤ ((asked + 2 ^ 64) - finished) % 2 ^ 64
 one_less asked finished other fits also = omega (arith, other, fits, also)
 
 pub fetches_lowers : (s : ServerState) (at : Seen) (reach : Reach) (slot : ℕ) (bytes : List ℕ) (t : ServerState) (new : List ℕ) → CountsFit s.session

@@ -1,5 +1,5 @@
 -- A server that takes a packet, where its end has no more to put than before: it asks for nothing, or the server is asked for a range.
-use Rattle.std.proofs.Common.{◌≡◌, ℕ, ◌+◌, ◌-◌, ◌*◌, ◌%◌, ◌≤◌, ◌<◌, Bool, true, false, Option, Some, None, List, refl, sym, ap, ◌∙◌, arith, inl, inr}
+use Rattle.std.proofs.Common.{◌≡◌, ℕ, ◌^◌, ◌+◌, ◌-◌, ◌*◌, ◌%◌, ◌≤◌, ◌<◌, Bool, true, false, Option, Some, None, List, refl, sym, ap, ◌∙◌, arith, inl, inr}
 use Rattle.std.specs.Prelude.{◌&&◌, is_none}
 use Rattle.ldc_queue.specs.Transcript.{Turn}
 use Rattle.channel_model.specs.Ranges.{wrapped}
@@ -53,7 +53,7 @@ more_work (Some work) n m d more = more_pieces (pieces_left _ work.progress) n m
     more_pieces p n m d more = omega (arith, more)
 
 more_unfinished : (before behind finished : ℕ) → before < behind
-    → ((behind + 18446744073709551616) - finished) % 18446744073709551616 ≤ ((before + 18446744073709551616) - finished) % 18446744073709551616 + (behind - before)
+    → ((behind + 2 ^ 64) - finished) % 2 ^ 64 ≤ ((before + 2 ^ 64) - finished) % 2 ^ 64 + (behind - before)
 more_unfinished before behind finished rises = omega (arith, rises)
 
 -- by the session after it
@@ -69,7 +69,7 @@ asked_for most s t session next is now finished work packets asks =
     omega (
       arith,
       more_unfinished session.asked next.asked session.finished rises,
-      ap (λ (n : ℕ). ((next.asked + 18446744073709551616) - n) % 18446744073709551616) finished,
+      ap (λ (n : ℕ). ((next.asked + 2 ^ 64) - n) % 2 ^ 64) finished,
     ) in (
       (next.asked - session.asked),
       record {
@@ -104,5 +104,5 @@ server_turns most s t turns packet opens free packets opened asks (inr (inl hand
 })
 server_turns most s t turns packet opens free packets opened asks (inr (inr asked)) =
     let now = ap (λ (v : ServerState). v.session) asked.is in
-    inr (asked_for most s t asked.session (behind_ask s asked.session asked.range) asked.session_is now refl (ap (λ (v : ServerState). v.work) asked.is)
+    inr (asked_for most s t asked.info.session (behind_ask s asked.info.session asked.info.range) asked.info.session_is now refl (ap (λ (v : ServerState). v.work) asked.is)
     (packets_most s t 1 packets (ap range_left now)) (asks asked))

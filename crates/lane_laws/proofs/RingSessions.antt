@@ -66,7 +66,7 @@ pub one_ring : (s : LaneState) (l : DiskLog) (d : ServerCounts) → l.work.serve
 one_ring s l d is up agree = subst (λ (q : Option ServerCounts). IfServer q (OneRing s l.work)) is (agree.ring up)
 
 -- a number that didn't wrap
-pub unwrapped : (n : ℕ) → n < 2 ^ 64 → n % 18446744073709551616 ≡ n
+pub unwrapped : (n : ℕ) → n < 2 ^ 64 → n % 2 ^ 64 ≡ n
 unwrapped n small = omega (arith, small)
 
 pub sizes_of : (s : LaneState) (l : DiskLog) (slot : ℕ) → PagesStand s l → slot < l.shape.slots → Sizes (ring_in l) slot

@@ -96,7 +96,7 @@ at_work s l v known up is =
     }
 
 -- the slot of a number of the server's
-pub numbered : (s : LaneState) (l : DiskLog) (v : ServerSession) (work : AtWork s l v) (count number : ℕ) → LaneInvariant s l → count ≡ number % 18446744073709551616 → number < 2 ^ 64
+pub numbered : (s : LaneState) (l : DiskLog) (v : ServerSession) (work : AtWork s l v) (count number : ℕ) → LaneInvariant s l → count ≡ number % 2 ^ 64 → number < 2 ^ 64
     → count % s.server.handshake.draft.peer_slots ≡ number % l.shape.slots
 numbered s l v work count number stands is small =
     ap (λ (m : ℕ). count % m) (work.one.slots ∙ slots_are s l stands) ∙ ap (λ (x : ℕ). x % l.shape.slots) (is ∙ unwrapped number small)

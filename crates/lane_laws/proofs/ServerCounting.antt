@@ -286,37 +286,37 @@ takes_ask : (shape : Shape) (v t : ServerState) (turns : List Turn) (packet : Li
     → ServerCounted shape v turns d → ServerAsked v turns packet t opens → Behind shape turns packet sid d opens t
 takes_ask shape v t turns packet sid d opens rests free counted asks =
     let bytes = asks.hears.bytes in
-    let session = asks.session in
-    let n = range_length v.handshake.draft.peer_slots asks.range.start asks.range.end in
+    let session = asks.info.session in
+    let n = range_length v.handshake.draft.peer_slots asks.info.range.start asks.info.range.end in
     let added = length_in shape.slots (range_ended 1 (half_heard turns) packet) in
     let empty : v.link.to_send ≡ [] = up_empty v.link asks.up free.free in
-    let own : v.handshake.draft.peer_slots ≡ shape.slots = own_slots shape v turns d rests (ap is_some asks.session_is) counted in
-    let length_is : n ≡ range_length shape.slots asks.range.start asks.range.end = ap (λ (x : ℕ). range_length x asks.range.start asks.range.end) own in
-    let message : length_in shape.slots (range_in 1 (Some bytes)) ≡ range_length shape.slots asks.range.start asks.range.end =
-    heard_range shape.slots 1 bytes asks.message asks.range.seq asks.ident asks.range.start asks.range.end asks.range.state asks.hears.spells (ap subtype_code asks.subtype_is) asks.body_is in
+    let own : v.handshake.draft.peer_slots ≡ shape.slots = own_slots shape v turns d rests (ap is_some asks.info.session_is) counted in
+    let length_is : n ≡ range_length shape.slots asks.info.range.start asks.info.range.end = ap (λ (x : ℕ). range_length x asks.info.range.start asks.info.range.end) own in
+    let message : length_in shape.slots (range_in 1 (Some bytes)) ≡ range_length shape.slots asks.info.range.start asks.info.range.end =
+    heard_range shape.slots 1 bytes asks.message asks.info.range.seq asks.info.ident asks.info.range.start asks.info.range.end asks.info.range.state asks.hears.spells (ap subtype_code asks.info.subtype_is) asks.info.body_is in
     let adds : added ≡ n =
     omega (arith, sum_heard shape.slots 1 packet turns, ap (range_sum shape.slots 1) asks.hears.messages, sum_more shape.slots 1 (heard turns) bytes, message, length_is) in
-    let ends : asks.range.end < shape.slots = omega (arith, asks.ends, own) in
-    let begins : asks.range.start < shape.slots =
-    omega (arith, asks.begins, mod_below session.asked v.handshake.draft.peer_slots (omega (arith, asks.ends)), own) in
-    let asks_of : AsksOf shape.slots session asks.range n added =
-    record { none = free.range session asks.session_is; adds = adds; length_is = length_is; begins = begins; ends = ends; place = asks.begins ∙ ap (λ (x : ℕ). session.asked % x) own; next = asks.next } in
-    let next : ServerSession = record session { asked = wrapped (session.asked + n); seq = wrapped (session.seq + 1); range = Some asks.range } in
+    let ends : asks.info.range.end < shape.slots = omega (arith, asks.info.ends, own) in
+    let begins : asks.info.range.start < shape.slots =
+    omega (arith, asks.info.begins, mod_below session.asked v.handshake.draft.peer_slots (omega (arith, asks.info.ends)), own) in
+    let asks_of : AsksOf shape.slots session asks.info.range n added =
+    record { none = free.range session asks.info.session_is; adds = adds; length_is = length_is; begins = begins; ends = ends; place = asks.info.begins ∙ ap (λ (x : ℕ). session.asked % x) own; next = asks.info.next } in
+    let next : ServerSession = record session { asked = wrapped (session.asked + n); seq = wrapped (session.seq + 1); range = Some asks.info.range } in
     let one_more : range_count 1 (heard (Heard_ packet ∷ turns)) ≡ range_count 1 (heard turns) + 1 =
     omega (
       arith,
       ap (range_count 1) asks.hears.messages,
       count_more 1 (heard turns) bytes,
-      heard_one 1 bytes asks.message asks.range.seq asks.ident asks.range.start asks.range.end asks.range.state asks.hears.spells (ap subtype_code asks.subtype_is) asks.body_is,
+      heard_one 1 bytes asks.message asks.info.range.seq asks.info.ident asks.info.range.start asks.info.range.end asks.info.range.state asks.hears.spells (ap subtype_code asks.info.subtype_is) asks.info.body_is,
     ) in
     subst (λ (b : Bool). Behind shape turns packet sid d b t) (sym asks.opens_is)
     (subst (Behind shape turns packet sid d false) (sym asks.is) (record {
       slots = counted.slots;
       blocks = counted.blocks;
       holds = λ owing some. absurd (omega (arith, some, ap length asks.left, ap length empty));
-      order = asked_order shape.slots added n v.session d turns (Heard_ packet ∷ turns) session next asks.range asks.session_is refl asks_of (sum_heard shape.slots 1 packet turns) refl one_more refl v.work counted.agrees counted.order;
+      order = asked_order shape.slots added n v.session d turns (Heard_ packet ∷ turns) session next asks.info.range asks.info.session_is refl asks_of (sum_heard shape.slots 1 packet turns) refl one_more refl v.work counted.agrees counted.order;
       unit = counted.unit;
-      agrees = asked_agrees v.session v.work d session next asks.range n added asks.session_is refl adds counted.agrees;
+      agrees = asked_agrees v.session v.work d session next asks.info.range n added asks.info.session_is refl adds counted.agrees;
     }))
 
 pub server_takes_counting : (shape : Shape) (v t : ServerState) (turns : List Turn) (packet : List ℕ) (sid : ℕ) (d : Option ServerCounts) (opens : Bool) → ServerRests v turns → ServerUtters v turns

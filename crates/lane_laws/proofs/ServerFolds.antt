@@ -110,12 +110,12 @@ server_takes_so s t turns packet opens b taking rests is (inr (inl took)) =
     ∙ heard_same turns packet (Some took.hears.bytes) (heard_some turns packet took.hears.bytes took.hears.messages)
     (heard_no_range 1 took.hears.bytes took.message took.hears.spells took.hears.form (no_data s.handshake took.handshake took.message opens took.took)))
 server_takes_so s t turns packet opens b taking rests is (inr (inr asks)) =
-    let fields : SpellsBody asks.hears.bytes (DringData asks.range.seq asks.ident asks.range.start asks.range.end asks.range.state) =
-    subst (SpellsBody asks.hears.bytes) asks.body_is asks.hears.spells.body in
+    let fields : SpellsBody asks.hears.bytes (DringData asks.info.range.seq asks.info.ident asks.info.range.start asks.info.range.end asks.info.range.state) =
+    subst (SpellsBody asks.hears.bytes) asks.info.body_is asks.hears.spells.body in
     takes_by s t turns packet b taking is (λ up. ap (λ (x : ServerState). is_up x.link) asks.is ∙ asks.stays)
-    (ap (λ (x : ServerState). ranged x.session) asks.is ∙ ap (λ (r : SlotRange). Some r) (same_fields asks.range asks.ident asks.hears.bytes fields)
+    (ap (λ (x : ServerState). ranged x.session) asks.is ∙ ap (λ (r : SlotRange). Some r) (same_fields asks.info.range asks.info.ident asks.hears.bytes fields)
     ∙ heard_range turns packet asks.hears.bytes (heard_some turns packet asks.hears.bytes asks.hears.messages)
-    (range_is 1 asks.hears.bytes (asks.hears.spells.envelope ∙ ap envelope_code asks.body_is) (asks.hears.spells.subtype ∙ ap subtype_code asks.subtype_is)))
+    (range_is 1 asks.hears.bytes (asks.hears.spells.envelope ∙ ap envelope_code asks.info.body_is) (asks.hears.spells.subtype ∙ ap subtype_code asks.info.subtype_is)))
 
 -- IT PUTS A PACKET: with its answer its range is done
 said_same : (turns : List Turn) (packet : List ℕ) (ended : Option (List ℕ)) → ended_by (half_said turns) packet ≡ ended → range_in 2 ended ≡ None → range_in_work turns ≡ range_in_work (Said packet ∷ turns)

@@ -1,22 +1,19 @@
 -- What a server makes of a packet that it takes, where it doesn't reset itself: no message is whole by it, or one of the handshake is, or a
 -- range of slots that it is asked for.
-use Rattle.std.proofs.Common.{◌≡◌, ℕ, ◌<◌, Bool, true, false, Option, Some, None, List, ◌∷◌, refl, sym, ap, ◌∙◌, subst, ◌⊎◌, inl, inr}
+use Rattle.std.proofs.Common.{◌≡◌, ℕ, Bool, true, false, Option, None, List, ◌∷◌, refl, sym, ap, ◌∙◌, subst, ◌⊎◌, inl, inr}
 use Rattle.std.specs.Prelude.{◌&&◌, not, if◌then◌else◌, ⊤}
 use Rattle.ldc_link.specs.Following.{Follows}
 use Rattle.ldc_link.specs.LinkState.{LinkState, cleared, is_up}
-use Rattle.ldc_packet.specs.declared.packet.Subtype.TheVariants.{Info}
 use Rattle.ldc_queue.specs.Transcript.{Heard as Heard_, Turn}
 use Rattle.vio_tag.specs.declared.message.Message.{Message}
-use Rattle.vio_tag.specs.declared.message.MsgBody.TheVariants.{DringData}
 use Rattle.vio_handshake.specs.declared.handshake.Handshake.{Handshake}
-use Rattle.vio_handshake.specs.Rules.{sid_fault}
 use Rattle.vio_handshake.specs.State.{handshake_up}
 use Rattle.channel_model.specs.EndPuts.{handshake_risen}
-use Rattle.disk_model.specs.ServerState.{ServerSession, ServerState, SlotRange}
-use Rattle.disk_model.specs.ServerTaking.{GoesOn, Resets, ServerTake, ServerTakes, asked, place_of}
+use Rattle.disk_model.specs.ServerState.{ServerState}
+use Rattle.disk_model.specs.ServerTaking.{GoesOn, Resets, ServerTake, ServerTakes, asked}
 use Rattle.channel_model.specs.Sayings.{heard}
 use Rattle.lane_laws.proofs.ClientTaken.{HearsMessage, took_to, was_up}
-use Rattle.lane_laws.proofs.ServerAnswers.{Answers, GoesBy, comes_to, goes_by, opened_or}
+use Rattle.lane_laws.proofs.ServerAnswers.{Answers, Asks, GoesBy, comes_to, goes_by, opened_or}
 use Rattle.channel_laws.proofs.EndStanding.{heard_leaves}
 use Rattle.channel_laws.proofs.EndCases.{HearsUp, link_hears}
 use Rattle.channel_laws.proofs.HandshakeCases.{HandshakeTook}
@@ -48,18 +45,8 @@ pub record ServerAsked (s : ServerState) (turns : List Turn) (packet : List ℕ)
   pub stays : is_up link ≡ true
   pub message : Message
   pub hears : HearsMessage turns packet message
-  pub session : ServerSession
-  pub ident : ℕ
-  pub range : SlotRange
-  pub session_is : s.session ≡ Some session
-  pub subtype_is : message.subtype ≡ Info
-  pub body_is : message.body ≡ DringData range.seq ident range.start range.end range.state
-  pub sid_is : sid_fault s.handshake.sid message.sid ≡ None
-  pub ident_is : ident ≡ s.handshake.draft.ident_peer
-  pub next : range.seq ≡ session.seq
-  pub begins : range.start ≡ place_of s session
-  pub ends : range.end < s.handshake.draft.peer_slots
-  pub is : t ≡ asked (record s { link = link }) session range
+  pub info : Asks (record s { link = link }) message
+  pub is : t ≡ asked (record s { link = link }) info.session info.range
   pub opens_is : opens ≡ false
 
 abbrev pub ServerTook : ServerState → List Turn → List ℕ → ServerState → Bool → Type 0
@@ -74,27 +61,7 @@ answers : (s : ServerState) (turns : List Turn) (packet : List ℕ) (k : LinkSta
 answers s turns packet k message left up stays hears = record {
   goes = λ opens h to. inr (inl (record { link = k; left = left; up = up; stays = stays; message = message; hears = hears; handshake = h; took = took_to s.handshake message opens h to; is = refl }));
   faults = λ cause is. tt;
-  asks = λ a. inr (inr (record {
-    link = k;
-    left = left;
-    up = up;
-    stays = stays;
-    message = message;
-    hears = hears;
-    session = a.session;
-    ident = a.ident;
-    range = a.range;
-    session_is = a.session_is;
-    subtype_is = a.subtype_is;
-    body_is = a.body_is;
-    sid_is = a.sid_is;
-    ident_is = a.ident_is;
-    next = a.next;
-    begins = a.begins;
-    ends = a.ends;
-    is = refl;
-    opens_is = refl;
-  }));
+  asks = λ a. inr (inr (record { link = k; left = left; up = up; stays = stays; message = message; hears = hears; info = a; is = refl; opens_is = refl }));
   refuses = λ cause refuses. tt;
 }
 

@@ -26,7 +26,8 @@ use Rattle.lane_laws.specs.RuleFacts.{ServerMay}
 use Rattle.lane_laws.specs.Contents.{ContentsStand, ProgressIs}
 use Rattle.lane_laws.specs.LaneView.{view_of, work_while}
 use Rattle.lane_laws.specs.ZeroStatuses.{AllZero, IsZero, OpenedZero, RingZero, StatusesZero}
-use Rattle.lane_laws.proofs.LaneRuns.{AlongContents, at_step, contents_step, failed_before, run_contents}
+use Rattle.lane_laws.proofs.FailedRuns.{failed_before}
+use Rattle.lane_laws.proofs.LaneRuns.{AlongContents, at_step, contents_step, run_contents}
 use Rattle.lane_laws.proofs.NearRuns.{run_step}
 use Rattle.lane_laws.proofs.ServerChanges.{serves_now}
 use Rattle.lane_laws.proofs.Standing.{Before}

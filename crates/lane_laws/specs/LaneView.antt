@@ -2,6 +2,7 @@
 use Rattle.std.specs.Prelude.{ℕ, ◌+◌, ◌*◌, ◌%◌, List, drop, Option, None}
 use Rattle.ldc_queue.specs.declared.end.ChannelState.{ChannelState}
 use Rattle.ldc_queue.specs.declared.end.ChannelState.TheVariants.{Down, Resetting, Up}
+use Rattle.vdisk_msg.specs.Check.{most_bytes}
 use Rattle.vdisk_msg.specs.declared.request.Request.{Request}
 use Rattle.vdisk_msg.specs.Requested.{ring_pages}
 use Rattle.disk_model.specs.ClientState.{ClientSession}
@@ -41,4 +42,4 @@ view_of s = record {
 
 -- where the buffer of the i-th pending request begins, that of the slot of its number
 abbrev pub place_of : ℕ → ClientSession → ℕ → ℕ
-place_of slots session i = 32768 * ((session.completed + i) % slots)
+place_of slots session i = most_bytes * ((session.completed + i) % slots)

@@ -1,6 +1,7 @@
 -- What a client writes into its ring, one slot at a time, also where somebody forges packets and memory.
 use Rattle.std.specs.Prelude.{◌≡◌, ℕ, ◌-◌, ◌*◌, ◌<◌, List, Some, drop, slice_get, slice_index}
 use Rattle.dring.specs.Slots.{OneSlot, done_state, free_slot, free_state, slot_bytes}
+use Rattle.vdisk_msg.specs.Check.{most_bytes}
 use Rattle.vdisk_msg.specs.declared.request.Request.{Request}
 use Rattle.vdisk_msg.specs.Descriptor.{canonical, disk_desc_of}
 use Rattle.vdisk_msg.specs.declared.request.Request.TheVariants.{Flush, Read, Write}
@@ -16,7 +17,7 @@ buffers slots memory = drop (8192 * ring_pages slots) memory
 
 abbrev pub buffered : Request → ℕ → List ℕ → List ℕ
 buffered (Read block count) slot there = there
-buffered (Write block count fill) slot there = put_at (32768 * slot) (written fill count) there
+buffered (Write block count fill) slot there = put_at (most_bytes * slot) (written fill count) there
 buffered Flush slot there = there
 
 -- a slot is the descriptor of a request, and no other slot changed; nor did any buffer, but that of the slot, where the request is a write

@@ -4,7 +4,7 @@ use Rattle.runs.specs.Run.{Run}
 use Rattle.disk_model.specs.DiskEvent.{Asks, DiskEvent, OnWire, Calms, Stored, Switches, Works}
 use Rattle.disk_model.specs.LaneState.{LaneState, Shape, fresh}
 use Rattle.disk_model.specs.LaneStep.{LaneStep}
-use Rattle.lane_laws.proofs.LaneRuns.{failed_before, stored_well}
+use Rattle.lane_laws.proofs.FailedRuns.{failed_before, stored_well}
 use Rattle.script_laws.specs.Contents.{NoStoreFailed}
 use Rattle.world_laws.proofs.FailedStays.{failed_stays}
 use Rattle.world_laws.specs.Failures.{is_failed_store}

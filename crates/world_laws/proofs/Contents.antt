@@ -12,7 +12,7 @@ use Rattle.lane_laws.specs.Blocks.{after_requests}
 use Rattle.lane_laws.specs.Headline.{CompletionShows, HoldsDone, ImagedStep, fresh_image}
 use Rattle.lane_laws.specs.ImageStep.{region_of}
 use Rattle.lane_laws.proofs.HeadlineRuns.{run_all_done, run_completion, run_image}
-use Rattle.lane_laws.proofs.LaneRuns.{failed_before}
+use Rattle.lane_laws.proofs.FailedRuns.{failed_before}
 use Rattle.world_laws.specs.Along.{happened}
 use Rattle.world_laws.specs.Settle.{OfLane, SettleEntry}
 use Rattle.world_laws.proofs.Along.{lane_step}

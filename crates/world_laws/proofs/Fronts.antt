@@ -7,7 +7,7 @@ use Rattle.lane_laws.specs.DiskLog.{after, nothing_yet}
 use Rattle.disk_model.specs.DiskEvent.{DiskEvent, Done, Works}
 use Rattle.disk_model.specs.LaneState.{LaneState, Shape}
 use Rattle.disk_model.specs.LaneStep.{LaneStep}
-use Rattle.lane_laws.proofs.LaneRuns.{failed_before}
+use Rattle.lane_laws.proofs.FailedRuns.{failed_before}
 use Rattle.lane_laws.specs.Headline.{CompletionShows}
 use Rattle.lane_laws.specs.ImageStep.{region_of}
 use Rattle.world_laws.specs.Along.{happened}

@@ -1,7 +1,6 @@
 -- One step of an end of a lane that nobody disturbs, over the image: it completes the first request that waits, with what the plain list gives,
 -- or nothing of the plain list changes and nothing is shown.
 use Rattle.std.proofs.Common.{◌≡◌, ℕ, ◌+◌, ◌-◌, ◌*◌, ◌≤◌, ◌⊎◌, inl, inr, Bool, true, false, Option, Some, None, List, [], ◌∷◌, drop, length, refl, sym, ap, ◌∙◌, subst, arith, slice_get}
-use Rattle.std.specs.Prelude.{◌||◌}
 use Rattle.runs.specs.Lawful.{log_of}
 use Rattle.cookie_copy.specs.declared.fault.CopyFault.{CopyFault}
 use Rattle.ldc_queue.specs.declared.end.End.{End}
@@ -33,6 +32,7 @@ use Rattle.lane_laws.proofs.StepKeeps.{step_keeps}
 use Rattle.lane_laws.specs.CalmEnds.{IsStep, IsWireStep, StepKeeps}
 use Rattle.world_laws.specs.Settle.{OfLane}
 use Rattle.world_laws.specs.World.{LaneMoves}
+use Rattle.world_laws.proofs.FailedStays.{failed_stays}
 use Rattle.world_laws.proofs.NoFaults.{fault_free}
 use Rattle.world_laws.proofs.Regions.{IsFirstShape, behind_after, end_of, front_given, given_same, region_after, region_long, region_room}
 use Rattle.world_laws.proofs.Undisturbed.{Silent, Stands, Undisturbed, all_at, blocks_at, silent_on, undisturbed_on}
@@ -75,22 +75,17 @@ quietly shape p s event t i j front over same hidden silent = inl (record {
 })
 
 -- ON THE WIRE
-end_failed : (e : End) (s : LaneState) (event : WireEvent) (t : LaneState) → EndOnWire e s event t → t.failed ≡ s.failed
-end_failed A s event t step = ap (λ (x : LaneState). x.failed) step.is
-end_failed B s event t step = ap (λ (x : LaneState). x.failed) step.1.is
-
 end_near : (e : End) (s : LaneState) (event : WireEvent) (t : LaneState) → EndOnWire e s event t → t.near ≡ near_on_wire s event
 end_near A s event t step = ap (λ (x : LaneState). x.near) step.is
 end_near B s event t step = ap (λ (x : LaneState). x.near) step.1.is
 
 -- a step on the wire that resets nothing
 record OnlyWire (s : LaneState) (event : WireEvent) (t : LaneState) : Type 0 where
-  failed : t.failed ≡ s.failed
   near : t.near ≡ s.near
   hidden : is_shown (OfLane 0 (OnWire event)) ≡ false
 
 only_wire : (e : End) (s : LaneState) (event : WireEvent) (t : LaneState) → EndOnWire e s event t → near_on_wire s event ≡ s.near → is_shown (OfLane 0 (OnWire event)) ≡ false → OnlyWire s event t
-only_wire e s event t step near hidden = record { failed = end_failed e s event t step; near = end_near e s event t step ∙ near; hidden = hidden }
+only_wire e s event t step near hidden = record { near = end_near e s event t step ∙ near; hidden = hidden }
 
 -- an end resets itself after a loss alone, and nothing was lost
 never_resets : (shape : Shape) (p : Plain) (s : LaneState) (store : List ℕ) (d : End) (cause : Cause) (packet : Option (List ℕ)) (lost : ℕ) (t : LaneState) → IsFirstShape shape → Stands shape p s store
@@ -121,7 +116,7 @@ wire_silent shape p s store e event t front stands own step =
     record {
       step = step;
       keeps = step_keeps s e (OnWire event) t step own;
-      well = only.failed ∙ stands.lane.well;
+      well = failed_stays s (OnWire event) t step refl stands.lane.well;
       early = ap (λ (n : NearCounts). n.m) only.near ∙ stands.lane.early;
       done = λ l. (wired_keeps l.shape.slots l.transcript l.work event).done;
       issued = λ l. (wired_keeps l.shape.slots l.transcript l.work event).issued;
@@ -131,16 +126,12 @@ wire_silent shape p s store e event t front stands own step =
     }
 
 -- THE WORK that is no call of the store
-still_well : (a b : Bool) → a ≡ false → b ≡ false → (a || b) ≡ false
-still_well true b one two = one
-still_well false b one two = two
-
 published_silent : (shape : Shape) (p : Plain) (s : LaneState) (store : List ℕ) (id : ℕ) (t : LaneState) → Stands shape p s store → LaneStep s (Works (Published id)) t
     → Silent shape p s (Works (Published id)) t store store
 published_silent shape p s store id t stands step = record {
   step = step;
   keeps = step_keeps s A (Works (Published id)) t step tt;
-  well = ap (λ (x : LaneState). x.failed) step.is ∙ stands.lane.well;
+  well = failed_stays s (Works (Published id)) t step refl stands.lane.well;
   early = ap (λ (x : LaneState). x.near.m) step.is ∙ stands.lane.early;
   done = λ l. refl;
   issued = λ l. refl;
@@ -154,7 +145,7 @@ desc_silent : (shape : Shape) (p : Plain) (s : LaneState) (store : List ℕ) (sl
 desc_silent shape p s store slot bytes t stands step = record {
   step = step;
   keeps = step_keeps s B (Works (Desc slot bytes)) t step tt;
-  well = ap (λ (x : LaneState). x.failed) step.1.is ∙ still_well s.failed false stands.lane.well refl;
+  well = failed_stays s (Works (Desc slot bytes)) t step refl stands.lane.well;
   early = ap (λ (x : LaneState). x.near.m) step.1.is ∙ stands.lane.early;
   done = λ l. refl;
   issued = λ l. refl;
@@ -168,7 +159,7 @@ moved_silent : (shape : Shape) (p : Plain) (s : LaneState) (store : List ℕ) (u
 moved_silent shape p s store unit fault t stands step = record {
   step = step;
   keeps = step_keeps s B (Works (Moved unit fault)) t step tt;
-  well = ap (λ (x : LaneState). x.failed) step.1.is ∙ still_well s.failed false stands.lane.well refl;
+  well = failed_stays s (Works (Moved unit fault)) t step refl stands.lane.well;
   early = ap (λ (x : LaneState). x.near.m) step.1.is ∙ stands.lane.early;
   done = λ l. refl;
   issued = λ l. refl;
@@ -182,7 +173,7 @@ finished_silent : (shape : Shape) (p : Plain) (s : LaneState) (store : List ℕ)
 finished_silent shape p s store slot status t stands step = record {
   step = step;
   keeps = step_keeps s B (Works (Finished slot status)) t step tt;
-  well = ap (λ (x : LaneState). x.failed) step.1.is ∙ still_well s.failed false stands.lane.well refl;
+  well = failed_stays s (Works (Finished slot status)) t step refl stands.lane.well;
   early = ap (λ (x : LaneState). x.near.m) step.1.is ∙ stands.lane.early;
   done = λ l. refl;
   issued = λ l. refl;
@@ -227,7 +218,7 @@ stored_silent shape p s operation block count t store new front stands step =
     let lane : LaneStep s event t = (step.gave, step.step) in
     let keeps = step_keeps s B event t lane tt in
     let unforged : t.wire.forged ≡ false = keeps.forged ∙ at.unforged in
-    let well : t.failed ≡ false = ap (λ (x : LaneState). x.failed) step.step.is ∙ still_well s.failed false at.well refl in
+    let well : t.failed ≡ false = failed_stays s event t lane refl at.well in
     let room : end_of shape ≤ length store = room_in shape p s store front at stands.near.image_long in
     record {
       step = lane;

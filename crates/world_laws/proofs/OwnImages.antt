@@ -11,7 +11,7 @@ use Rattle.disk_model.specs.LaneStep.{LaneStep}
 use Rattle.disk_model.specs.Served.{Served}
 use Rattle.lane_laws.specs.Headline.{Imaged, ImagedStep, fresh_image}
 use Rattle.lane_laws.specs.ImageStep.{ImageStep, region_of}
-use Rattle.lane_laws.proofs.LaneRuns.{failed_before}
+use Rattle.lane_laws.proofs.FailedRuns.{failed_before}
 use Rattle.lane_laws.proofs.RegionRuns.{run_served}
 use Rattle.world_laws.proofs.Moving.{happened_both}
 use Rattle.world_laws.specs.Along.{happened}
