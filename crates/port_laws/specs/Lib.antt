@@ -7,6 +7,7 @@ pub mod Remaining
 pub mod RemainingSteps
 pub mod Crossing
 pub mod InOrder
+pub mod Lost
 pub mod PortCauses
 pub mod RingHolds
 pub mod RingStands
