@@ -82,12 +82,12 @@ abbrev place : End → NetLaneState → PortLog → ℕ
 place e s l = place_by (state_of e s.wire.wire) (log_of_end e l).session (log_of_end e l).gone (log_of_end e l).published (taken_of (peer_of e) s l)
 
 -- its bounds
-record Bounds (e : End) (s : NetLaneState) (l : PortLog) : Type 0 where
-  within : (v : SessionLog) → state_of e s.wire.wire ≡ Up → (log_of_end e l).session ≡ Some v → (v.seen ≤ taken_of (peer_of e) s l) × (taken_of (peer_of e) s l ≤ v.published)
-  counted : (v : SessionLog) → (log_of_end e l).session ≡ Some v → (log_of_end e l).published ≡ (log_of_end e l).gone + (v.published - v.seen)
-  shut : (log_of_end e l).session ≡ None → (log_of_end e l).published ≡ (log_of_end e l).gone
+pub record Bounds (e : End) (s : NetLaneState) (l : PortLog) : Type 0 where
+  pub within : (v : SessionLog) → state_of e s.wire.wire ≡ Up → (log_of_end e l).session ≡ Some v → (v.seen ≤ taken_of (peer_of e) s l) × (taken_of (peer_of e) s l ≤ v.published)
+  pub counted : (v : SessionLog) → (log_of_end e l).session ≡ Some v → (log_of_end e l).published ≡ (log_of_end e l).gone + (v.published - v.seen)
+  pub shut : (log_of_end e l).session ≡ None → (log_of_end e l).published ≡ (log_of_end e l).gone
 
-bounds : (shape : NetShape) (e : End) (s : PortState) (l : PortLog) → Finds shape s l → Bounds e s.lane l
+pub bounds : (shape : NetShape) (e : End) (s : PortState) (l : PortLog) → Finds shape s l → Bounds e s.lane l
 bounds shape e s l finds = record { within = within; counted = counted; shut = shut }
   where
     f : NetEndState
@@ -127,14 +127,14 @@ bounds shape e s l finds = record { within = within; counted = counted; shut = s
             true_false (sym (ap is_some is) ∙ both.shut none)
 
 -- WHAT AN EVENT DOES to the end's log, where it is up and in session after it: the session opened, or it stayed
-data Change (e : End) (s t : NetLaneState) (l m : PortLog) (v : SessionLog) : Type 0 where
+pub data Change (e : End) (s t : NetLaneState) (l m : PortLog) (v : SessionLog) : Type 0 where
   Opened : (log_of_end e l).session ≡ None → (log_of_end e m).gone ≡ (log_of_end e l).gone → Change e s t l m v
   Stayed : (w : SessionLog) → state_of e s.wire.wire ≡ Up → (log_of_end e l).session ≡ Some w → (log_of_end e m).gone + w.seen ≡ (log_of_end e l).gone + v.seen
       → taken_of (peer_of e) s l ≤ taken_of (peer_of e) t m → Change e s t l m v
 
-record Moves (e : End) (s t : NetLaneState) (l m : PortLog) : Type 0 where
-  grows : (log_of_end e l).published ≤ (log_of_end e m).published
-  changes : (v : SessionLog) → state_of e t.wire.wire ≡ Up → (log_of_end e m).session ≡ Some v → Change e s t l m v
+pub record Moves (e : End) (s t : NetLaneState) (l m : PortLog) : Type 0 where
+  pub grows : (log_of_end e l).published ≤ (log_of_end e m).published
+  pub changes : (v : SessionLog) → state_of e t.wire.wire ≡ Up → (log_of_end e m).session ≡ Some v → Change e s t l m v
 
 place_most : (x : ChannelState) (session : Option SessionLog) (gone published taken : ℕ) → ((v : SessionLog) → x ≡ Up → session ≡ Some v → (taken ≤ v.published) × (v.seen ≤ taken) × (published ≡ gone + (v.published - v.seen)))
     → place_by x session gone published taken ≤ published
@@ -181,7 +181,7 @@ rises e s t l m was now moves =
             omega (arith, is, first.0, then_.0, gone, taken)
 
 -- A STEP OF AN END, by its own log
-changed : (f : SessionLog → SessionLog) (session : Option SessionLog) (v : SessionLog) → change f session ≡ Some v → (w : SessionLog) × (session ≡ Some w) × (f w ≡ v)
+pub changed : (f : SessionLog → SessionLog) (session : Option SessionLog) (v : SessionLog) → change f session ≡ Some v → (w : SessionLog) × (session ≡ Some w) × (f w ≡ v)
 changed f None v is = none_some v is
 changed f (Some w) v is = let same : f w ≡ v = cc is in (w, refl, same)
 
@@ -197,7 +197,7 @@ heard_seen slots (Some message) w = by_kind (spoken message)
     by_kind GroupsNack = omega arith
     by_kind Other = omega arith
 
-heard_taken : (slots : ℕ) (message : Option (List ℕ)) (w : SessionLog) → (heard_in slots message w).taken ≡ w.taken
+pub heard_taken : (slots : ℕ) (message : Option (List ℕ)) (w : SessionLog) → (heard_in slots message w).taken ≡ w.taken
 heard_taken slots None w = refl
 heard_taken slots (Some message) w = by_kind (spoken message)
   where
@@ -209,7 +209,7 @@ heard_taken slots (Some message) w = by_kind (spoken message)
     by_kind GroupsNack = refl
     by_kind Other = refl
 
-none_acked : (slots : ℕ) (message : Option (List ℕ)) (session : Option SessionLog) → session ≡ None → acked_in slots message session ≡ 0
+pub none_acked : (slots : ℕ) (message : Option (List ℕ)) (session : Option SessionLog) → session ≡ None → acked_in slots message session ≡ 0
 none_acked slots None session none = refl
 none_acked slots (Some message) None none = refl
 none_acked slots (Some message) (Some w) none = none_some w (sym none)
@@ -365,10 +365,10 @@ consumer_moves e s t l m slots turns answer same mine state peer_state up_at shu
     by_answer (Frame frame) is_given v up is = goes_change v (subst Goes (sym is_given) tt) up is
 
 -- WHAT DOESN'T TOUCH a session
-record SameLog (l m : EndLog) : Type 0 where
-  session : m.session ≡ l.session
-  gone : m.gone ≡ l.gone
-  published : m.published ≡ l.published
+pub record SameLog (l m : EndLog) : Type 0 where
+  pub session : m.session ≡ l.session
+  pub gone : m.gone ≡ l.gone
+  pub published : m.published ≡ l.published
 
 same_moves : (e : End) (s t : NetLaneState) (l m : PortLog) → state_of e t.wire.wire ≡ state_of e s.wire.wire → state_of (peer_of e) t.wire.wire ≡ state_of (peer_of e) s.wire.wire
     → SameLog (log_of_end e l) (log_of_end e m) → (log_of_end (peer_of e) m).session ≡ (log_of_end (peer_of e) l).session → Moves e s t l m
@@ -383,7 +383,7 @@ same_moves e s t l m state peer_state same peer = record {
       ));
 }
 
-given_same : (given : Given) (l : EndLog) → SameLog l (after_given given l)
+pub given_same : (given : Given) (l : EndLog) → SameLog l (after_given given l)
 given_same (Queued id frame) l = record { session = refl; gone = refl; published = refl }
 given_same (Full frame) l = record { session = refl; gone = refl; published = refl }
 given_same (BadLength frame) l = record { session = refl; gone = refl; published = refl }
@@ -399,7 +399,7 @@ steps_shut : (shape : NetShape) (e : End) (u t : PortState) (l : PortLog) (answe
 steps_shut shape e u t l answer left acts opens =
     (open_both (role_at e) shape.slots (queue_of e u) (net_end e u.lane) (log_of_end e l) (end_counted shape e u l acts.finds.ready)).none (acts_shut shape e u t l answer left acts opens)
 
-event_moves : (shape : NetShape) (e : End) (u t : PortState) (l : PortLog) (event : NetEvent) → OfQueue u event → Finds shape u l → NetLaneStep u.lane event t.lane → (moved_on l.wire (on_wire event)).forged ≡ false
+pub event_moves : (shape : NetShape) (e : End) (u t : PortState) (l : PortLog) (event : NetEvent) → OfQueue u event → Finds shape u l → NetLaneStep u.lane event t.lane → (moved_on l.wire (on_wire event)).forged ≡ false
     → Kept shape t (after l (OnLane event)) → PortTalks shape (lane_core t.lane) (after l (OnLane event)) → Moves e u.lane t.lane l (after l (OnLane event))
 event_moves shape A u t l (Steps A answer) of_queue finds step clean kept talks =
     own_moves shape A u t l (after l (OnLane (Steps A answer))) answer step.left (acts_of shape A u t l answer finds step kept.counts talks) refl refl
@@ -607,8 +607,8 @@ guest_frame shape is s l event t ys frame same kept step clean below =
     next : Next B s.lane t.lane l (after l (OnLane (Steps A (Frame frame)))) frame
     next = guest_next shape s l frame t.lane (finds_before shape s l (Steps A (Frame frame)) is kept clean) made.1
 
-record Once (shape : NetShape) (s : PortState) (l : PortLog) (by_hub by_guest : List (List ℕ)) : Type 0 where
-  kept : Kept shape s l
+pub record Once (shape : NetShape) (s : PortState) (l : PortLog) (by_hub by_guest : List (List ℕ)) : Type 0 where
+  pub kept : Kept shape s l
   hub_took : l.wire.forged ≡ false → Below 0 (place A s.lane l) by_hub l.guest.given
   guest_took : l.wire.forged ≡ false → Below 0 (place B s.lane l) by_guest l.hub.given
 
@@ -655,7 +655,7 @@ once_lane shape is s l event t xs ys had step = record { kept = kept; hub_took =
         by_event (inl none) = goes_below (place B s.lane l) (place B t.lane m) ys (took A (OnLane event)) l.hub.given m.hub.given none (place_rises B clean) (hub_given l event) below
         by_event (inr (frame, same)) = guest_frame shape is s l event t ys frame same had.kept step (was_clean l.wire event clean) below
 
-once_step : (shape : NetShape) → IsNetShape shape → (s : PortState) (l : PortLog) (event : PortEvent) (t : PortState) (xs ys : List (List ℕ)) → Once shape s l xs ys → PortStep s event t
+pub once_step : (shape : NetShape) → IsNetShape shape → (s : PortState) (l : PortLog) (event : PortEvent) (t : PortState) (xs ys : List (List ℕ)) → Once shape s l xs ys → PortStep s event t
     → Once shape t (after l event) (xs ++ took B event) (ys ++ took A event)
 once_step shape is s l (OnLane event) t xs ys had step = once_lane shape is s l event t xs ys had step
 once_step shape is s l (Receives frame) t xs ys had step =
@@ -682,7 +682,7 @@ along shape is (event ∷ events) s t l xs ys had run =
     subst (λ (zs : List (List ℕ)). Once shape t (log_of after (after l event) events) zs (ys ++ (took A event ++ frames_taken A events))) (append_assoc xs (took B event) (frames_taken B events))
     (subst (Once shape t (log_of after (after l event) events) ((xs ++ took B event) ++ frames_taken B events)) (append_assoc ys (took A event) (frames_taken A events)) rest)
 
-fresh_once : (shape : NetShape) → IsNetShape shape → Once shape (fresh_port shape) (no_events shape) [] []
+pub fresh_once : (shape : NetShape) → IsNetShape shape → Once shape (fresh_port shape) (no_events shape) [] []
 unfolding Below
 fresh_once shape is = record { kept = fresh_kept shape is; hub_took = λ clean. omega arith; guest_took = λ clean. omega arith }
 

@@ -82,3 +82,4 @@ pub mod CrossingFrames
 pub mod PortWire
 pub mod IdleSteps
 pub mod FramesOnce
+pub mod FramesAll

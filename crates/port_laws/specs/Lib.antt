@@ -8,6 +8,7 @@ pub mod RemainingSteps
 pub mod Crossing
 pub mod GroupsTold
 pub mod InOrder
+pub mod Lost
 pub mod PortCauses
 pub mod RingHolds
 pub mod RingStands

@@ -2,6 +2,7 @@
 //! holds of a port's. It has no code.
 #![tactic(auto)]
 
+mod arrival_laws;
 mod core_laws;
 mod frame_laws;
 mod group_laws;
@@ -12,6 +13,9 @@ mod ring_laws;
 mod rule_laws;
 mod wire_laws;
 
+pub use arrival_laws::{
+    all_frames_arrive_where_none_is_lost, each_frame_arrives_or_is_held_or_lost,
+};
 pub use core_laws::{
     a_port_is_lossy_behind_a_loss, a_port_is_two_ends_on_a_channel,
     a_port_resets_itself_behind_a_loss_or_for_its_session,
