@@ -1,4 +1,4 @@
-use Rattle.std.proofs.Common.{◌≡◌, ℕ, ◌*◌, ◌^◌, ◌<◌, ◌≤◌, [], List, length, map, replicate, codes, Option, Some, IfSome, ap, subst, sym, ◌∙◌, refl}
+use Rattle.std.proofs.Common.{◌≡◌, ℕ, ◌*◌, ◌^◌, ◌<◌, ◌≤◌, List, length, map, replicate, codes, Option, Some, IfSome, ap, subst, sym, ◌∙◌, refl}
 use Rattle.std.specs.String.{string_bytes}
 use Rattle.disk_law.specs.Issued.{CompletesOnceInOrder}
 use Rattle.ldom_entries.specs.JournalState.{JournalState}
