@@ -82,7 +82,6 @@ impl<D: Store> Store for Cached<D> {
 
     ghost flushes = { λ c. D.flushes c.inner };
 
-
     ghost writes = { λ c. D.writes c.inner };
 
     ghost faults = { λ c. D.faults c.inner };
