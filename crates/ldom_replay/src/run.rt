@@ -170,9 +170,9 @@ pub fn run_script<H: Host, S: Source>(
     }
 }
 
-// Makes the lanes and the room of the cache, attaches the image and runs the script over them, from the first event that isn't a declaration on.
-// Nothing wants memory between attaching and that event: so where there is an image there are lanes, but for one that is
-// too short.
+// Makes the lanes and the room of the cache, attaches the image and runs the script over them, from the first event that
+// isn't a declaration on. Nothing wants memory between attaching and that event: so where there is an image there are
+// lanes, but for one that is too short.
 fn attach<H: Host, S: Source>(
     alloc: Global,
     name: &str,

@@ -20,7 +20,8 @@ use vio_io::Store;
 const MOST_KEPT: usize = 64;
 
 /// The lanes of a script, a list of each kind by their numbers in the order of declaration: of disks alone as yet. And
-/// the image that all disks are served from, behind a cache of its blocks: each disk is a region of it, one after another.
+/// the image that all disks are served from, behind a cache of its blocks: each disk is a region of it, one after
+/// another.
 #[derive(Drop)]
 pub struct World<D: Store> {
     pub(crate) alloc: Global,
