@@ -1,6 +1,7 @@
 // What follows for a settle over disks and ports.
 
 ghost use Rattle.std.specs.Prelude.{ℕ, ◌*◌, ◌+◌, ◌≤◌, length, List};
+ghost use Rattle.runs.specs.Run.{Run};
 ghost use Rattle.lane_kinds.specs.Lanes.{sum_of};
 ghost use Rattle.lane_kinds.specs.Settles.{SettlePart, Settles};
 ghost use Rattle.switch_laws.specs.Remaining.{port_remaining};
@@ -8,7 +9,7 @@ ghost use Rattle.world_laws.specs.Ended.{LanesEnd};
 ghost use Rattle.world_laws.specs.Moves.{ticks_in};
 ghost use Rattle.world_laws.specs.Settle.{SettleEntry};
 ghost use Rattle.world_laws.specs.Sums.{remaining_on};
-ghost use Rattle.domain_laws.specs.Domain.{Lanes, lanes};
+ghost use Rattle.domain_laws.specs.Domain.{Lanes, lanes, PortsStep};
 ghost use Rattle.domain_laws.specs.Settling.{AreFew, AreReached, AreUnforged, port_ticks_in, PortsEnd};
 
 /// A settle over at most eight disks and eight ports, none of them forged, ends settled, whatever was lost, reset,
@@ -36,4 +37,11 @@ pub fn disks_and_ports_are_finished_behind_a_settle()
         → ticks_in k part ≤ 1 }
     ensures port_ticks { (start : Lanes) (part : List SettleEntry) (behind : Lanes) (k : ℕ) → SettlePart lanes start part behind
         → port_ticks_in k part ≤ 1 }
+{}
+
+/// The part of a settle over disks and ports runs the ports, entry by entry, also where its rounds run out. So each frame
+/// that is switched in it goes to the forwarding set of the states of all ports directly before its entry.
+pub fn the_part_of_a_settle_runs_the_ports()
+    ensures { (start : Lanes) (part : List SettleEntry) (behind : Lanes) → SettlePart lanes start part behind
+        → Run PortsStep start.second part behind.second }
 {}
