@@ -4,4 +4,5 @@ pub mod Settling
 pub mod Resting
 pub mod Telling
 pub mod Arriving
+pub mod Counting
 pub mod Parts
