@@ -47,7 +47,7 @@ disk_part k (entry ∷ part) w v own run = disk_then k w run.0 v (disk_entry k e
 
 -- A PORT
 pub only_port : (k : ℕ) (event : SwitchEvent) (w v : DomainState) → DomainStep w (OfPort k event) v → OnlyPort k event w v
-only_port k event w v step = record { disks_stay = step.of_first; ports = leaves_others k w.second event v.second step.of_second.step }
+only_port k event w v step = record { disks_stay = step.of_first; ports = leaves_others k w.second event v.second step.of_second.entry.step }
 
 pub port_part : (k : ℕ) (part : List SettleEntry) (w v : DomainState) → EachOf (IsOfPort k) part → Run DomainStep w part v → v.first ≡ w.first
 port_part k [] w v own run = ap (λ (x : DomainState). x.first) (sym run)

@@ -35,10 +35,10 @@ use Rattle.domain_laws.specs.Domain.{Lanes, lanes, port_entries, switch}
 use Rattle.domain_laws.specs.Settling.{AreReached, HoldsNoFrame, PortEndsIn, PortsEnd, port_ticks, port_ticks_in}
 
 -- ALONG THE ROUNDS each lane was reached, and lost nothing where it had its tick
-abbrev WholePort : PortState → Bool → Type 0
+abbrev pub WholePort : PortState → Bool → Type 0
 WholePort = IsWhole ports port.IsReached port.IsUnforged port.IsLossless port_rests
 
-abbrev Stand : Lanes → Two (List Bool) (List Bool) → Type 0
+abbrev pub Stand : Lanes → Two (List Bool) (List Bool) → Type 0
 Stand = BothStand behind_disks.Stands (EachMarked WholePort)
 
 pub keeps : Keeps lanes Stand

@@ -31,7 +31,7 @@ port_reads = record { of_lane = λ j k event. refl; of_left = λ j k. refl; of_a
 
 -- EACH ENTRY moves all ports, and so does a run
 entry_moves : (lanes : List PortState) (entry : SettleEntry) (behind : List PortState) → PortsStep lanes entry behind → AllMove SwitchStep port_said 0 lanes (entry ∷ []) behind
-entry_moves lanes (OfPort k event) behind step = told_moves ports port_entries port_said port_reads silence 0 k lanes event behind step.step.step
+entry_moves lanes (OfPort k event) behind step = told_moves ports port_entries port_said port_reads silence 0 k lanes event behind step.entry.step.step
 entry_moves lanes entry behind step =
     subst (AllMove SwitchStep port_said 0 lanes (entry ∷ [])) (sym step) (nothing_move SwitchStep port_said 0 lanes (entry ∷ []) (λ j. refl))
 

@@ -1,6 +1,6 @@
 -- A WORLD OF DISKS AND PORTS: a world of disks over one image, and beside it the ports of one switch. What each entry of their one journal
 -- does to it, and a settle over all of them.
-use Rattle.std.specs.Prelude.{◌≡◌, ℕ, Bool, List, map}
+use Rattle.std.specs.Prelude.{◌≡◌, ℕ, Bool, List, map, ⊤}
 use Rattle.disk_law.specs.ListState.{ImageState}
 use Rattle.disk_model.specs.LaneState.{LaneState, Shape}
 use Rattle.lane_kinds.specs.Both.{BothStep, Two, both}
@@ -8,9 +8,9 @@ use Rattle.lane_kinds.specs.Lanes.{Entries, EntryOf, lanes_of}
 use Rattle.lane_kinds.specs.Rounds.{Rounds}
 use Rattle.lane_kinds.specs.Settles.{SettlePart}
 use Rattle.port_model.specs.NetLaneState.{NetShape}
-use Rattle.port_model.specs.PortState.{PortState, fresh_port}
+use Rattle.port_model.specs.PortState.{PortState, Receives, fresh_port}
 use Rattle.runs.specs.Run.{Run}
-use Rattle.switch_laws.specs.Events.{SwitchEvent}
+use Rattle.switch_laws.specs.Events.{OnPort, SwitchEvent}
 use Rattle.switch_laws.specs.Ports.{ports}
 use Rattle.world_laws.specs.Rounds.{LaneRound}
 use Rattle.world_laws.specs.Settle.{OfPort, SettleEntry, Settled, UnsettledPort, disks}
@@ -23,9 +23,18 @@ DomainState = Two WorldState (List PortState)
 abbrev pub fresh_domain : List Shape → ImageState → List NetShape → DomainState
 fresh_domain shapes image nets = record { first = fresh_world shapes image; second = map fresh_port nets }
 
--- AN ENTRY of a port leaves the disks and their image, and any other the ports
+-- AN ENTRY of a port moves it, and the others by what it gives them; what it gets of others is no entry of its own. It leaves the disks and
+-- their image, and any other entry the ports.
+abbrev pub IsOwn : SwitchEvent → Type 0
+IsOwn (OnPort (Receives frame)) = ⊥
+IsOwn _ = ⊤
+
+pub record PortMoves (lanes : List PortState) (k : ℕ) (event : SwitchEvent) (behind : List PortState) : Type 0 where
+  pub own : IsOwn event
+  pub entry : EntryOf ports k lanes event behind
+
 abbrev pub PortsStep : List PortState → SettleEntry → List PortState → Type 0
-PortsStep lanes (OfPort k event) behind = EntryOf ports k lanes event behind
+PortsStep lanes (OfPort k event) behind = PortMoves lanes k event behind
 PortsStep lanes _ behind = behind ≡ lanes
 
 abbrev pub DomainStep : DomainState → SettleEntry → DomainState → Type 0

@@ -1,42 +1,64 @@
--- Four lists of frames that a journal tells of the port with a number: those that its guest was given, those that its end at the switch took
--- from it, those that the switch put into its out queue, and those that its guest took.
-use Rattle.std.specs.Prelude.{◌≡◌, ℕ, ◌==◌, ◌&&◌, ◌+◌, Bool, true, false, if◌then◌else◌, List, [], ◌∷◌, flat_map}
+-- The frames of a port, by the journal of a world: what its guest was given (`Queued`), what its end at the switch took and was switched to
+-- others (`Switched` of it), what the switch put into its out queue (`Switched` whose set `out` has it), and what its guest took (`Frame`).
+use Rattle.std.specs.Prelude.{ℕ, ◌==◌, if◌then◌else◌, List, [], ◌∷◌, flat_map, map}
 use Rattle.std.specs.Int.{bit_at}
-use Rattle.ldc_queue.specs.declared.end.End.TheVariants.{A, B}
+use Rattle.lane_kinds.specs.Settles.{Settles}
+use Rattle.ldc_queue.specs.declared.end.End.TheVariants.{A}
 use Rattle.port_model.specs.NetEndStep.{Frame, Queued}
 use Rattle.port_model.specs.NetEvent.{Gives, Steps}
-use Rattle.port_model.specs.PortState.{OnLane, PortState}
-use Rattle.switch_laws.specs.Events.{OnPort, Switched}
+use Rattle.port_model.specs.PortState.{OnLane, PortEvent}
+use Rattle.runs.specs.Run.{Run}
+use Rattle.switch_laws.specs.Events.{OnPort, SwitchEvent, Switched, at_port}
 use Rattle.world_laws.specs.Settle.{OfPort, SettleEntry}
+use Rattle.domain_laws.specs.Along.{port_happened}
+use Rattle.domain_laws.specs.Domain.{DomainState, DomainStep, lanes, lanes_in}
 
-abbrev pub one_if : Bool → List ℕ → List (List ℕ)
-one_if here frame = if here then frame ∷ [] else []
+-- what happened to the port by itself
+abbrev pub port_events : ℕ → List SettleEntry → List PortEvent
+port_events k entries = map at_port (port_happened k entries)
 
-abbrev pub queued_at : ℕ → SettleEntry → List (List ℕ)
-queued_at k (OfPort j (OnPort (OnLane (Gives A (Queued id frame))))) = one_if (k == j) frame
-queued_at k _ = []
+-- OF AN EVENT of the port
+abbrev pub queued_in : SwitchEvent → List (List ℕ)
+queued_in (OnPort (OnLane (Gives A (Queued id frame)))) = frame ∷ []
+queued_in _ = []
 
-abbrev pub switched_at : ℕ → SettleEntry → List (List ℕ)
-switched_at k (OfPort j (Switched frame out full)) = one_if (k == j) frame
-switched_at k _ = []
+abbrev pub switched_in : SwitchEvent → List (List ℕ)
+switched_in (Switched frame out full) = frame ∷ []
+switched_in (OnPort event) = []
 
--- another port's frame, where it goes to this one
-abbrev pub put_at : ℕ → SettleEntry → List (List ℕ)
-put_at k (OfPort j (Switched frame out full)) = if k == j then [] else one_if (bit_at out k == 1) frame
-put_at k _ = []
+abbrev pub arrived_in : SwitchEvent → List (List ℕ)
+arrived_in (OnPort (OnLane (Steps A (Frame frame)))) = frame ∷ []
+arrived_in _ = []
 
-abbrev pub arrived_at : ℕ → SettleEntry → List (List ℕ)
-arrived_at k (OfPort j (OnPort (OnLane (Steps A (Frame frame))))) = one_if (k == j) frame
-arrived_at k _ = []
+-- and of one of any port for this one
+abbrev pub put_in : ℕ → SwitchEvent → List (List ℕ)
+put_in k (Switched frame out full) = if bit_at out k == 1 then frame ∷ [] else []
+put_in k (OnPort event) = []
 
-abbrev pub queued : ℕ → List SettleEntry → List (List ℕ)
-queued k entries = flat_map (queued_at k) entries
+-- OF AN ENTRY
+abbrev pub of_port : (SwitchEvent → List (List ℕ)) → ℕ → SettleEntry → List (List ℕ)
+of_port frames k (OfPort j event) = if k == j then frames event else []
+of_port frames k _ = []
 
-abbrev pub switched : ℕ → List SettleEntry → List (List ℕ)
-switched k entries = flat_map (switched_at k) entries
+abbrev pub put_by : ℕ → SettleEntry → List (List ℕ)
+put_by k (OfPort j event) = put_in k event
+put_by k _ = []
 
-abbrev pub put : ℕ → List SettleEntry → List (List ℕ)
-put k entries = flat_map (put_at k) entries
+-- OF A JOURNAL
+abbrev pub frames_queued : ℕ → List SettleEntry → List (List ℕ)
+frames_queued k entries = flat_map (of_port queued_in k) entries
 
-abbrev pub arrived : ℕ → List SettleEntry → List (List ℕ)
-arrived k entries = flat_map (arrived_at k) entries
+abbrev pub frames_switched : ℕ → List SettleEntry → List (List ℕ)
+frames_switched k entries = flat_map (of_port switched_in k) entries
+
+abbrev pub frames_put : ℕ → List SettleEntry → List (List ℕ)
+frames_put k entries = flat_map (put_by k) entries
+
+abbrev pub frames_arrived : ℕ → List SettleEntry → List (List ℕ)
+frames_arrived k entries = flat_map (of_port arrived_in k) entries
+
+-- THE JOURNAL of a world that ends settled: what came before a settle, and the settle's part
+pub record EndsSettled (start w : DomainState) (before part : List SettleEntry) (v : DomainState) : Type 0 where
+  pub came : Run DomainStep start before w
+  pub part_of : Settles lanes (lanes_in w) part (lanes_in v)
+  pub run : Run DomainStep w part v

@@ -2,3 +2,4 @@ pub mod Domain
 pub mod Along
 pub mod Frames
 pub mod Settling
+pub mod Counts

@@ -3,13 +3,20 @@
 //! code.
 #![tactic(auto)]
 
+mod frame_laws;
 mod run_laws;
 mod settle_laws;
 
+pub use frame_laws::{
+    a_journal_tells_the_frames_of_each_port,
+    all_frames_of_a_port_arrive_where_a_world_ends_settled, frames_of_each_port_arrive_in_order,
+};
 pub use run_laws::{
     an_entry_of_a_disk_leaves_all_other_lanes, an_entry_of_a_port_leaves_all_other_lanes,
     each_kind_runs_by_the_one_journal, each_port_runs_by_its_events,
 };
 pub use settle_laws::{
-    a_settle_of_unforged_disks_and_ports_ends_settled, disks_and_ports_are_finished_behind_a_settle,
+    a_settle_of_unforged_disks_and_ports_ends_settled,
+    disks_and_ports_are_finished_behind_a_settle, rounds_that_run_out_move_and_name_a_lane,
+    the_part_of_a_settle_runs_the_ports,
 };
