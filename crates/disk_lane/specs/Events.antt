@@ -1,7 +1,9 @@
 -- What a call of a lane is as an event of it, by what it answered.
-use Rattle.std.specs.Prelude.{◌≡◌, Bool, true, false, List, ℕ, Option, Some, None, ⊤}
+use Rattle.std.specs.Prelude.{◌≡◌, Bool, true, false, List, ℕ, length, Option, Some, None, Result, Ok, Err, ⊤}
 use Rattle.ldc_queue.specs.declared.end.End.{End}
 use Rattle.ldc_queue.specs.declared.end.End.TheVariants.{A, B}
+use Rattle.ldc_queue.specs.declared.end.PutFault.{PutFault}
+use Rattle.ldc_queue.specs.declared.end.PutFault.TheVariants as put
 use Rattle.vio_tag.specs.declared.cause.Cause.TheVariants as the_cause
 use Rattle.channel_model.specs.WireEvent as wire
 use Rattle.channel_model.specs.WireEvent.{ByStep, giver}
@@ -48,6 +50,16 @@ tick_event false = Calms CalmTick
 abbrev pub lost_event : End → Option (List ℕ) → DiskEvent
 lost_event e (Some packet) = OnWire (wire.Lost e packet)
 lost_event e None = OnWire (wire.Declines (wire.NothingLost e))
+
+-- a packet that the peer never put, and bytes that the client never wrote: they come, or the call declines
+abbrev pub injected_event : {U : Type 0} → End → List ℕ → Result U PutFault → DiskEvent
+injected_event e packet (Ok done) = OnWire (wire.Injected e packet)
+injected_event e packet (Err put.NotUp) = OnWire (wire.Declines (wire.NotInjected e packet))
+injected_event e packet (Err put.Full) = OnWire (wire.Declines (wire.InjectedFull e packet))
+
+abbrev pub poked_event : ℕ → List ℕ → Bool → DiskEvent
+poked_event at bytes true = OnWire (wire.Poked A at bytes)
+poked_event at bytes false = OnWire (wire.Declines (wire.PokeRefused A at (length bytes)))
 
 -- what a step does to the store, of a server that is stopped nothing
 abbrev pub StoreAfterOf : {D : Type 0} → Ghosts D → Option ServerOut → D → D → Type 0

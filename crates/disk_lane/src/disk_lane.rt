@@ -8,12 +8,12 @@ ghost use Rattle.disk_model.specs.LaneStep.{LaneStep};
 ghost use Rattle.disk_model.specs.Reached.{IsReached};
 ghost use Rattle.disk_model.specs.Served.{Served};
 ghost use Rattle.vdisk_client.specs.Calls.{TellsLength, admitted, client_event, front_count};
-ghost use Rattle.disk_lane.specs.Events.{ResetsOwn, StoreAfterOf, answered, lost_event};
+ghost use Rattle.disk_lane.specs.Events.{ResetsOwn, StoreAfterOf, answered, injected_event, lost_event, poked_event};
 ghost use Rattle.disk_lane.specs.Events.{reset_event, restart_event, served_event, start_event, stop_event, tick_event};
 
 use crate::lane_ends::LaneEnds;
 use flat_store::Region;
-use ldc_queue::End;
+use ldc_queue::{End, PutFault};
 use std::alloc::Global;
 use std::marker::Model;
 use vdisk_client::{ClientOut, IssueFault};
@@ -199,6 +199,26 @@ impl DiskLane {
         ensures shape { self.new.shape ≡ self.old.shape }
     {
         self.ends.lose(end)
+    }
+
+    /// Makes a packet wait last for an end, though its peer never put it. Refused where the end isn't `Up`, and where its
+    /// queue is full: then nothing changes.
+    #[tactic(auto, using(crate::proofs::Reaching::keeps_shape))]
+    pub fn inject(&mut self, end: End, packet: &[u8; 64]) -> Result<(), PutFault>
+        ensures step { LaneStep self.old (injected_event end packet.now result) self.new }
+        ensures shape { self.new.shape ≡ self.old.shape }
+    {
+        self.ends.inject(end, packet)
+    }
+
+    /// Writes bytes into the client's memory from a place on, though the client never wrote them. False where they don't
+    /// lie within it: then nothing changes. The server has no memory.
+    #[tactic(auto, using(crate::proofs::Reaching::keeps_shape))]
+    pub fn poke(&mut self, at: u64, bytes: &[u8]) -> bool
+        ensures step { LaneStep self.old (poked_event at bytes.now result) self.new }
+        ensures shape { self.new.shape ≡ self.old.shape }
+    {
+        self.ends.poke(at, bytes)
     }
 
     /// Tells that some calls led here from a fresh lane, whose laws stand in `lane_laws`: they hold of this lane where this

@@ -11,14 +11,14 @@ ghost use Rattle.disk_model.specs.Served.{Served};
 ghost use Rattle.vdisk_client.specs.Calls.{TellsLength, admitted, client_event, front_count};
 ghost use Rattle.descriptor_work.specs.Calling.{StoreAfter};
 ghost use Rattle.vdisk_server.specs.Answering.{server_event};
-ghost use Rattle.disk_lane.specs.Events.{ResetsOwn, lost_event, reset_event, restart_event, start_event, stop_event, tick_event};
+ghost use Rattle.disk_lane.specs.Events.{ResetsOwn, injected_event, lost_event, poked_event, reset_event, restart_event, start_event, stop_event, tick_event};
 ghost use Rattle.disk_lane.specs.Noted.{noted};
 
 use crate::granting::pages_for;
 use crate::near::Near;
-use dom_memory::Memory;
+use dom_memory::{Memory, PAGE};
 use flat_store::Region;
-use ldc_queue::{Channel, ChannelState, End};
+use ldc_queue::{Channel, ChannelState, End, PutFault};
 use map_table::MapTable;
 use memory_grant::own_table;
 use std::alloc::Global;
@@ -186,6 +186,30 @@ impl LaneEnds {
             self.lossy = true;
         }
         packet
+    }
+
+    /// Makes a packet wait last for the end, though its peer never put it.
+    pub fn inject(&mut self, end: End, packet: &[u8; 64]) -> Result<(), PutFault>
+        ensures { LaneStep self.old (injected_event end packet.now result) self.new }
+    {
+        let injected = self.channel.forge(end, packet);
+        if injected.is_ok() {
+            self.forged = true;
+        }
+        injected
+    }
+
+    /// Writes bytes into the client's memory, though the client never wrote them. The server has none.
+    pub fn poke(&mut self, at: u64, bytes: &[u8]) -> bool
+        ensures { LaneStep self.old (poked_event at bytes.now result) self.new }
+    {
+        let size = self.memory.pages() as u64 * PAGE as u64;
+        if size < at || size - at < bytes.len() as u64 {
+            return false;
+        }
+        self.memory.write(at, bytes);
+        self.forged = true;
+        true
     }
 
     /// Whether the client's session is open and nothing is pending.

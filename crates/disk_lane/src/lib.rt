@@ -10,6 +10,6 @@ mod near;
 
 pub use crate::disk_lane::DiskLane;
 pub use flat_store::Region;
-pub use ldc_queue::End;
+pub use ldc_queue::{End, PutFault};
 pub use vdisk_client::{ClientOut, IssueFault};
 pub use vdisk_server::ServerOut;

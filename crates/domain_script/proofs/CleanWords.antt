@@ -4,7 +4,7 @@ use Rattle.std.specs.Prelude.{nat_le}
 use Rattle.std.specs.Char.{is_ascii_digit, is_ascii_lowercase}
 use Rattle.std.specs.List.{join_with_byte, list_all, list_any}
 use Rattle.std.specs.Str.Parse.{AllDigits}
-use Rattle.std.proofs.lemmas.Bool.{and_from, and_parts, le-leb, leb-true, or_cases, or_from}
+use Rattle.std.proofs.lemmas.Bool.{and_from, and_parts, eqb-true, le-leb, leb-true, or_cases, or_from}
 use Rattle.std.proofs.lemmas.Fmt.{decimal_is_IsNumeral}
 use Rattle.std.proofs.lemmas.List.Folds.{list_all-append}
 use Rattle.std.proofs.lemmas.List.Splits.{join_with_byte-slice_split}
@@ -16,7 +16,7 @@ use Rattle.domain_script.specs.declared.event.Side.TheVariants.{Client, Server}
 use Rattle.domain_script.specs.declared.event.EndName.{EndName}
 use Rattle.domain_script.specs.declared.event.Lane.{Lane}
 use Rattle.domain_script.specs.declared.fields.Field.{Field}
-use Rattle.domain_script.specs.declared.fields.Field.TheVariants.{NewName, DiskName, LaneName, End, Number, Bytes}
+use Rattle.domain_script.specs.declared.fields.Field.TheVariants.{NewName, DiskName, LaneName, End, Number, Bytes, Packet}
 use Rattle.domain_script.specs.declared.rows.RowKind.{RowKind}
 use Rattle.domain_script.specs.declared.rows.RowKind.TheVariants as row
 use Rattle.domain_script.specs.Faults.{is_empty}
@@ -25,9 +25,9 @@ use Rattle.domain_script.specs.Pieces.{HasNo}
 use Rattle.domain_script.specs.Rows.{row_of}
 use Rattle.domain_script.specs.Spells.{NamesDisk, NamesEnd, NamesLane, SpellsField, SpellsFields, is_printable}
 use Rattle.domain_script.specs.Values.{ValueOf, ValuesOf}
-use Rattle.domain_script.specs.Words.{IsNameWord, SpellsFill, SpellsName, SpellsNumber, is_lower_digit, is_name_byte, side_text, words}
+use Rattle.domain_script.specs.Words.{IsNameWord, SpellsFill, SpellsName, SpellsNumber, SpellsPacket, is_lower_digit, is_name_byte, side_text, words}
 use Rattle.domain_script.proofs.WordLemmas.{words_none, words_space}
-use Rattle.domain_script.proofs.WordTests.{is_bytes_from}
+use Rattle.domain_script.proofs.WordTests.{is_bytes_from, is_packet_from}
 use Rattle.domain_script.proofs.LaneKinds.{of_disks}
 
 -- printable bytes without the space, and at least one
@@ -121,6 +121,12 @@ bytes_clean word fill spells =
     let some : 2 ≤ length word = leb-true 2 (length word) limits.0 in
     some_clean word (all_more is_lower_digit is_graphic word lower_digit_graphic parts.0) (omega (arith, some))
 
+packet_clean : (word packet : List ℕ) → SpellsPacket word packet → IsClean word
+packet_clean word packet spells =
+    let parts = and_parts _ _ (is_packet_from word packet spells) in
+    let long : length word ≡ 128 = eqb-true (length word) 128 parts.1 in
+    some_clean word (all_more is_lower_digit is_graphic word lower_digit_graphic parts.0) (omega (arith, long))
+
 field_clean : (names : NamesState) (field : Field) (word : List ℕ) (value : ValueOf field) → SpellsField names field word value → IsClean word
 field_clean names (NewName kind) word name spelled = name_clean word name spelled.0
 field_clean names DiskName word disk spelled = name_clean word spelled.name spelled.spelled
@@ -128,6 +134,7 @@ field_clean names LaneName word l spelled = lane_clean names word l spelled
 field_clean names (End kind) word end spelled = end_clean names word end spelled.0
 field_clean names (Number bounds) word n spelled = number_clean word n spelled.0
 field_clean names Bytes word fill spelled = bytes_clean word fill spelled
+field_clean names Packet word packet spelled = packet_clean word packet spelled
 
 -- many of them
 pub record AreClean (ws : List (List ℕ)) : Type 0 where

@@ -11,7 +11,7 @@ use Rattle.domain_script.specs.declared.event.LineFault.{LineFault}
 use Rattle.domain_script.specs.declared.event.LineFault.TheVariants as line_fault
 use Rattle.domain_script.specs.declared.event.Name.{Name}
 use Rattle.domain_script.specs.declared.fields.Field.{Field}
-use Rattle.domain_script.specs.declared.fields.Field.TheVariants.{NewName, DiskName, LaneName, End, Number, Bytes}
+use Rattle.domain_script.specs.declared.fields.Field.TheVariants.{NewName, DiskName, LaneName, End, Number, Bytes, Packet}
 use Rattle.domain_script.specs.declared.rows.RowKind.{RowKind}
 use Rattle.domain_script.specs.Faults.{asks_other, faults, fields_of, first_fault, has_fault, is_blank, is_empty, is_wrong, placed, row_in}
 use Rattle.domain_script.specs.Naming.{lane_named, number_named, some_of_kind}
@@ -19,13 +19,13 @@ use Rattle.domain_script.specs.NamesState.{NamesState, count_of}
 use Rattle.domain_script.specs.Rows.{row_named, row_of}
 use Rattle.domain_script.specs.Spells.{IsBlank, Spells, SpellsField, SpellsFields, SpellsFound, SpellsRow, SpellsWords, is_printable}
 use Rattle.domain_script.specs.Values.{ValueOf, ValuesOf}
-use Rattle.domain_script.specs.Words.{is_bytes, is_name, is_number, is_within, name_of, number_of, words}
+use Rattle.domain_script.specs.Words.{is_bytes, is_name, is_number, is_packet, is_within, name_of, number_of, words}
 use Rattle.domain_script.proofs.CleanWords.{AreClean, IsClean, clean_more, fields_clean, line_prints, row_clean}
 use Rattle.domain_script.proofs.FieldValues.{as_many}
 use Rattle.domain_script.proofs.NamingTests.{disk_is, disk_of_name, end_is, free_none, kind_test, lane_is}
 use Rattle.domain_script.proofs.OneEvent.{words_of_hash}
 use Rattle.domain_script.proofs.RowLemmas.{word_of_row}
-use Rattle.domain_script.proofs.WordTests.{is_bytes_from, is_name_from, is_number_from, name_is, number_is, within_test}
+use Rattle.domain_script.proofs.WordTests.{is_bytes_from, is_name_from, is_number_from, is_packet_from, name_is, number_is, within_test}
 use Rattle.domain_script.specs.LaneKinds.{disk_lane}
 
 -- A FIELD whose word spells a value
@@ -50,6 +50,7 @@ not_wrong line_fault.Range names (Number bounds) word n spelled =
     (not_from_true (is_within bounds (number_of word))
     (subst (λ (k : ℕ). is_within bounds k ≡ true) (sym (number_is word n spelled.0)) (within_test bounds n spelled.1)))
 not_wrong line_fault.Hex names Bytes word fill spelled = not_from_true (is_bytes word) (is_bytes_from word fill spelled)
+not_wrong line_fault.Hex names Packet word packet spelled = not_from_true (is_packet word) (is_packet_from word packet spelled)
 not_wrong which names field word value spelled = refl
 
 none_wrong : (which : LineFault) (names : NamesState) (fields : List Field) (line : List (List ℕ)) (values : ValuesOf fields) → SpellsFields names fields line values

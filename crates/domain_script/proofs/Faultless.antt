@@ -11,7 +11,7 @@ use Rattle.domain_script.specs.declared.event.LineFault.TheVariants as line_faul
 use Rattle.domain_script.specs.declared.event.Side.TheVariants.{Client}
 use Rattle.domain_script.specs.declared.fields.EndKind.{EndKind}
 use Rattle.domain_script.specs.declared.fields.Field.{Field}
-use Rattle.domain_script.specs.declared.fields.Field.TheVariants.{NewName, DiskName, LaneName, End, Number, Bytes}
+use Rattle.domain_script.specs.declared.fields.Field.TheVariants.{NewName, DiskName, LaneName, End, Number, Bytes, Packet}
 use Rattle.domain_script.specs.declared.rows.RowKind.{RowKind}
 use Rattle.domain_script.specs.Computed.{faultless_event, field_value, field_values, found_event, words_event}
 use Rattle.domain_script.specs.Faults.{asks_other, faults, fields_of, first_fault, has_fault, has_other_byte, has_wrong_field, is_blank, is_wrong, placed, row_in}
@@ -19,9 +19,9 @@ use Rattle.domain_script.specs.Naming.{disk_named, end_named, lane_named, some_o
 use Rattle.domain_script.specs.NamesState.{NamesState, count_of}
 use Rattle.domain_script.specs.Rows.{row_named, row_of}
 use Rattle.domain_script.specs.Spells.{IsBlank, IsOfKind, NamesDisk, NamesEnd, NamesLane, Spells, SpellsField, SpellsFields, SpellsFound, SpellsWords}
-use Rattle.domain_script.specs.Words.{is_bytes, is_name, is_number, is_within, name_of, number_of, words}
+use Rattle.domain_script.specs.Words.{is_bytes, is_name, is_number, is_packet, is_within, name_of, number_of, words}
 use Rattle.domain_script.proofs.NamingTests.{disk_found, disk_of_name, end_found, kind_from_test, lane_found, none_free}
-use Rattle.domain_script.proofs.WordTests.{fill_spelled, name_spelled, number_spelled, within_from_test}
+use Rattle.domain_script.proofs.WordTests.{fill_spelled, name_spelled, number_spelled, packet_spelled, within_from_test}
 use Rattle.domain_script.specs.LaneKinds.{disk_lane}
 
 -- A FIELD whose word has no fault
@@ -62,6 +62,7 @@ spells_value names (Number bounds) word right =
     not-false (is_within bounds (number_of word)) (second_false (is_number word) (not (is_within bounds (number_of word))) is (right line_fault.Range)) in
     (number_spelled word is, within_from_test bounds (number_of word) within)
 spells_value names Bytes word right = fill_spelled word (not-false (is_bytes word) (right line_fault.Hex))
+spells_value names Packet word right = packet_spelled word (not-false (is_packet word) (right line_fault.Hex))
 
 spells_values : (names : NamesState) (fields : List Field) (line : List (List ℕ)) → length line ≡ length fields
     → ((which : LineFault) → list_any (λ (place : Field × List ℕ). is_wrong which names place.0 place.1) (zip fields line) ≡ false)

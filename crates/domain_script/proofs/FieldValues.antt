@@ -7,13 +7,13 @@ use Rattle.domain_script.specs.declared.event.Name.{Name}
 use Rattle.domain_script.specs.declared.fields.Bounds.{Bounds}
 use Rattle.domain_script.specs.declared.fields.Bounds.TheVariants as numbers
 use Rattle.domain_script.specs.declared.fields.Field.{Field}
-use Rattle.domain_script.specs.declared.fields.Field.TheVariants.{NewName, DiskName, LaneName, End, Number, Bytes}
+use Rattle.domain_script.specs.declared.fields.Field.TheVariants.{NewName, DiskName, LaneName, End, Number, Bytes, Packet}
 use Rattle.domain_script.specs.NamesState.{NamesState, IsDiskNamed}
 use Rattle.domain_script.specs.Printed.{AllCanStand, CanStand, HasName, IsLaneNamed}
 use Rattle.domain_script.specs.Spells.{FitFields, FitsField, NamesDisk, NamesLane, SpellsField, SpellsFields}
 use Rattle.domain_script.specs.Values.{ValueOf, ValuesOf}
 use Rattle.domain_script.specs.Words.{IsName, IsWithin, SpellsNumber}
-use Rattle.domain_script.proofs.HexWords.{one_fill}
+use Rattle.domain_script.proofs.HexWords.{one_fill, one_packet}
 use Rattle.domain_script.proofs.Naming.{lane_within, named_within, names_one_disk, names_one_end, one_lane, one_name}
 use Rattle.domain_script.specs.LaneKinds.{disk_of}
 use Rattle.domain_script.proofs.LaneKinds.{some_weaker}
@@ -29,6 +29,7 @@ one_value names LaneName word a b first second = one_lane names word a b first s
 one_value names (End kind) word a b first second = names_one_end names word a b first.0 second.0
 one_value names (Number bounds) word a b first second = one_number word a b first.0 second.0
 one_value names Bytes word a b first second = one_fill word a b first second
+one_value names Packet word a b first second = one_packet word a b first second
 
 -- words spell at most one list of values
 pub one_values : (names : NamesState) (fields : List Field) (line : List (List ℕ)) (a b : ValuesOf fields)
@@ -71,6 +72,7 @@ fits_field names LaneName word l spelled = lane_within names word l spelled
 fits_field names (End kind) word end spelled = (lane_within names spelled.0.name end.lane spelled.0.lane_named, spelled.1)
 fits_field names (Number bounds) word n spelled = (spelled.0.1, spelled.1)
 fits_field names Bytes word fill spelled = spelled.limits
+fits_field names Packet word packet spelled = spelled.long
 
 pub fit_fields : (names : NamesState) (fields : List Field) (line : List (List ℕ)) (values : ValuesOf fields) → SpellsFields names fields line values → FitFields names fields values
 fit_fields names [] line values spelled = tt
@@ -98,6 +100,7 @@ stands_in_field names LaneName word l spelled = lane_has_name names word l spell
 stands_in_field names (End kind) word end spelled = lane_has_name names spelled.0.name end.lane spelled.0.lane_named
 stands_in_field names (Number bounds) word n spelled = tt
 stands_in_field names Bytes word fill spelled = tt
+stands_in_field names Packet word packet spelled = tt
 
 pub stand_in_fields : (names : NamesState) (fields : List Field) (line : List (List ℕ)) (values : ValuesOf fields) → SpellsFields names fields line values → AllCanStand names fields values
 stand_in_fields names [] line values spelled = tt

@@ -1,10 +1,10 @@
--- The words of a write.
+-- The words of a write and of a packet.
 use Rattle.std.proofs.Common.{◌≡◌, ℕ, ◌-◌, ◌*◌, ◌/◌, ◌<◌, ◌≤◌, List, ◌++◌, length, take, drop, replicate, Ok, sym, ◌∙◌, ap, arith}
 use Rattle.std.proofs.lemmas.List.{length-take-le, drop-replicate, take-append-drop}
 use Rattle.hex.proofs.HexLemmas.{length-encode_with}
 use Rattle.hex.specs.Hex.{decode_of, encode_lower, lower_digits}
 use Rattle.vdisk_msg.specs.declared.request.Fill.{Fill}
-use Rattle.domain_script.specs.Words.{SpellsFill}
+use Rattle.domain_script.specs.Words.{SpellsFill, SpellsPacket}
 
 -- two digits for each byte
 pub fill_length : (word : List ℕ) (fill : Fill) → SpellsFill word fill → length word / 2 ≡ fill.len
@@ -50,3 +50,8 @@ one_fill word a b first second =
     let one : a ≡ record { len = b.len; bytes = a.bytes } = ap (λ (n : ℕ). let x : Fill = record { len = n; bytes = a.bytes } in x) len in
     let two : record { len = b.len; bytes = a.bytes } ≡ b = ap (λ (l : List ℕ). let x : Fill = record { len = b.len; bytes = l } in x) bytes in
     one ∙ two
+
+-- a word spells at most one packet
+pub one_packet : (word a b : List ℕ) → SpellsPacket word a → SpellsPacket word b → a ≡ b
+one_packet word a b first second =
+    let reads : Ok a ≡ Ok b = sym first.reads ∙ second.reads in cc reads

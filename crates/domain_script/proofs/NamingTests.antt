@@ -1,5 +1,5 @@
 -- The disk, the lane and the end that are found for a word are those that it names.
-use Rattle.std.proofs.Common.{◌≡◌, ◌≢◌, ℕ, suc, zero, ◌-◌, Bool, true, false, List, [], ◌∷◌, ◌++◌, length, Option, Some, None, IfNone, IfSome, is_some, refl, sym, ◌∙◌, ap, subst, arith}
+use Rattle.std.proofs.Common.{◌≡◌, ◌≢◌, ℕ, suc, zero, ◌-◌, Bool, true, false, not, List, [], ◌∷◌, ◌++◌, length, Option, Some, None, IfNone, IfSome, is_some, refl, sym, ◌∙◌, ap, subst, arith}
 use Rattle.std.specs.Prelude.{if◌then◌else◌}
 use Rattle.std.specs.Option.{option_and_then, option_map}
 use Rattle.std.specs.Str.{bytes_eq}
@@ -151,14 +151,20 @@ end_is names word end named =
 pub kind_test : (kind : EndKind) (end : EndName) → IsOfKind kind end → is_of_kind kind end ≡ true
 kind_test ends.Any end is = refl
 kind_test ends.DiskServer end is = ap is_server is
+kind_test ends.WithMemory end is = ap (λ (s : Side). not (is_server s)) is
 
 of_server : (side : Side) → is_server side ≡ true → side ≡ Server
 of_server Client is = absurd (cc is)
 of_server Server is = refl
 
+of_client : (side : Side) → not (is_server side) ≡ true → side ≡ Client
+of_client Client is = refl
+of_client Server is = absurd (cc is)
+
 pub kind_from_test : (kind : EndKind) (end : EndName) → is_of_kind kind end ≡ true → IsOfKind kind end
 kind_from_test ends.Any end is = tt
 kind_from_test ends.DiskServer end is = of_server end.side is
+kind_from_test ends.WithMemory end is = of_client end.side is
 
 -- WHAT WAS FOUND for a word is what it names
 none_there : {A : Type 0} (o : Option A) (P : A → Type 0) → IfSome o P → ((a : A) → P a → ⊥) → None ≡ o

@@ -9,7 +9,7 @@ use Rattle.domain_script.specs.declared.event.Event.{Event}
 use Rattle.domain_script.specs.declared.event.Lane.{Lane}
 use Rattle.domain_script.specs.declared.event.Name.{Name}
 use Rattle.domain_script.specs.declared.fields.Field.{Field}
-use Rattle.domain_script.specs.declared.fields.Field.TheVariants.{NewName, DiskName, LaneName, End, Number, Bytes}
+use Rattle.domain_script.specs.declared.fields.Field.TheVariants.{NewName, DiskName, LaneName, End, Number, Bytes, Packet}
 use Rattle.domain_script.specs.declared.rows.RowKind.{RowKind}
 use Rattle.domain_script.specs.declared.rows.RowKind.TheVariants as row
 use Rattle.domain_script.specs.NamesState.{IsDiskNamed, NamesDiffer, NamesState}
@@ -64,6 +64,7 @@ module _ (names : NamesState) (differ : NamesDiffer names.disks) where
     reads = decode_of-encode_lower (take fill.len fill.bytes) bytes;
     lower = refl;
   }
+  field_spells Packet packet fits stands bytes = record { long = fits; reads = decode_of-encode_lower packet bytes; lower = refl }
 
   fields_spell : (fields : List Field) (values : ValuesOf fields) → FitFields names fields values → AllCanStand names fields values → AllAreBytes fields values
       → SpellsFields names fields (field_texts names fields values) values
@@ -117,6 +118,7 @@ text_of_field names (End kind) word end spelled =
     spelled.0.spelled ∙ ap (λ (l : List ℕ). l ++ side_text end.side) (text_of_lane names spelled.0.name end.lane spelled.0.lane_named)
 text_of_field names (Number bounds) word n spelled = spelled.0.0
 text_of_field names Bytes word fill spelled = spelled.lower
+text_of_field names Packet word packet spelled = spelled.lower
 
 texts_of_fields : (names : NamesState) (fields : List Field) (line : List (List ℕ)) (values : ValuesOf fields) → SpellsFields names fields line values → line ≡ field_texts names fields values
 texts_of_fields names [] [] values spelled = refl

@@ -6,8 +6,10 @@ use Rattle.std.proofs.lemmas.Slice.Eq.{bytes_eq-Decides}
 use Rattle.vdisk_msg.specs.declared.request.Fill.{Fill}
 use Rattle.vdisk_msg.specs.declared.request.Request.TheVariants.{Read, Write, Flush}
 use Rattle.domain_script.specs.declared.event.Event.{Event}
-use Rattle.domain_script.specs.declared.event.Event.TheVariants.{Blank, Issue}
+use Rattle.domain_script.specs.declared.event.EndName.{EndName}
+use Rattle.domain_script.specs.declared.event.Event.TheVariants.{Blank, Issue, Poke}
 use Rattle.domain_script.specs.declared.fields.Bounds.TheVariants as numbers
+use Rattle.domain_script.specs.declared.fields.EndKind.TheVariants as ends
 use Rattle.domain_script.specs.declared.fields.Field.{Field}
 use Rattle.domain_script.specs.declared.fields.Field.TheVariants.{Number}
 use Rattle.domain_script.specs.declared.rows.RowKind.{RowKind}
@@ -15,7 +17,7 @@ use Rattle.domain_script.specs.declared.rows.RowKind.TheVariants as row
 use Rattle.domain_script.specs.NamesState.{NamesState}
 use Rattle.domain_script.specs.Printed.{CanPrint, RowCanStand}
 use Rattle.domain_script.specs.Rows.{row_among, row_named, row_of, rows}
-use Rattle.domain_script.specs.Spells.{FitsRow, NamesDisk, SpellsFields, SpellsFound, SpellsRow}
+use Rattle.domain_script.specs.Spells.{FitsRow, IsOfKind, NamesDisk, NamesEnd, SpellsFields, SpellsFound, SpellsRow}
 use Rattle.domain_script.specs.Values.{Said, ValuesOf, made, said}
 use Rattle.domain_script.specs.Words.{SpellsNumber, SpellsFill}
 use Rattle.domain_script.proofs.FieldValues.{SpellsNothing, as_many, fit_fields, nothing_at, one_values, stand_in_fields}
@@ -87,6 +89,17 @@ pub if_unfilled : (found : Option Unit) (line : List (List ℕ)) (names : NamesS
 if_unfilled None line names word place size digits is none =
     no_row_at 3 row.Write line (word ∷ place ∷ size ∷ digits ∷ []) names is (omega arith) none
 if_unfilled (Some done) line names word place size digits is none = tt
+
+-- and so is that of a poke
+pub if_poked : (found : Option Unit) (line : List (List ℕ)) (names : NamesState) (word place digits : List ℕ) (end : EndName) (at : ℕ) (fill : Fill)
+    → line ≡ word ∷ place ∷ digits ∷ [] → NamesEnd names word end × IsOfKind ends.WithMemory end → SpellsNumber place at
+    → OnSome found (SpellsFill digits fill) → OnSome found (SpellsRow row.Poke line names (Poke end at fill))
+if_poked None line names word place digits end at fill is named n filled = tt
+if_poked (Some done) line names word place digits end at fill is named n filled = record {
+  values = (end, (at, (fill, tt)));
+  spelled = rw is (named, ((n, tt), (filled, tt)));
+  makes = refl;
+}
 
 -- as many words as the row that was found doesn't have
 pub no_row_found : (kind : RowKind) (line : List (List ℕ)) (names : NamesState) (word : List ℕ) → row_named word ≡ Some kind

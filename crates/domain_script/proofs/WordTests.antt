@@ -16,7 +16,7 @@ use Rattle.domain_script.specs.declared.event.Name.{Name}
 use Rattle.domain_script.specs.declared.fields.Bounds.{Bounds}
 use Rattle.domain_script.specs.declared.fields.Bounds.TheVariants.{Any, Between, PowerBetween}
 use Rattle.domain_script.specs.Computed.{bytes_of, digit_of, fill_of}
-use Rattle.domain_script.specs.Words.{IsNameWord, IsWithin, SpellsFill, SpellsName, SpellsNumber, begins_name, is_bytes, is_lower_digit, is_name, is_number, is_within, name_of, number_of}
+use Rattle.domain_script.specs.Words.{IsNameWord, IsWithin, SpellsFill, SpellsName, SpellsNumber, SpellsPacket, begins_name, is_bytes, is_lower_digit, is_name, is_number, is_packet, is_within, name_of, number_of}
 use Rattle.domain_script.proofs.SameName.{same_name}
 
 -- NUMBERS
@@ -153,6 +153,19 @@ fill_spelled word is =
       lower = sym text ∙ ap (λ (l : List ℕ). encode_lower l) (sym front);
     }
 
+pub packet_spelled : (word : List ℕ) → is_packet word ≡ true → SpellsPacket word (bytes_of word)
+packet_spelled word is =
+    let digits = and_parts _ _ is in
+    let size : length word ≡ 128 = eqb-true (length word) 128 digits.1 in
+    let bytes : List ℕ = bytes_of word in
+    let text : encode_lower bytes ≡ word = text_back word digits.0 (omega (arith, size)) in
+    let long : length word ≡ 2 * length bytes = ap (λ (l : List ℕ). length l) (sym text) ∙ length-encode_with lower_digits bytes in
+    record {
+      long = omega (arith, long, size);
+      reads = ap (λ (l : List ℕ). decode_of l) (sym text) ∙ decode_of-encode_lower bytes (small_bytes word digits.0);
+      lower = sym text;
+    }
+
 all_digits : (bytes : List ℕ) → IsBytes bytes → list_all is_lower_digit (encode_lower bytes) ≡ true
 unfolding encode_with
 all_digits [] small = refl
@@ -169,6 +182,12 @@ is_bytes_from word fill spells =
     (and_from _ _ (eq-eqb (length word % 2) 0 ok.0)
     (and_from _ _ (le-leb 2 (length word) (omega (arith, ok.2, taken, spells.limits.some)))
     (le-leb (length word) 2048 (omega (arith, ok.2, taken, spells.limits.most)))))
+
+pub is_packet_from : (word packet : List ℕ) → SpellsPacket word packet → is_packet word ≡ true
+is_packet_from word packet spells =
+    let ok = decode_of-ok word packet spells.reads in
+    and_from _ _ (subst (λ (l : List ℕ). list_all is_lower_digit l ≡ true) (sym spells.lower) (all_digits packet ok.3))
+    (eq-eqb (length word) 128 (omega (arith, ok.2, spells.long)))
 
 -- WHETHER A VALUE WAS FOUND tells whether the word spells one
 pub number_tells : (word : List ℕ) (found : Option ℕ) → IfSome found (SpellsNumber word) → IfNone found ((n : ℕ) → SpellsNumber word n → ⊥) → is_some found ≡ is_number word

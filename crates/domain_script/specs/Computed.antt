@@ -6,7 +6,7 @@ use Rattle.domain_script.specs.declared.event.Event.TheVariants.{Blank}
 use Rattle.domain_script.specs.declared.event.LineFault.{LineFault}
 use Rattle.domain_script.specs.declared.event.Side.TheVariants.{Client}
 use Rattle.domain_script.specs.declared.fields.Field.{Field}
-use Rattle.domain_script.specs.declared.fields.Field.TheVariants.{NewName, DiskName, LaneName, End, Number, Bytes}
+use Rattle.domain_script.specs.declared.fields.Field.TheVariants.{NewName, DiskName, LaneName, End, Number, Bytes, Packet}
 use Rattle.domain_script.specs.declared.rows.RowKind.{RowKind}
 use Rattle.domain_script.specs.Faults.{first_fault, is_blank}
 use Rattle.domain_script.specs.Naming.{disk_named, end_named, lane_named}
@@ -36,6 +36,7 @@ field_value names LaneName word = unwrap_or (lane_named names word) (disk_lane 0
 field_value names (End kind) word = unwrap_or (end_named names word) (record { lane = disk_lane 0; side = Client })
 field_value names (Number bounds) word = number_of word
 field_value names Bytes word = fill_of word
+field_value names Packet word = bytes_of word
 
 -- the values of fields that have as many words
 abbrev pub first_word : List (List ℕ) → List ℕ

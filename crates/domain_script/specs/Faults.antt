@@ -5,14 +5,14 @@ use Rattle.std.specs.List.{list_all, list_any}
 use Rattle.domain_script.specs.declared.event.LineFault.{LineFault}
 use Rattle.domain_script.specs.declared.event.LineFault.TheVariants as line_fault
 use Rattle.domain_script.specs.declared.fields.Field.{Field}
-use Rattle.domain_script.specs.declared.fields.Field.TheVariants.{NewName, DiskName, LaneName, End, Number, Bytes}
+use Rattle.domain_script.specs.declared.fields.Field.TheVariants.{NewName, DiskName, LaneName, End, Number, Bytes, Packet}
 use Rattle.domain_script.specs.declared.rows.RowKind.{RowKind}
 use Rattle.domain_script.specs.Limits.{most_of_a_kind}
 use Rattle.domain_script.specs.Naming.{disk_named, end_named, lane_named, some_of_kind}
 use Rattle.domain_script.specs.NamesState.{NamesState, count_of}
 use Rattle.domain_script.specs.Rows.{row_named, row_of}
 use Rattle.domain_script.specs.Spells.{is_printable}
-use Rattle.domain_script.specs.Words.{is_bytes, is_name, is_number, is_within, number_of, words}
+use Rattle.domain_script.specs.Words.{is_bytes, is_name, is_number, is_packet, is_within, number_of, words}
 
 -- an empty line, or a comment
 abbrev pub is_blank : List ℕ → Bool
@@ -84,6 +84,7 @@ is_out_of_bounds field word = false
 -- 11. a word of hexadecimal digits isn't one, or has another length than it may have
 abbrev pub is_no_bytes : Field → List ℕ → Bool
 is_no_bytes Bytes word = not (is_bytes word)
+is_no_bytes Packet word = not (is_packet word)
 is_no_bytes field word = false
 
 -- 12. eight of the kind are declared

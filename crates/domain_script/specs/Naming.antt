@@ -1,5 +1,5 @@
 -- The disk, the lane and the end that a word names, where it names one.
-use Rattle.std.specs.Prelude.{ℕ, suc, ◌-◌, ◌==◌, ◌&&◌, if◌then◌else◌, Bool, true, false, List, [], ◌∷◌, length, take, drop, Option, Some, None, option_and_then, option_map}
+use Rattle.std.specs.Prelude.{ℕ, suc, ◌-◌, ◌==◌, ◌&&◌, not, if◌then◌else◌, Bool, true, false, List, [], ◌∷◌, length, take, drop, Option, Some, None, option_and_then, option_map}
 use Rattle.std.specs.Str.{bytes_eq}
 use Rattle.domain_script.specs.declared.event.DiskDecl.{DiskDecl}
 use Rattle.domain_script.specs.declared.event.EndName.{EndName}
@@ -53,6 +53,7 @@ is_server Server = true
 abbrev pub is_of_kind : EndKind → EndName → Bool
 is_of_kind ends.Any end = true
 is_of_kind ends.DiskServer end = is_server end.side
+is_of_kind ends.WithMemory end = not (is_server end.side)
 
 abbrev pub some_of_kind : EndKind → Option EndName → Bool
 some_of_kind kind None = false

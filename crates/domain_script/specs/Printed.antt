@@ -8,7 +8,7 @@ use Rattle.domain_script.specs.declared.event.Event.{Event}
 use Rattle.domain_script.specs.declared.event.Lane.{Lane}
 use Rattle.domain_script.specs.declared.event.Name.{Name}
 use Rattle.domain_script.specs.declared.fields.Field.{Field}
-use Rattle.domain_script.specs.declared.fields.Field.TheVariants.{NewName, DiskName, LaneName, End, Number, Bytes}
+use Rattle.domain_script.specs.declared.fields.Field.TheVariants.{NewName, DiskName, LaneName, End, Number, Bytes, Packet}
 use Rattle.domain_script.specs.NamesState.{NamesState, CanDeclare}
 use Rattle.domain_script.specs.Rows.{row_of}
 use Rattle.domain_script.specs.Spells.{IsDeclared}
@@ -49,6 +49,7 @@ field_text names LaneName lane = lane_text names lane
 field_text names (End kind) end = end_text names end
 field_text names (Number bounds) n = decimal n
 field_text names Bytes fill = fill_text fill
+field_text names Packet packet = encode_lower packet
 
 abbrev pub field_texts : NamesState → (fields : List Field) → ValuesOf fields → List (List ℕ)
 field_texts names [] values = []
@@ -99,6 +100,7 @@ pub record CanPrint (names : NamesState) (event : Event) : Type 0 where
 -- what its type says of a value's bytes
 abbrev pub AreBytes : (field : Field) → ValueOf field → Type 0
 AreBytes Bytes fill = IsBytes (take fill.len fill.bytes)
+AreBytes Packet packet = IsBytes packet
 AreBytes field value = ⊤
 
 abbrev pub AllAreBytes : (fields : List Field) → ValuesOf fields → Type 0

@@ -1,11 +1,11 @@
 -- THE ROWS OF A SCRIPT, as data: the word that a row begins with, and what each word after it has to be. Lanes have the
--- kinds that they are declared with; an end is any end, or a disk's server; a number has its bounds.
+-- kinds that they are declared with; an end is any end, a disk's server, or one with memory; a number has its bounds.
 use Rattle.std.specs.Prelude.{ℕ, if◌then◌else◌, List, [], ◌∷◌, codes, Option, Some, None}
 use Rattle.std.specs.Str.{bytes_eq}
 use Rattle.domain_script.specs.declared.fields.Bounds.TheVariants as numbers
 use Rattle.domain_script.specs.declared.fields.EndKind.TheVariants as ends
 use Rattle.domain_script.specs.declared.fields.Field.{Field}
-use Rattle.domain_script.specs.declared.fields.Field.TheVariants.{NewName, DiskName, LaneName, End, Number, Bytes}
+use Rattle.domain_script.specs.declared.fields.Field.TheVariants.{NewName, DiskName, LaneName, End, Number, Bytes, Packet}
 use Rattle.domain_script.specs.declared.fields.LaneKind.TheVariants as lanes
 use Rattle.domain_script.specs.declared.rows.RowKind.{RowKind}
 use Rattle.domain_script.specs.declared.rows.RowKind.TheVariants as row
@@ -32,10 +32,13 @@ row_of row.Stop = record { word = codes "stop"; fields = DiskName ∷ [] }
 row_of row.Start = record { word = codes "start"; fields = DiskName ∷ [] }
 row_of row.Lose = record { word = codes "drop"; fields = End ends.Any ∷ [] }
 row_of row.Tick = record { word = codes "tick"; fields = LaneName ∷ [] }
+row_of row.Inject = record { word = codes "inject"; fields = End ends.Any ∷ Packet ∷ [] }
+row_of row.Poke = record { word = codes "poke"; fields = End ends.WithMemory ∷ Number numbers.Any ∷ Bytes ∷ [] }
 
 abbrev pub rows : List RowKind
 rows =
-    row.Disk ∷ row.Write ∷ row.Read ∷ row.Flush ∷ row.Step ∷ row.Round ∷ row.Settle ∷ row.Reset ∷ row.Restart ∷ row.Stop ∷ row.Start ∷ row.Lose ∷ row.Tick ∷ []
+    row.Disk ∷ row.Write ∷ row.Read ∷ row.Flush ∷ row.Step ∷ row.Round ∷ row.Settle ∷ row.Reset ∷ row.Restart ∷ row.Stop ∷ row.Start ∷ row.Lose ∷ row.Tick
+    ∷ row.Inject ∷ row.Poke ∷ []
 
 -- the row that a word begins
 abbrev pub row_among : List ℕ → List RowKind → Option RowKind

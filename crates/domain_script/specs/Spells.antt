@@ -6,17 +6,17 @@ use Rattle.domain_script.specs.declared.event.EndName.{EndName}
 use Rattle.domain_script.specs.declared.event.Lane.{Lane}
 use Rattle.domain_script.specs.declared.event.Event.TheVariants.{Blank}
 use Rattle.domain_script.specs.declared.event.Name.{Name}
-use Rattle.domain_script.specs.declared.event.Side.TheVariants.{Server}
+use Rattle.domain_script.specs.declared.event.Side.TheVariants.{Client, Server}
 use Rattle.domain_script.specs.declared.fields.EndKind.{EndKind}
 use Rattle.domain_script.specs.declared.fields.EndKind.TheVariants as ends
 use Rattle.domain_script.specs.declared.fields.Field.{Field}
-use Rattle.domain_script.specs.declared.fields.Field.TheVariants.{NewName, DiskName, LaneName, End, Number, Bytes}
+use Rattle.domain_script.specs.declared.fields.Field.TheVariants.{NewName, DiskName, LaneName, End, Number, Bytes, Packet}
 use Rattle.domain_script.specs.declared.rows.RowKind.{RowKind}
 use Rattle.domain_script.specs.Fills.{IsFill}
 use Rattle.domain_script.specs.NamesState.{NamesState, CanDeclare, IsDiskNamed, IsLane}
 use Rattle.domain_script.specs.Rows.{row_named, row_of}
 use Rattle.domain_script.specs.Values.{Said, ValueOf, ValuesOf, made, said}
-use Rattle.domain_script.specs.Words.{side_text, words, IsName, IsWithin, SpellsNumber, SpellsName, SpellsFill}
+use Rattle.domain_script.specs.Words.{side_text, words, IsName, IsWithin, SpellsNumber, SpellsName, SpellsFill, SpellsPacket}
 use Rattle.domain_script.specs.LaneKinds.{disk_of}
 
 -- from the space to the tilde
@@ -44,10 +44,11 @@ pub record NamesEnd (names : NamesState) (word : List ℕ) (end : EndName) : Typ
   pub spelled : word ≡ name ++ side_text end.side
   pub lane_named : NamesLane names name end.lane
 
--- the end is of the kind: all lanes are disks', whose servers have the side `.s`
+-- the end is of the kind: all lanes are disks', whose servers have the side `.s`, and whose clients alone have memory
 abbrev pub IsOfKind : EndKind → EndName → Type 0
 IsOfKind ends.Any end = ⊤
 IsOfKind ends.DiskServer end = end.side ≡ Server
+IsOfKind ends.WithMemory end = end.side ≡ Client
 
 -- the word of a field spells a value
 abbrev pub SpellsField : NamesState → (field : Field) → List ℕ → ValueOf field → Type 0
@@ -57,6 +58,7 @@ SpellsField names LaneName word lane = NamesLane names word lane
 SpellsField names (End kind) word end = NamesEnd names word end × IsOfKind kind end
 SpellsField names (Number bounds) word n = SpellsNumber word n × IsWithin bounds n
 SpellsField names Bytes word fill = SpellsFill word fill
+SpellsField names Packet word packet = SpellsPacket word packet
 
 -- words spell values, each as its field
 abbrev pub SpellsFields : NamesState → (fields : List Field) → List (List ℕ) → ValuesOf fields → Type 0
@@ -94,13 +96,14 @@ FitsField names LaneName lane = IsLane names lane
 FitsField names (End kind) end = IsLane names end.lane × IsOfKind kind end
 FitsField names (Number bounds) n = (n < 2 ^ 64) × IsWithin bounds n
 FitsField names Bytes fill = IsFill fill
+FitsField names Packet packet = length packet ≡ 64
 
 abbrev pub FitFields : NamesState → (fields : List Field) → ValuesOf fields → Type 0
 FitFields names [] values = ⊤
 FitFields names (field ∷ fields) values = FitsField names field values.0 × FitFields names fields values.1
 
 -- what an event says fits its row: what it names is declared and of the kind that the row asks for, its numbers are
--- within their bounds, and bytes are a fill
+-- within their bounds, bytes are a fill, and a packet has 64
 abbrev pub FitsRow : NamesState → Option Said → Type 0
 FitsRow names None = ⊤
 FitsRow names (Some s) = FitFields names (row_of s.kind).fields s.values

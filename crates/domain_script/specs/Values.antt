@@ -4,16 +4,17 @@ use Rattle.vdisk_msg.specs.declared.request.Fill.{Fill}
 use Rattle.vdisk_msg.specs.declared.request.Request.TheVariants.{Read, Write, Flush}
 use Rattle.domain_script.specs.declared.event.EndName.{EndName}
 use Rattle.domain_script.specs.declared.event.Event.{Event}
-use Rattle.domain_script.specs.declared.event.Event.TheVariants.{Blank, Disk, Issue, Settle, Step, Round, Reset, Restart, Stop, Start, Lose, Tick}
+use Rattle.domain_script.specs.declared.event.Event.TheVariants.{Blank, Disk, Issue, Settle, Step, Round, Reset, Restart, Stop, Start, Lose, Tick, Inject, Poke}
 use Rattle.domain_script.specs.declared.event.Lane.{Lane}
 use Rattle.domain_script.specs.declared.event.Name.{Name}
 use Rattle.domain_script.specs.declared.fields.Field.{Field}
-use Rattle.domain_script.specs.declared.fields.Field.TheVariants.{NewName, DiskName, LaneName, End, Number, Bytes}
+use Rattle.domain_script.specs.declared.fields.Field.TheVariants.{NewName, DiskName, LaneName, End, Number, Bytes, Packet}
 use Rattle.domain_script.specs.declared.rows.RowKind.{RowKind}
 use Rattle.domain_script.specs.declared.rows.RowKind.TheVariants as row
 use Rattle.domain_script.specs.Rows.{row_of}
 
--- the name that is declared; the number of the disk that is named; the lane, or the end, that is named; a number; bytes
+-- the name that is declared; the number of the disk that is named; the lane, or the end, that is named; a number; bytes,
+-- and those of a packet
 abbrev pub ValueOf : Field → Type 0
 ValueOf (NewName kind) = Name
 ValueOf DiskName = ℕ
@@ -21,6 +22,7 @@ ValueOf LaneName = Lane
 ValueOf (End kind) = EndName
 ValueOf (Number bounds) = ℕ
 ValueOf Bytes = Fill
+ValueOf Packet = List ℕ
 
 -- a value for each field
 abbrev pub ValuesOf : List Field → Type 0
@@ -42,6 +44,8 @@ made row.Stop values = Stop values.0
 made row.Start values = Start values.0
 made row.Lose values = Lose values.0
 made row.Tick values = Tick values.0
+made row.Inject values = Inject values.0 values.1.0
+made row.Poke values = Poke values.0 values.1.0 values.1.1.0
 
 -- the other way round: the row of an event, and the values of its fields; a blank line has none
 pub record Said : Type 0 where
@@ -63,3 +67,5 @@ said (Stop disk) = Some (record { kind = row.Stop; values = (disk, tt) })
 said (Start disk) = Some (record { kind = row.Start; values = (disk, tt) })
 said (Lose end) = Some (record { kind = row.Lose; values = (end, tt) })
 said (Tick lane) = Some (record { kind = row.Tick; values = (lane, tt) })
+said (Inject end packet) = Some (record { kind = row.Inject; values = (end, (packet, tt)) })
+said (Poke end at bytes) = Some (record { kind = row.Poke; values = (end, (at, (bytes, tt))) })

@@ -83,9 +83,19 @@ pub record SpellsFill (word : List ℕ) (fill : Fill) : Type 0 where
   pub reads : decode_of word ≡ Ok (take fill.len fill.bytes)
   pub lower : word ≡ encode_lower (take fill.len fill.bytes)
 
+-- the 64 bytes of a packet, likewise
+pub record SpellsPacket (word packet : List ℕ) : Type 0 where
+  pub long : length packet ≡ 64
+  pub reads : decode_of word ≡ Ok packet
+  pub lower : word ≡ encode_lower packet
+
 -- whether a word is one: lower-case digits, two for each of 1 to 1,024 bytes
 abbrev pub is_lower_digit : ℕ → Bool
 is_lower_digit b = is_ascii_digit b || (nat_le 97 b && nat_le b 102)
 
 abbrev pub is_bytes : List ℕ → Bool
 is_bytes word = list_all is_lower_digit word && ((length word % 2 == 0) && (nat_le 2 (length word) && nat_le (length word) 2048))
+
+-- and two for each of 64
+abbrev pub is_packet : List ℕ → Bool
+is_packet word = list_all is_lower_digit word && (length word == 128)

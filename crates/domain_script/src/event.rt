@@ -1,6 +1,6 @@
 use crate::fields::LaneKind;
 use thiserror::Error;
-use vdisk_msg::Request;
+use vdisk_msg::{Fill, Request};
 
 /// A name that a script declares: a letter a to z and up to seven letters a to z or digits. `len` bytes, 1 to 8, and
 /// zeros after them.
@@ -79,6 +79,12 @@ pub enum Event {
 
     /// The clock of a lane moves on.
     Tick { lane: Lane },
+
+    /// A packet waits for an end as if its peer had put it.
+    Inject { end: EndName, packet: [u8; 64] },
+
+    /// These bytes come into the memory of an end, from a place on.
+    Poke { end: EndName, at: u64, bytes: Fill },
 }
 
 /// Why a line spells no event: the first of these that holds, in this order. A dump answers `Hex` alone, for a line that

@@ -8,7 +8,7 @@ use crate::fields::Field;
 use crate::lane_words::{declared_disk, declared_end, declared_lane};
 use crate::numbers::{is_number, is_within, number};
 use crate::rows::row_named;
-use crate::spellings::{is_bytes, is_name};
+use crate::spellings::{is_bytes, is_name, is_packet};
 use crate::words::split_once;
 use crate::{LineFault, Names};
 
@@ -132,6 +132,7 @@ fn is_no_bytes(field: Field, word: &[u8]) -> bool
 {
     match field {
         Field::Bytes => !is_bytes(word),
+        Field::Packet => !is_packet(word),
         _ => false,
     }
 }

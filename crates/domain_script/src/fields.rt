@@ -12,6 +12,9 @@ pub enum EndKind {
 
     /// The server of a disk.
     DiskServer,
+
+    /// An end that has memory of its own: a disk's client, and not its server.
+    WithMemory,
 }
 
 /// The numbers that a line may have in a place.
@@ -47,4 +50,7 @@ pub enum Field {
 
     /// 1 to 1,024 bytes, two lower-case hexadecimal digits each.
     Bytes,
+
+    /// The 64 bytes of a packet, likewise.
+    Packet,
 }

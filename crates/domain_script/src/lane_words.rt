@@ -53,6 +53,7 @@ fn is_of_kind(end: EndName, kind: EndKind) -> bool
     match kind {
         EndKind::Any => true,
         EndKind::DiskServer => end.side == Side::Server,
+        EndKind::WithMemory => end.side == Side::Client,
     }
 }
 

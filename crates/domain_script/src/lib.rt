@@ -10,6 +10,7 @@ mod event;
 mod faults;
 mod field_faults;
 mod fields;
+mod forging_rows;
 mod lane_words;
 mod laws;
 mod names;

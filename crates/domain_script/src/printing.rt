@@ -7,7 +7,9 @@ ghost use Rattle.domain_script.specs.Rows.{row_of};
 ghost use Rattle.domain_script.specs.Spells.{Spells};
 ghost use Rattle.domain_script.specs.Words.{IsName};
 
-use crate::putting::{put_disk, put_end, put_fill, put_lane, put_name, put_number, put_row};
+use crate::putting::{
+    put_disk, put_end, put_fill, put_lane, put_name, put_number, put_packet, put_row,
+};
 use crate::rows::RowKind;
 use crate::{DiskDecl, EndName, Event, Names, Request};
 
@@ -52,6 +54,15 @@ fn put_event(event: &Event, names: &Names, out: &mut [u8; 3100]) -> usize
         Event::Tick { lane } => {
             let len = put_row(RowKind::Tick, out);
             put_lane(*lane, names, out, len)
+        }
+        Event::Inject { end, packet } => {
+            let len = put_row_of_end(RowKind::Inject, *end, names, out);
+            put_packet(packet, out, len)
+        }
+        Event::Poke { end, at, bytes } => {
+            let len = put_row_of_end(RowKind::Poke, *end, names, out);
+            let len = put_number(*at, out, len);
+            put_fill(bytes, out, len)
         }
     }
 }

@@ -105,7 +105,7 @@ fn side_bytes(side: Side) -> &'static [u8]
     }
 }
 
-/// Puts the bytes of a write in hexadecimal.
+/// Puts the bytes of a write, or those of a poke, in hexadecimal.
 pub fn put_fill(fill: &Fill, out: &mut [u8; 3100], len: usize) -> usize
     requires bytes { IsFill fill.now }
     requires room { len + 2049 ≤ 3100 }
@@ -115,6 +115,17 @@ pub fn put_fill(fill: &Fill, out: &mut [u8; 3100], len: usize) -> usize
 {
     out[len] = b' ';
     put_hex(&fill.bytes[..fill.len as usize], out, len + 1)
+}
+
+/// Puts the bytes of a packet in hexadecimal.
+pub fn put_packet(packet: &[u8; 64], out: &mut [u8; 3100], len: usize) -> usize
+    requires { len + 129 ≤ 3100 }
+    ensures text { take result out.new ≡ take len out.old ++ 32 ∷ encode_lower packet.now }
+    ensures len { result ≤ len + 129 }
+    ensures small { IsBytes packet.now }
+{
+    out[len] = b' ';
+    put_hex(packet, out, len + 1)
 }
 
 /// Puts bytes in hexadecimal, two digits each.

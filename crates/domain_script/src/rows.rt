@@ -7,6 +7,7 @@ ghost use Rattle.domain_script.specs.Words.{words};
 use crate::disk_rows::{disk_row, flush_row, read_row, start_row, stop_row, write_row};
 use crate::end_rows::{lose_row, reset_row, restart_row, round_row, step_row, tick_row};
 use crate::fields::{Bounds, EndKind, Field, LaneKind};
+use crate::forging_rows::{inject_row, poke_row};
 use crate::numbers::{BLOCKS, QUEUE, RING, TURNS};
 use crate::{Event, Names};
 
@@ -51,10 +52,16 @@ pub enum RowKind {
 
     /// `tick NAME`
     Tick,
+
+    /// `inject END HEX`
+    Inject,
+
+    /// `poke END AT HEX`
+    Poke,
 }
 
 /// All of them.
-const ROWS: [RowKind; 13] = [
+const ROWS: [RowKind; 15] = [
     RowKind::Disk,
     RowKind::Write,
     RowKind::Read,
@@ -68,6 +75,8 @@ const ROWS: [RowKind; 13] = [
     RowKind::Start,
     RowKind::Lose,
     RowKind::Tick,
+    RowKind::Inject,
+    RowKind::Poke,
 ];
 
 /// A number that the script doesn't bound.
@@ -93,6 +102,8 @@ impl RowKind {
             RowKind::Start => b"start",
             RowKind::Lose => b"drop",
             RowKind::Tick => b"tick",
+            RowKind::Inject => b"inject",
+            RowKind::Poke => b"poke",
         }
     }
 
@@ -116,6 +127,8 @@ impl RowKind {
             RowKind::Reset | RowKind::Lose => &[Field::End(EndKind::Any)],
             RowKind::Restart => &[Field::End(EndKind::DiskServer)],
             RowKind::Tick => &[Field::LaneName],
+            RowKind::Inject => &[Field::End(EndKind::Any), Field::Packet],
+            RowKind::Poke => &[Field::End(EndKind::WithMemory), ANY, Field::Bytes],
         }
     }
 }
@@ -152,6 +165,8 @@ pub fn row_with_fields(word: &[u8], fields: &[u8], names: &Names, event: &mut Ev
         RowKind::Start => start_row(fields, names, event),
         RowKind::Lose => lose_row(fields, names, event),
         RowKind::Tick => tick_row(fields, names, event),
+        RowKind::Inject => inject_row(fields, names, event),
+        RowKind::Poke => poke_row(fields, names, event),
     }
 }
 

@@ -4,13 +4,16 @@ ghost use Rattle.std.specs.List.{list_all};
 ghost use Rattle.domain_script.specs.declared.event.Name.{Name as name_data};
 ghost use Rattle.domain_script.specs.declared.event.Side.{Side as side_data};
 ghost use Rattle.vdisk_msg.specs.declared.request.Fill.{Fill as fill_data};
-ghost use Rattle.domain_script.specs.Words.{begins_name, is_bytes, is_lower_digit, is_name, is_name_byte, side_text, IsNameWord, SpellsFill, SpellsName};
+ghost use Rattle.domain_script.specs.Words.{begins_name, is_bytes, is_lower_digit, is_name, is_name_byte, is_packet, side_text, IsNameWord, SpellsFill, SpellsName, SpellsPacket};
 
 use crate::digits::decode_lower;
 use crate::{Fill, Name, Side};
 
 /// The most bytes that a write repeats.
 const MOST_FILL: usize = 1024;
+
+/// The bytes of a packet.
+const PACKET: usize = 64;
 
 /// The fill of a write before its word is put into it: no bytes, and all zeros after them.
 pub const NO_FILL: Fill = Fill {
@@ -83,6 +86,13 @@ pub fn is_bytes(word: &[u8]) -> bool
     are_lower_digits(word) && word.len() % 2 == 0 && word.len() >= 2 && word.len() <= 2 * MOST_FILL
 }
 
+/// Whether a word spells the 64 bytes of a packet in hexadecimal.
+pub fn is_packet(word: &[u8]) -> bool
+    ensures { result ≡ is_packet word.now }
+{
+    are_lower_digits(word) && word.len() == 2 * PACKET
+}
+
 fn are_lower_digits(word: &[u8]) -> bool
     ensures { result ≡ list_all is_lower_digit word.now }
 {
@@ -112,6 +122,19 @@ pub fn put_fill(word: &[u8], fill: &mut Fill) -> Option<()>
     }
     fill.len = len as u16;
     Some(())
+}
+
+/// The packet whose 64 bytes a word spells in hexadecimal: the word is their own lower-case text.
+pub fn packet(word: &[u8]) -> Option<[u8; 64]>
+    ensures some { IfSome result (SpellsPacket word.now) }
+    ensures none { IfNone result ((packet : List ℕ) → SpellsPacket word.now packet → ⊥) }
+{
+    let mut bytes = [0; PACKET];
+    if decode_lower(word, &mut bytes) {
+        Some(bytes)
+    } else {
+        None
+    }
 }
 
 /// Reads a word as lower-case hexadecimal digits into the front of a buffer. False where it isn't that.

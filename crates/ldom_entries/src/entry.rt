@@ -10,13 +10,13 @@ pub enum Who {
     End(EndName),
 }
 
-/// Why a request was refused.
+/// Why a request was refused, or a poke.
 #[derive(Clone, Copy, Debug, PartialEq, Eq)]
 pub enum Why {
     /// It names no block, or more than one request may.
     Count,
 
-    /// It reaches past the disk's last block.
+    /// It reaches past the disk's last block, or past the memory's end.
     Range,
 }
 
@@ -31,12 +31,12 @@ pub enum Entry {
         request: KeptRequest,
     },
 
-    /// As many requests are pending as the ring holds.
+    /// As many requests are pending as the ring holds, or as many packets wait for an end as its queue holds.
     Full {
         who: Who,
     },
 
-    /// A request was refused.
+    /// A request was refused, or a poke into an end's memory.
     Refused {
         who: Who,
         why: Why,
@@ -46,6 +46,19 @@ pub enum Entry {
     Lost {
         end: EndName,
         packet: [u8; 64],
+    },
+
+    /// A packet that the peer never put waits for an end.
+    Injected {
+        end: EndName,
+        packet: [u8; 64],
+    },
+
+    /// Bytes that an end never wrote stand in its memory, from this place on.
+    Poked {
+        end: EndName,
+        at: u64,
+        bytes: Bytes,
     },
 
     /// A disk's server was stopped.

@@ -1,5 +1,5 @@
 -- The two parts of a line.
-use Rattle.std.proofs.Common.{◌≡◌, refl, ℕ, Bool, true, false, List, [], ◌++◌, Option, append_assoc, append-nil, sym, ap, subst, ◌∙◌}
+use Rattle.std.proofs.Common.{◌≡◌, refl, ℕ, Bool, true, false, List, [], ◌++◌, Option, append_assoc, sym, ap, subst, ◌∙◌}
 use Rattle.std.specs.Prelude.{◌||◌, codes, if◌then◌else◌}
 use Rattle.domain_script.specs.declared.event.DiskDecl.{DiskDecl}
 use Rattle.gathered_text.specs.Gathered.{Gathers, WroteFront}
@@ -11,7 +11,7 @@ use Rattle.ldom_entries.specs.declared.entry_ref.EntryRef.{EntryRef}
 use Rattle.ldom_entries.specs.declared.entry_ref.EntryRef.TheVariants as shown
 use Rattle.ldom_report.specs.declared.status.Mode.{Mode}
 use Rattle.ldom_report.specs.declared.status.Mode.TheVariants.{EndOnly, Run, Trace}
-use Rattle.ldom_report.specs.EntryText.{entry_lines, head_text, is_seen, line_text, may_show, read_text, shows}
+use Rattle.ldom_report.specs.EntryText.{entry_lines, head_text, is_seen, line_text, may_show, shows, tail_text}
 use Rattle.ldom_report.specs.LineParts.{front_text, rest_text}
 
 -- what may be shown is, unless it is kept whole
@@ -25,12 +25,19 @@ shown_unless_whole Run entry may other = first_of_two (is_seen entry) (is_whole 
 shown_unless_whole Trace entry may other = refl
 shown_unless_whole EndOnly entry may other = may
 
--- the two parts of a line are the line
+-- the two parts of a line are the line; there is none where the mode doesn't show it
+where_shown : (b : Bool) (head tail : List ℕ) → (if b then head else []) ++ (if b then tail else []) ≡ (if b then head ++ tail else [])
+where_shown true head tail = refl
+where_shown false head tail = refl
+
 pub two_parts : (mode : Mode) (disks : List DiskDecl) (entry : EntryRef) → may_show mode (told entry) ≡ true
-    → front_text mode disks entry ++ rest_text entry ≡ entry_lines mode disks (told entry)
-two_parts mode disks (shown.Whole whole) may = append-nil (entry_lines mode disks whole.now)
+    → front_text mode disks entry ++ rest_text mode entry ≡ entry_lines mode disks (told entry)
+two_parts mode disks (shown.Whole whole) may =
+    where_shown (shows mode whole.now) (head_text mode disks whole.now) (tail_text whole.now ++ codes "\n")
+    ∙ ap (λ (l : List ℕ). if shows mode whole.now then l else [])
+    (sym (append_assoc (head_text mode disks whole.now) (tail_text whole.now) (codes "\n")))
 two_parts mode disks entry may =
-    sym (append_assoc (head_text mode disks (told entry)) (read_text (told entry)) (codes "\n"))
+    sym (append_assoc (head_text mode disks (told entry)) (tail_text (told entry)) (codes "\n"))
     ∙ ap (λ (b : Bool). if b then line_text mode disks (told entry) else [])
     (sym (shown_unless_whole mode (told entry) may refl))
 

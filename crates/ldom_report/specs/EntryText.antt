@@ -58,18 +58,21 @@ reset_text mode disks e cause packet lost = end_text (codes "reset ") disks e ++
 abbrev pub done_text : List DiskDecl → ℕ → ℕ → ℕ → ℕ → List ℕ
 done_text disks disk id operation status = id_text (codes "done ") disks disk id ++ codes " " ++ operation_word operation ++ codes " " ++ decimal status
 
--- what stands after a completion: the words of its blocks after a read with status 0
-abbrev pub read_text : Entry → List ℕ
-read_text (entry.Done disk id operation status bytes) = if (operation == 1) && (status == 0) then blocks_text bytes.items else []
-read_text other = []
+-- what stands after the head of a line: the words of its blocks after a read with status 0, and the bytes of a poke
+abbrev pub tail_text : Entry → List ℕ
+tail_text (entry.Done disk id operation status bytes) = if (operation == 1) && (status == 0) then blocks_text bytes.items else []
+tail_text (entry.Poked e at bytes) = encode_lower bytes.items
+tail_text other = []
 
--- AN ENTRY'S LINE before the words of a read and the line feed. What lists the kinds of entry: this and `meaning`, and in
--- the code `push_whole_head` those that are kept whole, and `push_front` the others.
+-- AN ENTRY'S LINE before the words of a read, or the bytes of a poke, and the line feed. What lists the kinds of entry: this and `meaning`, and in
+-- the code `push_whole` those that are kept whole, and `push_front` the others.
 abbrev pub head_text : Mode → List DiskDecl → Entry → List ℕ
 head_text mode disks (entry.Accepted disk id request) = id_text (codes "accepted ") disks disk id ++ request_text request
 head_text mode disks (entry.Full who) = codes "full " ++ who_name disks who
 head_text mode disks (entry.Refused who why) = codes "refused " ++ who_name disks who ++ codes " " ++ why_word why
 head_text mode disks (entry.Lost e packet) = bytes_text (codes "lost ") disks e packet
+head_text mode disks (entry.Injected e packet) = bytes_text (codes "injected ") disks e packet
+head_text mode disks (entry.Poked e at bytes) = number_text (codes "poked ") disks e at ++ codes " "
 head_text mode disks (entry.Stopped disk) = codes "stopped " ++ disk_name disks disk
 head_text mode disks (entry.Started disk) = codes "started " ++ disk_name disks disk
 head_text mode disks (entry.Calm who) = codes "calm " ++ who_name disks who
@@ -91,7 +94,7 @@ head_text mode disks (entry.Reset e cause packet lost) = reset_text mode disks e
 
 -- an entry's line
 abbrev pub line_text : Mode → List DiskDecl → Entry → List ℕ
-line_text mode disks entry = head_text mode disks entry ++ read_text entry ++ codes "\n"
+line_text mode disks entry = head_text mode disks entry ++ tail_text entry ++ codes "\n"
 
 -- whether a mode shows an entry
 abbrev pub shows : Mode → Entry → Bool

@@ -17,6 +17,7 @@ pub use end_line::{push_cause, write_end};
 pub use ldom_entries::{Bytes, Entries, Entry, EntryRef, KeptRequest, Who, Why};
 pub use ldom_journal::Journal;
 pub use lines::write_text;
+pub use request_lines::fill_bytes;
 pub use status::{LimitKind, Mode, Status};
 pub use stop::{MOST_ENTRIES, Stop, next_line};
 pub use vdisk_msg::{VD_OP_BREAD, VD_OP_BWRITE, VD_OP_FLUSH};

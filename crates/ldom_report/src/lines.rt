@@ -16,7 +16,7 @@ use crate::request_lines::{push_about, push_accepted, push_done, push_of_disk, p
 use crate::step_lines::{
     push_carried, push_descriptor, push_finished, push_joined, push_moved, push_reset, push_stored,
 };
-use crate::whole_lines::push_whole;
+use crate::whole_lines::{push_whole, put_whole_rest};
 use crate::{Bytes, Entries, EntryRef, Journal, Mode, VD_OP_BREAD};
 use domain_script::Names;
 use gathered_text::{TEXT_ROOM, Text};
@@ -26,8 +26,8 @@ use vio_io::{Failed, Sink};
 /// More bytes than a line has, but for the words of a read.
 const LINE_ROOM: usize = 4096;
 
-/// Puts the line of an entry, up to the words of a read and the line feed; of one that is kept whole, all that the mode
-/// shows.
+/// Puts the line of an entry, up to the words of a read, or the bytes of a poke, and the line feed; of one that is kept
+/// whole, where the mode shows it.
 fn push_front(text: &mut Text, mode: Mode, entry: &EntryRef<'_>, names: &LineNames<'_>)
     requires words { HasWords names.now.disks (told entry.now) }
     requires room { length text.old + LINE_ROOM ≤ TEXT_ROOM }
@@ -106,20 +106,25 @@ fn put_words<K: Sink>(text: &mut Text, bytes: &Bytes, out: &mut K) -> Result<(),
     Ok(())
 }
 
-/// Puts what is left of an entry's line: the words of a read with status 0, and the line feed.
+/// Puts what is left of an entry's line: the words of a read with status 0, or the bytes of a poke, and the line feed.
 #[tactic(auto, unfolding(kept_requests::specs::BlockWord::blocks_text))]
-fn put_rest<K: Sink>(text: &mut Text, entry: &EntryRef<'_>, out: &mut K) -> Result<(), Failed>
+fn put_rest<K: Sink>(
+    text: &mut Text,
+    mode: Mode,
+    entry: &EntryRef<'_>,
+    out: &mut K,
+) -> Result<(), Failed>
     requires { length text.old < TEXT_ROOM }
     ensures told { OnOk result (Gathers (K.written out.old) (K.written out.new) text.new
-        (text.old ++ rest_text entry.now)) }
+        (text.old ++ rest_text mode entry.now)) }
     ensures front { OnErr result (WroteFront (K.written out.old) (K.written out.new)
-        (text.old ++ rest_text entry.now)) }
+        (text.old ++ rest_text mode entry.now)) }
     ensures ok { OnOk result (K.faults out.new ≡ K.faults out.old) }
     ensures count { K.faults out.old ≤ K.faults out.new }
     ensures cause { OnErr result (Rose (K.faults out.old) (K.faults out.new)) }
 {
     match entry {
-        EntryRef::Whole(_) => Ok(()),
+        EntryRef::Whole(whole) => put_whole_rest(text, mode, whole.entry(), out),
         EntryRef::Read {
             operation: VD_OP_BREAD,
             status: 0,
@@ -153,7 +158,7 @@ fn put_line<K: Sink>(
 {
     text.make_room(LINE_ROOM, out)?;
     push_front(text, mode, entry, names);
-    put_rest(text, entry, out)
+    put_rest(text, mode, entry, out)
 }
 
 /// The next entry that a user of the disks may see. None where no further one is left.

@@ -8,7 +8,8 @@ use gathered_text::{TEXT_ROOM, Text};
 use line_words::{LineNames, operation_word, push_disk, push_id, push_who, why_word};
 use vdisk_msg::{Fill, Request};
 
-fn fill_bytes(fill: &Fill) -> &[u8]
+/// The bytes of a fill, without the zeros after them.
+pub fn fill_bytes(fill: &Fill) -> &[u8]
     ensures bytes { result.now ≡ take fill.now.len fill.now.bytes }
     ensures short { length result.now ≤ 1024 }
 {

@@ -1,2 +1,3 @@
 mod DiskNames
+mod HexText
 mod PaddedArrays

@@ -1,9 +1,10 @@
 //! The words of a report's lines that name no entry: those of sides, operations and faults, the names of disks, lanes and
-//! ends, the causes of resets, arrays in digits, and the blocks that a read gave.
+//! ends, the causes of resets, arrays and bytes in digits, and the blocks that a read gave.
 #![tactic(auto)]
 
 mod array_text;
 mod block_words;
+mod bytes_text;
 mod cause_text;
 mod lane_names;
 mod line_names;
@@ -12,6 +13,7 @@ mod words;
 
 pub use array_text::push_array;
 pub use block_words::put_blocks;
+pub use bytes_text::put_bytes;
 pub use cause_text::push_reset_cause;
 pub use lane_names::LaneNames;
 pub use line_names::{push_disk, push_end, push_end_number, push_id, push_who};

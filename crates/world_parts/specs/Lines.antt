@@ -1,18 +1,18 @@
 -- What a line of a script is for a world of lanes, and the part that it gives.
-use Rattle.std.specs.Prelude.{◌≡◌, ℕ, ◌<◌, List, IsSomeAnd, ⊤}
+use Rattle.std.specs.Prelude.{◌≡◌, ℕ, ◌<◌, List, take, IsSomeAnd, ⊤}
 use Rattle.std.specs.List.{flat_map}
 use Rattle.vdisk_msg.specs.Fills.{IsRequest}
 use Rattle.disk_law.specs.ListStep.{ListEvent}
 use Rattle.domain_script.specs.declared.event.Event.{Event}
 use Rattle.domain_script.specs.declared.event.Event.TheVariants as event
 use Rattle.domain_script.specs.declared.event.Lane.{Lane}
-use Rattle.domain_script.specs.declared.event.Side.TheVariants.{Server}
+use Rattle.domain_script.specs.declared.event.Side.TheVariants.{Client, Server}
 use Rattle.domain_script.specs.declared.fields.LaneKind.{LaneKind}
 use Rattle.domain_script.specs.declared.fields.LaneKind.TheVariants as kinds
 use Rattle.domain_script.specs.LaneKinds.{disk_of}
 use Rattle.domain_script.specs.Limits.{AreTurns}
 use Rattle.world_laws.specs.Settle.{SettleEntry}
-use Rattle.world_laws.specs.Lines.{Asked, Calls, Line, LineBegins, LineMoves, Loses, Nothing, Resets, Restarts, Rounds, Settles, Starts, Steps, Stops, Ticks, LaneName, OfDisk}
+use Rattle.world_laws.specs.Lines.{Asked, Calls, Injects, Line, LineBegins, LineMoves, Loses, Nothing, Pokes, Resets, Restarts, Rounds, Settles, Starts, Steps, Stops, Ticks, LaneName, OfDisk}
 use Rattle.world_laws.specs.World.{WorldState}
 use Rattle.ldom_report.specs.DiskEvents.{happened_to}
 use Rattle.ldom_report.specs.LaneEvents.{end_of}
@@ -40,13 +40,15 @@ line_of (event.Stop disk) = Calls (OfDisk disk) Stops
 line_of (event.Start disk) = Calls (OfDisk disk) Starts
 line_of (event.Lose end) = Calls (lane_named end.lane) (Loses (end_of end.side))
 line_of (event.Tick lane) = Calls (lane_named lane) Ticks
+line_of (event.Inject end packet) = Calls (lane_named end.lane) (Injects (end_of end.side) packet)
+line_of (event.Poke end at bytes) = Calls (lane_named end.lane) (Pokes (end_of end.side) at (take bytes.len bytes.bytes))
 
 -- the lane is that of one of so many disks
 abbrev pub IsDiskOf : ℕ → Lane → Type 0
 IsDiskOf many lane = IsSomeAnd (disk_of lane) (λ k. k < many)
 
 -- The event is one that a row of a script says, of one of so many disks: a request's fill is one, steps and rounds are 1
--- to 100, and the end that restarts is a server. Of a declaration nothing is asked.
+-- to 100, the end that restarts is a server, and that with memory a client. Of a declaration nothing is asked.
 abbrev pub IsForDisks : ℕ → Event → Type 0
 IsForDisks many (event.Issue disk request) = (disk < many) × IsRequest request
 IsForDisks many (event.Step end count) = IsDiskOf many end.lane × AreTurns count
@@ -57,6 +59,8 @@ IsForDisks many (event.Stop disk) = disk < many
 IsForDisks many (event.Start disk) = disk < many
 IsForDisks many (event.Lose end) = IsDiskOf many end.lane
 IsForDisks many (event.Tick lane) = IsDiskOf many lane
+IsForDisks many (event.Inject end packet) = IsDiskOf many end.lane
+IsForDisks many (event.Poke end at bytes) = IsDiskOf many end.lane × (end.side ≡ Client)
 IsForDisks many other = ⊤
 
 -- A LINE with its part of the journal leads a world from one state to another

@@ -1,12 +1,12 @@
 -- What the entries of a journal are for the lanes of a world, in the part of a script's line that they came in.
-use Rattle.std.specs.Prelude.{ℕ, Bool, true, false, ◌==◌, ◌&&◌, Option, Some, None, option_map}
+use Rattle.std.specs.Prelude.{ℕ, Bool, true, false, ◌==◌, ◌&&◌, length, Option, Some, None, option_map}
 use Rattle.ldc_queue.specs.declared.end.End.{End}
 use Rattle.ldc_queue.specs.declared.end.End.TheVariants.{A, B}
-use Rattle.world_laws.specs.WireEvent.{WireEvent, Declines, NothingLost}
+use Rattle.world_laws.specs.WireEvent.{Declined, Declines, InjectedFull, NothingLost, NotInjected, PokeRefused, WireEvent}
 use Rattle.world_laws.specs.DiskEvent.{DiskEvent, OnWire, Asks, Calms, CalmTick, CalmStop, CalmStart, CalmReset, CalmRestart}
 use Rattle.world_laws.specs.DiskEvent as disk
 use Rattle.world_laws.specs.Settle.{SettleEntry, OfLane}
-use Rattle.world_laws.specs.Lines.{Asked, Call, Calls, Line, Loses, Resets, Restarts, Starts, Stops, Ticks, OfDisk}
+use Rattle.world_laws.specs.Lines.{Asked, Call, Calls, Injects, Line, Loses, Pokes, Resets, Restarts, Starts, Stops, Ticks, OfDisk}
 use Rattle.world_laws.specs.Settle as settle
 use Rattle.domain_script.specs.declared.event.EndName.{EndName}
 use Rattle.domain_script.specs.declared.event.Lane.{Lane}
@@ -17,6 +17,7 @@ use Rattle.ldom_entries.specs.declared.entry.Entry.{Entry}
 use Rattle.ldom_entries.specs.declared.entry.Who.{Who}
 use Rattle.ldom_entries.specs.declared.entry.Who.TheVariants.{Lane as OfWhole, End as OfEnd}
 use Rattle.ldom_entries.specs.declared.entry.Why.{Why}
+use Rattle.ldom_entries.specs.declared.entry.Why.TheVariants.{Range}
 use Rattle.ldom_report.specs.DiskEvents.{defect_of}
 use Rattle.ldom_report.specs.LaneEvents.{AtClient, AtLane, AtServer, AtWire, ChangesNothing, LeavesNothing, LeavesOver, Meaning, NoRoomFor, Refuses, end_of, meaning}
 
@@ -64,13 +65,28 @@ abbrev pub of_server : Side → Lane → DiskEvent → Option SettleEntry
 of_server Server lane event = disk_event lane event
 of_server Client lane event = None
 
--- a request that found no room, or was refused, on the disk that the line names
+-- a call of an end that came to nothing, of the end that the line names
+abbrev pub declined_at : ℕ → End → EndName → Declined → Option SettleEntry
+declined_at j e name d = if_so (is_end j e name) (OfLane j (OnWire (Declines d)))
+
+-- a packet for which there was no room at its end, and bytes that leave its memory
+abbrev pub full_call : ℕ → Call → EndName → Option SettleEntry
+full_call j (Injects e packet) name = declined_at j e name (InjectedFull e packet)
+full_call j _ name = None
+
+abbrev pub refused_call : ℕ → Call → EndName → Why → Option SettleEntry
+refused_call j (Pokes e at bytes) name Range = declined_at j e name (PokeRefused e at (length bytes))
+refused_call j _ name why = None
+
+-- What found no room, or was refused: a request, on the disk that the line names, or a call of the end that it names.
 abbrev pub full_event : Line → Who → Option SettleEntry
 full_event (Asked j request) (OfWhole lane) = at_disk j (disk_of lane) (Asks (disk.Full request))
+full_event (Calls (OfDisk j) call) (OfEnd name) = full_call j call name
 full_event _ _ = None
 
 abbrev pub refused_event : Line → Who → Why → Option SettleEntry
 refused_event (Asked j request) (OfWhole lane) why = at_disk j (disk_of lane) (Asks (disk.Refused (defect_of why) request))
+refused_event (Calls (OfDisk j) call) (OfEnd name) why = refused_call j call name why
 refused_event _ _ why = None
 
 -- What was asked of a lane and changes nothing there: of the lane that the line names, or of the end that it names.
@@ -80,7 +96,8 @@ called_event j Starts (OfWhole lane) = at_disk j (disk_of lane) (Calms CalmStart
 called_event j Ticks (OfWhole lane) = at_disk j (disk_of lane) (Calms CalmTick)
 called_event j (Resets e) (OfEnd name) = if_so (is_end j e name) (OfLane j (Calms (CalmReset e)))
 called_event j Restarts (OfEnd name) = if_so (is_end j B name) (OfLane j (Calms CalmRestart))
-called_event j (Loses e) (OfEnd name) = if_so (is_end j e name) (OfLane j (OnWire (Declines (NothingLost e))))
+called_event j (Loses e) (OfEnd name) = declined_at j e name (NothingLost e)
+called_event j (Injects e packet) (OfEnd name) = declined_at j e name (NotInjected e packet)
 called_event j _ _ = None
 
 abbrev pub calm_event : Line → Who → Option SettleEntry

@@ -17,7 +17,7 @@ pub returns-clause-told : goal.returns-clause-told
 returns-clause-told g c =
     let text : List ℕ = c.args.text.now in
     let front : List ℕ = front_text c.args.mode c.args.names.now.disks c.args.entry.now in
-    let rest : List ℕ = rest_text c.args.entry.now in
+    let rest : List ℕ = rest_text c.args.mode c.args.entry.now in
     let begun = gathers_more _ _ c.make_room.new.self c.push_front.new.text text front c.in_ok-make_room.ensures.told c.push_front.ensures.text in
     on_ok_then c.put_rest.result
     (λ told. subst (λ (l : List ℕ). Gathers (g.K.Sink.written c.args.out.now) (g.K.Sink.written c.put_rest.new.out) c.put_rest.new.text (text ++ l))
@@ -29,7 +29,7 @@ pub returns-clause-front : goal.returns-clause-front
 returns-clause-front g c =
     let text : List ℕ = c.args.text.now in
     let front : List ℕ = front_text c.args.mode c.args.names.now.disks c.args.entry.now in
-    let rest : List ℕ = rest_text c.args.entry.now in
+    let rest : List ℕ = rest_text c.args.mode c.args.entry.now in
     let begun = gathers_more _ _ c.make_room.new.self c.push_front.new.text text front c.in_ok-make_room.ensures.told c.push_front.ensures.text in
     on_err_then c.put_rest.result
     (λ wrote. subst (λ (l : List ℕ). WroteFront (g.K.Sink.written c.args.out.now) (g.K.Sink.written c.put_rest.new.out) l)

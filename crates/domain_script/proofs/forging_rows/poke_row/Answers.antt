@@ -1,0 +1,20 @@
+use Rattle.std.proofs.Common.{◌≡◌, arith}
+use Rattle.std.proofs.lemmas.Grind.{common_steps}
+use Rattle.domain_script.specs.declared.rows.RowKind.TheVariants as row
+use Rattle.domain_script.specs.Words.{words}
+use Rattle.domain_script.proofs.RowLemmas.{if_poked, no_row_at}
+use Rattle.domain_script.proofs.forging_rows.poke_row.Goals as goal
+
+pub returns-in_err-declared_end-clause-none : goal.returns-in_err-declared_end-clause-none
+returns-in_err-declared_end-clause-none c = rw c.from_residual-in_err-declared_end.ensures
+    (no_row_at 0 row.Poke (words c.args.fields.now) _ c.args.names.now c.in_ok-word.ensures (omega arith)
+    (λ end spelled. c.in_err-declared_end.ensures.none end spelled.0 spelled.1))
+
+pub returns-clause-some : goal.returns-clause-some
+returns-clause-some c =
+    let end : c.in-Poke.end ≡ c.in_ok-declared_end.field-0 = grind (arith, common_steps) in
+    let at : c.in-Poke.at ≡ c.in_ok-number.field-0 = grind (arith, common_steps) in
+    rw (end, at)
+    (if_poked c.put_fill.result (words c.args.fields.now) c.args.names.now _ _ _ c.in_ok-declared_end.field-0 c.in_ok-number.field-0
+    c.put_fill.new.fill c.in_ok-word.ensures (c.in_ok-declared_end.ensures.some, c.in_ok-declared_end.ensures.kind)
+    c.in_ok-number.ensures.some c.put_fill.ensures.some)
