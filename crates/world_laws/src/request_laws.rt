@@ -58,8 +58,8 @@ pub fn requests_of_a_lane_are_pending_in_order()
         → pending_on w.lanes ≡ pending_of 0 (length shapes) entries }
 {}
 
-/// Where no line of a script injects a packet or pokes into a memory, nobody forged any lane of the world that they lead
-/// to, also where want of memory cut a line. And where no line stops a server, each runs.
+/// Where no line of a script injects a packet or pokes into a memory, nobody forged any lane of the world that they
+/// lead to. So it is also where want of memory cut a line. And where no line stops a server, each runs.
 pub fn nobody_forges_by_lines()
     ensures unforged { (shapes : List Shape) (image : ImageState) (lines : List (Line × List SettleEntry))
         (w : WorldState)
@@ -77,8 +77,8 @@ pub fn nobody_forges_by_lines()
         → Each IsRunning v.lanes }
 {}
 
-/// A lane's state says whether somebody forged it: nobody did exactly where none of its events forges. So it is of each
-/// lane of a world by what the journal says happened to it, whatever happened to the others.
+/// A lane's state says whether somebody forged it: nobody did exactly where none of its events forges. So it is of
+/// each lane of a world by what the journal says happened to it, whatever happened to the others.
 pub fn forging_is_told()
     ensures lane { (shape : Shape) (events : List DiskEvent) (s : LaneState)
         → Run LaneStep (fresh shape) events s → (s.wire.forged ≡ false) ↔ NobodyForges events }
