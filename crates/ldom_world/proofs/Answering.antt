@@ -1,8 +1,8 @@
 -- What a call of a lane came to, and its entry: by what the call answered.
-use Rattle.std.proofs.Common.{◌≡◌, ℕ, Bool, true, false, Option, Some, None, List, Ok, Err, refl, ap, subst, ◌∙◌}
+use Rattle.std.proofs.Common.{◌≡◌, ℕ, Bool, true, false, Option, Some, None, List, length, Result, Ok, Err, refl, ap, subst, ◌∙◌}
 use Rattle.std.proofs.lemmas.Bool.{eq-eqb}
 use Rattle.std.specs.Prelude.{◌==◌, ◌&&◌}
-use Rattle.disk_lane.specs.Events.{lost_event, reset_event, restart_event, start_event, stop_event, tick_event}
+use Rattle.disk_lane.specs.Events.{injected_event, lost_event, poked_event, reset_event, restart_event, start_event, stop_event, tick_event}
 use Rattle.disk_law.specs.ListState.{ImageState}
 use Rattle.disk_model.specs.DiskEvent.{Asks, CalmReset, CalmRestart, CalmStart, CalmStop, CalmTick, OnWire, Calms}
 use Rattle.disk_model.specs.DiskEvent as disk
@@ -11,16 +11,20 @@ use Rattle.disk_model.specs.LaneStep.{LaneStep}
 use Rattle.domain_script.specs.LaneKinds.{disk_lane}
 use Rattle.domain_script.specs.declared.event.Side.{Side}
 use Rattle.domain_script.specs.declared.event.Side.TheVariants.{Client, Server}
-use Rattle.channel_model.specs.WireEvent.{Declines, NothingLost}
+use Rattle.channel_model.specs.WireEvent.{Declines, InjectedFull, NothingLost, NotInjected, PokeRefused}
 use Rattle.channel_model.specs.WireEvent as wire
 use Rattle.world_laws.specs.Settle.{OfLane, SettleEntry}
-use Rattle.world_laws.specs.Lines.{AnswersCall, AnswersRequest, Asked, Calls, Loses, Resets, Restarts, Starts, Stops, Ticks, OfDisk}
-use Rattle.ldc_queue.specs.declared.end.End.TheVariants.{B}
+use Rattle.world_laws.specs.Lines.{AnswersCall, AnswersRequest, Asked, Calls, Injects, Loses, Pokes, Resets, Restarts, Starts, Stops, Ticks, OfDisk}
+use Rattle.ldc_queue.specs.declared.end.End.TheVariants.{A, B}
+use Rattle.ldc_queue.specs.declared.end.PutFault.{PutFault}
+use Rattle.ldc_queue.specs.declared.end.PutFault.TheVariants as put_fault
 use Rattle.ldom_report.specs.LaneEvents.{end_of}
 use Rattle.world_parts.specs.WorldEvents.{if_so, is_end, is_same, world_event}
 use Rattle.ldom_entries.specs.declared.entry.Entry.{Entry}
 use Rattle.ldom_entries.specs.declared.entry.Entry.TheVariants as entry
 use Rattle.ldom_entries.specs.declared.entry.Who.TheVariants.{Lane as OfWhole, End as OfEnd}
+use Rattle.ldom_entries.specs.declared.entry.Why.TheVariants.{Range}
+use Rattle.kept_requests.specs.Bytes.{filled}
 use Rattle.ldom_world.specs.Called.{disk_end, refused_entry}
 use Rattle.ldom_entries.specs.JournalState.{JournalState, PutsEntry}
 use Rattle.ldom_world.specs.OneLane.{LaneAnswers, RecordsAnswer}
@@ -186,6 +190,72 @@ module _ (k : ℕ) (s t : LaneState) (x : Entry) where
     moves = λ (i : ImageState). (subst (λ (b : Bool). LaneStep s (tick_event b) t) no_is step, refl);
     says = ap (λ (z : Entry). world_event (Calls (OfDisk k) Ticks) z) is
         ∙ own_said (k == k) (OfLane k (Calms CalmTick)) (eq-eqb k k refl);
+  }
+
+  -- A PACKET FORGED
+  module _ (side : Side) (packet : List ℕ) (put : Result Unit PutFault)
+      (step : LaneStep s (injected_event (end_of side) packet put) t) where
+    pub was_injected : (done : Unit) → put ≡ Ok done → x ≡ entry.Injected (disk_end k side) packet
+        → LaneAnswers (Calls (OfDisk k) (Injects (end_of side) packet)) k (AnswersCall (Injects (end_of side) packet)) s x t
+    was_injected done did is = record {
+      event = OnWire (wire.Injected (end_of side) packet);
+      answers = (refl, refl);
+      moves = λ (i : ImageState). (
+        subst (λ (r : Result Unit PutFault). LaneStep s (injected_event (end_of side) packet r) t) did step,
+        refl,
+      );
+      says = ap (λ (z : Entry). world_event (Calls (OfDisk k) (Injects (end_of side) packet)) z) is;
+    }
+
+    pub not_injected : put ≡ Err put_fault.NotUp → x ≡ entry.Calm (OfEnd (disk_end k side))
+        → LaneAnswers (Calls (OfDisk k) (Injects (end_of side) packet)) k (AnswersCall (Injects (end_of side) packet)) s x t
+    not_injected down is = record {
+      event = OnWire (Declines (NotInjected (end_of side) packet));
+      answers = (refl, refl);
+      moves = λ (i : ImageState). (
+        subst (λ (r : Result Unit PutFault). LaneStep s (injected_event (end_of side) packet r) t) down step,
+        refl,
+      );
+      says = ap (λ (z : Entry). world_event (Calls (OfDisk k) (Injects (end_of side) packet)) z) is
+          ∙ own_said (is_end k (end_of side) (disk_end k side))
+          (OfLane k (OnWire (Declines (NotInjected (end_of side) packet)))) (own_end k side);
+    }
+
+    pub injected_full : put ≡ Err put_fault.Full → x ≡ entry.Full (OfEnd (disk_end k side))
+        → LaneAnswers (Calls (OfDisk k) (Injects (end_of side) packet)) k (AnswersCall (Injects (end_of side) packet)) s x t
+    injected_full full is = record {
+      event = OnWire (Declines (InjectedFull (end_of side) packet));
+      answers = (refl, refl);
+      moves = λ (i : ImageState). (
+        subst (λ (r : Result Unit PutFault). LaneStep s (injected_event (end_of side) packet r) t) full step,
+        refl,
+      );
+      says = ap (λ (z : Entry). world_event (Calls (OfDisk k) (Injects (end_of side) packet)) z) is
+          ∙ own_said (is_end k (end_of side) (disk_end k side))
+          (OfLane k (OnWire (Declines (InjectedFull (end_of side) packet)))) (own_end k side);
+    }
+
+  -- MEMORY POKED
+  pub was_poked : (at : ℕ) (bytes : List ℕ) (did : Bool) → did ≡ true → LaneStep s (poked_event at bytes did) t
+      → x ≡ entry.Poked (disk_end k Client) at (filled bytes)
+      → LaneAnswers (Calls (OfDisk k) (Pokes A at bytes)) k (AnswersCall (Pokes A at bytes)) s x t
+  was_poked at bytes did yes_is step is = record {
+    event = poked_event at bytes true;
+    answers = (refl, refl, refl);
+    moves = λ (i : ImageState). (subst (λ (b : Bool). LaneStep s (poked_event at bytes b) t) yes_is step, refl);
+    says = ap (λ (z : Entry). world_event (Calls (OfDisk k) (Pokes A at bytes)) z) is;
+  }
+
+  pub not_poked : (at : ℕ) (bytes : List ℕ) (did : Bool) → did ≡ false → LaneStep s (poked_event at bytes did) t
+      → x ≡ entry.Refused (OfEnd (disk_end k Client)) Range
+      → LaneAnswers (Calls (OfDisk k) (Pokes A at bytes)) k (AnswersCall (Pokes A at bytes)) s x t
+  not_poked at bytes did no_is step is = record {
+    event = poked_event at bytes false;
+    answers = (refl, refl, refl);
+    moves = λ (i : ImageState). (subst (λ (b : Bool). LaneStep s (poked_event at bytes b) t) no_is step, refl);
+    says = ap (λ (z : Entry). world_event (Calls (OfDisk k) (Pokes A at bytes)) z) is
+        ∙ own_said (is_end k A (disk_end k Client)) (OfLane k (OnWire (Declines (PokeRefused A at (length bytes)))))
+        (own_end k Client);
   }
 
   -- A REQUEST

@@ -75,8 +75,10 @@ tick_of_calm k (OfEnd name) is = cc is
 
 tick_meant : (k : ℕ) (x : Meaning) → meant (Calls (OfDisk k) Ticks) x ≡ Some (OfLane k tick)
     → meant Settles x ≡ Some (OfLane k tick)
-tick_meant k (NoRoomFor who) is = absurd (cc is)
-tick_meant k (Refuses who why) is = absurd (cc is)
+tick_meant k (NoRoomFor (OfWhole lane)) is = absurd (cc is)
+tick_meant k (NoRoomFor (OfEnd name)) is = absurd (cc is)
+tick_meant k (Refuses (OfWhole lane) why) is = absurd (cc is)
+tick_meant k (Refuses (OfEnd name) why) is = absurd (cc is)
 tick_meant k (ChangesNothing who) is = absurd (tick_of_calm k who is)
 tick_meant k x is = is
 

@@ -11,9 +11,10 @@ use Rattle.world_parts.specs.WorldEvents.{world_event}
 use Rattle.ldom_report.specs.Report.{is_accepted}
 use Rattle.ldom_entries.specs.declared.entry.Entry.{Entry}
 use Rattle.ldom_entries.specs.declared.entry.Entry.TheVariants as entry
+use Rattle.ldom_entries.specs.declared.entry.Who.{Who}
 use Rattle.ldom_report.specs.DiskEvents.{defect_of}
 use Rattle.world_laws.specs.Issued.{next_behind}
-use Rattle.world_parts.proofs.Meanings.{Holds, disk_has, entry_has, lane_of, left_has, who_has, wire_has}
+use Rattle.world_parts.proofs.Meanings.{DeclinedHas, Holds, disk_has, entry_has, lane_of, left_has, who_has, wire_has}
 
 -- WHETHER AN EVENT ACCEPTS a request, and what an entry means does; an entry of an accepted request is one of those
 abbrev takes_up : DiskEvent → Bool
@@ -42,18 +43,26 @@ event_tells : (event : DiskEvent) (n : ℕ) → next_behind event n ≡ n + cond
 event_tells (Asks (disk.Accepted id request)) n = refl
 event_tells event n = none_more n
 
+declined_tells : (who : Who) → DeclinedHas (Tells false) who
+declined_tells who = λ d. disk_has (Tells false) (lane_of who) (OnWire (Declines d)) (λ k. none_more)
+
 -- WHATEVER IS MEANT for a lane does, and so each entry of one lane's event
 meaning_tells : (x : Meaning) → Holds (Tells (accepts x)) x
 meaning_tells (AtWire e event) = wire_has (Tells false) e.lane event (λ k. none_more)
 meaning_tells (AtClient e event) = disk_has (Tells (takes_up event)) e.lane event (λ k. event_tells event)
 meaning_tells (AtServer e event) = disk_has (Tells (takes_up event)) e.lane event (λ k. event_tells event)
 meaning_tells (AtLane k event) = event_tells event
-meaning_tells (NoRoomFor who) = λ request. who_has (Tells false) who (Asks (disk.Full request)) (λ k. none_more)
-meaning_tells (Refuses who why) = λ request.
-    who_has (Tells false) who (Asks (disk.Refused (defect_of why) request)) (λ k. none_more)
+meaning_tells (NoRoomFor who) = (
+  λ request. who_has (Tells false) who (Asks (disk.Full request)) (λ k. none_more),
+  declined_tells who,
+)
+meaning_tells (Refuses who why) = (
+  λ request. who_has (Tells false) who (Asks (disk.Refused (defect_of why) request)) (λ k. none_more),
+  declined_tells who,
+)
 meaning_tells (ChangesNothing who) = (
   λ calm. disk_has (Tells false) (lane_of who) (Calms calm) (λ k. none_more),
-  λ d. disk_has (Tells false) (lane_of who) (OnWire (Declines d)) (λ k. none_more),
+  declined_tells who,
 )
 meaning_tells (LeavesOver who) = left_has (Tells false) who (λ k. tt)
 meaning_tells LeavesNothing = tt

@@ -22,6 +22,7 @@ call_of lane.Stop = script.Stops
 call_of lane.Start = script.Starts
 call_of (lane.Lose side) = script.Loses (end_of side)
 call_of lane.Tick = script.Ticks
+call_of (lane.Inject side packet) = script.Injects (end_of side) packet
 
 -- an end of the disk with this number
 abbrev pub disk_end : ℕ → Side → EndName

@@ -13,7 +13,7 @@ ghost use Rattle.world_parts.specs.Parts.{Fits, FitsSoFar};
 use crate::calls::LaneCall;
 use crate::world::World;
 use domain_script::{EndName, Event, Lane, LaneKind};
-use ldom_report::Journal;
+use ldom_report::{Journal, fill_bytes};
 use vio_bytes::NoMemory;
 use vio_io::Store;
 
@@ -43,6 +43,12 @@ impl<D: Store> World<D> {
             Event::Start { disk } => self.answer_call(*disk, LaneCall::Start, journal),
             Event::Lose { end } => self.call_on(end.lane, LaneCall::Lose(end.side), journal),
             Event::Tick { lane } => self.call_on(*lane, LaneCall::Tick, journal),
+            Event::Inject { end, packet } => {
+                self.call_on(end.lane, LaneCall::Inject(end.side, *packet), journal)
+            }
+            Event::Poke { end, at, bytes } => {
+                self.poke_on(*end, *at, fill_bytes(bytes), journal)
+            }
         }
     }
 

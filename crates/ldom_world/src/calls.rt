@@ -1,4 +1,5 @@
-// What a script does to a lane beside asking and stepping it: resets, restarts, stops, starts, losses and ticks.
+// What a script does to a lane beside asking and stepping it: resets, restarts, stops, starts, losses, ticks, and packets
+// that it forges.
 
 ghost use Rattle.std.specs.Prelude.{◌≡◌, ◌<◌, length, None, OnErr, OnOk};
 ghost use Rattle.domain_script.specs.LaneKinds.{disk_lane};
@@ -8,13 +9,13 @@ ghost use Rattle.ldom_entries.specs.declared.entry.Entry.TheVariants as the_entr
 ghost use Rattle.ldom_entries.specs.declared.entry.Who.TheVariants as the_who;
 ghost use Rattle.ldom_world.specs.Called.{call_of};
 ghost use Rattle.ldom_world.specs.OneLane.{LaneAnswers};
-ghost use Rattle.world_laws.specs.Lines.{AnswersCall, Calls, Loses, Resets, Restarts, Starts, Stops, Ticks, OfDisk};
+ghost use Rattle.world_laws.specs.Lines.{AnswersCall, Calls, Injects, Loses, Resets, Restarts, Starts, Stops, Ticks, OfDisk};
 ghost use Rattle.world_laws.specs.Issued.{issued_on};
 ghost use Rattle.world_parts.specs.Parts.{Fits, FitsSoFar};
 
 use crate::entries::{client_of, disk_end, end_of, server_of};
 use crate::world::World;
-use disk_lane::DiskLane;
+use disk_lane::{DiskLane, PutFault};
 use domain_script::{EndName, Lane, LaneKind, Side};
 use ldom_report::{Entry, Journal, Who};
 use vio_bytes::NoMemory;
@@ -41,6 +42,9 @@ pub enum LaneCall {
 
     /// Nothing comes any more for a client, which is reset where it isn't finished.
     Tick,
+
+    /// Makes a packet wait for an end as if its peer had put it.
+    Inject(Side, [u8; 64]),
 }
 
 impl<D: Store> World<D> {
@@ -79,6 +83,7 @@ fn call_lane(lane: &mut DiskLane, disk: u32, call: LaneCall) -> Entry
         LaneCall::Start => start_server(lane, disk),
         LaneCall::Lose(side) => lose_packet(lane, disk, side),
         LaneCall::Tick => tick_client(lane, disk),
+        LaneCall::Inject(side, packet) => inject_packet(lane, disk, side, packet),
     }
 }
 
@@ -150,6 +155,20 @@ fn tick_client(lane: &mut DiskLane, disk: u32) -> Entry
         reset_entry(client_of(disk), Cause::Tick)
     } else {
         calm_lane(disk)
+    }
+}
+
+/// Forges a packet, and gives the entry: there is no room for it, or the end isn't up, or it waits.
+fn inject_packet(lane: &mut DiskLane, disk: u32, side: Side, packet: [u8; 64]) -> Entry
+    ensures answers { LaneAnswers (Calls (OfDisk disk) (Injects (end_of side) packet)) disk
+        (AnswersCall (Injects (end_of side) packet)) lane.old result lane.new }
+    ensures shape { lane.new.shape ≡ lane.old.shape }
+{
+    let end = disk_end(disk, side);
+    match lane.inject(end_of(side), &packet) {
+        Ok(()) => Entry::Injected { end, packet },
+        Err(PutFault::NotUp) => Entry::Calm { who: Who::End(end) },
+        Err(PutFault::Full) => Entry::Full { who: Who::End(end) },
     }
 }
 

@@ -7,6 +7,7 @@ mod calls;
 mod entries;
 mod issuing;
 mod lanes;
+mod poking;
 mod settling;
 mod stepping;
 mod world;
