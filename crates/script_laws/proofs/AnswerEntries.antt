@@ -38,9 +38,14 @@ tells (AtWire e event) = wire_has (Tells (AtWire e event)) e.lane event (λ k. (
 tells (AtClient e event) = disk_has (Tells (AtClient e event)) e.lane event (λ k. (refl, refl))
 tells (AtServer e event) = disk_has (Tells (AtServer e event)) e.lane event (λ k. (refl, refl))
 tells (AtLane k event) = (refl, refl)
-tells (NoRoomFor who) = λ request. who_has (Tells (NoRoomFor who)) who (Asks (Full request)) (λ k. (refl, refl))
-tells (Refuses who why) = λ request.
-    who_has (Tells (Refuses who why)) who (Asks (Refused (defect_of why) request)) (λ k. (refl, refl))
+tells (NoRoomFor who) = (
+  λ request. who_has (Tells (NoRoomFor who)) who (Asks (Full request)) (λ k. (refl, refl)),
+  λ d. disk_has (Tells (NoRoomFor who)) (lane_of who) (OnWire (Declines d)) (λ k. (refl, refl)),
+)
+tells (Refuses who why) = (
+  λ request. who_has (Tells (Refuses who why)) who (Asks (Refused (defect_of why) request)) (λ k. (refl, refl)),
+  λ d. disk_has (Tells (Refuses who why)) (lane_of who) (OnWire (Declines d)) (λ k. (refl, refl)),
+)
 tells (ChangesNothing who) = (
   λ calm. disk_has (Tells (ChangesNothing who)) (lane_of who) (Calms calm) (λ k. (refl, refl)),
   λ d. disk_has (Tells (ChangesNothing who)) (lane_of who) (OnWire (Declines d)) (λ k. (refl, refl)),

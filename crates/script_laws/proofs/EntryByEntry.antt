@@ -1,6 +1,6 @@
 -- Entry by entry: a report says of an entry of the journal what it says of the entry of a lane that it is. Of most it
 -- says nothing.
-use Rattle.std.proofs.Common.{◌≡◌, ℕ, Bool, true, false, Option, Some, List, [], ◌∷◌, map, refl}
+use Rattle.std.proofs.Common.{◌≡◌, ℕ, Bool, true, false, Option, Some, List, [], ◌∷◌, map, refl, subst}
 use Rattle.vio_tag.specs.declared.cause.Cause.{Cause}
 use Rattle.channel_model.specs.WireEvent.{Declines, Reset}
 use Rattle.disk_model.specs.DiskEvent.{Asks, DiskEvent, Done, Full, OnWire, Refused, Calms, Works}
@@ -9,17 +9,21 @@ use Rattle.domain_script.specs.declared.event.Lane.{Lane}
 use Rattle.domain_script.specs.declared.event.Side.{Side}
 use Rattle.domain_script.specs.declared.event.Side.TheVariants.{Client, Server}
 use Rattle.world_laws.specs.Settle.{OfLane, SettleEntry, Unsettled}
-use Rattle.world_laws.specs.Lines.{Line}
+use Rattle.world_laws.specs.Lines.{Asked, Calls, Line}
+use Rattle.world_laws.specs.Quiet.{IsQuiet}
 use Rattle.ldom_report.specs.DiskEvents.{defect_of}
-use Rattle.ldom_report.specs.LaneEvents.{AtClient, AtLane, AtServer, AtWire, ChangesNothing, Meaning, end_of, meaning}
-use Rattle.world_parts.specs.WorldEvents.{wire_event, world_event}
+use Rattle.domain_script.specs.LaneKinds.{disk_of}
+use Rattle.ldom_report.specs.LaneEvents.{AtClient, AtLane, AtServer, AtWire, ChangesNothing, Meaning, NoRoomFor, Refuses, end_of, meaning}
+use Rattle.world_parts.specs.WorldEvents.{full_event, refused_event, wire_event, world_event}
 use Rattle.ldom_entries.specs.declared.entry.Entry.{Entry}
 use Rattle.ldom_entries.specs.declared.entry.Entry.TheVariants as entry
+use Rattle.ldom_entries.specs.declared.entry.Who.{Who}
+use Rattle.ldom_entries.specs.declared.entry.Why.{Why}
 use Rattle.ldom_entries.specs.declared.entry.Who.TheVariants.{Lane as OfWhole, End as OfEnd}
 use Rattle.ldom_entries.specs.declared.entry.Why.TheVariants.{Count, Range}
 use Rattle.script_laws.proofs.LaneReport.{SaysSame, says_append}
 use Rattle.world_parts.specs.Parts.{PartSays}
-use Rattle.world_parts.proofs.Meanings.{Has, Holds, disk_has, entry_has, lane_has, lane_of, wire_has}
+use Rattle.world_parts.proofs.Meanings.{Has, Holds, at_has, disk_has, entry_has, lane_has, lane_of, wire_has}
 
 -- an entry says the same as this one of a lane
 abbrev SameAs : DiskDecl → Entry → SettleEntry → Type 0
@@ -75,31 +79,55 @@ reset_same disk lane Server cause packet lost =
     lane_has (λ l. SameAs disk (entry.Reset (record { lane = l; side = Server }) cause packet lost))
     (λ k. OfLane k (OnWire (Reset (end_of Server) cause packet lost))) lane (λ k. (refl, refl))
 
--- EACH ENTRY, by what it means
-entry_same : (disk : DiskDecl) (e : Entry) → Holds (SameAs disk e) (meaning e)
-entry_same disk (entry.Accepted k id request) = (refl, refl)
-entry_same disk (entry.Full (OfWhole lane)) =
-    λ request. lane_has (λ l. SameAs disk (entry.Full (OfWhole l))) (λ k. OfLane k (Asks (Full request))) lane
-    (λ k. (refl, refl))
-entry_same disk (entry.Full (OfEnd e)) = λ request. tt
-entry_same disk (entry.Refused (OfWhole lane) Count) =
-    λ request. lane_has (λ l. SameAs disk (entry.Refused (OfWhole l) Count))
-    (λ k. OfLane k (Asks (Refused (defect_of Count) request))) lane (λ k. (refl, refl))
-entry_same disk (entry.Refused (OfWhole lane) Range) =
-    λ request. lane_has (λ l. SameAs disk (entry.Refused (OfWhole l) Range))
-    (λ k. OfLane k (Asks (Refused (defect_of Range) request))) lane (λ k. (refl, refl))
-entry_same disk (entry.Refused (OfEnd e) why) = λ request. tt
-entry_same disk entry.Settled = (refl, refl)
-entry_same disk (entry.Unsettled (OfWhole lane)) =
-    lane_has (λ l. SameAs disk (entry.Unsettled (OfWhole l))) (λ k. Unsettled k) lane (λ k. (refl, refl))
-entry_same disk (entry.Unsettled (OfEnd e)) = tt
-entry_same disk (entry.Done k id operation status bytes) = (refl, refl)
-entry_same disk (entry.Reset e cause packet lost) = reset_same disk e.lane e.side cause packet lost
-entry_same disk e = quiet_same disk e (meaning e) (refl, refl) refl
+-- EACH ENTRY, by what it means, but for a request that found no room or was refused
+abbrev of_request : Meaning → Bool
+of_request (NoRoomFor who) = true
+of_request (Refuses who why) = true
+of_request other = false
 
-one_same : (disk : DiskDecl) (line : Line) (e : Entry) (x : SettleEntry) → world_event line e ≡ Some x
+entry_same : (disk : DiskDecl) (e : Entry) → of_request (meaning e) ≡ false → Holds (SameAs disk e) (meaning e)
+entry_same disk (entry.Accepted k id request) none = (refl, refl)
+entry_same disk (entry.Full who) none = absurd (cc none)
+entry_same disk (entry.Refused who why) none = absurd (cc none)
+entry_same disk entry.Settled none = (refl, refl)
+entry_same disk (entry.Unsettled (OfWhole lane)) none =
+    lane_has (λ l. SameAs disk (entry.Unsettled (OfWhole l))) (λ k. Unsettled k) lane (λ k. (refl, refl))
+entry_same disk (entry.Unsettled (OfEnd e)) none = tt
+entry_same disk (entry.Done k id operation status bytes) none = (refl, refl)
+entry_same disk (entry.Reset e cause packet lost) none = reset_same disk e.lane e.side cause packet lost
+entry_same disk e none = quiet_same disk e (meaning e) (refl, refl) refl
+
+-- one that did, in the part of a line that calls no lane
+full_same : (disk : DiskDecl) (line : Line) (who : Who) (x : SettleEntry) → IsQuiet line
+    → full_event line who ≡ Some x → SameAs disk (entry.Full who) x
+full_same disk (Asked j request) (OfWhole lane) x quiet is =
+    subst (Has (SameAs disk (entry.Full (OfWhole lane)))) is
+    (at_has (SameAs disk (entry.Full (OfWhole lane))) j (disk_of lane) (Asks (Full request))
+    (lane_has (λ l. SameAs disk (entry.Full (OfWhole l))) (λ k. OfLane k (Asks (Full request))) lane
+    (λ k. (refl, refl))))
+full_same disk (Calls lane call) who x quiet is = absurd quiet
+full_same disk line who x quiet is = absurd (cc is)
+
+refused_same : (disk : DiskDecl) (line : Line) (who : Who) (why : Why) (x : SettleEntry) → IsQuiet line
+    → refused_event line who why ≡ Some x → SameAs disk (entry.Refused who why) x
+refused_same disk (Asked j request) (OfWhole lane) Count x quiet is =
+    subst (Has (SameAs disk (entry.Refused (OfWhole lane) Count))) is
+    (at_has (SameAs disk (entry.Refused (OfWhole lane) Count)) j (disk_of lane) (Asks (Refused (defect_of Count) request))
+    (lane_has (λ l. SameAs disk (entry.Refused (OfWhole l) Count))
+    (λ k. OfLane k (Asks (Refused (defect_of Count) request))) lane (λ k. (refl, refl))))
+refused_same disk (Asked j request) (OfWhole lane) Range x quiet is =
+    subst (Has (SameAs disk (entry.Refused (OfWhole lane) Range))) is
+    (at_has (SameAs disk (entry.Refused (OfWhole lane) Range)) j (disk_of lane) (Asks (Refused (defect_of Range) request))
+    (lane_has (λ l. SameAs disk (entry.Refused (OfWhole l) Range))
+    (λ k. OfLane k (Asks (Refused (defect_of Range) request))) lane (λ k. (refl, refl))))
+refused_same disk (Calls lane call) who why x quiet is = absurd quiet
+refused_same disk line who why x quiet is = absurd (cc is)
+
+one_same : (disk : DiskDecl) (line : Line) (e : Entry) (x : SettleEntry) → IsQuiet line → world_event line e ≡ Some x
     → SaysSame disk (e ∷ []) (x ∷ [])
-one_same disk line e x is = entry_has (SameAs disk e) line e x (entry_same disk e) is
+one_same disk line (entry.Full who) x quiet is = full_same disk line who x quiet is
+one_same disk line (entry.Refused who why) x quiet is = refused_same disk line who why x quiet is
+one_same disk line e x quiet is = entry_has (SameAs disk e) line e x (entry_same disk e refl) is
 
 -- A PART of a line
 first_said : (one two : Option SettleEntry) (ones twos : List (Option SettleEntry)) → one ∷ ones ≡ two ∷ twos
@@ -111,14 +139,14 @@ rest_said : (one two : Option SettleEntry) (ones twos : List (Option SettleEntry
 rest_said one two ones twos is = cc is
 
 pub part_same : (disk : DiskDecl) (line : Line) (part : List Entry) (entries : List SettleEntry)
-    → PartSays line part entries → SaysSame disk part entries
-part_same disk line [] [] says = (refl, refl)
-part_same disk line [] (x ∷ entries) says = absurd (cc says)
-part_same disk line (e ∷ part) [] says = absurd (cc says)
-part_same disk line (e ∷ part) (x ∷ entries) says =
+    → IsQuiet line → PartSays line part entries → SaysSame disk part entries
+part_same disk line [] [] quiet says = (refl, refl)
+part_same disk line [] (x ∷ entries) quiet says = absurd (cc says)
+part_same disk line (e ∷ part) [] quiet says = absurd (cc says)
+part_same disk line (e ∷ part) (x ∷ entries) quiet says =
     let first : world_event line e ≡ Some x =
     first_said (world_event line e) (Some x) (map (world_event line) part) (map Some entries) says in
     let rest : PartSays line part entries =
     rest_said (world_event line e) (Some x) (map (world_event line) part) (map Some entries) says in
-    says_append disk (e ∷ []) part (x ∷ []) entries (one_same disk line e x first)
-    (part_same disk line part entries rest)
+    says_append disk (e ∷ []) part (x ∷ []) entries (one_same disk line e x quiet first)
+    (part_same disk line part entries quiet rest)

@@ -1,10 +1,10 @@
 -- What an entry says of the requests of disks, and what the same entry is for their lanes: four kinds of entry are of
 -- requests, and all others are silent.
-use Rattle.std.proofs.Common.{◌≡◌, ◌⊎◌, inl, inr, ℕ, ◌==◌, Bool, true, false, Option, Some, None, refl, ap}
+use Rattle.std.proofs.Common.{◌≡◌, ◌⊎◌, inl, inr, ℕ, ◌==◌, Bool, true, false, length, Option, Some, None, refl, sym, ap, subst}
 use Rattle.std.specs.Prelude.{⊤}
 use Rattle.vdisk_msg.specs.declared.request.Request.{Request}
 use Rattle.disk_law.specs.ListStep as plain
-use Rattle.channel_model.specs.WireEvent.{Declines}
+use Rattle.channel_model.specs.WireEvent.{Declined, Declines, InjectedFull, PokeRefused}
 use Rattle.disk_model.specs.DiskEvent.{Accepted, Asks, Calms, DiskEvent, Done, Full, OnWire, Refused, Works}
 use Rattle.world_laws.specs.Settle.{OfLane, SettleEntry}
 use Rattle.domain_script.specs.declared.event.Event.{Event}
@@ -15,11 +15,15 @@ use Rattle.kept_requests.specs.Bytes.{BytesState}
 use Rattle.ldom_entries.specs.declared.entry.Entry.{Entry}
 use Rattle.ldom_entries.specs.declared.entry.Entry.TheVariants as entry
 use Rattle.ldom_entries.specs.declared.entry.Who.{Who}
-use Rattle.ldom_entries.specs.declared.entry.Who.TheVariants.{Lane as OfWhole}
+use Rattle.ldom_entries.specs.declared.entry.Who.TheVariants.{Lane as OfWhole, End as OfEnd}
 use Rattle.ldom_entries.specs.declared.entry.Why.{Why}
+use Rattle.ldom_entries.specs.declared.entry.Why.TheVariants.{Range}
+use Rattle.domain_script.specs.declared.event.EndName.{EndName}
+use Rattle.ldc_queue.specs.declared.end.End.{End}
+use Rattle.world_laws.specs.Lines.{Asked, Call, Calls, Injects, Line, OfDisk, Pokes}
 use Rattle.ldom_report.specs.DiskEvents.{Defective, NoRoom, NotTaken, Nothing, OfDisk, Refusal, defect_of, not_taken_on, refused, request_asked, said}
 use Rattle.ldom_report.specs.LaneEvents.{AtClient, AtLane, AtServer, AtWire, ChangesNothing, LeavesNothing, LeavesOver, Meaning, NoRoomFor, Refuses, meaning}
-use Rattle.world_parts.specs.WorldEvents.{at_disk, full_event, if_so, refused_event, world_event}
+use Rattle.world_parts.specs.WorldEvents.{at_disk, declined_at, full_call, full_event, if_so, is_end, refused_call, refused_event, world_event}
 use Rattle.world_laws.specs.Failures.{is_failed_done}
 use Rattle.world_parts.specs.Lines.{line_of}
 use Rattle.world_laws.specs.Requests.{request_event}
@@ -128,10 +132,35 @@ full_on j request lane (Some k) m at is = record {
   failed = refl;
 }
 
+-- a call of an end that came to nothing says nothing of requests
+declined_silent : (j : ℕ) (e : End) (name : EndName) (d : Declined) (m : SettleEntry) → declined_at j e name d ≡ Some m
+    → SaysNothing m
+declined_silent j e name d m is =
+    subst SaysNothing (sym (if_is (is_end j e name) (OfLane j (OnWire (Declines d))) m is)) (refl, refl)
+
+full_silent : (j : ℕ) (call : Call) (name : EndName) (m : SettleEntry) → full_call j call name ≡ Some m → SaysNothing m
+full_silent j (Injects e packet) name m is = declined_silent j e name (InjectedFull e packet) m is
+full_silent j call name m is = absurd (cc is)
+
+full_line : (asked : Line) (name : EndName) (m : SettleEntry) → full_event asked (OfEnd name) ≡ Some m → SaysNothing m
+full_line (Calls (OfDisk j) call) name m is = full_silent j call name m is
+full_line asked name m is = absurd (cc is)
+
+-- of a whole disk it is told only where the line asks one
+abbrev IsAsked : Line → Type 0
+IsAsked (Asked j request) = ⊤
+IsAsked _ = ⊥
+
+full_whole : (asked : Line) (lane : Lane) (m : SettleEntry) → full_event asked (OfWhole lane) ≡ Some m → IsAsked asked
+full_whole (Asked j request) lane m is = tt
+full_whole (Calls (OfDisk j) call) lane m is = absurd (cc is)
+full_whole asked lane m is = absurd (cc is)
+
 full_kind : (asked : Event) (who : Who) (m : SettleEntry) → full_event (line_of asked) who ≡ Some m
-    → NotTakenUp asked (entry.Full who) m
-full_kind (line.Issue j request) (OfWhole lane) m is = full_on j request lane (disk_of lane) m refl is
-full_kind asked who m is = absurd (cc is)
+    → NotTakenUp asked (entry.Full who) m ⊎ IsSilent (entry.Full who) m
+full_kind (line.Issue j request) (OfWhole lane) m is = inl (full_on j request lane (disk_of lane) m refl is)
+full_kind asked (OfEnd name) m is = inr (record { said_is = refl; nothing = full_line (line_of asked) name m is })
+full_kind asked (OfWhole lane) m is = absurd (full_whole (line_of asked) lane m is)
 
 refused_on : (j : ℕ) (request : Request) (lane : Lane) (why : Why) (o : Option ℕ) (m : SettleEntry) → disk_of lane ≡ o
     → at_disk j o (Asks (Refused (defect_of why) request)) ≡ Some m
@@ -149,11 +178,28 @@ refused_on j request lane why (Some k) m at is = record {
   failed = refl;
 }
 
-refused_kind : (asked : Event) (who : Who) (why : Why) (m : SettleEntry)
-    → refused_event (line_of asked) who why ≡ Some m
-    → NotTakenUp asked (entry.Refused who why) m
-refused_kind (line.Issue j request) (OfWhole lane) why m is = refused_on j request lane why (disk_of lane) m refl is
-refused_kind asked who why m is = absurd (cc is)
+refused_silent : (j : ℕ) (call : Call) (name : EndName) (why : Why) (m : SettleEntry)
+    → refused_call j call name why ≡ Some m → SaysNothing m
+refused_silent j (Pokes e at bytes) name Range m is = declined_silent j e name (PokeRefused e at (length bytes)) m is
+refused_silent j call name why m is = absurd (cc is)
+
+refused_line : (asked : Line) (name : EndName) (why : Why) (m : SettleEntry) → refused_event asked (OfEnd name) why ≡ Some m
+    → SaysNothing m
+refused_line (Calls (OfDisk j) call) name why m is = refused_silent j call name why m is
+refused_line asked name why m is = absurd (cc is)
+
+refused_whole : (asked : Line) (lane : Lane) (why : Why) (m : SettleEntry)
+    → refused_event asked (OfWhole lane) why ≡ Some m → IsAsked asked
+refused_whole (Asked j request) lane why m is = tt
+refused_whole (Calls (OfDisk j) call) lane why m is = absurd (cc is)
+refused_whole asked lane why m is = absurd (cc is)
+
+refused_kind : (asked : Event) (who : Who) (why : Why) (m : SettleEntry) → refused_event (line_of asked) who why ≡ Some m
+    → NotTakenUp asked (entry.Refused who why) m ⊎ IsSilent (entry.Refused who why) m
+refused_kind (line.Issue j request) (OfWhole lane) why m is =
+    inl (refused_on j request lane why (disk_of lane) m refl is)
+refused_kind asked (OfEnd name) why m is = inr (record { said_is = refl; nothing = refused_line (line_of asked) name why m is })
+refused_kind asked (OfWhole lane) why m is = absurd (refused_whole (line_of asked) lane why m is)
 
 -- one that was
 accepted_kind : (k id : ℕ) (request : Request) (m : SettleEntry) → Some (OfLane k (Asks (Accepted id request))) ≡ Some m
@@ -186,8 +232,8 @@ done_kind k id operation status bytes m is = record {
 -- EACH ENTRY is of one of these kinds
 pub kind_of : (asked : Event) (e : Entry) (m : SettleEntry) → world_event (line_of asked) e ≡ Some m → Kind asked e m
 kind_of asked (entry.Accepted k id request) m is = inl (accepted_kind k id request m is)
-kind_of asked (entry.Full who) m is = inr (inl (full_kind asked who m is))
-kind_of asked (entry.Refused who why) m is = inr (inl (refused_kind asked who why m is))
+kind_of asked (entry.Full who) m is = inr (full_kind asked who m is)
+kind_of asked (entry.Refused who why) m is = inr (refused_kind asked who why m is)
 kind_of asked (entry.Done k id operation status bytes) m is = inl (done_kind k id operation status bytes m is)
 kind_of asked e m is =
     let nothing = entry_has SaysNothing (line_of asked) e m (silent (meaning e) refl) is in

@@ -54,9 +54,15 @@ means_leaves x (AtWire e event) none other = wire_has (Leaves x) e.lane event (�
 means_leaves x (AtClient e event) none other = disk_has (Leaves x) e.lane event (λ k. leaves x k event none)
 means_leaves x (AtServer e event) none other = disk_has (Leaves x) e.lane event (λ k. leaves x k event none)
 means_leaves x (AtLane k event) none other = leaves x k event none
-means_leaves x (NoRoomFor who) none other = λ request. who_has (Leaves x) who (Asks (Full request)) (λ k. leaves x k (Asks (Full request)) refl)
-means_leaves x (Refuses who why) none other = λ request.
-    who_has (Leaves x) who (Asks (Refused (defect_of why) request)) (λ k. leaves x k (Asks (Refused (defect_of why) request)) refl)
+means_leaves x (NoRoomFor who) none other = (
+  λ request. who_has (Leaves x) who (Asks (Full request)) (λ k. leaves x k (Asks (Full request)) refl),
+  λ d. disk_has (Leaves x) (lane_of who) (OnWire (Declines d)) (λ k. leaves x k (OnWire (Declines d)) refl),
+)
+means_leaves x (Refuses who why) none other = (
+  λ request. who_has (Leaves x) who (Asks (Refused (defect_of why) request))
+      (λ k. leaves x k (Asks (Refused (defect_of why) request)) refl),
+  λ d. disk_has (Leaves x) (lane_of who) (OnWire (Declines d)) (λ k. leaves x k (OnWire (Declines d)) refl),
+)
 means_leaves x (ChangesNothing who) none other = (
   λ calm. disk_has (Leaves x) (lane_of who) (Calms calm) (λ k. leaves x k (Calms calm) refl),
   λ d. disk_has (Leaves x) (lane_of who) (OnWire (Declines d)) (λ k. leaves x k (OnWire (Declines d)) refl),

@@ -36,6 +36,8 @@ by_line P blank declared other (line.Stop disk) = other (line.Stop disk) refl (�
 by_line P blank declared other (line.Start disk) = other (line.Start disk) refl (λ _. refl)
 by_line P blank declared other (line.Lose end) = other (line.Lose end) refl (λ _. refl)
 by_line P blank declared other (line.Tick ticked) = other (line.Tick ticked) refl (λ _. refl)
+by_line P blank declared other (line.Inject end packet) = other (line.Inject end packet) refl (λ _. refl)
+by_line P blank declared other (line.Poke end at bytes) = other (line.Poke end at bytes) refl (λ _. refl)
 
 -- a blank line or a declaration gives no entry
 pub silent : (s : WorldState) (e : Event) → IsTrue (is_opening e) → EventStep s (e, []) s
@@ -68,6 +70,8 @@ none_begun (line.Stop disk) lanes = refl
 none_begun (line.Start disk) lanes = refl
 none_begun (line.Lose end) lanes = refl
 none_begun (line.Tick ticked) lanes = refl
+none_begun (line.Inject end packet) lanes = refl
+none_begun (line.Poke end at bytes) lanes = refl
 
 -- a declaration alone adds to the disks
 pub noted_disks : (names : NamesState) (e : Event) → ((disk : DiskDecl) × (e ≡ line.Disk disk)) ⊎ ((noted names e).disks ≡ names.disks)
@@ -104,3 +108,5 @@ for_declared names (line.Stop disk) is = is.0
 for_declared names (line.Start disk) is = is.0
 for_declared names (line.Lose end) is = is.0.0
 for_declared names (line.Tick ticked) is = is.0
+for_declared names (line.Inject end packet) is = is.0.0
+for_declared names (line.Poke end at bytes) is = (is.0.0, is.0.1)

@@ -132,7 +132,9 @@ plain_law disk image content parts v is told holds quiet none_cut fits well =
     let events : List Event = events_of parts in
     let w : WorldState = world_of (disk ∷ []) image in
     let whole : RanWhole 0 w parts v = ran_whole 0 w parts v none_cut fits in
-    let through : ThroughLanes w parts.whole v = through_lanes w parts.whole v whole.run in
+    let calm = subst (λ (l : List (Event × List Entry)). quiet_world.AreQuiet (map line_of (events_in l))) whole.lines_are
+    (quiet_events disk events quiet) in
+    let through : ThroughLanes w parts.whole v = through_lanes w parts.whole v calm whole.run in
     let are : lines_of through.lanes ≡ map line_of events =
     through.lines_are ∙ ap (λ (l : List (Event × List Entry)). map line_of (events_in l)) (sym whole.lines_are) in
     let quiet_lanes = subst (λ (l : List Line). quiet_world.AreQuiet l) (sym are) (quiet_events disk events quiet) in

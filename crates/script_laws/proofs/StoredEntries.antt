@@ -36,9 +36,14 @@ others_none says (AtWire e event) none = wire_has (StoreSays says false) e.lane 
 others_none says (AtClient e event) none = disk_has (StoreSays says false) e.lane event (λ k. event_none says event none)
 others_none says (AtServer e event) none = disk_has (StoreSays says false) e.lane event (λ k. event_none says event none)
 others_none says (AtLane k event) none = event_none says event none
-others_none says (NoRoomFor who) none = λ request. who_has (StoreSays says false) who (Asks (Full request)) (λ k. refl)
-others_none says (Refuses who why) none = λ request.
-    who_has (StoreSays says false) who (Asks (Refused (defect_of why) request)) (λ k. refl)
+others_none says (NoRoomFor who) none = (
+  λ request. who_has (StoreSays says false) who (Asks (Full request)) (λ k. refl),
+  λ d. disk_has (StoreSays says false) (lane_of who) (OnWire (Declines d)) (λ k. refl),
+)
+others_none says (Refuses who why) none = (
+  λ request. who_has (StoreSays says false) who (Asks (Refused (defect_of why) request)) (λ k. refl),
+  λ d. disk_has (StoreSays says false) (lane_of who) (OnWire (Declines d)) (λ k. refl),
+)
 others_none says (ChangesNothing who) none = (
   λ calm. disk_has (StoreSays says false) (lane_of who) (Calms calm) (λ k. refl),
   λ d. disk_has (StoreSays says false) (lane_of who) (OnWire (Declines d)) (λ k. refl),

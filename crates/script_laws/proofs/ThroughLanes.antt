@@ -1,4 +1,4 @@
--- The lines of a journal as lines of lanes, and what a report says of them.
+-- The lines of a quiet journal as lines of lanes, and what a report says of them.
 use Rattle.std.proofs.Common.{◌≡◌, List, [], ◌∷◌, map, refl, ap}
 use Rattle.std.specs.List.{flat_map}
 use Rattle.runs.specs.Run.{Run}
@@ -14,7 +14,7 @@ use Rattle.ldom_entries.specs.declared.entry.Entry.{Entry}
 use Rattle.script_laws.proofs.EntryByEntry.{part_same}
 use Rattle.script_laws.proofs.LaneReport.{SaysSame, says_append, told_append, told_lanes}
 use Rattle.world_parts.specs.Lines.{EventStep, line_of}
-use Rattle.world_laws.specs.Quiet.{lines_of, shown_of}
+use Rattle.world_laws.specs.Quiet.{AreQuiet, lines_of, shown_of}
 use Rattle.world_laws.specs.Shown.{is_shown, shown, shown_if}
 
 -- LINES OF LANES by which the world was led as by these lines, and which say the same in a report
@@ -24,18 +24,19 @@ pub record ThroughLanes (w : WorldState) (lines : List (Event × List Entry)) (v
   pub run : Run lane_lines.LineStep w lanes v
   pub same : (disk : DiskDecl) → SaysSame disk (flat_map (λ (l : Event × List Entry). l.1) lines) (entries_of_lines lanes)
 
-pub through_lanes : (w : WorldState) (lines : List (Event × List Entry)) (v : WorldState) → Run EventStep w lines v
+pub through_lanes : (w : WorldState) (lines : List (Event × List Entry)) (v : WorldState)
+    → AreQuiet (map line_of (map (λ (l : Event × List Entry). l.0) lines)) → Run EventStep w lines v
     → ThroughLanes w lines v
-through_lanes w [] v run = record { lanes = []; lines_are = refl; run = run; same = λ disk. (refl, refl) }
-through_lanes w (line ∷ lines) v run =
+through_lanes w [] v quiet run = record { lanes = []; lines_are = refl; run = run; same = λ disk. (refl, refl) }
+through_lanes w (line ∷ lines) v quiet run =
     let step = run.1 in
-    let rest : ThroughLanes run.0 lines v = through_lanes run.0 lines v run.2 in
+    let rest : ThroughLanes run.0 lines v = through_lanes run.0 lines v quiet.1 run.2 in
     record {
       lanes = (line_of line.0, step.entries) ∷ rest.lanes;
       lines_are = ap (λ (l : List Line). line_of line.0 ∷ l) rest.lines_are;
       run = (run.0, step.moves, rest.run);
       same = λ disk. says_append disk line.1 (flat_map (λ (l : Event × List Entry). l.1) lines) step.entries
-          (entries_of_lines rest.lanes) (part_same disk (line_of line.0) line.1 step.entries step.says) (rest.same disk);
+          (entries_of_lines rest.lanes) (part_same disk (line_of line.0) line.1 step.entries quiet.0 step.says) (rest.same disk);
     }
 
 -- WHAT IS SHOWN tells all that a report tells, but for how many requests were accepted

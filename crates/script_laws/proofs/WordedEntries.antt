@@ -55,8 +55,12 @@ named disks (AtWire e event) = wire_named disks e.lane event
 named disks (AtClient e event) = disk_named disks e.lane event
 named disks (AtServer e event) = disk_named disks e.lane event
 named disks (AtLane k event) = λ told. told.0
-named disks (NoRoomFor who) = λ request. whole_named disks who (Asks (Full request))
-named disks (Refuses who why) = λ request. whole_named disks who (Asks (Refused (defect_of why) request))
+named disks (NoRoomFor who) =
+    (λ request. whole_named disks who (Asks (Full request)), λ d. who_named disks who (OnWire (Declines d)))
+named disks (Refuses who why) = (
+  λ request. whole_named disks who (Asks (Refused (defect_of why) request)),
+  λ d. who_named disks who (OnWire (Declines d)),
+)
 named disks (ChangesNothing who) = (λ calm. who_named disks who (Calms calm), λ d. who_named disks who (OnWire (Declines d)))
 named disks (LeavesOver who) = left_named disks who
 named disks LeavesNothing = λ told. tt

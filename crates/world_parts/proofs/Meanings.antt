@@ -59,7 +59,7 @@ mapped_has : (P : SettleEntry → Type 0) (o : Option ℕ) (f : ℕ → SettleEn
 mapped_has P None f holds = tt
 mapped_has P (Some k) f holds = holds k
 
-at_has : (P : SettleEntry → Type 0) (j : ℕ) (o : Option ℕ) (event : DiskEvent)
+pub at_has : (P : SettleEntry → Type 0) (j : ℕ) (o : Option ℕ) (event : DiskEvent)
     → Has P (option_map (λ k. OfLane k event) o) → Has P (at_disk j o event)
 at_has P j None event holds = tt
 at_has P j (Some k) event holds = if_has P (j == k) (OfLane k event) holds
