@@ -9,7 +9,7 @@ use Rattle.ldom_entries.specs.declared.entry.Entry.{Entry}
 use Rattle.ldom_report.specs.DiskEvents.{defect_of}
 use Rattle.ldom_report.specs.LaneEvents.{AtClient, AtLane, AtServer, AtWire, ChangesNothing, LeavesNothing, LeavesOver, Meaning, NoRoomFor, Refuses, meaning}
 use Rattle.world_laws.specs.Lines.{BeginsPart, Line, PartOf}
-use Rattle.world_laws.specs.Settle.{OfLane, SettleEntry, SettlePart, Settled, Unsettled}
+use Rattle.world_laws.specs.Settle.{OfLane, OfPort, SettleEntry, SettlePart, Settled, Unsettled, UnsettledPort}
 use Rattle.world_parts.proofs.Meanings.{Holds, disk_has, entry_has, lane_of, left_has, who_has, wire_has}
 use Rattle.world_parts.specs.Parts.{PartSays}
 use Rattle.world_parts.specs.WorldEvents.{world_event}
@@ -30,8 +30,10 @@ is_name _ = false
 -- so it is told by what the entry is for the lanes, whatever line it came in
 abbrev Tells : Meaning → SettleEntry → Type 0
 Tells x (OfLane k event) = (is_end x ≡ false) × (is_name x ≡ false)
+Tells x (OfPort k event) = (is_end x ≡ false) × (is_name x ≡ false)
 Tells x Settled = (is_end x ≡ true) × (is_name x ≡ false)
 Tells x (Unsettled k) = (is_end x ≡ true) × (is_name x ≡ true)
+Tells x (UnsettledPort k) = (is_end x ≡ true) × (is_name x ≡ true)
 
 tells : (x : Meaning) → Holds (Tells x) x
 tells (AtWire e event) = wire_has (Tells (AtWire e event)) e.lane event (λ k. (refl, refl))
@@ -139,13 +141,14 @@ one_front (x ∷ p) (y ∷ q) j k (inr first) (inr second) here there is =
 -- BY WHAT THEY ARE FOR THE LANES
 lane_end : (x : Meaning) (m : SettleEntry) → IsOfLane m → Tells x m → is_end x ≡ false
 lane_end x (OfLane k event) of_lane told = told.0
-lane_end x Settled of_lane told = absurd of_lane
-lane_end x (Unsettled k) of_lane told = absurd of_lane
+lane_end x (OfPort k event) of_lane told = told.0
+lane_end x _ of_lane told = absurd of_lane
 
 unnamed_end : (x : Meaning) (m : SettleEntry) → LeavesNone m → Tells x m → is_name x ≡ false
 unnamed_end x (OfLane k event) leaves told = told.1
+unnamed_end x (OfPort k event) leaves told = told.1
 unnamed_end x Settled leaves told = told.1
-unnamed_end x (Unsettled k) leaves told = absurd leaves
+unnamed_end x _ leaves told = absurd leaves
 
 as_up_to : (part : List Entry) → IsAnswer part → UpToAnswer part
 as_up_to [] answer = absurd answer

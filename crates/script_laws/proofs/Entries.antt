@@ -2,16 +2,17 @@
 use Rattle.std.proofs.Common.{ℕ, List, [], ◌∷◌, map}
 use Rattle.std.specs.Prelude.{⊤}
 use Rattle.world_laws.proofs.LineEntries.{EachEntry}
-use Rattle.world_laws.specs.Settle.{OfLane, SettleEntry, Settled, Unsettled}
+use Rattle.world_laws.specs.Settle.{OfLane, SettleEntry, Settled, Unsettled, UnsettledPort}
 
 -- an event of a lane
 abbrev pub IsOfLane : SettleEntry → Type 0
 IsOfLane (OfLane k event) = ⊤
 IsOfLane _ = ⊥
 
--- no disk is left over by it
+-- no lane is left over by it
 abbrev pub LeavesNone : SettleEntry → Type 0
 LeavesNone (Unsettled k) = ⊥
+LeavesNone (UnsettledPort k) = ⊥
 LeavesNone _ = ⊤
 
 -- it doesn't say that all is settled
