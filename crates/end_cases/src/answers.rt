@@ -6,7 +6,7 @@ use std::alloc::Global;
 use vdisk_client::ClientOut;
 use vdisk_server::ServerOut;
 use vio_tag::Cause;
-use vnet_port::NetOut;
+use net_lane::NetOut;
 
 /// What a link put.
 pub fn sent_text(alloc: Global, out: &SendOut) -> Option<String> {

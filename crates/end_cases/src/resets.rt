@@ -3,7 +3,7 @@
 use crate::ports::{Port, in_turn};
 use ldc_queue::End;
 use std::alloc::Global;
-use vnet_port::NetOut;
+use net_lane::NetOut;
 
 /// The slots of each ring, and the frames that each end is given.
 const SLOTS: u32 = 4;
