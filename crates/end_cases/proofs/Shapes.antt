@@ -6,7 +6,7 @@ use Rattle.net_lane.specs.NetLaneState.{IsNetShape}
 pub of_eight : IsNetShape (record { address = 0 ∷ 20 ∷ 79 ∷ 248 ∷ 0 ∷ 1 ∷ []; slots = 8; entries = 16 })
 of_eight = record {
   address = refl;
-  bytes = (omega arith, omega arith, omega arith, omega arith, omega arith, omega arith, tt);
+  bytes = (omega arith, (omega arith, (omega arith, (omega arith, (omega arith, (omega arith, tt))))));
   some_slots = omega arith;
   most_slots = omega arith;
   slots = (3, refl);

@@ -12,8 +12,8 @@ use dom_memory::Memory;
 use ldc_link::Role;
 use ldc_queue::{Channel, End};
 use map_table::MapTable;
-use std::alloc::Global;
 use net_lane::{NetEnd, NetOut, SendFault};
+use std::alloc::Global;
 
 /// The guest's end is at the end A of the channel, the switch's, the hub, at B.
 #[derive(Drop)]
