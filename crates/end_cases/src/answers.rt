@@ -2,11 +2,11 @@
 
 use crate::digits::{shown, word_of};
 use ldc_link::{SendOut, TakeOut};
+use net_lane::NetOut;
 use std::alloc::Global;
 use vdisk_client::ClientOut;
 use vdisk_server::ServerOut;
 use vio_tag::Cause;
-use vnet_port::NetOut;
 
 /// What a link put.
 pub fn sent_text(alloc: Global, out: &SendOut) -> Option<String> {

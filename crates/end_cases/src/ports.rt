@@ -12,8 +12,8 @@ use dom_memory::Memory;
 use ldc_link::Role;
 use ldc_queue::{Channel, End};
 use map_table::MapTable;
+use net_lane::{NetEnd, NetOut, SendFault};
 use std::alloc::Global;
-use vnet_port::{NetEnd, NetOut, SendFault};
 
 /// The guest's end is at the end A of the channel, the switch's, the hub, at B.
 #[derive(Drop)]
@@ -305,7 +305,8 @@ pub fn in_turn(number: u32) -> End {
     if number % 2 == 0 { End::A } else { End::B }
 }
 
-fn at_end(word: &str) -> Option<End> {
+/// The end that a word names.
+pub fn at_end(word: &str) -> Option<End> {
     match word {
         "guest" => Some(End::A),
         "hub" => Some(End::B),
@@ -334,7 +335,8 @@ fn end_of(alloc: Global, role: Role, slots: u32) -> Option<NetEnd>
     NetEnd::new(alloc, role, ADDRESS, slots).ok()
 }
 
-fn asked(alloc: Global, end: &NetEnd, call: &str) -> Option<String> {
+/// What an end is asked for, as text.
+pub fn asked(alloc: Global, end: &NetEnd, call: &str) -> Option<String> {
     match call {
         "frame" => runs_of(alloc, end.frame()),
         "groups" => shown(alloc, &end.groups()),

@@ -2,8 +2,8 @@
 
 use crate::ports::{Port, in_turn};
 use ldc_queue::End;
+use net_lane::NetOut;
 use std::alloc::Global;
-use vnet_port::NetOut;
 
 /// The slots of each ring, and the frames that each end is given.
 const SLOTS: u32 = 4;

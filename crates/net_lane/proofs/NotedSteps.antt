@@ -6,8 +6,8 @@ use Rattle.ldc_queue.specs.ChannelView.{ChannelView, configured_channel}
 use Rattle.ldc_queue.specs.declared.end.ChannelState.{ChannelState}
 use Rattle.ldc_queue.specs.declared.end.End.TheVariants.{A, B}
 use Rattle.ldc_queue.specs.Wire.{state_of}
-use Rattle.channel_model.specs.Seeing.{seen}
-use Rattle.port_frames.specs.Memories.{reach_over}
+use Rattle.vnet_port.specs.Seeing.{seen}
+use Rattle.vnet_port.specs.Memories.{reach_over}
 use Rattle.port_model.specs.NetEndState.{NetEndState, joined_net_end}
 use Rattle.port_model.specs.NetEndStep.{NetEndStep, NetLeft}
 use Rattle.port_model.specs.NetEvent.{Steps as StepsOf}

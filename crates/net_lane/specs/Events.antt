@@ -5,8 +5,8 @@ use Rattle.ldc_queue.specs.Wire.{configured, state_of}
 use Rattle.ldc_queue.specs.declared.end.End.{End}
 use Rattle.ldc_queue.specs.declared.end.PutFault.{PutFault}
 use Rattle.ldc_queue.specs.declared.end.PutFault.TheVariants as put
-use Rattle.channel_model.specs.WireEvent.{InjectedFull, NotInjected, NothingLost, PokeRefused}
-use Rattle.channel_model.specs.WireLog.{lossy_behind}
+use Rattle.vnet_port.specs.WireEvent.{InjectedFull, NotInjected, NothingLost, PokeRefused}
+use Rattle.vnet_port.specs.WireLog.{lossy_behind}
 use Rattle.port_model.specs.NetEndState.{joined_net_end}
 use Rattle.port_model.specs.NetLaneState.{NetLaneState, net_end, role_at, with_net_end}
 use Rattle.port_model.specs.NetEvent.{CalmTick, Declines, Injects, Loses, NetEvent, Pokes, Ticked}

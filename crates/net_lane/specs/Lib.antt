@@ -1,3 +1,4 @@
 pub mod Fields
 pub mod Noted
 pub mod Events
+pub use Rattle.port_model.specs.NetLaneState

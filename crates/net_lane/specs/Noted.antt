@@ -1,7 +1,7 @@
 -- What a lane notes of an end that was configured, beside what the end did: whether a packet is still lost.
 use Rattle.std.specs.Prelude.{Bool}
 use Rattle.ldc_queue.specs.declared.end.ChannelState.{ChannelState}
-use Rattle.channel_model.specs.WireLog.{lossy_behind}
+use Rattle.vnet_port.specs.WireLog.{lossy_behind}
 use Rattle.port_model.specs.NetLaneState.{NetLaneState}
 use Rattle.vnet_port.specs.declared.net_out.NetOut.{NetOut}
 use Rattle.vnet_port.specs.declared.net_out.NetOut.TheVariants as out

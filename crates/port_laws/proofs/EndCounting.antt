@@ -1,9 +1,10 @@
 -- What the counts of an end and of its log come to, taken apart and put together again.
-use Rattle.std.proofs.Common.{◌≡◌, ℕ, ◌+◌, ◌≤◌, Bool, true, false, Option, Some, None, List, [], ◌++◌, length, drop, refl, sym, subst, ap, ◌∙◌, arith, length-append, length-drop}
+use Rattle.std.proofs.Common.{◌≡◌, ℕ, ◌+◌, ◌≤◌, Bool, true, false, Option, Some, None, List, [], ◌++◌, length, drop, refl, sym, subst, ap, ◌∙◌, arith, length-append, length-drop, ◌∷◌}
 use Rattle.std.specs.Prelude.{is_none, is_some}
 use Rattle.std.proofs.lemmas.List.{drop-append-le, drop-drop}
 use Rattle.ldc_link.specs.declared.phase.Role.{Role}
 use Rattle.ldc_link.specs.declared.phase.Role.TheVariants.{Initiator, Responder}
+use Rattle.port_model.proofs.Refuting.{false_true}
 use Rattle.port_model.specs.EndLog.{EndLog, SessionLog, said_in, said_kind}
 use Rattle.port_model.specs.NetEndState.{NetEndState, NetSession}
 use Rattle.port_model.specs.Spoken.{GroupsInfo, Spoken, spoken}
@@ -27,6 +28,24 @@ open_counts role slots queue s l p counts is =
     open_log role slots s.groups l.published l.gone (unsaid s) s.link.begun p l.session
     (subst (λ (x : Option NetSession). Counts role slots s.groups l.published l.gone (unsaid s) s.link.begun x l.session) is counts.session)
 
+-- bytes of its own that its link holds; and where it holds none
+pub own_left : (own : Bool) (bytes : List ℕ) → own ≡ true → 1 ≤ length bytes → left_of own bytes ≡ Some bytes
+own_left true [] is some = absurd (omega (arith, some))
+own_left true (byte ∷ bytes) is some = refl
+own_left false bytes is some = false_true is
+
+none_left : (own : Bool) → left_of own [] ≡ None
+none_left true = refl
+none_left false = refl
+
+pub empty_unsaid : (s : NetEndState) → s.link.to_send ≡ [] → unsaid s ≡ None
+empty_unsaid s is = ap (left_of (is_none s.handshake.owed)) is ∙ none_left (is_none s.handshake.owed)
+
+pub open_empty : (role : Role) (slots : ℕ) (queue : List (List ℕ)) (s : NetEndState) (l : EndLog) (p : NetSession) → EndCounts role slots queue s l → s.session ≡ Some p → s.link.to_send ≡ []
+    → OpenCounts role slots s.groups l.published l.gone None s.link.begun p l.session
+open_empty role slots queue s l p counts is empty =
+    subst (λ (x : Option (List ℕ)). OpenCounts role slots s.groups l.published l.gone x s.link.begun p l.session) (empty_unsaid s empty) (open_counts role slots queue s l p counts is)
+
 -- none is open
 pub record ShutCounts (role : Role) (groups : List (List ℕ)) (published gone : ℕ) (log : Option SessionLog) : Type 0 where
   pub is : log ≡ None
@@ -48,14 +67,6 @@ pub with_open : (role : Role) (slots : ℕ) (groups : List (List ℕ)) (publishe
     → session ≡ Some p → SessionCounts role slots groups published gone left begun p v → Counts role slots groups published gone left begun session (Some v)
 with_open role slots groups published gone left begun session p v is counts =
     subst (λ (x : Option NetSession). Counts role slots groups published gone left begun x (Some v)) (sym is) counts
-
--- NOTHING OF THE SESSION IS HELD
-none_left : (own : Bool) → left_of own [] ≡ None
-none_left true = refl
-none_left false = refl
-
-pub empty_unsaid : (s : NetEndState) → s.link.to_send ≡ [] → unsaid s ≡ None
-empty_unsaid s is = ap (left_of (is_none s.handshake.owed)) is ∙ none_left (is_none s.handshake.owed)
 
 -- THE FRAMES, of which some leave
 pub frames_leave : (n : ℕ) (frames queue given : List (List ℕ)) (gone : ℕ) → n ≤ length frames → frames ++ queue ≡ drop gone given → drop n frames ++ queue ≡ drop (gone + n) given

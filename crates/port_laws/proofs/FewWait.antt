@@ -37,7 +37,8 @@ use Rattle.port_laws.specs.WaysStand.{Comes, Goes, Rests, Way, Ways, WaysStand, 
 use Rattle.port_laws.proofs.Outbox.{EachFits, MessageFits, RangeFits, count-append, count_groups, is_groups, listed, outbox, unheard as undrawn}
 use Rattle.port_laws.proofs.PeerOpens.{Talks, mine_at, theirs_at}
 use Rattle.port_laws.proofs.PortTalks.{answers_of, asks_of, open_turns}
-use Rattle.port_laws.proofs.PutCounts.{own_half, own_left}
+use Rattle.port_laws.proofs.EndCounting.{own_left}
+use Rattle.port_laws.proofs.PutCounts.{own_half}
 use Rattle.port_laws.proofs.RingActs.{Finds, acting_at, open_both}
 use Rattle.port_laws.proofs.StepCounts.{Acting}
 use Rattle.port_laws.proofs.TalkGuest.{Between, TalkStands, guest_sid}

@@ -34,12 +34,12 @@ use Rattle.port_model.specs.NetEndStep.{NetLeft, NetSends}
 use Rattle.port_model.specs.RuleFacts.{IsFreeIn}
 use Rattle.port_laws.specs.Counted.{EndCounts, unsaid}
 use Rattle.port_laws.specs.NetCore.{net_core}
-use Rattle.port_laws.proofs.EndCounting.{empty_unsaid}
+use Rattle.port_laws.proofs.EndCounting.{empty_unsaid, own_left}
 use Rattle.port_laws.proofs.EndMoves.{HeldCore, held_core, puts_behind, says_core, waits_core}
 use Rattle.port_laws.proofs.HearsIn.{AllAgreed}
-use Rattle.port_laws.proofs.HeldCounts.{held_counts, some_left}
+use Rattle.port_laws.proofs.HeldCounts.{held_counts}
 use Rattle.port_laws.proofs.Outbox.{SaysRange, says_range}
-use Rattle.port_laws.proofs.PutCounts.{own_half, own_left, own_short, put_empty, put_end, short_left, shut_put}
+use Rattle.port_laws.proofs.PutCounts.{own_half, own_short, put_empty, put_end, short_left, shut_put}
 use Rattle.port_laws.proofs.StepCounts.{Acting}
 use Rattle.port_laws.proofs.TookCounts.{free_empty, session_up}
 
@@ -67,7 +67,7 @@ pub record MayForm (role : Role) (sid : ℕ) (s : NetEndState) (p : NetSession) 
 
 forms_it : (s : NetEndState) (at : Seen) (p q : NetSession) (message : Message) → IsFreeIn s at p → (owes s.link ≡ false → s.link.to_send ≡ []) → FormsIt s (holding_own message q s) (canonical message) q
 forms_it s at p q message free empty = record {
-  now = some_left (is_none s.handshake.owed) (canonical message) (ap (λ (x : Option Message). is_none x) free.free.owed) (omega (arith, length_canonical message));
+  now = own_left (is_none s.handshake.owed) (canonical message) (ap (λ (x : Option Message). is_none x) free.free.owed) (omega (arith, length_canonical message));
   none = empty_unsaid s (empty free.free.quiet);
   session = refl;
   groups = refl;

@@ -1,9 +1,10 @@
 -- The switch's end learns a guest's groups as the guest tells them: each list goes on from the one before, and repeats none.
 use Rattle.std.proofs.Common.{◌≡◌, ℕ, zero, suc, ◌≤◌, Bool, true, false, Some, None, List, [], ◌∷◌, ◌++◌, length, drop, refl, sym, subst, ap, ◌∙◌, arith, append_assoc}
-use Rattle.std.specs.Prelude.{◌&&◌, ◌||◌, nat_eq, take, if◌then◌else◌, ⊤}
+use Rattle.std.specs.Prelude.{◌||◌, nat_eq, take, if◌then◌else◌, ⊤}
 use Rattle.std.specs.Cmp.Lexicographic.{pointwise}
-use Rattle.std.proofs.lemmas.Bool.{eq-eqb, le-leb}
+use Rattle.std.proofs.lemmas.Bool.{le-leb}
 use Rattle.std.proofs.lemmas.List.{append-nil, length-take, take-append-drop}
+use Rattle.port_model.proofs.GroupSets.{same_address}
 use Rattle.port_model.specs.Groups.{at_most_seven, groups_after, is_in, set_groups, with_groups}
 use Rattle.port_model.specs.Spoken.{addresses_of, count_of, set_of, seven_of}
 use Rattle.port_laws.proofs.Outbox.{TellsSome}
@@ -27,10 +28,6 @@ fresh_past first [] ys fresh = subst (λ (zs : List (List ℕ)). Fresh zs ys) (s
 fresh_past first (x ∷ xs) ys fresh = subst (λ (zs : List (List ℕ)). Fresh zs ys) (append_assoc first (x ∷ []) xs) (fresh_past (first ++ x ∷ []) xs ys fresh.1)
 
 -- THOSE THAT ARE KNOWN stay, and others are added in order
-same_address : (address : List ℕ) → pointwise nat_eq address address ≡ true
-same_address [] = refl
-same_address (n ∷ rest) = ap (λ (b : Bool). b && pointwise nat_eq rest rest) (eq-eqb n n refl) ∙ same_address rest
-
 or_first : (a b : Bool) → a ≡ true → (a || b) ≡ true
 or_first true b is = refl
 or_first false b is = absurd (cc is)

@@ -27,7 +27,7 @@ use Rattle.port_model.specs.NetEndTaking.{active, replying}
 use Rattle.port_model.specs.RuleFacts.{IfOpen}
 use Rattle.port_model.specs.Spoken.{GroupsAck, GroupsInfo, Other, RangeAck, RangeInfo, Spoken, count_of, set_of, seven_of, spoken, spoken_by}
 use Rattle.port_laws.specs.Counted.{ActiveCounts, AnswersFor, AnswersRightly, EndCounts, GroupCounts, GuestCounts, GuestGroups, IsAnswer, IsBehind, LastCounts, PeerCounts, RingCounts, SessionCounts, unsaid}
-use Rattle.port_laws.proofs.EndCounting.{OpenCounts, empty_unsaid, end_from, guest_same, open_counts}
+use Rattle.port_laws.proofs.EndCounting.{OpenCounts, empty_unsaid, end_from, guest_same, open_empty}
 use Rattle.port_laws.proofs.LettingGo.{spoken_same}
 use Rattle.port_laws.proofs.MessageDoes.{Acks, Asks, Declines, IsKept, MessageDoes, Names, Told, reply_code}
 use Rattle.port_laws.proofs.ShortMessages.{read_long}
@@ -227,8 +227,7 @@ pub record Hearing (role : Role) (slots : ℕ) (queue : List (List ℕ)) (s : Ne
 opened_of : (role : Role) (slots : ℕ) (queue : List (List ℕ)) (s : NetEndState) (l : EndLog) (p : NetSession) → Hearing role slots queue s l p
     → OpenCounts role slots s.groups l.published l.gone None s.link.begun p l.session
 opened_of role slots queue s l p hearing =
-    subst (λ (x : Option (List ℕ)). OpenCounts role slots s.groups l.published l.gone x s.link.begun p l.session) (empty_unsaid s hearing.empty)
-    (open_counts role slots queue s l p hearing.counts hearing.session)
+    open_empty role slots queue s l p hearing.counts hearing.session hearing.empty
 
 pub heard_counts : (role : Role) (slots : ℕ) (queue : List (List ℕ)) (s : NetEndState) (l : EndLog) (p : NetSession) (memory bytes : List ℕ) (m : Message) (t : NetEndState) (new : List ℕ)
     → Hearing role slots queue s l p → IsWellFormed m → SpellsMessage bytes m → MessageDoes role s p memory m.subtype m.body t new → EndCounts role slots queue t (hears_log slots (Some bytes) l)

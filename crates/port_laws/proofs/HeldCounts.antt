@@ -1,5 +1,5 @@
 -- A message that an end forms is counted as said: the end notes it, and it is right to say.
-use Rattle.std.proofs.Common.{◌≡◌, ℕ, zero, ◌+◌, ◌-◌, ◌^◌, ◌<◌, ◌≤◌, Bool, true, false, Option, Some, None, List, [], ◌∷◌, ◌++◌, length, refl, sym, subst, ap, ◌∙◌, arith}
+use Rattle.std.proofs.Common.{◌≡◌, ℕ, zero, ◌+◌, ◌-◌, ◌^◌, ◌<◌, ◌≤◌, Bool, true, false, Option, Some, None, List, [], ◌++◌, length, refl, sym, subst, ap, ◌∙◌, arith}
 use Rattle.std.specs.Prelude.{◌%◌, is_none}
 use Rattle.std.proofs.Math.Nat.{mod-lt}
 use Rattle.ldc_packet.specs.declared.packet.Subtype.{Subtype}
@@ -26,7 +26,7 @@ use Rattle.port_model.specs.RuleFacts.{IsFreeIn}
 use Rattle.port_model.specs.Spoken.{GroupsInfo, RangeAck, RangeInfo, Spoken, groups_spoken, spoken}
 use Rattle.port_laws.specs.Counted.{ActiveCounts, AnswersFor, AnswersRightly, Counts, EndCounts, GuestCounts, GuestGroups, IsAnswer, LastCounts, PeerCounts, RingCounts, SaysRightly, SessionCounts, left_of, unsaid}
 use Rattle.port_laws.specs.NetFits.{AreShort, NetFits, ReplyFits}
-use Rattle.port_laws.proofs.EndCounting.{OpenCounts, empty_unsaid, guest_same, open_counts}
+use Rattle.port_laws.proofs.EndCounting.{OpenCounts, guest_same, open_empty, own_left}
 use Rattle.port_laws.proofs.OwnBytes.{end_is, groups_spoken_as, membership_reads, membership_says, range_spoken_as, reply_read, seq_is, start_is, state_is}
 use Rattle.port_laws.proofs.ShortMessages.{announcement_short, answer_short, membership_short, reply_short}
 use Rattle.port_laws.proofs.EndMoves.{reply_of}
@@ -41,12 +41,6 @@ small_slot n slots fit =
     let some : zero < slots = omega (arith, fit.some) in
     let below : n % slots < slots = mod-lt n some in
     omega (arith, below, fit.most)
-
--- bytes of its own that the link holds
-pub some_left : (own : Bool) (bytes : List ℕ) → own ≡ true → 1 ≤ length bytes → left_of own bytes ≡ Some bytes
-some_left true [] is some = absurd (omega (arith, some))
-some_left true (byte ∷ bytes) is some = refl
-some_left false bytes is some = false_true is
 
 -- AN END that formed a message of its session
 pub record Forms (role : Role) (slots : ℕ) (s : NetEndState) (p q : NetSession) (v : SessionLog) (published gone : ℕ) (message : Message) (k : Spoken) : Type 0 where
@@ -64,7 +58,7 @@ formed : (role : Role) (slots : ℕ) (queue : List (List ℕ)) (s : NetEndState)
 formed role slots queue s l p q v message k counts log forms =
     let some : 1 ≤ length (canonical message) = omega (arith, length_canonical message) in
     let own : is_none s.handshake.owed ≡ true = ap (λ (x : Option Message). is_none x) forms.owed in
-    let left : unsaid (holding_own message q s) ≡ Some (canonical message) = some_left (is_none s.handshake.owed) (canonical message) own some in
+    let left : unsaid (holding_own message q s) ≡ Some (canonical message) = own_left (is_none s.handshake.owed) (canonical message) own some in
     let there : SessionCounts role slots s.groups l.published l.gone (Some (canonical message)) false q v =
     record {
       right = record { whole = refl; short = forms.short; right = subst (SaysRightly slots s.groups v (canonical message)) (sym forms.kind) forms.right };
@@ -228,9 +222,7 @@ pub record Holding (role : Role) (slots : ℕ) (queue : List (List ℕ)) (s : Ne
 
 opened_here : (role : Role) (slots : ℕ) (queue : List (List ℕ)) (s : NetEndState) (l : EndLog) (at : Seen) (p : NetSession) → Holding role slots queue s l → IsFreeIn s at p
     → OpenCounts role slots s.groups l.published l.gone None s.link.begun p l.session
-opened_here role slots queue s l at p holding free =
-    subst (λ (x : Option (List ℕ)). OpenCounts role slots s.groups l.published l.gone x s.link.begun p l.session) (empty_unsaid s (holding.empty free.free.quiet))
-    (open_counts role slots queue s l p holding.counts free.session)
+opened_here role slots queue s l at p holding free = open_empty role slots queue s l p holding.counts free.session (holding.empty free.free.quiet)
 
 slot_counts : (role : Role) (slots : ℕ) (queue : List (List ℕ)) (s : NetEndState) (l : EndLog) (at : Seen) (p : NetSession) (activity : Activity) (last : Option ℕ) (found : Fetched) (held : NetEndState)
     → Holding role slots queue s l → IsFreeIn s at p → p.active ≡ Some activity → activity.last ≡ last → answers s p activity last found ≡ Some held → EndCounts role slots queue held l

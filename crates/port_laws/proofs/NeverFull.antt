@@ -50,7 +50,7 @@ use Rattle.port_laws.proofs.PeerOpens.{Talks, mine_at, theirs_at}
 use Rattle.port_laws.proofs.PortCounts.{PortCounts, before_wire, wire_event}
 use Rattle.port_laws.proofs.PortRuns.{before_core, fresh_port_core, spoken_behind}
 use Rattle.port_laws.proofs.PortTalks.{answers_of, asks_of}
-use Rattle.port_laws.proofs.PutCounts.{own_left}
+use Rattle.port_laws.proofs.EndCounting.{own_left}
 use Rattle.port_laws.proofs.RingActs.{Finds, acting_at, step_now}
 use Rattle.port_laws.proofs.RingRuns.{finds_before, port_kept}
 use Rattle.port_laws.proofs.TalkGuest.{shut_unsaid}

@@ -51,7 +51,7 @@ use Rattle.port_laws.specs.RingHolds.{RingHolds}
 use Rattle.port_laws.specs.RingStands.{RingIn, taken_by}
 use Rattle.port_laws.specs.WaysStand.{Way, Ways, WaysStand, ack_first, acks_in, info_first, infos_in, or_new}
 use Rattle.port_laws.proofs.CoreLaws.{offers_match, sizes_fit}
-use Rattle.port_laws.proofs.EndCounting.{OpenCounts, empty_unsaid, open_counts}
+use Rattle.port_laws.proofs.EndCounting.{OpenCounts, open_empty}
 use Rattle.port_laws.proofs.HearsIn.{AllAgreed, Hears, OwnRead, hears_in, mine_agreed}
 use Rattle.port_laws.proofs.LaneMoves.{event_core_step}
 use Rattle.port_laws.proofs.Outbox.{MessageFits, outbox}
@@ -141,8 +141,7 @@ expects_at shape e u l k bytes p sid finds up other_up session ways empty front 
 
     here : OpenCounts (role_at e) shape.slots s.groups (log_of_end e l).published (log_of_end e l).gone None s.link.begun p (log_of_end e l).session
     here =
-        subst (λ (x : Option (List ℕ)). OpenCounts (role_at e) shape.slots s.groups (log_of_end e l).published (log_of_end e l).gone x s.link.begun p (log_of_end e l).session) (empty_unsaid s empty)
-        (open_counts (role_at e) shape.slots (queue_of e u) s (log_of_end e l) p counted session)
+        open_empty (role_at e) shape.slots (queue_of e u) s (log_of_end e l) p counted session empty
 
     v : SessionLog
     v = or_new (log_of_end e l).session

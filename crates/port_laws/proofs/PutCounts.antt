@@ -29,7 +29,7 @@ use Rattle.port_model.specs.NetEndState.{NetEndState, NetSession, first_id, open
 use Rattle.port_model.specs.Spoken.{Other, Spoken, spoken}
 use Rattle.port_laws.specs.Counted.{Counts, EndCounts, GuestCounts, HoldsRightly, NoneTold, SaysRightly, SessionCounts, UnsaidRight, left_of, unsaid}
 use Rattle.port_laws.specs.NetCore.{net_core}
-use Rattle.port_laws.proofs.EndCounting.{OpenCounts, ShutCounts, empty_unsaid, open_counts, shut_counts}
+use Rattle.port_laws.proofs.EndCounting.{OpenCounts, ShutCounts, empty_unsaid, open_counts, shut_counts, own_left}
 use Rattle.channel_laws.proofs.PacketsLeft.{opening_shut}
 use Rattle.channel_laws.specs.HandshakeFits.{OwedFits}
 use Rattle.port_laws.proofs.OwedSays.{OwesNoGroups, owed_other}
@@ -152,11 +152,6 @@ short_left k turns packet last = drop_all 56 k.to_send (leb-true (length k.to_se
 pub owing_left : (own : Bool) (bytes : List ℕ) → own ≡ false → left_of own bytes ≡ None
 owing_left false bytes is = refl
 owing_left true bytes is = true_false is
-
-pub own_left : (own : Bool) (bytes : List ℕ) → own ≡ true → 1 ≤ length bytes → left_of own bytes ≡ Some bytes
-own_left true [] is some = absurd (omega (arith, some))
-own_left true (byte ∷ bytes) is some = refl
-own_left false bytes is some = false_true is
 
 -- PUT OF ITS OWN
 half_none : (begun : Bool) (half : List ℕ) → begun ≡ false → begun ≡ not (is_empty half) → half ≡ []

@@ -60,7 +60,7 @@ use Rattle.port_laws.specs.Counted.{ActiveCounts}
 use Rattle.port_laws.specs.NetCore.{fresh_net_core, lane_core}
 use Rattle.port_laws.specs.PortCauses.{ack_cause, info_cause, own_cause, port_cause, session_cause}
 use Rattle.port_laws.specs.PortCore.{port_events}
-use Rattle.port_laws.proofs.EndCounting.{OpenCounts, empty_unsaid, open_counts}
+use Rattle.port_laws.proofs.EndCounting.{OpenCounts, open_counts, open_empty}
 use Rattle.port_laws.proofs.LettingGo.{spoken_same}
 use Rattle.port_laws.proofs.MessageDoes.{not_other}
 use Rattle.port_laws.proofs.CoreLaws.{sizes_fit}
@@ -178,8 +178,7 @@ listens shape e u l packet p v ready rule session log =
     let acting = end_acts shape e u l ready says.0.up in
     let empty = free_empty (role_at e) s (transcript_of e l.transcript) acting.ends says.0.quiet in
     let here : OpenCounts (role_at e) shape.slots s.groups (log_of_end e l).published (log_of_end e l).gone None s.link.begun p (log_of_end e l).session =
-    subst (λ (x : Option (List ℕ)). OpenCounts (role_at e) shape.slots s.groups (log_of_end e l).published (log_of_end e l).gone x s.link.begun p (log_of_end e l).session) (empty_unsaid s empty)
-    (open_counts (role_at e) shape.slots (queue_of e u) s (log_of_end e l) p (end_counted shape e u l ready) session) in
+    open_empty (role_at e) shape.slots (queue_of e u) s (log_of_end e l) p (end_counted shape e u l ready) session empty in
     let may : MayListen p = subst (λ (x : Option NetSession). IfOpen x MayListen) session says.2 in
     let quiet : ActiveCounts shape.slots here.of_log None = subst (ActiveCounts shape.slots here.of_log) may.1 here.counts.peer.active in
     subst (Listens shape.slots p) (same_log (log_of_end e l).session here.of_log v here.is log)

@@ -33,7 +33,7 @@ use Rattle.port_model.specs.PortState.{OfQueue, OnLane, PortEvent, PortState, Po
 use Rattle.port_model.specs.RuleFacts.{IfOpen}
 use Rattle.port_model.specs.Spoken.{RangeAck, Spoken, spoken, spoken_by}
 use Rattle.port_laws.specs.Counted.{ActiveCounts, EndCounts, PeerCounts, SaysRightly, unsaid}
-use Rattle.port_laws.proofs.EndCounting.{OpenCounts, empty_unsaid, left_published, left_seen, open_counts, shut_counts}
+use Rattle.port_laws.proofs.EndCounting.{OpenCounts, left_published, left_seen, open_counts, shut_counts, open_empty}
 use Rattle.port_laws.proofs.PortCounts.{PortCounts, Ready, guest_acts, hub_acts, port_counts, queue_of, ready_before}
 use Rattle.port_laws.proofs.PortRuns.{lawful_along}
 use Rattle.port_laws.proofs.PutCounts.{SaidRight}
@@ -203,7 +203,7 @@ pub active_here : (role : Role) (slots : ℕ) (queue : List (List ℕ)) (s : Net
     → p.active ≡ Some activity → s.link.to_send ≡ [] → (P : SessionLog → Type 0) → ((v : SessionLog) → PeerCounts slots p v → ActiveCounts slots v (Some activity) → P v) → InSession l.session P
 active_here role slots queue s l p activity counts is active empty P holds =
     let here : OpenCounts role slots s.groups l.published l.gone None s.link.begun p l.session =
-    subst (λ (x : Option (List ℕ)). OpenCounts role slots s.groups l.published l.gone x s.link.begun p l.session) (empty_unsaid s empty) (open_counts role slots queue s l p counts is) in
+    open_empty role slots queue s l p counts is empty in
     let busy : ActiveCounts slots here.of_log (Some activity) = subst (ActiveCounts slots here.of_log) active here.counts.peer.active in
     subst (λ (x : Option SessionLog). InSession x P) (sym here.is) (holds here.of_log here.counts.peer busy)
 

@@ -34,7 +34,7 @@ use Rattle.port_model.specs.RestLaws.{AllPublished, IdleAt, IsIdle, IsTold}
 use Rattle.port_model.specs.RuleFacts.{IfOpen, IsFree, MayListen}
 use Rattle.channel_laws.proofs.EndsAtRest.{none_waits}
 use Rattle.port_laws.specs.Counted.{ActiveCounts, AnswersRightly, EndCounts, GroupCounts}
-use Rattle.port_laws.proofs.EndCounting.{OpenCounts, empty_unsaid, open_counts}
+use Rattle.port_laws.proofs.EndCounting.{OpenCounts, empty_unsaid, open_counts, open_empty}
 use Rattle.port_laws.proofs.PortCounts.{PortCounts, Ready}
 use Rattle.port_laws.proofs.RuleFrames.{along, both_open, end_acts, if_session}
 use Rattle.port_laws.proofs.TookCounts.{free_empty}
@@ -124,7 +124,7 @@ pub idle_counts : (role : Role) (slots : ℕ) (queue : List (List ℕ)) (s : Net
     → s.link.to_send ≡ [] → MayListen p → NothingLeft role s p → IdleCounts role slots queue s l v
 idle_counts role slots queue s l v p counts stands session log empty listens left =
     let here : OpenCounts role slots s.groups l.published l.gone None s.link.begun p l.session =
-    subst (λ (x : Option (List ℕ)). OpenCounts role slots s.groups l.published l.gone x s.link.begun p l.session) (empty_unsaid s empty) (open_counts role slots queue s l p counts session) in
+    open_empty role slots queue s l p counts session empty in
     let same : here.of_log ≡ v = (let both : Some here.of_log ≡ Some v = sym here.is ∙ log in cc) in
     let quiet : ActiveCounts slots here.of_log None = subst (ActiveCounts slots here.of_log) listens.1 here.counts.peer.active in
     let stood : CountsStand s p = subst (λ (x : Option NetSession). IfOpen x (CountsStand s)) session stands.session in

@@ -33,7 +33,7 @@ use Rattle.port_laws.specs.NoSlotReset.{NoSlotResetAt}
 use Rattle.port_laws.specs.RingHolds.{RingHolds}
 use Rattle.port_laws.specs.RingStands.{RingIn, taken_by, taken_in, taken_of}
 use Rattle.port_laws.specs.WaysStand.{Comes, Goes, Rests, Way, WaysStand, Works, acks_in, infos_in, or_new}
-use Rattle.port_laws.proofs.EndCounting.{OpenCounts, empty_unsaid, left_seen, open_counts}
+use Rattle.port_laws.proofs.EndCounting.{OpenCounts, left_seen, open_counts, open_empty}
 use Rattle.port_laws.proofs.MemoryRoom.{power_room}
 use Rattle.port_laws.proofs.PortCounts.{queue_of}
 use Rattle.port_laws.proofs.PortRuns.{lawful_along}
@@ -111,8 +111,7 @@ slot_reset shape e u l cause lost left finds ways step = by_rule (port_rule (rol
         let acting = end_acts shape e u l finds.ready says.0.free.up in
         let empty = free_empty (role_at e) s (transcript_of e l.transcript) acting.ends says.0.free.quiet in
         let here : OpenCounts (role_at e) shape.slots s.groups (log_of_end e l).published (log_of_end e l).gone None s.link.begun p (log_of_end e l).session =
-        subst (λ (x : Option (List ℕ)). OpenCounts (role_at e) shape.slots s.groups (log_of_end e l).published (log_of_end e l).gone x s.link.begun p (log_of_end e l).session) (empty_unsaid s empty)
-        (open_counts (role_at e) shape.slots (queue_of e u) s (log_of_end e l) p (end_counted shape e u l finds.ready) says.0.session) in
+        open_empty (role_at e) shape.slots (queue_of e u) s (log_of_end e l) p (end_counted shape e u l finds.ready) says.0.session empty in
         let w : SessionLog = here.of_log in
         let busy : ActiveCounts shape.slots w (Some activity) = subst (ActiveCounts shape.slots w) says.1 here.counts.peer.active in
         let there = open_counts (role_at (peer_of e)) shape.slots (queue_of (peer_of e) u) peer (log_of_end (peer_of e) l) q (end_counted shape (peer_of e) u l finds.ready) is_q in
@@ -154,8 +153,7 @@ slot_reset shape e u l cause lost left finds ways step = by_rule (port_rule (rol
         let acting = end_acts shape e u l finds.ready says.0.free.up in
         let empty = free_empty (role_at e) s (transcript_of e l.transcript) acting.ends says.0.free.quiet in
         let here : OpenCounts (role_at e) shape.slots s.groups (log_of_end e l).published (log_of_end e l).gone None s.link.begun p (log_of_end e l).session =
-        subst (λ (x : Option (List ℕ)). OpenCounts (role_at e) shape.slots s.groups (log_of_end e l).published (log_of_end e l).gone x s.link.begun p (log_of_end e l).session) (empty_unsaid s empty)
-        (open_counts (role_at e) shape.slots (queue_of e u) s (log_of_end e l) p (end_counted shape e u l finds.ready) says.0.session) in
+        open_empty (role_at e) shape.slots (queue_of e u) s (log_of_end e l) p (end_counted shape e u l finds.ready) says.0.session empty in
         let busy : ActiveCounts shape.slots here.of_log (Some activity) = subst (ActiveCounts shape.slots here.of_log) says.1 here.counts.peer.active in
         let asked : here.of_log.asked ≡ here.of_log.acks + 1 = busy.0 in
         let spoke = spoke_some (role_at e) (transcript_of e l.transcript) (log_of_end e l).session here.of_log here.is (spoke_of e u.lane l finds.rings) in

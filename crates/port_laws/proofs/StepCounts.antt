@@ -34,7 +34,7 @@ use Rattle.port_model.specs.RuleFacts.{IfOpen}
 use Rattle.port_laws.specs.Counted.{ActiveCounts, Counts, EndCounts, GuestGroups, LastCounts, NoneTold, SessionCounts, unsaid}
 use Rattle.port_laws.specs.NetCore.{net_core}
 use Rattle.port_laws.specs.NetFits.{NetFits}
-use Rattle.port_laws.proofs.EndCounting.{OpenCounts, ShutCounts, empty_unsaid, frames_leave, gone_within, guest_same, open_counts, shut_counts}
+use Rattle.port_laws.proofs.EndCounting.{OpenCounts, ShutCounts, empty_unsaid, frames_leave, gone_within, guest_same, open_counts, shut_counts, open_empty}
 use Rattle.port_laws.proofs.EndMoves.{HeldCore, held_core, puts_behind, says_core, waits_core}
 use Rattle.channel_laws.proofs.HandshakeFitting.{same_fits}
 use Rattle.channel_laws.specs.HandshakeFits.{HandshakeFits, takes_ring}
@@ -119,7 +119,7 @@ published_counts : (role : Role) (slots : ℕ) (queue : List (List ℕ)) (s : Ne
 published_counts role slots queue s l p counts is empty =
     let left : unsaid s ≡ None = empty_unsaid s empty in
     let here : OpenCounts role slots s.groups l.published l.gone None s.link.begun p l.session =
-    subst (λ (x : Option (List ℕ)). OpenCounts role slots s.groups l.published l.gone x s.link.begun p l.session) left (open_counts role slots queue s l p counts is) in
+    open_empty role slots queue s l p counts is empty in
     let v : SessionLog = here.of_log in
     let there : SessionCounts role slots s.groups (l.published + 1) l.gone None s.link.begun (published p) (more_published v) =
     record {
@@ -159,7 +159,7 @@ frame_counts : (role : Role) (slots : ℕ) (queue : List (List ℕ)) (s : NetEnd
 frame_counts role slots queue s l p activity frame counts is active peer empty =
     let left : unsaid s ≡ None = empty_unsaid s empty in
     let here : OpenCounts role slots s.groups l.published l.gone None s.link.begun p l.session =
-    subst (λ (x : Option (List ℕ)). OpenCounts role slots s.groups l.published l.gone x s.link.begun p l.session) left (open_counts role slots queue s l p counts is) in
+    open_empty role slots queue s l p counts is empty in
     let v : SessionLog = here.of_log in
     let busy : ActiveCounts slots v (Some activity) = subst (ActiveCounts slots v) active here.counts.peer.active in
     let there : SessionCounts role slots s.groups l.published l.gone None s.link.begun (taken s p activity) (more_taken v) =

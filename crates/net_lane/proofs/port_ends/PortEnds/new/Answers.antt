@@ -2,7 +2,7 @@ use Rattle.std.proofs.Common.{◌≡◌, ◌+◌, ◌*◌, ◌≤◌, ℕ, List,
 use Rattle.std.proofs.lemmas.List.{length-replicate}
 use Rattle.cookie_copy.proofs.OwnPages.{own_within}
 use Rattle.cookie_copy.specs.Faults.{PagesWithin}
-use Rattle.port_frames.specs.Memories.{HoldsRing}
+use Rattle.vnet_port.specs.Memories.{HoldsRing}
 use Rattle.port_model.specs.NetEndState.{NetEndState}
 use Rattle.vnet_msg.specs.Frames.{memory_pages}
 use Rattle.vnet_port.specs.Calls.{role_of}
