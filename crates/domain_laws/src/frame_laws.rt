@@ -19,7 +19,7 @@ ghost use Rattle.domain_laws.specs.Domain.{DomainState, DomainStep, fresh_domain
 ghost use Rattle.domain_laws.specs.Frames.{EndsSettled, frames_arrived, frames_put, frames_queued, frames_switched, port_events};
 
 /// On each port of a world that nobody forged, the frames that its end at the switch took are some of those that its
-/// guest was given, and those that its guest took some of those that the switch put into its out queue. They are in
+/// guest was given. Those that its guest took are some of those that the switch put into its out queue. They are in
 /// order, each at most once, whatever was lost and reset, and whatever happened to other disks and ports.
 pub fn frames_of_each_port_arrive_in_order()
     ensures to_switch { (shapes : List Shape) (image : ImageState) (nets : List NetShape) → EachOf IsNetShape nets
@@ -50,7 +50,7 @@ pub fn all_frames_of_a_port_arrive_where_a_world_ends_settled()
         → frames_arrived k (before ++ part) ≡ frames_put k (before ++ part) }
 {}
 
-/// What a journal tells of the frames of a port is what its log has of them: the frames `Queued` at it are those that its
+/// What a journal tells of the frames of a port is what its log has of them. The frames `Queued` at it are those that its
 /// guest was given, and those `Switched` at it those that its end at the switch took. Those `Switched` at others with it
 /// in their set are what was put into its out queue, and those of `Frame` at its guest what that took.
 pub fn a_journal_tells_the_frames_of_each_port()

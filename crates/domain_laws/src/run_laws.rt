@@ -17,8 +17,8 @@ ghost use Rattle.world_laws.specs.World.{fresh_world, IsWorld, WorldState, World
 ghost use Rattle.domain_laws.specs.Along.{IsOfDisk, IsOfPort, OnlyDisk, OnlyPort, port_happened, port_said};
 ghost use Rattle.domain_laws.specs.Domain.{DomainState, DomainStep, fresh_domain, PortsStep};
 
-/// A run of a world of disks and ports is a run of the disks' world and one of the switch, each over the same entries,
-/// and two such runs are one of both. So each law of a world of disks that is stated over runs holds as it stands.
+/// A run of a world of disks and ports is a run of the disks' world and one of the switch, each over the same entries.
+/// Two such runs are one of both. So each law of a world of disks that is stated over runs holds as it stands.
 pub fn each_kind_runs_by_the_one_journal()
     ensures disks { (w : DomainState) (entries : List SettleEntry) (v : DomainState) → Run DomainStep w entries v
         → Run WorldStep w.first entries v.first }

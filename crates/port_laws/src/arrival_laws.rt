@@ -10,8 +10,8 @@ ghost use Rattle.port_model.specs.PortState.{fresh_port, PortEvent, PortState, P
 ghost use Rattle.port_laws.specs.InOrder.{frames_taken};
 ghost use Rattle.port_laws.specs.Lost.{frames_lost};
 
-/// On a port that nobody forged, each frame that an end was given was taken by the other end, or is held, or is one of
-/// those that the end says are lost at its joins and resets. At the switch's end what waits in the out queue is held.
+/// On a port that nobody forged, each frame that an end was given was taken by the other end, is held, or was said to be
+/// lost. The joins and resets of the end say that. At the switch's end what waits in the out queue is held.
 pub fn each_frame_arrives_or_is_held_or_lost()
     ensures to_switch { (shape : NetShape) (events : List PortEvent) (s : PortState) → IsNetShape shape → Run PortStep (fresh_port shape) events s
         → s.lane.wire.forged ≡ false
@@ -22,8 +22,8 @@ pub fn each_frame_arrives_or_is_held_or_lost()
         ≤ (length (frames_taken A events) + frames_lost B events) + length (s.lane.hub.frames ++ s.queue) }
 {}
 
-/// On a port that nobody forged, where an end holds no frame and none of its joins and resets says that one is lost, the
-/// frames that the other end took are all those that it was given, byte by byte and in their order.
+/// On a port that nobody forged, the other end took all frames that an end was given, byte by byte and in their order,
+/// where no frame is held. None of its joins and resets says then that one is lost.
 pub fn all_frames_arrive_where_none_is_lost()
     ensures to_switch { (shape : NetShape) (events : List PortEvent) (s : PortState) → IsNetShape shape → Run PortStep (fresh_port shape) events s
         → s.lane.wire.forged ≡ false → frames_lost A events ≡ 0 → s.lane.guest.frames ≡ []

@@ -46,7 +46,7 @@ pub fn a_port_is_two_ends_on_a_channel()
 {}
 
 /// Along every run of a port's lane, forged or not, it is lossy exactly where a packet was lost behind the last event
-/// that emptied the queues: one that began an end anew that was up.
+/// that emptied the queues. Such an event began an end anew that was up.
 pub fn a_port_is_lossy_behind_a_loss()
     ensures lossy { (shape : NetShape) (events : List NetEvent) (s : NetLaneState) → IsNetShape shape
         → Run NetLaneStep (fresh_net shape) events s → s.wire.lossy ≡ true → LossStands shape.entries (core_events events) }

@@ -60,8 +60,9 @@ pub fn a_frame_is_taken_while_an_announcement_waits()
         → Lawful TakingAt after (no_events shape) events }
 {}
 
-/// Along every run of a port, forged or not, each DRING_DATA ACK that an end says in a session has state 2, and the number
-/// of the INFO that it answers. It names the slots of the frames that the end took since its ACK before, of which there is one at least.
+/// Along every run of a port, forged or not, each DRING_DATA ACK that an end says in a session has state 2. It has the
+/// number of the INFO that it answers. It names the slots of the frames that the end took since its ACK before, of which
+/// there is one at least.
 pub fn each_ack_names_the_frames_taken_since_the_last()
     ensures { (shape : NetShape) (events : List PortEvent) (s : PortState) → IsNetShape shape → Run PortStep (fresh_port shape) events s
         → Lawful AcknowledgesAt after (no_events shape) events }

@@ -43,9 +43,9 @@ pub fn requests_complete_once_in_order()
         → (x : ℕ) → CompletesOnceInOrder (history x (journal_of parts)) }
 {}
 
-/// An image that tells its bytes goes on to tell as many, and outside of the blocks that accepted requests write they
-/// stay as they were; of a disk that somebody forged, outside of the disk's region. It is so too where an image failed,
-/// and where memory was wanted within a line. Each request writes to its own disk.
+/// An image that tells its bytes goes on to tell as many. Outside of the blocks that accepted requests write they stay as
+/// they were; of a disk that somebody forged, outside of the disk's region. It is so too where an image failed, and where
+/// memory was wanted within a line. Each request writes to its own disk.
 pub fn bytes_outside_of_writes_stay()
     ensures { (disks : List DiskDecl) (image : ImageState) (entries : ℕ) (parts : ScriptParts) (v : WorldState)
         → AreDisks disks → FitsScript entries (world_of disks image) parts v
@@ -62,9 +62,9 @@ pub fn failed_completions_are_counted()
         → FailuresCounted (journal_of parts) v.image.faults }
 {}
 
-/// Each call of the image is told. It was called as often as the journal says `stored`, and asked to flush or to write as
-/// often as that says so of a flush or a write, whether it failed or not. Where nothing was asked of it at first and its
-/// count can't have stopped at the last value. These are counts: so many of them were asked as are told, and no more.
+/// Each call of the image is told: it was called as often as the journal says `stored`, whether that failed or not. So
+/// many of them were flushes and so many writes as the journal says. It is so where nothing was asked of it at first and
+/// its count can't have stopped at the last value. These are counts: as many were asked as are told, and no more.
 pub fn calls_of_the_image_are_told()
     ensures calls { (disks : List DiskDecl) (image : ImageState) (entries : ℕ) (parts : ScriptParts) (v : WorldState)
         → AreDisks disks → FitsScript entries (world_of disks image) parts v

@@ -64,8 +64,8 @@ pub fn failed_completions_are_counted()
 {}
 
 /// In a world the image's count of calls is that of the start, and one higher for each call of a store that its journal
-/// tells, of any lane. And its counts of flushes and of writes are one higher for each that flushes or writes. So it is
-/// called, flushed and written as often as that is told: also where somebody forges packets and memory and where the store fails.
+/// tells, of any lane. Its counts of flushes and of writes are one higher for each that flushes or writes. So it is
+/// called, flushed and written as often as that is told, also where packets and memory are forged and where it fails.
 pub fn calls_of_the_image_are_told()
     ensures calls { (w : WorldState) (entries : List SettleEntry) (v : WorldState)
         → Run WorldStep w entries v → v.image.calls ≡ count_after (count_by (in_entry is_store) entries) w.image.calls }
