@@ -14,7 +14,7 @@ use Rattle.vio_bytes.specs.Place.{put_at}
 use Rattle.vio_bytes.specs.Range.{range_at}
 use Rattle.cached_store.specs.Kept.{KeepsNoneOf, KeepsNoneOfRange, KeepsOf, KeepsOfRange, MayPut, MayPutRange, kept_block, put_first, used, without}
 use Rattle.cached_store.specs.Slots.{IsRoom, kept_of}
-use Rattle.cached_store.proofs.Slots.{kept_put, spare_apart, spare_below}
+use Rattle.cached_store.proofs.Slots.{kept_put, spare_apart, spare_within}
 use Rattle.cached_store.proofs.Valued.{fewer, found_none, found_value, keys-valued, missed, promoted-valued, remove-valued}
 
 -- ONE KEY: none of these keys is it
@@ -128,10 +128,8 @@ pub put_seen : (s new : LruCache ℕ ℕ) (number spare most : ℕ) (piece free 
     → new ≡ lru_cache (put_entries nat_eq s number spare) s.cap → length piece ≡ 512 → IsRoom most spare s.entries free bytes
     → kept_of (put_at (512 * spare) piece bytes) new.entries ≡ put_first most number piece (kept_of bytes s.entries)
 put_seen s new number spare most piece free bytes valid cap is long room =
-    let below : spare ≤ most = spare_below most spare s.entries free bytes room in
-    let bytes_long = room.bytes_long in
     ap (λ (t : LruCache ℕ ℕ). kept_of (put_at (512 * spare) piece bytes) t.entries) is
-    ∙ kept_put s number spare piece bytes long (omega (arith, below, bytes_long)) (spare_apart most spare s.entries free bytes room)
+    ∙ kept_put s number spare piece bytes long (spare_within most spare s.entries free bytes room) (spare_apart most spare s.entries free bytes room)
     ∙ put_is (lru_cache (kept_of bytes s.entries) s.cap) number piece (valid_seen bytes s valid)
     ∙ ap (λ (m : ℕ). put_first m number piece (kept_of bytes s.entries)) cap
 

@@ -161,12 +161,13 @@ module _ (s : LruCache ℕ ℕ) (number spare : ℕ) (valid : IsValid nat_eq s) 
 
 -- THE ROOM: what its slots tell
 module _ (most spare : ℕ) (es : List (ℕ × ℕ)) (free bytes : List ℕ) (room : IsRoom most spare es free bytes) where
-  pub spare_below : spare ≤ most
-  spare_below =
+  pub spare_within : 512 * spare + 512 ≤ length bytes
+  spare_within =
       let all = times_total spare most spare es free in
       let one = hits_same spare in
       let below : spare < suc most = room.slots.below spare (omega (arith, all, one)) in
-      omega (arith, below)
+      let long = room.bytes_long in
+      omega (arith, below, long)
 
   pub spare_apart : times spare (slots_of es) ≡ 0
   spare_apart =
@@ -175,13 +176,14 @@ module _ (most spare : ℕ) (es : List (ℕ × ℕ)) (free bytes : List ℕ) (ro
       let once = room.slots.once spare in
       omega (arith, all, one, once)
 
-  pub slot_below : (test : ℕ → Bool) (s : ℕ) → lookup test es ≡ Some s → s ≤ most
-  slot_below test s found =
+  pub slot_within : (test : ℕ → Bool) (s : ℕ) → lookup test es ≡ Some s → 512 * s + 512 ≤ length bytes
+  slot_within test s found =
       let all = times_total s most spare es free in
       let here = times_found s test es s found in
       let one = hits_same s in
       let below : s < suc most = room.slots.below s (omega (arith, all, here, one)) in
-      omega (arith, below)
+      let long = room.bytes_long in
+      omega (arith, below, long)
 
   -- and how it stays one: by a use
   used_by : (test : ℕ → Bool) (o : Option (ℕ × ℕ)) → lookup_entry test es ≡ o

@@ -1,4 +1,4 @@
-use Rattle.std.proofs.Common.{◌≡◌, ◌-◌, ◌<◌, ◌≤◌, ℕ, List, None, nat_eq, length, take, drop, get_or, ◌++◌, ap, sym, subst, ◌∙◌, inl, inr, arith}
+use Rattle.std.proofs.Common.{◌≡◌, ◌-◌, ◌<◌, ℕ, List, None, nat_eq, length, take, drop, get_or, ◌++◌, ap, sym, subst, ◌∙◌, inl, inr, arith}
 use Rattle.std.specs.List.{IsDistinct}
 use Rattle.std.specs.Map.{keys_of}
 use Rattle.std.proofs.lemmas.List.{take_at}
@@ -6,7 +6,7 @@ use Rattle.lru.specs.LruCache.{LruCache, put_entries}
 use Rattle.cached_store.specs.Kept.{KeptState, kept_block, put_first}
 use Rattle.cached_store.specs.Slots.{IsRoom, kept_of}
 use Rattle.cached_store.proofs.Keeping.{bytes_written, distinct_seen, may_put_keeps, none_seen, put_seen}
-use Rattle.cached_store.proofs.Slots.{room_behind, room_more, room_put, some_left, spare_below}
+use Rattle.cached_store.proofs.Slots.{room_behind, room_more, room_put, some_left, spare_within}
 use Rattle.cached_store.proofs.kept_blocks.KeptBlocks.put_block.Goals as goal
 use Rattle.cached_store.proofs.kept_blocks.KeptBlocks.put_block.Goals.{in-Some, in-None}
 
@@ -28,12 +28,9 @@ returns-in_default-clause-fresh c =
 
 pub fill-requires-clause-within : goal.fill-requires-clause-within
 fill-requires-clause-within c =
-    let room = c.self.invariant.0 in
-    let below : c.self.inside.spare ≤ c.self.inside.most =
-    spare_below c.self.inside.most c.self.inside.spare c.self.inside.map.entries c.self.inside.free.items c.self.inside.bytes.items room in
-    let long = room.bytes_long in
-    let same : length c.deref_mut.result.now ≡ length c.self.inside.bytes.items = ap length c.deref_mut.ensures.value in
-    omega (arith, below, long, same)
+    let within = spare_within c.self.inside.most c.self.inside.spare c.self.inside.map.entries c.self.inside.free.items c.self.inside.bytes.items c.self.invariant.0 in
+    let same = ap length c.deref_mut.ensures.value in
+    omega (arith, within, same)
 
 pub overflow_sub-left-in-None : goal.overflow_sub-left-in-None
 overflow_sub-left-in-None c =

@@ -1,9 +1,9 @@
-use Rattle.std.proofs.Common.{◌≡◌, ◌+◌, ◌-◌, ◌*◌, ◌<◌, ◌≤◌, ℕ, List, Some, nat_eq, length, take, drop, ap, sym, subst, ◌∙◌, arith}
+use Rattle.std.proofs.Common.{◌≡◌, ◌+◌, ◌-◌, ◌*◌, ◌<◌, ℕ, List, Some, nat_eq, length, take, drop, ap, sym, subst, ◌∙◌, arith}
 use Rattle.lru.specs.LruCache.{LruCache}
 use Rattle.cached_store.specs.Kept.{KeptState}
 use Rattle.cached_store.specs.Slots.{IsRoom}
 use Rattle.cached_store.proofs.Keeping.{found_seen, missed_seen, used_seen}
-use Rattle.cached_store.proofs.Slots.{room_used, slot_below}
+use Rattle.cached_store.proofs.Slots.{room_used, slot_within}
 use Rattle.cached_store.proofs.kept_blocks.KeptBlocks.use_block.Goals as goal
 
 pub invariant_of-self : goal.invariant_of-self
@@ -23,34 +23,24 @@ returns-in_default-clause-used c =
 
 pub overflow_mul-at : goal.overflow_mul-at
 overflow_mul-at c =
-    let room = c.self.invariant.0 in
-    let slot = c.in-Some.slot.now in
-    let below : slot ≤ c.self.inside.most =
-    slot_below c.self.inside.most c.self.inside.spare c.self.inside.map.entries c.self.inside.free.items c.self.inside.bytes.items room
-    (nat_eq c.args.number) slot (sym c.in-Some.ensures.value) in
-    let long = room.bytes_long in
-    omega (arith, below, long)
+    let within = slot_within c.self.inside.most c.self.inside.spare c.self.inside.map.entries c.self.inside.free.items c.self.inside.bytes.items c.self.invariant.0
+    (nat_eq c.args.number) c.in-Some.slot.now (sym c.in-Some.ensures.value) in
+    let long = c.self.inside.bytes.small in
+    omega (arith, within, long)
 
 pub overflow_add-at : goal.overflow_add-at
 overflow_add-at c =
-    let room = c.self.invariant.0 in
-    let slot = c.in-Some.slot.now in
-    let below : slot ≤ c.self.inside.most =
-    slot_below c.self.inside.most c.self.inside.spare c.self.inside.map.entries c.self.inside.free.items c.self.inside.bytes.items room
-    (nat_eq c.args.number) slot (sym c.in-Some.ensures.value) in
-    let long = room.bytes_long in
-    omega (arith, below, long)
+    let within = slot_within c.self.inside.most c.self.inside.spare c.self.inside.map.entries c.self.inside.free.items c.self.inside.bytes.items c.self.invariant.0
+    (nat_eq c.args.number) c.in-Some.slot.now (sym c.in-Some.ensures.value) in
+    let long = c.self.inside.bytes.small in
+    omega (arith, within, long)
 
 pub slice_bounds-copy_from_slice-end : goal.slice_bounds-copy_from_slice-end
 slice_bounds-copy_from_slice-end c =
-    let room = c.self.invariant.0 in
-    let slot = c.in-Some.slot.now in
-    let below : slot ≤ c.self.inside.most =
-    slot_below c.self.inside.most c.self.inside.spare c.self.inside.map.entries c.self.inside.free.items c.self.inside.bytes.items room
-    (nat_eq c.args.number) slot (sym c.in-Some.ensures.value) in
-    let long = room.bytes_long in
-    let same : length c.deref.result.now ≡ length c.self.inside.bytes.items = ap length c.deref.ensures.value in
-    omega (arith, below, long, same)
+    let within = slot_within c.self.inside.most c.self.inside.spare c.self.inside.map.entries c.self.inside.free.items c.self.inside.bytes.items c.self.invariant.0
+    (nat_eq c.args.number) c.in-Some.slot.now (sym c.in-Some.ensures.value) in
+    let same = ap length c.deref.ensures.value in
+    omega (arith, within, same)
 
 pub invariant_of-self-2 : goal.invariant_of-self-2
 invariant_of-self-2 c =
