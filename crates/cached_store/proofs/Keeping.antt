@@ -1,16 +1,21 @@
 -- What a put and a removal leave of the kept blocks, and rows of them.
-use Rattle.std.proofs.Common.{◌≡◌, ◌≢◌, ℕ, suc, ◌+◌, ◌-◌, ◌*◌, ◌<◌, ◌≤◌, Bool, true, false, nat_eq, List, [], ◌∷◌, length, take, Contains, Option, Some, None, refl, sym, ap, ◌∙◌, subst, inl, inr, arith, Result, Ok, Err, OnOk, OnErr}
-use Rattle.std.specs.Prelude.{IsOk, IsSome}
+use Rattle.std.proofs.Common.{◌≡◌, ◌≢◌, ℕ, suc, ◌+◌, ◌-◌, ◌*◌, ◌<◌, ◌≤◌, true, false, nat_eq, List, [], ◌∷◌, ◌++◌, length, take, drop, Contains, Option, Some, None, refl, sym, ap, ◌∙◌, subst, inl, inr, arith}
+use Rattle.std.specs.Prelude.{IsSome, is_some}
 use Rattle.std.specs.List.{AllByRecursion, IsDistinct}
-use Rattle.std.specs.Map.{keys_of, lookup_entry, remove_entry}
-use Rattle.std.specs.Option.{option_map_or}
+use Rattle.std.specs.Map.{keys_of, lookup, lookup_entry, remove_entry}
+use Rattle.std.specs.Option.{option_map, option_map_or}
 use Rattle.std.proofs.lemmas.Bool.{cases_lt, eqb-false, eqb-true}
-use Rattle.std.proofs.lemmas.List.{take_all}
-use Rattle.lru.specs.LruCache.{IsValid, LruCache, lru_cache, put_entries}
+use Rattle.std.proofs.lemmas.List.{length-map, take_all, take_at}
+use Rattle.std.proofs.lemmas.Map.Made.{lookup-map_values}
+use Rattle.lru.specs.LruCache.{IsValid, LruCache, lru_cache, promoted, put_entries}
 use Rattle.lru.proofs.CallerLemmas.{Contains-lookup_entry, Contains-take}
 use Rattle.lru.proofs.Splits.{Contains-cons, Contains-head, Contains-nil, Contains-tail}
+use Rattle.vio_bytes.specs.Place.{put_at}
 use Rattle.vio_bytes.specs.Range.{range_at}
-use Rattle.cached_store.specs.Kept.{KeepsNoneOf, KeepsNoneOfRange, KeepsOf, KeepsOfRange, MayPut, MayPutRange, kept_block, put_first, without}
+use Rattle.cached_store.specs.Kept.{KeepsNoneOf, KeepsNoneOfRange, KeepsOf, KeepsOfRange, MayPut, MayPutRange, kept_block, put_first, used, without}
+use Rattle.cached_store.specs.Slots.{IsRoom, kept_of}
+use Rattle.cached_store.proofs.Slots.{kept_put, spare_apart, spare_within}
+use Rattle.cached_store.proofs.Valued.{fewer, found_none, found_value, keys-valued, missed, promoted-valued, remove-valued}
 
 -- ONE KEY: none of these keys is it
 apart : (number : ℕ) (es : List (ℕ × List ℕ)) (e : ℕ × List ℕ) → AllByRecursion (λ (y : ℕ). nat_eq number y ≡ false) (keys_of es) → Contains es e → e.0 ≢ number
@@ -45,20 +50,6 @@ removed number (f ∷ es) distinct e c = (elim (nat_eq number f.0) as (λ y. nat
 ]) refl
 
 -- A PUT is that of the map
-missed : (test : ℕ → Bool) (es : List (ℕ × List ℕ)) → lookup_entry test es ≡ None → remove_entry test es ≡ es
-missed test [] none = refl
-missed test (f ∷ es) none = (elim (test f.0) as (λ y. test f.0 ≡ y → remove_entry test (f ∷ es) ≡ f ∷ es) [
-  | true ↦ λ t. let h = rw t at none in absurd (cc)
-  | false ↦ λ t. rw t (ap (λ (l : List (ℕ × List ℕ)). f ∷ l) (missed test es (rw t at none)))
-]) refl
-
-fewer : (test : ℕ → Bool) (es : List (ℕ × List ℕ)) (f : ℕ × List ℕ) → lookup_entry test es ≡ Some f → suc (length (remove_entry test es)) ≡ length es
-fewer test [] f is = absurd (cc)
-fewer test (e ∷ es) f is = (elim (test e.0) as (λ y. test e.0 ≡ y → suc (length (remove_entry test (e ∷ es))) ≡ length (e ∷ es)) [
-  | true ↦ λ t. rw t refl
-  | false ↦ λ t. rw t (ap suc (fewer test es f (rw t at is)))
-]) refl
-
 module _ (s : LruCache ℕ (List ℕ)) (number : ℕ) (bytes : List ℕ) (valid : IsValid nat_eq s) where
   by_entry : (o : Option (ℕ × List ℕ)) → lookup_entry (nat_eq number) s.entries ≡ o
       → option_map_or (λ (e : ℕ × List ℕ). (e.0, bytes) ∷ without number s.entries) o ((number, bytes) ∷ take (s.cap - 1) s.entries) ≡ put_first s.cap number bytes s.entries
@@ -66,10 +57,10 @@ module _ (s : LruCache ℕ (List ℕ)) (number : ℕ) (bytes : List ℕ) (valid 
       let some : 0 < s.cap = valid.2 in
       let one_more : s.cap ≡ suc (s.cap - 1) = omega (arith, some) in
       sym (ap (λ (n : ℕ). take n ((number, bytes) ∷ without number s.entries)) one_more
-      ∙ ap (λ (l : List (ℕ × List ℕ)). (number, bytes) ∷ take (s.cap - 1) l) (missed (nat_eq number) s.entries is))
+      ∙ ap (λ (l : List (ℕ × List ℕ)). (number, bytes) ∷ take (s.cap - 1) l) (missed (nat_eq number) s.entries (found_none (nat_eq number) s.entries is)))
   by_entry (Some f) is =
       let key : number ≡ f.0 = eqb-true number f.0 (Contains-lookup_entry (nat_eq number) s.entries f is).1 in
-      let one : suc (length (without number s.entries)) ≡ length s.entries = fewer (nat_eq number) s.entries f is in
+      let one : suc (length (without number s.entries)) ≡ length s.entries = fewer (nat_eq number) s.entries f.1 (found_value (nat_eq number) s.entries f is) in
       let few : length s.entries ≤ s.cap = valid.1 in
       let fits : length ((number, bytes) ∷ without number s.entries) ≤ s.cap = omega (arith, one, few) in
       ap (λ (k : ℕ). (k, bytes) ∷ without number s.entries) (sym key) ∙ sym (take_all s.cap ((number, bytes) ∷ without number s.entries) fits)
@@ -122,15 +113,80 @@ pub may_put_more : (most first n : ℕ) (bytes : List ℕ) (old mid new : List (
     → MayPut most (first + n) (range_at (512 * n) 512 bytes) mid new → MayPutRange most first (suc n) bytes old new
 may_put_more most first n bytes old mid new before last = (mid, before, last)
 
--- what the map answered to a put
-none_of : (o : Option (List ℕ)) → (IsSome o → false ≡ true) → o ≡ None
+-- BEHIND A PUT OF THE MAP, whose bytes were written to the spare slot
+pub distinct_seen : (bytes : List ℕ) (es : List (ℕ × ℕ)) → IsDistinct nat_eq (keys_of es) → IsDistinct nat_eq (keys_of (kept_of bytes es))
+distinct_seen bytes es = subst (IsDistinct nat_eq) (sym (keys-valued (λ (x : ℕ). range_at (512 * x) 512 bytes) es))
+
+valid_seen : (bytes : List ℕ) (s : LruCache ℕ ℕ) → IsValid nat_eq s → IsValid nat_eq (lru_cache (kept_of bytes s.entries) s.cap)
+valid_seen bytes s valid = (
+  distinct_seen bytes s.entries valid.0,
+  (let few = valid.1 in let long = length-map {B = ℕ × List ℕ} s.entries (λ (e : ℕ × ℕ). (e.0, range_at (512 * e.1) 512 bytes)) in omega (arith, few, long)),
+  valid.2,
+)
+
+pub put_seen : (s new : LruCache ℕ ℕ) (number spare most : ℕ) (piece free bytes : List ℕ) → IsValid nat_eq s → s.cap ≡ most
+    → new ≡ lru_cache (put_entries nat_eq s number spare) s.cap → length piece ≡ 512 → IsRoom most spare s.entries free bytes
+    → kept_of (put_at (512 * spare) piece bytes) new.entries ≡ put_first most number piece (kept_of bytes s.entries)
+put_seen s new number spare most piece free bytes valid cap is long room =
+    ap (λ (t : LruCache ℕ ℕ). kept_of (put_at (512 * spare) piece bytes) t.entries) is
+    ∙ kept_put s number spare piece bytes long (spare_within most spare s.entries free bytes room) (spare_apart most spare s.entries free bytes room)
+    ∙ put_is (lru_cache (kept_of bytes s.entries) s.cap) number piece (valid_seen bytes s valid)
+    ∙ ap (λ (m : ℕ). put_first m number piece (kept_of bytes s.entries)) cap
+
+none_of : (o : Option ℕ) → (IsSome o → false ≡ true) → o ≡ None
 none_of None succeeds = refl
 none_of (Some x) succeeds = absurd (let no = succeeds refl in cc)
 
-pub put_result : {T E : Type 0} (result : Result T E) (s new : LruCache ℕ (List ℕ)) (number most : ℕ) (bytes : List ℕ) → IsValid nat_eq s → s.cap ≡ most
-    → OnOk result (new ≡ lru_cache (put_entries nat_eq s number bytes) s.cap) → OnErr result (new ≡ s) → (IsSome (kept_block number s.entries) → IsOk result)
-    → MayPut most number bytes s.entries new.entries
-put_result (Ok x) s new number most bytes valid cap ok err succeeds =
-    inl (ap (λ (t : LruCache ℕ (List ℕ)). t.entries) ok ∙ put_is s number bytes valid ∙ ap (λ (m : ℕ). put_first m number bytes s.entries) cap)
-put_result (Err e) s new number most bytes valid cap ok err succeeds =
-    inr (none_of (kept_block number s.entries) succeeds, ap (λ (t : LruCache ℕ (List ℕ)). t.entries) err)
+pub none_seen : (bytes : List ℕ) (es : List (ℕ × ℕ)) (number : ℕ) → (IsSome (lookup (nat_eq number) es) → false ≡ true) → kept_block number (kept_of bytes es) ≡ None
+none_seen bytes es number succeeds =
+    lookup-map_values (λ (x : ℕ). range_at (512 * x) 512 bytes) (nat_eq number) es
+    ∙ ap (option_map (λ (x : ℕ). range_at (512 * x) 512 bytes)) (none_of (lookup (nat_eq number) es) succeeds)
+
+-- whether one is found doesn't hang on the bytes
+some_as : (g : ℕ → List ℕ) (o : Option ℕ) → is_some (option_map g o) ≡ is_some o
+some_as g None = refl
+some_as g (Some x) = refl
+
+pub some_seen : (bytes : List ℕ) (es : List (ℕ × ℕ)) (number : ℕ) → is_some (kept_block number (kept_of bytes es)) ≡ is_some (lookup (nat_eq number) es)
+some_seen bytes es number =
+    ap is_some (lookup-map_values (λ (x : ℕ). range_at (512 * x) 512 bytes) (nat_eq number) es)
+    ∙ some_as (λ (x : ℕ). range_at (512 * x) 512 bytes) (lookup (nat_eq number) es)
+
+-- BEHIND A REMOVAL, and behind a use
+pub without_seen : (bytes : List ℕ) (s new : LruCache ℕ ℕ) (number : ℕ) (kept : List (ℕ × List ℕ))
+    → new ≡ lru_cache (remove_entry (nat_eq number) s.entries) s.cap → kept_of bytes s.entries ≡ kept
+    → kept_of bytes new.entries ≡ without number kept
+without_seen bytes s new number kept is old =
+    ap (λ (t : LruCache ℕ ℕ). kept_of bytes t.entries) is
+    ∙ sym (remove-valued (λ (x : ℕ). range_at (512 * x) 512 bytes) (nat_eq number) s.entries)
+    ∙ ap (without number) old
+
+pub used_seen : (bytes : List ℕ) (s new : LruCache ℕ ℕ) (number : ℕ) (kept : List (ℕ × List ℕ))
+    → new ≡ lru_cache (promoted (nat_eq number) s.entries) s.cap → kept_of bytes s.entries ≡ kept
+    → kept_of bytes new.entries ≡ used number kept
+used_seen bytes s new number kept is old =
+    ap (λ (t : LruCache ℕ ℕ). kept_of bytes t.entries) is
+    ∙ sym (promoted-valued (λ (x : ℕ). range_at (512 * x) 512 bytes) (nat_eq number) s.entries)
+    ∙ ap (used number) old
+
+pub found_seen : (bytes : List ℕ) (es : List (ℕ × ℕ)) (number slot : ℕ) (kept : List (ℕ × List ℕ))
+    → lookup (nat_eq number) es ≡ Some slot → kept_of bytes es ≡ kept → kept_block number kept ≡ Some (range_at (512 * slot) 512 bytes)
+found_seen bytes es number slot kept found is =
+    ap (kept_block number) (sym is)
+    ∙ lookup-map_values (λ (x : ℕ). range_at (512 * x) 512 bytes) (nat_eq number) es
+    ∙ ap (option_map (λ (x : ℕ). range_at (512 * x) 512 bytes)) found
+
+pub missed_seen : (bytes : List ℕ) (es : List (ℕ × ℕ)) (number : ℕ) (kept : List (ℕ × List ℕ))
+    → None ≡ lookup (nat_eq number) es → kept_of bytes es ≡ kept → IsSome (kept_block number kept) → ⊥
+missed_seen bytes es number kept none is some =
+    let gone : kept_block number kept ≡ None =
+    ap (kept_block number) (sym is)
+    ∙ lookup-map_values (λ (x : ℕ). range_at (512 * x) 512 bytes) (nat_eq number) es
+    ∙ ap (option_map (λ (x : ℕ). range_at (512 * x) 512 bytes)) (sym none) in
+    let no = rw gone at some in cc
+
+-- the bytes behind a write to a slot, as the vector has them
+pub bytes_written : (n spare : ℕ) (piece old now room : List ℕ) → room ≡ put_at (512 * spare) piece now → now ≡ old → length room ≡ n
+    → take n (room ++ drop (length room) old) ≡ put_at (512 * spare) piece old
+bytes_written n spare piece old now room is same long =
+    take_at room (drop (length room) old) n long ∙ is ∙ ap (put_at (512 * spare) piece) same

@@ -1,7 +1,7 @@
 -- A use changes the order alone: each block is found behind it as before.
-use Rattle.std.proofs.Common.{◌≡◌, ◌≢◌, ℕ, zero, suc, ◌+◌, ◌-◌, ◌*◌, ◌<◌, ◌≤◌, Bool, true, false, cond, nat_eq, List, [], ◌∷◌, ◌++◌, length, take, drop, Option, Some, None, refl, sym, ap, ◌∙◌, subst, inl, inr, arith, append_assoc, length-append}
+use Rattle.std.proofs.Common.{◌≡◌, ◌≢◌, ℕ, zero, suc, ◌+◌, ◌-◌, ◌*◌, ◌<◌, ◌≤◌, true, false, cond, nat_eq, List, [], ◌∷◌, ◌++◌, length, take, drop, Option, Some, None, refl, sym, ap, ◌∙◌, subst, inl, inr, arith, append_assoc, length-append}
 use Rattle.std.specs.Prelude.{is_some, IsSome}
-use Rattle.std.specs.Map.{lookup, lookup_entry}
+use Rattle.std.specs.Map.{lookup_entry}
 use Rattle.std.specs.Option.{option_map_or, unwrap_or}
 use Rattle.std.proofs.lemmas.Bool.{and_parts, cases_lt, eqb-false, eqb-true}
 use Rattle.std.proofs.lemmas.List.{drop-drop, length-take-le, take_at}
@@ -10,6 +10,7 @@ use Rattle.vio_bytes.specs.Place.{put_at}
 use Rattle.vio_bytes.proofs.Putting.{length-put_at}
 use borrow.Rule.Slice.PartMut.{put_mid}
 use Rattle.cached_store.specs.Kept.{all_kept, bytes_kept, kept_block, used, used_range, without}
+use Rattle.cached_store.proofs.Valued.{found_value}
 
 other_found : (k number : ℕ) (es : List (ℕ × List ℕ)) → k ≢ number → kept_block k (without number es) ≡ kept_block k es
 other_found k number [] apart = refl
@@ -23,13 +24,6 @@ other_found k number (f ∷ es) apart = (elim (nat_eq number f.0) as (λ y. nat_
   | false ↦ λ t. rw t (ap (λ (o : Option (List ℕ)). cond (nat_eq k f.0) (Some f.1) o) (other_found k number es apart))
 ]) refl
 
-first_found : (test : ℕ → Bool) (es : List (ℕ × List ℕ)) (f : ℕ × List ℕ) → lookup_entry test es ≡ Some f → lookup test es ≡ Some f.1
-first_found test [] f is = absurd (cc)
-first_found test (e ∷ es) f is = (elim (test e.0) as (λ y. test e.0 ≡ y → lookup test (e ∷ es) ≡ Some f.1) [
-  | true ↦ λ t. let h = rw t at is in rw t (let same : e ≡ f = cc in ap (λ (p : ℕ × List ℕ). Some p.1) same)
-  | false ↦ λ t. rw t (first_found test es f (rw t at is))
-]) refl
-
 by_entry : (k number : ℕ) (es : List (ℕ × List ℕ)) (o : Option (ℕ × List ℕ)) → lookup_entry (nat_eq number) es ≡ o
     → kept_block k (option_map_or (λ (e : ℕ × List ℕ). e ∷ without number es) o es) ≡ kept_block k es
 by_entry k number es None is = refl
@@ -38,7 +32,7 @@ by_entry k number es (Some f) is =
     (elim (nat_eq k f.0) as (λ y. nat_eq k f.0 ≡ y → cond (nat_eq k f.0) (Some f.1) (kept_block k (without number es)) ≡ kept_block k es) [
       | true ↦ λ h.
           let same : number ≡ k = key ∙ sym (eqb-true k f.0 h) in
-          rw h (sym (subst (λ (n : ℕ). kept_block n es ≡ Some f.1) same (first_found (nat_eq number) es f is)))
+          rw h (sym (subst (λ (n : ℕ). kept_block n es ≡ Some f.1) same (found_value (nat_eq number) es f is)))
       | false ↦ λ h. rw h (other_found k number es (λ same. eqb-false k f.0 h (same ∙ key)))
     ]) refl
 
@@ -62,6 +56,9 @@ each_kept first (suc n) es i all below =
 pub kept_behind : (first n i : ℕ) (es : List (ℕ × List ℕ)) → all_kept first n es ≡ true → i < n → IsSome (kept_block (first + i) (used_range first i es))
 kept_behind first n i es all below =
     subst IsSome (sym (found_behind (first + i) first i es)) (each_kept first n es i all below)
+
+pub all_more : (first n : ℕ) (es : List (ℕ × List ℕ)) → all_kept first n es ≡ true → is_some (kept_block (first + n) es) ≡ true → all_kept first (suc n) es ≡ true
+all_more first n es before last = rw (before, last) refl
 
 pub none_kept : (first n i : ℕ) (es : List (ℕ × List ℕ)) → i < n → is_some (kept_block (first + i) es) ≡ false → false ≡ all_kept first n es
 none_kept first n i es below is = (elim (all_kept first n es) as (λ y. all_kept first n es ≡ y → false ≡ y) [

@@ -1,2 +1,3 @@
 pub mod CachedState
 pub mod Kept
+pub mod Slots

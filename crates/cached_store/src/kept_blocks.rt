@@ -1,10 +1,12 @@
 ghost use Rattle.std.specs.Prelude.{◌≡◌, ◌≢◌, ◌+◌, ◌*◌, ◌/◌, ◌%◌, ◌^◌, ◌<◌, ◌≤◌, [], true, Some, None, length, IfOk, IsSome};
 ghost use Rattle.std.specs.Option.{unwrap_or};
+ghost use Rattle.vio_bytes.specs.Place.{put_at};
 ghost use Rattle.vio_bytes.specs.Range.{range_at};
 ghost use Rattle.cached_store.specs.Kept.{KeepsNoneOf, KeepsNoneOfRange, KeepsOf, KeepsOfRange, MayPut, MayPutRange, all_kept, bytes_kept, kept_block, used, used_range, without, without_range};
+ghost use Rattle.cached_store.specs.Slots.{AreSlots};
 
 use lru::LruCache;
-use std::alloc::Global;
+use std::alloc::{AllocError, Global};
 use std::marker::Model;
 use std::num::NonZeroUsize;
 use vio_bytes::NoMemory;
@@ -16,19 +18,29 @@ pub(crate) const BLOCK: usize = 512;
 /// put.
 #[derive(Drop)]
 pub struct KeptBlocks {
-    map: LruCache<u64, [u8; BLOCK]>,
+    /// Where each stands: in which slot of the bytes.
+    map: LruCache<u64, usize>,
+    bytes: Vec<u8>,
+
+    /// The slot that the next one is written to.
+    spare: usize,
+
+    /// Slots in which none stands: the front of these, so many as could still be kept.
+    free: Vec<usize>,
     most: usize,
 }
 
 impl Model for KeptBlocks {
-    ghost use Rattle.std.specs.Prelude.{◌≡◌, ◌<◌, []};
+    ghost use Rattle.std.specs.Prelude.{◌≡◌, ◌<◌};
     ghost use Rattle.cached_store.specs.Kept.{KeptState};
+    ghost use Rattle.cached_store.specs.Slots.{IsRoom, kept_of};
 
     ghost Value = { KeptState };
 
-    ghost view = { λ k. record { kept = k.map.entries; most = k.most } };
+    ghost view = { λ k. record { kept = kept_of k.bytes.items k.map.entries; most = k.most } };
 
-    ghost invariant = { λ k. (k.most ≡ 0 → k.map.entries ≡ []) × (0 < k.most → k.map.cap ≡ k.most) };
+    ghost invariant = { λ k. IsRoom k.most k.spare k.map.entries k.free.items k.bytes.items
+        × (0 < k.most → k.map.cap ≡ k.most) };
 }
 
 impl KeptBlocks {
@@ -36,12 +48,18 @@ impl KeptBlocks {
     pub fn new(alloc: Global, most: usize) -> Result<Self, NoMemory>
         ensures { IfOk result (λ k. k ≡ record { kept = []; most = most }) }
     {
+        if most >= usize::MAX / BLOCK {
+            return Err(NoMemory);
+        }
         let room = match NonZeroUsize::new(most) {
             Some(room) => room,
             None => NonZeroUsize::MIN,
         };
         Ok(KeptBlocks {
             map: LruCache::new(alloc, room)?,
+            bytes: vec![in alloc; 0; BLOCK * (most + 1)]?,
+            spare: most,
+            free: numbers_below(alloc, most)?,
             most,
         })
     }
@@ -108,9 +126,11 @@ impl KeptBlocks {
         ensures used { self.new.kept ≡ used number self.old.kept }
         ensures most { self.new.most ≡ self.old.most }
     {
-        if let Some(block) = self.map.get(&number) {
-            out.copy_from_slice(block);
-        }
+        let Some(slot) = self.map.get(&number) else {
+            return;
+        };
+        let at = BLOCK * *slot;
+        out.copy_from_slice(&self.bytes[at..at + BLOCK]);
     }
 
     /// Puts a block first. One that finds no room isn't kept.
@@ -123,11 +143,15 @@ impl KeptBlocks {
         if self.most == 0 {
             return;
         }
-        // Its clause alone tells that no block is there twice.
-        let _len = self.map.len();
-        let mut block = [0; BLOCK];
-        block.copy_from_slice(bytes);
-        drop(self.map.put(number, block));
+        let left = self.most - self.map.len();
+        let Ok(gone) = self.map.push(number, self.spare) else {
+            return;
+        };
+        fill(&mut self.bytes, self.spare, bytes);
+        self.spare = match gone {
+            Some((_, slot)) => slot,
+            None => self.free[left - 1],
+        };
     }
 
     /// Takes a block out.
@@ -136,8 +160,32 @@ impl KeptBlocks {
         ensures gone { KeepsNoneOf number self.old.kept self.new.kept }
         ensures most { self.new.most ≡ self.old.most }
     {
-        // Its clause alone tells that no block is there twice.
-        let _len = self.map.len();
-        drop(self.map.pop(&number));
+        let left = self.most - self.map.len();
+        let Some(slot) = self.map.pop(&number) else {
+            return;
+        };
+        self.free[left] = slot;
     }
+}
+
+/// The numbers below this one, in rising order.
+fn numbers_below(alloc: Global, most: usize) -> Result<Vec<usize>, AllocError>
+    ensures slots { IfOk result (λ v. AreSlots most v.items) }
+    ensures many { IfOk result (λ v. length v.items ≡ most) }
+{
+    let mut numbers = Vec::with_capacity(alloc, most)?;
+    for number in 0..most {
+        numbers.push(number)?;
+    }
+    Ok(numbers)
+}
+
+/// Writes these bytes to a slot.
+fn fill(room: &mut [u8], slot: usize, bytes: &[u8])
+    requires long { length bytes.now ≡ 512 }
+    requires within { 512 * slot + 512 ≤ length room.old }
+    ensures { room.new ≡ put_at (512 * slot) bytes.now room.old }
+{
+    let at = BLOCK * slot;
+    room[at..at + BLOCK].copy_from_slice(bytes);
 }
