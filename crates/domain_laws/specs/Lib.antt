@@ -3,3 +3,4 @@ pub mod Along
 pub mod Frames
 pub mod Settling
 pub mod Counts
+pub mod Lines
