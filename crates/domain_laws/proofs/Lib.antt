@@ -6,3 +6,9 @@ pub mod Telling
 pub mod Arriving
 pub mod Counting
 pub mod Parts
+pub mod LineEntries
+pub mod ScriptEntries
+pub mod HonestPorts
+pub mod ByLines
+pub mod LeftOver
+pub mod OwnLines

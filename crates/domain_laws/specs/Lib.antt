@@ -4,3 +4,6 @@ pub mod Frames
 pub mod Settling
 pub mod Counts
 pub mod Lines
+pub mod Forged
+pub mod Running
+pub mod Isolation

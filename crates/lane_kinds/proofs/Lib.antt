@@ -15,5 +15,6 @@ pub mod EntryRuns
 pub mod Ticked
 pub mod Places
 pub mod BothFronts
+pub mod EntriesEach
 pub mod RoundsMade
 pub mod LanesMade

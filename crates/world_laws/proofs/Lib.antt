@@ -16,9 +16,7 @@ pub mod Filtered
 pub mod RequestLog
 pub mod RequestLaws
 pub mod Counting
-pub mod LineEntries
 pub mod RequestKeeping
-pub mod ByLines
 pub mod Forging
 pub mod LeftLanes
 pub mod Pending
@@ -52,7 +50,6 @@ pub mod SettleLine
 pub mod AskedLine
 pub mod QuietLines
 pub mod EventWords
-pub mod LeftOver
 pub mod WorldWords
 pub mod LoopKeeping
 pub mod Making

@@ -26,11 +26,11 @@ pub use loop_laws::{
     each_event_gives_an_id_where_it_accepts, names_are_given_lane_by_lane,
     ticks_are_made_lane_by_lane, want_of_memory_leaves_a_front_of_a_settle,
 };
-pub use moves_laws::{a_script_runs_a_world_by_its_parts, each_lane_runs_by_its_events};
+pub use moves_laws::each_lane_runs_by_its_events;
 pub use plain_laws::a_quiet_world_is_a_plain_list;
 pub use request_laws::{
-    accepted_counts, forging_is_told, nobody_forges_by_lines,
-    requests_of_a_lane_are_pending_in_order, requests_of_each_disk_are_admitted_and_complete_once,
+    accepted_counts, forging_is_told, requests_of_a_lane_are_pending_in_order,
+    requests_of_each_disk_are_admitted_and_complete_once,
 };
 pub use settle_laws::{
     a_settle_moves_each_lane_by_its_part, a_settle_of_unforged_lanes_ends_settled,
