@@ -6,3 +6,6 @@ pub mod Telling
 pub mod Arriving
 pub mod Counting
 pub mod Parts
+pub mod LoopKinds
+pub mod Loops
+pub mod Looping

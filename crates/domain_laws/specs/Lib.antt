@@ -4,3 +4,7 @@ pub mod Frames
 pub mod Settling
 pub mod Counts
 pub mod Lines
+pub mod RoundMade
+pub mod TicksMade
+pub mod NamesMade
+pub mod Going

@@ -4,12 +4,17 @@
 #![tactic(auto)]
 
 mod frame_laws;
+mod loop_laws;
 mod run_laws;
 mod settle_laws;
 
 pub use frame_laws::{
     a_journal_tells_the_frames_of_each_port,
     all_frames_of_a_port_arrive_where_a_world_ends_settled, frames_of_each_port_arrive_in_order,
+};
+pub use loop_laws::{
+    a_round_is_made_lane_by_lane, a_settle_is_made_round_by_round, names_are_given_lane_by_lane,
+    ticks_are_made_lane_by_lane, want_of_memory_leaves_a_front_of_a_settle,
 };
 pub use run_laws::{
     an_entry_of_a_disk_leaves_all_other_lanes, an_entry_of_a_port_leaves_all_other_lanes,

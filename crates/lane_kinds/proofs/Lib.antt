@@ -17,3 +17,6 @@ pub mod Places
 pub mod BothFronts
 pub mod RoundsMade
 pub mod LanesMade
+pub mod BothMade
+pub mod NoneBeside
+pub mod WorldMade

@@ -55,8 +55,3 @@ pub mod EventWords
 pub mod LeftOver
 pub mod WorldWords
 pub mod LoopKeeping
-pub mod Making
-pub mod RoundsOn
-pub mod TicksOn
-pub mod GoingOn
-pub mod NamesOn
