@@ -12,3 +12,6 @@ pub mod HonestPorts
 pub mod ByLines
 pub mod LeftOver
 pub mod OwnLines
+pub mod LoopKinds
+pub mod Loops
+pub mod Looping

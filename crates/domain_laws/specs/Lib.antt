@@ -7,3 +7,7 @@ pub mod Lines
 pub mod Forged
 pub mod Running
 pub mod Isolation
+pub mod RoundMade
+pub mod TicksMade
+pub mod NamesMade
+pub mod Going

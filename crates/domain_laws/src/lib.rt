@@ -5,6 +5,7 @@
 
 mod frame_laws;
 mod line_laws;
+mod loop_laws;
 mod run_laws;
 mod settle_laws;
 
@@ -15,6 +16,10 @@ pub use frame_laws::{
 pub use line_laws::{
     a_line_forges_no_other_lane, a_line_of_a_lane_leaves_all_other_lanes,
     a_script_runs_a_world_by_its_parts, entries_name_lanes_of_the_world, nobody_forges_by_lines,
+};
+pub use loop_laws::{
+    a_round_is_made_lane_by_lane, a_settle_is_made_round_by_round, names_are_given_lane_by_lane,
+    ticks_are_made_lane_by_lane, want_of_memory_leaves_a_front_of_a_settle,
 };
 pub use run_laws::{
     an_entry_of_a_disk_leaves_all_other_lanes, an_entry_of_a_port_leaves_all_other_lanes,

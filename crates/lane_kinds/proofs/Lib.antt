@@ -18,3 +18,6 @@ pub mod BothFronts
 pub mod EntriesEach
 pub mod RoundsMade
 pub mod LanesMade
+pub mod BothMade
+pub mod NoneBeside
+pub mod WorldMade

@@ -52,8 +52,3 @@ pub mod QuietLines
 pub mod EventWords
 pub mod WorldWords
 pub mod LoopKeeping
-pub mod Making
-pub mod RoundsOn
-pub mod TicksOn
-pub mod GoingOn
-pub mod NamesOn

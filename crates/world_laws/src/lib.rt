@@ -21,11 +21,7 @@ pub use image_laws::{
     each_disk_holds_what_is_done, images_keep_what_no_write_names, images_outside_all_disks_stay,
     stores_stay_within_their_disks,
 };
-pub use loop_laws::{
-    a_round_is_made_lane_by_lane, a_settle_is_made_round_by_round,
-    each_event_gives_an_id_where_it_accepts, names_are_given_lane_by_lane,
-    ticks_are_made_lane_by_lane, want_of_memory_leaves_a_front_of_a_settle,
-};
+pub use loop_laws::each_event_gives_an_id_where_it_accepts;
 pub use moves_laws::each_lane_runs_by_its_events;
 pub use plain_laws::a_quiet_world_is_a_plain_list;
 pub use request_laws::{
