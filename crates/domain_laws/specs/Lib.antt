@@ -11,3 +11,8 @@ pub mod RoundMade
 pub mod TicksMade
 pub mod NamesMade
 pub mod Going
+pub use Rattle.port_model.specs.NetEvent
+pub use Rattle.port_model.specs.NetEndStep
+pub use Rattle.port_model.specs.NetLaneState
+pub use Rattle.port_model.specs.PortState
+pub use Rattle.switch_laws.specs.Events

@@ -8,7 +8,7 @@ use Rattle.world_laws.specs.DiskEvent.{Asks, Calm, CalmReset, CalmRestart, CalmS
 use Rattle.ldc_queue.specs.declared.end.End.{End}
 use Rattle.ldc_queue.specs.declared.end.End.TheVariants.{B}
 use Rattle.world_laws.specs.Settle.{OfLane, SettleEntry, Settled, Unsettled}
-use Rattle.world_laws.specs.Lines.{Asked, Call, Calls, Injects, Line, Loses, Pokes, Resets, Restarts, Starts, Stops, Ticks, OfDisk}
+use Rattle.domain_laws.specs.Lines.{Asked, Call, Calls, DiskLane, Injects, Joins, Line, Loses, Pokes, Resets, Restarts, Sends, Starts, Stops, Ticks}
 use Rattle.domain_script.specs.declared.event.EndName.{EndName}
 use Rattle.domain_script.specs.declared.event.Lane.{Lane}
 use Rattle.domain_script.specs.LaneKinds.{disk_lane, disk_of}
@@ -153,11 +153,11 @@ meant_has P asked (AtServer e event) holds = server_has P e.side e.lane event ho
 meant_has P asked (AtLane k event) holds = holds
 meant_has P (Asked j request) (NoRoomFor (OfWhole lane)) holds =
     at_has P j (disk_of lane) (Asks (Full request)) (holds.0 request)
-meant_has P (Calls (OfDisk j) call) (NoRoomFor (OfEnd name)) holds = full_has P j call name holds.1
+meant_has P (Calls (DiskLane j) call) (NoRoomFor (OfEnd name)) holds = full_has P j call name holds.1
 meant_has P (Asked j request) (Refuses (OfWhole lane) why) holds =
     at_has P j (disk_of lane) (Asks (Refused (defect_of why) request)) (holds.0 request)
-meant_has P (Calls (OfDisk j) call) (Refuses (OfEnd name) why) holds = refused_has P j call name why holds.1
-meant_has P (Calls (OfDisk j) call) (ChangesNothing who) holds = called_has P j call who holds
+meant_has P (Calls (DiskLane j) call) (Refuses (OfEnd name) why) holds = refused_has P j call name why holds.1
+meant_has P (Calls (DiskLane j) call) (ChangesNothing who) holds = called_has P j call who holds
 meant_has P asked (LeavesOver who) holds = holds
 meant_has P asked LeavesNothing holds = holds
 meant_has P asked x holds = tt

@@ -3,7 +3,8 @@ use Rattle.std.specs.Prelude.{ℕ, ◌+◌, ◌*◌, ◌≤◌, List, [], ◌∷
 use Rattle.domain_script.specs.declared.event.DiskDecl.{DiskDecl}
 use Rattle.disk_law.specs.ListState.{ImageState}
 use Rattle.world_laws.specs.LaneState.{LaneState, Shape}
-use Rattle.world_laws.specs.World.{WorldState, fresh_world}
+use Rattle.domain_laws.specs.Domain.{DomainState, fresh_domain}
+use Rattle.domain_laws.specs.NetLaneState.{NetShape}
 
 -- a disk from this block of the image on
 abbrev pub shape_of : ℕ → DiskDecl → Shape
@@ -23,9 +24,9 @@ blocks_of (disk ∷ disks) = disk.blocks + blocks_of disks
 abbrev pub bytes_needed : List DiskDecl → ℕ
 bytes_needed disks = 512 * blocks_of disks
 
--- their world over an image, before anything was asked
-abbrev pub world_of : List DiskDecl → ImageState → WorldState
-world_of disks image = fresh_world (shapes_of 0 disks) image
+-- their world over an image, beside these ports of one switch, before anything was asked
+abbrev pub world_of : List DiskDecl → List NetShape → ImageState → DomainState
+world_of disks nets image = fresh_domain (shapes_of 0 disks) image nets
 
 -- the lane's disk lies within an image of so many bytes
 abbrev pub LiesWithin : ℕ → LaneState → Type 0

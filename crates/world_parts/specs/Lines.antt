@@ -12,8 +12,8 @@ use Rattle.domain_script.specs.declared.fields.LaneKind.TheVariants as kinds
 use Rattle.domain_script.specs.LaneKinds.{disk_of}
 use Rattle.domain_script.specs.Limits.{AreTurns}
 use Rattle.world_laws.specs.Settle.{SettleEntry}
-use Rattle.world_laws.specs.Lines.{Asked, Calls, Injects, Line, LineBegins, LineMoves, Loses, Nothing, Pokes, Resets, Restarts, Rounds, Settles, Starts, Steps, Stops, Ticks, LaneName, OfDisk}
-use Rattle.world_laws.specs.World.{WorldState}
+use Rattle.domain_laws.specs.Domain.{DomainState}
+use Rattle.domain_laws.specs.Lines.{Asked, Calls, DiskLane, Injects, LaneName, Line, LineBegins, LineMoves, Loses, Nothing, Pokes, Resets, Restarts, Rounds, Settles, Starts, Steps, Stops, Ticks}
 use Rattle.ldom_report.specs.DiskEvents.{happened_to}
 use Rattle.ldom_report.specs.LaneEvents.{end_of}
 use Rattle.ldom_entries.specs.declared.entry.Entry.{Entry}
@@ -21,7 +21,7 @@ use Rattle.world_parts.specs.Parts.{PartSays}
 
 -- a lane of a script is this one of the world, by its kind
 abbrev pub of_kind : LaneKind → ℕ → LaneName
-of_kind kinds.Disk k = OfDisk k
+of_kind kinds.Disk k = DiskLane k
 
 abbrev pub lane_named : Lane → LaneName
 lane_named lane = of_kind lane.kind lane.number
@@ -36,8 +36,8 @@ line_of (event.Step end count) = Steps (lane_named end.lane) (end_of end.side) c
 line_of (event.Round count) = Rounds count
 line_of (event.Reset end) = Calls (lane_named end.lane) (Resets (end_of end.side))
 line_of (event.Restart end) = Calls (lane_named end.lane) Restarts
-line_of (event.Stop disk) = Calls (OfDisk disk) Stops
-line_of (event.Start disk) = Calls (OfDisk disk) Starts
+line_of (event.Stop disk) = Calls (DiskLane disk) Stops
+line_of (event.Start disk) = Calls (DiskLane disk) Starts
 line_of (event.Lose end) = Calls (lane_named end.lane) (Loses (end_of end.side))
 line_of (event.Tick lane) = Calls (lane_named lane) Ticks
 line_of (event.Inject end packet) = Calls (lane_named end.lane) (Injects (end_of end.side) packet)
@@ -64,13 +64,13 @@ IsForDisks many (event.Poke end at bytes) = IsDiskOf many end.lane × (end.side 
 IsForDisks many other = ⊤
 
 -- A LINE with its part of the journal leads a world from one state to another
-pub record EventStep (w : WorldState) (line : Event × List Entry) (v : WorldState) : Type 0 where
+pub record EventStep (w : DomainState) (line : Event × List Entry) (v : DomainState) : Type 0 where
   pub entries : List SettleEntry
   pub says : PartSays (line_of line.0) line.1 entries
   pub moves : LineMoves w (line_of line.0) entries v
 
 -- and one with the steps of its part that were made before memory was wanted
-pub record LineStarts (w : WorldState) (line : Event × List Entry) (v : WorldState) : Type 0 where
+pub record LineStarts (w : DomainState) (line : Event × List Entry) (v : DomainState) : Type 0 where
   pub entries : List SettleEntry
   pub says : PartSays (line_of line.0) line.1 entries
   pub begins : LineBegins w (line_of line.0) entries v

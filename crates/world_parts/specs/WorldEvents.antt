@@ -5,8 +5,11 @@ use Rattle.ldc_queue.specs.declared.end.End.TheVariants.{A, B}
 use Rattle.world_laws.specs.WireEvent.{Declined, Declines, InjectedFull, NothingLost, NotInjected, PokeRefused, WireEvent}
 use Rattle.world_laws.specs.DiskEvent.{DiskEvent, OnWire, Asks, Calms, CalmTick, CalmStop, CalmStart, CalmReset, CalmRestart}
 use Rattle.world_laws.specs.DiskEvent as disk
-use Rattle.world_laws.specs.Settle.{SettleEntry, OfLane}
-use Rattle.world_laws.specs.Lines.{Asked, Call, Calls, Injects, Line, Loses, Pokes, Resets, Restarts, Starts, Stops, Ticks, OfDisk}
+use Rattle.world_laws.specs.Settle.{OfLane, OfPort, SettleEntry}
+use Rattle.domain_laws.specs.Lines.{Asked, Call, Calls, DiskLane, Injects, Line, Loses, Pokes, Resets, Restarts, Starts, Stops, Ticks}
+use Rattle.domain_laws.specs.NetEvent.{CalmTick as CalmPortTick, NetEvent, Ticked}
+use Rattle.domain_laws.specs.PortState.{OnLane}
+use Rattle.domain_laws.specs.Events.{OnPort}
 use Rattle.world_laws.specs.Settle as settle
 use Rattle.domain_script.specs.declared.event.EndName.{EndName}
 use Rattle.domain_script.specs.declared.event.Lane.{Lane}
@@ -81,12 +84,12 @@ refused_call j _ name why = None
 -- What found no room, or was refused: a request, on the disk that the line names, or a call of the end that it names.
 abbrev pub full_event : Line → Who → Option SettleEntry
 full_event (Asked j request) (OfWhole lane) = at_disk j (disk_of lane) (Asks (disk.Full request))
-full_event (Calls (OfDisk j) call) (OfEnd name) = full_call j call name
+full_event (Calls (DiskLane j) call) (OfEnd name) = full_call j call name
 full_event _ _ = None
 
 abbrev pub refused_event : Line → Who → Why → Option SettleEntry
 refused_event (Asked j request) (OfWhole lane) why = at_disk j (disk_of lane) (Asks (disk.Refused (defect_of why) request))
-refused_event (Calls (OfDisk j) call) (OfEnd name) why = refused_call j call name why
+refused_event (Calls (DiskLane j) call) (OfEnd name) why = refused_call j call name why
 refused_event _ _ why = None
 
 -- What was asked of a lane and changes nothing there: of the lane that the line names, or of the end that it names.
@@ -101,7 +104,7 @@ called_event j (Injects e packet) (OfEnd name) = declined_at j e name (NotInject
 called_event j _ _ = None
 
 abbrev pub calm_event : Line → Who → Option SettleEntry
-calm_event (Calls (OfDisk j) call) who = called_event j call who
+calm_event (Calls (DiskLane j) call) who = called_event j call who
 calm_event _ who = None
 
 abbrev pub unsettled_event : Who → Option SettleEntry
@@ -123,3 +126,13 @@ meant asked LeavesNothing = Some settle.Settled
 -- WHAT AN ENTRY IS FOR THE LANES, where it came in the part of this line
 abbrev pub world_event : Line → Entry → Option SettleEntry
 world_event asked entry = meant asked (meaning entry)
+
+-- AND WHAT A JOURNAL TELLS OF ONE: all but how many frames stood in a port's out queue at a tick
+abbrev pub told_net : NetEvent → NetEvent
+told_net (Ticked queued lost) = Ticked 0 lost
+told_net (CalmPortTick queued) = CalmPortTick 0
+told_net event = event
+
+abbrev pub told_of : SettleEntry → SettleEntry
+told_of (OfPort k (OnPort (OnLane event))) = OfPort k (OnPort (OnLane (told_net event)))
+told_of entry = entry
