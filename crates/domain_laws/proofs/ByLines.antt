@@ -362,7 +362,7 @@ disk_by_script shapes image nets lines w k t others run after =
     let start = fresh_domain shapes image nets in
     let whole = lines_run start lines w run in
     let first = get_within (map fresh shapes) k
-        (within k (length w.first.lanes) (length (map fresh shapes)) (slice_get_within w.first.lanes k t after) (many_stay start.first (entries_of_lines lines) w.first (disks_run start (entries_of_lines lines) w whole))) in
+    (within k (length w.first.lanes) (length (map fresh shapes)) (slice_get_within w.first.lanes k t after) (many_stay start.first (entries_of_lines lines) w.first (disks_run start (entries_of_lines lines) w whole))) in
     disk_clean start (entries_of_lines lines) w whole k first.0 t (lines_honest (DiskLane k) start lines w others run) first.1 after
     (each_there disk.IsUnforged (map fresh shapes) k first.0 (fresh_disks shapes) first.1)
 
@@ -372,7 +372,7 @@ port_by_script shapes image nets lines w k t others run after =
     let start = fresh_domain shapes image nets in
     let whole = lines_run start lines w run in
     let first = get_within (map fresh_port nets) k
-        (within k (length w.second) (length (map fresh_port nets)) (slice_get_within w.second k t after) (ports_many start.second (entries_of_lines lines) w.second (ports_run start (entries_of_lines lines) w whole))) in
+    (within k (length w.second) (length (map fresh_port nets)) (slice_get_within w.second k t after) (ports_many start.second (entries_of_lines lines) w.second (ports_run start (entries_of_lines lines) w whole))) in
     port_clean start (entries_of_lines lines) w whole k first.0 t (lines_honest (PortLane k) start lines w others run) first.1 after
     (each_there port.IsUnforged (map fresh_port nets) k first.0 (fresh_ports nets) first.1)
 

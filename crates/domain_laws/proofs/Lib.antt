@@ -9,6 +9,7 @@ pub mod Parts
 pub mod LineEntries
 pub mod ScriptEntries
 pub mod HonestPorts
+pub mod ForgedPorts
 pub mod ByLines
 pub mod LeftOver
 pub mod OwnLines

@@ -1,8 +1,21 @@
--- Lines of a script that forge nothing: they inject no packet and poke into no memory. And lines that don't forge this lane.
-use Rattle.std.specs.Prelude.{◌≢◌, List, ⊤}
+-- Who forges a port: events that put a packet which no end put, or write bytes into a memory that its end never wrote.
+-- And lines of a script that forge nothing: they inject no packet and poke into no memory, or not on this lane.
+use Rattle.std.specs.Prelude.{◌≡◌, ◌≢◌, Bool, true, false, List, ⊤}
 use Rattle.lane_kinds.specs.Lanes.{EachOf}
+use Rattle.port_model.specs.NetEvent as net
+use Rattle.port_model.specs.PortState.{OnLane}
+use Rattle.switch_laws.specs.Events.{OnPort, SwitchEvent}
 use Rattle.world_laws.specs.Settle.{SettleEntry}
 use Rattle.domain_laws.specs.Lines.{Calls, Injects, LaneName, Line, Pokes}
+
+abbrev pub forges : SwitchEvent → Bool
+forges (OnPort (OnLane (net.Injects e packet))) = true
+forges (OnPort (OnLane (net.Pokes e at bytes))) = true
+forges _ = false
+
+-- NOBODY FORGED a port among these events
+abbrev pub NobodyForgesPort : List SwitchEvent → Type 0
+NobodyForgesPort events = EachOf (λ (event : SwitchEvent). forges event ≡ false) events
 
 -- A LINE FORGES NOTHING where it injects no packet and pokes into no memory
 abbrev pub ForgesNothing : Line → Type 0

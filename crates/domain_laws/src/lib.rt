@@ -23,7 +23,7 @@ pub use loop_laws::{
 };
 pub use run_laws::{
     an_entry_of_a_disk_leaves_all_other_lanes, an_entry_of_a_port_leaves_all_other_lanes,
-    each_kind_runs_by_the_one_journal, each_port_runs_by_its_events,
+    each_kind_runs_by_the_one_journal, each_port_runs_by_its_events, forging_of_ports_is_told,
 };
 pub use settle_laws::{
     a_settle_of_unforged_disks_and_ports_ends_settled,

@@ -57,11 +57,11 @@ pub fn nobody_forges_by_lines()
 /// A line that injects a packet or pokes into a memory forges no other lane than its own. And so a disk or a port is
 /// unforged where no line of a script does that on it, whatever lines do to others.
 pub fn a_line_forges_no_other_lane()
-    ensures of_disk { (w : DomainState) (line : Line) (part : List SettleEntry) (v : DomainState) (k : ℕ) (s t : LaneState)
-        → ForgesOthers (DiskLane k) line → LineMoves w line part v → slice_get w.first.lanes k ≡ Some s
+    ensures of_disk { (w : DomainState) (line : Line) (part : List SettleEntry) (v : DomainState) (k : ℕ)
+        (s t : LaneState) → ForgesOthers (DiskLane k) line → LineMoves w line part v → slice_get w.first.lanes k ≡ Some s
         → slice_get v.first.lanes k ≡ Some t → disk.IsUnforged s → disk.IsUnforged t }
-    ensures of_port { (w : DomainState) (line : Line) (part : List SettleEntry) (v : DomainState) (k : ℕ) (s t : PortState)
-        → ForgesOthers (PortLane k) line → LineMoves w line part v → slice_get w.second k ≡ Some s
+    ensures of_port { (w : DomainState) (line : Line) (part : List SettleEntry) (v : DomainState) (k : ℕ)
+        (s t : PortState) → ForgesOthers (PortLane k) line → LineMoves w line part v → slice_get w.second k ≡ Some s
         → slice_get v.second k ≡ Some t → port.IsUnforged s → port.IsUnforged t }
     ensures disk_by_script { (shapes : List Shape) (image : ImageState) (nets : List NetShape)
         (lines : List (Line × List SettleEntry)) (w : DomainState) (k : ℕ) (t : LaneState)

@@ -132,11 +132,13 @@ module _ {W V M N R Q E : Type 0} (P : E → Type 0) (K : Rounds W M R E) (L : R
     pub both_ends_have : Ends (both K L) Both
     both_ends_have = record {
       answer = λ w at. ((first.answer w.first at.of_first).0, at);
-      names = λ r w part more is at.
-          (first_each P part more (of_same P (part ++ more) (K.names r.first w.first ++ L.names r.second w.second) is
-          (of_both P (K.names r.first w.first) (L.names r.second w.second)
-          (first.names r.first w.first (K.names r.first w.first) [] (append-nil (K.names r.first w.first)) at.of_first).0
-          (second.names r.second w.second (L.names r.second w.second) [] (append-nil (L.names r.second w.second)) at.of_second).0)), at);
+      names = λ r w part more is at. (
+        first_each P part more (of_same P (part ++ more) (K.names r.first w.first ++ L.names r.second w.second) is
+            (of_both P (K.names r.first w.first) (L.names r.second w.second)
+            (first.names r.first w.first (K.names r.first w.first) [] (append-nil (K.names r.first w.first)) at.of_first).0
+            (second.names r.second w.second (L.names r.second w.second) [] (append-nil (L.names r.second w.second)) at.of_second).0)),
+        at,
+      );
     }
 
 -- WHAT HAPPENED to a lane has it where each entry says only such of it
