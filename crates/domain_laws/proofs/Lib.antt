@@ -9,3 +9,4 @@ pub mod Parts
 pub mod LoopKinds
 pub mod Loops
 pub mod Looping
+pub mod QuietLines

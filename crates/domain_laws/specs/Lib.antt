@@ -8,3 +8,5 @@ pub mod RoundMade
 pub mod TicksMade
 pub mod NamesMade
 pub mod Going
+pub mod PlainLines
+pub mod Quiet
