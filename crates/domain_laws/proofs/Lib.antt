@@ -16,3 +16,4 @@ pub mod OwnLines
 pub mod LoopKinds
 pub mod Loops
 pub mod Looping
+pub mod QuietLines

@@ -1,5 +1,5 @@
 -- What an entry of a disk, and one of a port, does in a world, by which the loops over both kinds are made: and the tick that a call gives.
-use Rattle.std.proofs.Common.{◌≡◌, ℕ, ◌+◌, Bool, true, false, Option, Some, List, [], ◌∷◌, length, slice_get, refl, sym, ap, ap₂, ◌∙◌, subst, arith}
+use Rattle.std.proofs.Common.{◌≡◌, ℕ, ◌+◌, Bool, true, false, Option, Some, List, [], ◌∷◌, length, slice_get, refl, sym, ap, ap₂, ◌∙◌, arith}
 use Rattle.std.proofs.lemmas.Option.{slice_get_within}
 use Rattle.std.specs.Prelude.{not}
 use Rattle.channel_model.specs.WireEvent.{Idle, Reset}
@@ -8,21 +8,19 @@ use Rattle.disk_model.specs.ClientState as client
 use Rattle.disk_model.specs.DiskEvent.{CalmTick, Calms, DiskEvent, Off, OnWire, Switches}
 use Rattle.disk_model.specs.LaneState.{LaneState}
 use Rattle.lane_kinds.proofs.Moving.{lane_steps, same_lanes}
-use Rattle.lane_kinds.proofs.Places.{set_same}
 use Rattle.lane_kinds.proofs.WorldMade.{lane_gets, one_set}
 use Rattle.lane_kinds.specs.LaneFronts.{BeginsTurn}
 use Rattle.lane_kinds.specs.Lanes.{EntryOf, StepOf}
 use Rattle.lane_kinds.specs.WorldMade.{KindRuns}
 use Rattle.lane_laws.specs.CalmEnds.{IsStep}
 use Rattle.ldc_queue.specs.declared.end.End.TheVariants.{A, B}
-use Rattle.port_model.specs.NetEndState.{unseen}
 use Rattle.port_model.specs.NetEndStep as net_step
 use Rattle.port_model.specs.NetEvent as net
 use Rattle.port_model.specs.NetEvent.{NetEvent, Steps, Ticked}
 use Rattle.port_model.specs.NetLaneStep as port_lane
-use Rattle.port_model.specs.PortState.{OnLane, PortEvent, PortState, Receives}
+use Rattle.port_model.specs.PortState.{OnLane, PortState}
 use Rattle.switch_laws.proofs.Turns.{silence}
-use Rattle.switch_laws.specs.Events.{OnPort, SwitchEvent, SwitchStep, Switched}
+use Rattle.switch_laws.specs.Events.{OnPort, SwitchEvent}
 use Rattle.switch_laws.specs.Ports.{IsStepOf, ports}
 use Rattle.switch_laws.specs.Ports as switch_ports
 use Rattle.vio_tag.specs.declared.cause.Cause.TheVariants as the_cause

@@ -1,5 +1,5 @@
 -- The loops over disks, and those over ports: a round, its ticks and its names go on by the next lane.
-use Rattle.std.proofs.Common.{◌≡◌, ℕ, ◌+◌, ◌<◌, ◌≤◌, Bool, true, false, List, [], ◌++◌, length, slice_get, slice_set, Some}
+use Rattle.std.proofs.Common.{◌≡◌, ℕ, ◌+◌, ◌<◌, ◌≤◌, Bool, false, List, [], ◌++◌, length, slice_get, slice_set, Some}
 use Rattle.std.specs.Prelude.{◌&&◌, ◌||◌}
 use Rattle.disk_model.specs.LaneState.{LaneState}
 use Rattle.lane_kinds.proofs.WorldMade as made

@@ -1,6 +1,6 @@
 -- The rounds of a settle over disks and ports that were made and go on, so many, with what they left in the journal. The one marks say which
 -- lanes had a tick, and the others which were quiet in the last of them.
-use Rattle.std.specs.Prelude.{ℕ, Bool, false, List, length, replicate}
+use Rattle.std.specs.Prelude.{ℕ, false, List, replicate}
 use Rattle.lane_kinds.specs.LanesMade.{Marks, first_marks}
 use Rattle.lane_kinds.specs.RoundsMade.{GoneSaid}
 use Rattle.lane_kinds.specs.Settles as settle

@@ -11,6 +11,8 @@ pub mod RoundMade
 pub mod TicksMade
 pub mod NamesMade
 pub mod Going
+pub mod PlainLines
+pub mod Quiet
 pub use Rattle.port_model.specs.NetEvent
 pub use Rattle.port_model.specs.NetEndStep
 pub use Rattle.port_model.specs.NetLaneState

@@ -1,6 +1,5 @@
 -- Which disks, and then which ports, got their tick so far, after a round in which all lanes were quiet. And a front of the ticks.
 use Rattle.std.specs.Prelude.{ℕ, Bool, List, length, take}
-use Rattle.disk_model.specs.LaneState.{LaneState}
 use Rattle.lane_kinds.specs.LaneFronts.{TickFront}
 use Rattle.lane_kinds.specs.Lanes as kind
 use Rattle.lane_kinds.specs.LanesMade as made

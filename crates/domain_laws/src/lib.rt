@@ -6,6 +6,7 @@
 mod frame_laws;
 mod line_laws;
 mod loop_laws;
+mod plain_laws;
 mod run_laws;
 mod settle_laws;
 
@@ -21,6 +22,7 @@ pub use loop_laws::{
     a_round_is_made_lane_by_lane, a_settle_is_made_round_by_round, names_are_given_lane_by_lane,
     ticks_are_made_lane_by_lane, want_of_memory_leaves_a_front_of_a_settle,
 };
+pub use plain_laws::a_quiet_world_is_a_plain_list;
 pub use run_laws::{
     an_entry_of_a_disk_leaves_all_other_lanes, an_entry_of_a_port_leaves_all_other_lanes,
     each_kind_runs_by_the_one_journal, each_port_runs_by_its_events, forging_of_ports_is_told,

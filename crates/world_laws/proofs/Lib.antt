@@ -46,9 +46,9 @@ pub mod Undisturbed
 pub mod NoFaults
 pub mod OneStep
 pub mod OwnSteps
-pub mod SettleLine
-pub mod AskedLine
-pub mod QuietLines
+pub mod PlainSettle
+pub mod PlainAsked
+pub mod PlainWorld
 pub mod EventWords
 pub mod WorldWords
 pub mod LoopKeeping

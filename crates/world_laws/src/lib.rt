@@ -1,13 +1,12 @@
 //! Worlds of disks' lanes over one image: rounds, ticks and what a settle comes to. What each line of a script does and
-//! the part of the journal that it gives. Then each disk's requests, its region of the image, failures, and a quiet
-//! script as a plain list of requests. It has no code: the code of a world stands on it.
+//! the part of the journal that it gives. Then each disk's requests, its region of the image, and failures. It has no
+//! code: the code of a world stands on it.
 #![tactic(auto)]
 
 mod fault_laws;
 mod image_laws;
 mod loop_laws;
 mod moves_laws;
-mod plain_laws;
 mod request_laws;
 mod settle_laws;
 mod word_laws;
@@ -23,7 +22,6 @@ pub use image_laws::{
 };
 pub use loop_laws::each_event_gives_an_id_where_it_accepts;
 pub use moves_laws::each_lane_runs_by_its_events;
-pub use plain_laws::a_quiet_world_is_a_plain_list;
 pub use request_laws::{
     accepted_counts, forging_is_told, requests_of_a_lane_are_pending_in_order,
     requests_of_each_disk_are_admitted_and_complete_once,

@@ -1,7 +1,6 @@
 -- A request to the one lane of a world that nobody disturbs is refused, or finds the ring full, or waits, as in the plain list.
 use Rattle.std.proofs.Common.{◌≡◌, ℕ, ◌<◌, Bool, true, false, Option, Some, None, List, [], ◌∷◌, ◌++◌, length, nat_le, refl, sym, ap, ◌∙◌, subst, arith}
 use Rattle.std.proofs.lemmas.Bool.Decides.{nat_tests}
-use Rattle.runs.specs.Run.{Run}
 use Rattle.vdisk_msg.specs.declared.request.Request.{Request}
 use Rattle.vdisk_msg.specs.Fills.{IsRequest}
 use Rattle.vdisk_msg.specs.Requests.{AreSound, Defect, defect}
@@ -14,10 +13,9 @@ use Rattle.lane_laws.proofs.NearRuns.{run_near}
 use Rattle.lane_laws.specs.ImageStep.{region_of}
 use Rattle.lane_laws.specs.CalmEnds.{StepKeeps}
 use Rattle.world_laws.specs.Settle.{OfLane, SettleEntry}
-use Rattle.world_laws.specs.Lines.{AnswersRequest, Asked, LineMoves}
-use Rattle.world_laws.specs.World.{LaneMoves, OneMoves, WorldState, WorldStep}
+use Rattle.world_laws.specs.World.{WorldState}
 use Rattle.world_laws.proofs.Regions.{IsFirstShape}
-use Rattle.world_laws.proofs.SettleLine.{LaneOne, LineIsPlain, RestsAt, lane_one}
+use Rattle.world_laws.proofs.PlainSettle.{LaneOne, PartIsPlain, RestsAt}
 use Rattle.world_laws.proofs.Undisturbed.{Stands, Undisturbed, blocks_at, slots_at, undisturbed_on}
 use Rattle.world_laws.specs.Plain.{Plain, answer, asked, is_full}
 use Rattle.world_laws.specs.Shown.{shown}
@@ -27,9 +25,9 @@ abbrev waits : Plain → Request → Plain
 waits p request = record p { waiting = p.waiting ++ request ∷ [] }
 
 -- WHAT COMES OF A REQUEST, over the image
-record Answered (shape : Shape) (p : Plain) (request : Request) (event : DiskEvent) (t : LaneState) : Type 0 where
-  shows : shown (OfLane 0 event ∷ []) ≡ answer request (defect shape.blocks request) (is_full shape p)
-  stands : Stands shape (asked p request (defect shape.blocks request) (is_full shape p)) t p.content
+pub record Answered (shape : Shape) (p : Plain) (request : Request) (event : DiskEvent) (t : LaneState) : Type 0 where
+  pub shows : shown (OfLane 0 event ∷ []) ≡ answer request (defect shape.blocks request) (is_full shape p)
+  pub stands : Stands shape (asked p request (defect shape.blocks request) (is_full shape p)) t p.content
 
 -- by its defect, and by whether the ring is full
 refused_plain : (shape : Shape) (p : Plain) (request : Request) (why : Defect) (t : LaneState) (d : Option Defect) (full : Bool) → d ≡ Some why → Stands shape p t p.content
@@ -63,7 +61,7 @@ room_where slots waiting of pending less same wait = grind (arith, nat_tests)
 lane_stays : (s t : LaneState) → t.client ≡ s.client → t ≡ record s { client = t.client } → t ≡ s
 lane_stays s t client is = is ∙ ap (λ (c : ClientState). record s { client = c }) client
 
-refused_answer : (shape : Shape) (p : Plain) (s : LaneState) (why : Defect) (request : Request) (t : LaneState) → IsFirstShape shape → Stands shape p s p.content
+pub refused_answer : (shape : Shape) (p : Plain) (s : LaneState) (why : Defect) (request : Request) (t : LaneState) → IsFirstShape shape → Stands shape p s p.content
     → LaneStep s (Asks (Refused why request)) t → Answered shape p request (Asks (Refused why request)) t
 refused_answer shape p s why request t front stands step =
     let is : defect shape.blocks request ≡ Some why = admitted_at shape p s request (Some why) front stands.lane step.0.0 in
@@ -73,7 +71,7 @@ refused_answer shape p s why request t front stands step =
       stands = refused_plain shape p request why t (defect shape.blocks request) (is_full shape p) is behind;
     }
 
-full_answer : (shape : Shape) (p : Plain) (s : LaneState) (request : Request) (t : LaneState) → IsFirstShape shape → Stands shape p s p.content
+pub full_answer : (shape : Shape) (p : Plain) (s : LaneState) (request : Request) (t : LaneState) → IsFirstShape shape → Stands shape p s p.content
     → LaneStep s (Asks (Full request)) t → Answered shape p request (Asks (Full request)) t
 full_answer shape p s request t front stands step =
     let is : defect shape.blocks request ≡ None = admitted_at shape p s request None front stands.lane step.0.0 in
@@ -113,7 +111,7 @@ accepted_stands shape p s id request t front stands step admitted =
       behind = stands.behind;
     }
 
-accepted_answer : (shape : Shape) (p : Plain) (s : LaneState) (id : ℕ) (request : Request) (t : LaneState) → IsFirstShape shape → Stands shape p s p.content
+pub accepted_answer : (shape : Shape) (p : Plain) (s : LaneState) (id : ℕ) (request : Request) (t : LaneState) → IsFirstShape shape → Stands shape p s p.content
     → LaneStep s (Asks (Accepted id request)) t → Answered shape p request (Asks (Accepted id request)) t
 accepted_answer shape p s id request t front stands step =
     let is : defect shape.blocks request ≡ None = admitted_at shape p s request None front stands.lane step.0.0 in
@@ -124,31 +122,7 @@ accepted_answer shape p s id request t front stands step =
       stands = waits_plain shape p request t (defect shape.blocks request) (is_full shape p) is room (accepted_stands shape p s id request t front stands step is);
     }
 
--- EACH ANSWER, by which the image stays
-record AnsweredOver (shape : Shape) (p : Plain) (request : Request) (event : DiskEvent) (t : LaneState) (i j : ImageState) : Type 0 where
-  answered : Answered shape p request event t
-  image : j ≡ i
-
-each_answer : (shape : Shape) (p : Plain) (s : LaneState) (request : Request) (event : DiskEvent) (t : LaneState) (i j : ImageState) → IsFirstShape shape → Stands shape p s p.content
-    → AnswersRequest request event → LaneMoves s i event t j → AnsweredOver shape p request event t i j
-each_answer shape p s request (Asks (Accepted id same)) t i j front stands answers moves = record {
-  answered = subst (λ (r : Request). Answered shape p r (Asks (Accepted id same)) t) answers (accepted_answer shape p s id same t front stands moves.0);
-  image = moves.1;
-}
-each_answer shape p s request (Asks (Full same)) t i j front stands answers moves = record {
-  answered = subst (λ (r : Request). Answered shape p r (Asks (Full same)) t) answers (full_answer shape p s same t front stands moves.0);
-  image = moves.1;
-}
-each_answer shape p s request (Asks (Refused why same)) t i j front stands answers moves = record {
-  answered = subst (λ (r : Request). Answered shape p r (Asks (Refused why same)) t) answers (refused_answer shape p s why same t front stands moves.0);
-  image = moves.1;
-}
-each_answer shape p s request _ t i j front stands answers moves = absurd answers
-
--- THE LINE
-one_entry : (w : WorldState) (event : DiskEvent) (v : WorldState) → Run WorldStep w (OfLane 0 event ∷ []) v → OneMoves w 0 event v
-one_entry w event v run = subst (OneMoves w 0 event) run.2 run.1
-
+-- OVER THE IMAGE, which stays
 asked_content : (p : Plain) (request : Request) (d : Option Defect) (full : Bool) → (asked p request d full).content ≡ p.content
 asked_content p request (Some why) full = refl
 asked_content p request None true = refl
@@ -162,20 +136,15 @@ stands_at shape p w rests =
     let over = rests.beside.over in
     subst (Stands shape p rests.beside.lane) (same_store w.image.told over.store p.content over.told rests.told) over.stands
 
-pub asked_line : (shape : Shape) (p : Plain) (w : WorldState) (request : Request) (part : List SettleEntry) (v : WorldState) → IsFirstShape shape → RestsAt shape p w
-    → LineMoves w (Asked 0 request) part v → LineIsPlain shape p (Asked 0 request) part v
-asked_line shape p w request part v front rests moves =
-    let entry = moves.part_of in
-    let s = rests.beside.lane in
-    let run : Run WorldStep w (OfLane 0 entry.event ∷ []) v = subst (λ (xs : List SettleEntry). Run WorldStep w xs v) entry.is moves.run in
-    let one : LaneOne s w entry.event v = lane_one s w 0 entry.event v rests.beside.lanes refl (one_entry w entry.event v run) in
-    let all : AnsweredOver shape p request entry.event one.behind w.image v.image =
-    each_answer shape p s request entry.event one.behind w.image v.image front (stands_at shape p w rests) entry.answers one.moves in
-    let told : v.image.told ≡ Some p.content = ap (λ (x : ImageState). x.told) all.image ∙ rests.told in
+pub answered_plain : (shape : Shape) (p : Plain) (w : WorldState) (request : Request) (event : DiskEvent) (v : WorldState) → (rests : RestsAt shape p w)
+    → (one : LaneOne rests.beside.lane w event v) → v.image ≡ w.image → Answered shape p request event one.behind
+    → PartIsPlain shape (answer request (defect shape.blocks request) (is_full shape p)) (asked p request (defect shape.blocks request) (is_full shape p)) (OfLane 0 event ∷ []) v
+answered_plain shape p w request event v rests one image answered =
+    let told : v.image.told ≡ Some p.content = ap (λ (x : ImageState). x.told) image ∙ rests.told in
     record {
-      shows = ap shown entry.is ∙ all.answered.shows;
+      shows = answered.shows;
       rests = record {
-        beside = record { lane = one.behind; lanes = one.lanes; over = record { store = p.content; told = told; stands = all.answered.stands } };
+        beside = record { lane = one.behind; lanes = one.lanes; over = record { store = p.content; told = told; stands = answered.stands } };
         told = told ∙ ap (λ (xs : List ℕ). Some xs) (sym (asked_content p request (defect shape.blocks request) (is_full shape p)));
       };
     }

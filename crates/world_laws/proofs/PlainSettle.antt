@@ -10,15 +10,13 @@ use Rattle.world_laws.proofs.Falling.{ends_settled}
 use Rattle.world_laws.proofs.SettledLanes.{settled_lanes}
 use Rattle.world_laws.specs.Ended.{LanesEnd}
 use Rattle.world_laws.specs.Settle.{OfLane, SettleEntry, SettlePart, Settled, Settles}
-use Rattle.world_laws.specs.Lines.{LineMoves}
-use Rattle.world_laws.specs.Lines as line
 use Rattle.world_laws.specs.World.{LaneMoves, OneMoves, WorldState, WorldStep}
 use Rattle.world_laws.proofs.NoFaults.{part_before}
 use Rattle.world_laws.proofs.OneStep.{Over, one_step}
 use Rattle.world_laws.proofs.OwnSteps.{AreOwn, IsWhole, OwnPart, settle_own}
 use Rattle.world_laws.proofs.Regions.{IsFirstShape}
 use Rattle.world_laws.proofs.Undisturbed.{Stands, reached, rested_image}
-use Rattle.world_laws.specs.Plain.{Plain, complete, complete_all, completion, completions, plain_line, plain_shows}
+use Rattle.world_laws.specs.Plain.{Plain, complete, complete_all, completion, completions}
 use Rattle.world_laws.specs.Shown.{is_shown, shown, shown_if}
 
 -- A WORLD OF ONE LANE, with the plain list beside it
@@ -122,14 +120,17 @@ is_whole shape p s store front stands =
     let at = stands.lane in
     record { reached = reached shape p.completed s front.sound at; unforged = at.unforged; whole = at.whole; runs = at.runs }
 
--- A LINE that shows what it shows of the plain list, and leads to its next state
-pub record LineIsPlain (shape : Shape) (p : Plain) (l : line.Line) (part : List SettleEntry) (v : WorldState) : Type 0 where
-  pub shows : shown part ≡ plain_shows shape p l
-  pub rests : RestsAt shape (plain_line shape p l) v
+-- A PART that shows this, and leads to this plain list
+pub record PartIsPlain (shape : Shape) (journal : List SettleEntry) (q : Plain) (part : List SettleEntry) (v : WorldState) : Type 0 where
+  pub shows : shown part ≡ journal
+  pub rests : RestsAt shape q v
+
+abbrev pub SettleIsPlain : Shape → Plain → List SettleEntry → WorldState → Type 0
+SettleIsPlain shape p part v = PartIsPlain shape (completions p p.waiting ++ Settled ∷ []) (complete_all p p.waiting) part v
 
 -- what is reached where nothing waits any more
 settled_plain : (shape : Shape) (p : Plain) (steps : List SettleEntry) (part : List SettleEntry) (v : WorldState) → IsFirstShape shape → part ≡ steps ++ Settled ∷ [] → (all : Reaches shape p steps v)
-    → all.plain.waiting ≡ [] → LineIsPlain shape p line.Settles part v
+    → all.plain.waiting ≡ [] → SettleIsPlain shape p part v
 settled_plain shape p steps part v front is all none =
     let over = all.beside.over in
     let ends : all.plain ≡ complete_all p p.waiting = sym (ap (complete_all all.plain) none) ∙ all.ends in
@@ -148,7 +149,7 @@ before_answer w [] v run = sym run.1 ∙ run.2
 before_answer w (x ∷ steps) v run = (run.0, run.1, before_answer run.0 steps v run.2)
 
 settle_moves : (shape : Shape) (p : Plain) (w : WorldState) (part : List SettleEntry) (v : WorldState) → IsFirstShape shape → (beside : Beside shape p w)
-    → Settles (beside.lane ∷ []) part v.lanes → Run WorldStep w part v → v.image.faults ≡ 0 → LineIsPlain shape p line.Settles part v
+    → Settles (beside.lane ∷ []) part v.lanes → Run WorldStep w part v → v.image.faults ≡ 0 → SettleIsPlain shape p part v
 settle_moves shape p w part v front beside settles run well =
     let whole = is_whole shape p beside.lane beside.over.store front beside.over.stands in
     let own : OwnPart part = settle_own beside.lane part v.lanes whole settles in
@@ -164,10 +165,10 @@ settle_moves shape p w part v front beside settles run well =
 one_few : 1 ≤ 8
 one_few = omega (arith)
 
-pub settles_line : (shape : Shape) (p : Plain) (w : WorldState) (part : List SettleEntry) (v : WorldState) → IsFirstShape shape → RestsAt shape p w → LineMoves w line.Settles part v
-    → v.image.faults ≡ 0 → LineIsPlain shape p line.Settles part v
-settles_line shape p w part v front rests moves well =
+pub settle_plain : (shape : Shape) (p : Plain) (w : WorldState) (part : List SettleEntry) (v : WorldState) → IsFirstShape shape → RestsAt shape p w → SettlePart w.lanes part v.lanes
+    → Run WorldStep w part v → v.image.faults ≡ 0 → SettleIsPlain shape p part v
+settle_plain shape p w part v front rests settles run well =
     let beside = rests.beside in
     let whole = is_whole shape p beside.lane beside.over.store front beside.over.stands in
-    let settle : SettlePart (beside.lane ∷ []) part v.lanes = subst (λ (l : List LaneState). SettlePart l part v.lanes) beside.lanes moves.part_of in
-    settle_moves shape p w part v front beside (ends_settled (beside.lane ∷ []) part v.lanes (whole.reached, tt) (whole.unforged, tt) one_few settle) moves.run well
+    let settle : SettlePart (beside.lane ∷ []) part v.lanes = subst (λ (l : List LaneState). SettlePart l part v.lanes) beside.lanes settles in
+    settle_moves shape p w part v front beside (ends_settled (beside.lane ∷ []) part v.lanes (whole.reached, tt) (whole.unforged, tt) one_few settle) run well
