@@ -58,8 +58,8 @@ impl<'a> Entries<'a> {
         }
     }
 
-    /// Passes over entries that no user of the disks and ports sees, until the next one is seen or is kept whole. None of
-    /// those that it passes over is handed on.
+    /// Passes over entries that no user of the disks and ports sees, until the next one is seen or is kept whole. None
+    /// of those that it passes over is handed on.
     pub fn pass_unseen(&mut self)
         ensures passed { PassesUnseen self.old self.new }
         ensures stops { BeginsSeen self.new }

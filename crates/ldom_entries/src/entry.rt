@@ -192,7 +192,7 @@ pub enum Entry {
     },
 
     /// The switch took a frame from a port. Of the ports that it is for, each is a bit of one of two sets: those that
-    /// have it in their queue, and those whose queue was full. No port is, where its address is that of none.
+    /// have it in their queue, and those whose queue was full. Both are empty where its address is that of no port.
     Switched {
         end: EndName,
         out: u32,
