@@ -16,19 +16,19 @@ use Rattle.domain_script.specs.declared.event.Side.TheVariants.{Client, Server}
 use Rattle.domain_script.specs.declared.event.EndName.{EndName}
 use Rattle.domain_script.specs.declared.event.Lane.{Lane}
 use Rattle.domain_script.specs.declared.fields.Field.{Field}
-use Rattle.domain_script.specs.declared.fields.Field.TheVariants.{NewName, DiskName, LaneName, End, Number, Bytes, Packet}
+use Rattle.domain_script.specs.declared.fields.Field.TheVariants.{NewName, Named, LaneName, End, Number, Bytes, Packet}
 use Rattle.domain_script.specs.declared.rows.RowKind.{RowKind}
 use Rattle.domain_script.specs.declared.rows.RowKind.TheVariants as row
 use Rattle.domain_script.specs.Faults.{is_empty}
 use Rattle.domain_script.specs.NamesState.{NamesState}
 use Rattle.domain_script.specs.Pieces.{HasNo}
 use Rattle.domain_script.specs.Rows.{row_of}
-use Rattle.domain_script.specs.Spells.{NamesDisk, NamesEnd, NamesLane, SpellsField, SpellsFields, is_printable}
+use Rattle.domain_script.specs.Spells.{NamesEnd, NamesLane, SpellsField, SpellsFields, is_printable}
 use Rattle.domain_script.specs.Values.{ValueOf, ValuesOf}
 use Rattle.domain_script.specs.Words.{IsNameWord, SpellsFill, SpellsName, SpellsNumber, SpellsPacket, is_lower_digit, is_name_byte, side_text, words}
 use Rattle.domain_script.proofs.WordLemmas.{words_none, words_space}
 use Rattle.domain_script.proofs.WordTests.{is_bytes_from, is_packet_from}
-use Rattle.domain_script.proofs.LaneKinds.{of_disks}
+use Rattle.domain_script.specs.LaneKinds.{lane_at}
 
 -- printable bytes without the space, and at least one
 abbrev pub is_graphic : ℕ → Bool
@@ -92,8 +92,7 @@ side_clean (b ∷ bs) Client clean = record { graphic = list_all-append is_graph
 side_clean (b ∷ bs) Server clean = record { graphic = list_all-append is_graphic (b ∷ bs) (side_text Server) ∙ and_from _ _ clean.graphic refl; some = refl }
 
 lane_clean : (names : NamesState) (word : List ℕ) (l : Lane) → NamesLane names word l → IsClean word
-lane_clean names word l named =
-    of_disks (λ x. IsClean word) (NamesDisk names word) (λ disk is. name_clean word is.name is.spelled) l named
+lane_clean names word l named = name_clean word named.name named.spelled
 
 end_clean : (names : NamesState) (word : List ℕ) (end : EndName) → NamesEnd names word end → IsClean word
 end_clean names word end named =
@@ -129,7 +128,7 @@ packet_clean word packet spells =
 
 field_clean : (names : NamesState) (field : Field) (word : List ℕ) (value : ValueOf field) → SpellsField names field word value → IsClean word
 field_clean names (NewName kind) word name spelled = name_clean word name spelled.0
-field_clean names DiskName word disk spelled = name_clean word spelled.name spelled.spelled
+field_clean names (Named kind) word k spelled = lane_clean names word (lane_at kind k) spelled
 field_clean names LaneName word l spelled = lane_clean names word l spelled
 field_clean names (End kind) word end spelled = end_clean names word end spelled.0
 field_clean names (Number bounds) word n spelled = number_clean word n spelled.0

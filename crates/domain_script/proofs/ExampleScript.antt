@@ -22,7 +22,7 @@ disk = record { name = record { len = 2; bytes = 100 ∷ 48 ∷ 0 ∷ 0 ∷ 0 �
 abbrev word : Fill
 word = record { len = 1; bytes = 171 ∷ replicate 1023 0 }
 
-one_write_one_read : AllSpell (script_lines bytes) no_names (Disk disk ∷ Issue 0 (Write 3 2 word) ∷ Issue 0 (Read 2 3) ∷ Settle ∷ []) (record { disks = disk ∷ []; ended = true })
+one_write_one_read : AllSpell (script_lines bytes) no_names (Disk disk ∷ Issue 0 (Write 3 2 word) ∷ Issue 0 (Read 2 3) ∷ Settle ∷ []) (record { disks = disk ∷ []; ports = []; ended = true })
 unfolding digits count_ones
 one_write_one_read = events_spelled (script_lines bytes) no_names
 
@@ -36,6 +36,6 @@ other_disk = record { name = record { len = 1; bytes = 101 ∷ replicate 7 0 }; 
 rows_of_two_disks : AllSpell (script_lines other_bytes) no_names
     (Disk disk ∷ Blank ∷ Disk other_disk ∷ Step (record { lane = disk_lane 1; side = Client }) 12 ∷ Round 100
     ∷ Restart (record { lane = disk_lane 0; side = Server }) ∷ Stop 1 ∷ Tick (disk_lane 1) ∷ [])
-    (record { disks = disk ∷ other_disk ∷ []; ended = true })
+    (record { disks = disk ∷ other_disk ∷ []; ports = []; ended = true })
 unfolding digits count_ones
 rows_of_two_disks = events_spelled (script_lines other_bytes) no_names

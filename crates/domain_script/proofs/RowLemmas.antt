@@ -7,17 +7,18 @@ use Rattle.vdisk_msg.specs.declared.request.Fill.{Fill}
 use Rattle.vdisk_msg.specs.declared.request.Request.TheVariants.{Read, Write, Flush}
 use Rattle.domain_script.specs.declared.event.Event.{Event}
 use Rattle.domain_script.specs.declared.event.EndName.{EndName}
-use Rattle.domain_script.specs.declared.event.Event.TheVariants.{Blank, Issue, Poke}
+use Rattle.domain_script.specs.declared.event.Event.TheVariants.{Blank, Net, Send, Join, Issue, Poke}
 use Rattle.domain_script.specs.declared.fields.Bounds.TheVariants as numbers
 use Rattle.domain_script.specs.declared.fields.EndKind.TheVariants as ends
 use Rattle.domain_script.specs.declared.fields.Field.{Field}
 use Rattle.domain_script.specs.declared.fields.Field.TheVariants.{Number}
 use Rattle.domain_script.specs.declared.rows.RowKind.{RowKind}
 use Rattle.domain_script.specs.declared.rows.RowKind.TheVariants as row
+use Rattle.domain_script.specs.LaneKinds.{disk_lane}
 use Rattle.domain_script.specs.NamesState.{NamesState}
-use Rattle.domain_script.specs.Printed.{CanPrint, RowCanStand}
+use Rattle.domain_script.specs.Printed.{CanPrint, HasRow, RowCanStand}
 use Rattle.domain_script.specs.Rows.{row_among, row_named, row_of, rows}
-use Rattle.domain_script.specs.Spells.{FitsRow, IsOfKind, NamesDisk, NamesEnd, SpellsFields, SpellsFound, SpellsRow}
+use Rattle.domain_script.specs.Spells.{FitsRow, IsOfKind, NamesEnd, NamesLane, SpellsFields, SpellsFound, SpellsRow}
 use Rattle.domain_script.specs.Values.{Said, ValuesOf, made, said}
 use Rattle.domain_script.specs.Words.{SpellsNumber, SpellsFill}
 use Rattle.domain_script.proofs.FieldValues.{SpellsNothing, as_many, fit_fields, nothing_at, one_values, stand_in_fields}
@@ -31,12 +32,19 @@ abbrev pub IsMade : Event → Option Said → Type 0
 IsMade event None = event ≡ Blank
 IsMade event (Some s) = event ≡ made s.kind s.values
 
-pub made_said : (event : Event) → IsMade event (said event)
-made_said Blank = refl
-made_said (Issue disk (Write block count fill)) = refl
-made_said (Issue disk (Read block count)) = refl
-made_said (Issue disk Flush) = refl
-made_said event = refl
+pub made_said : (event : Event) → HasRow event → IsMade event (said event)
+made_said Blank row = refl
+made_said (Net port) row = absurd row
+made_said (Send port frame) row = absurd row
+made_said (Join port address) row = absurd row
+made_said (Issue disk (Write block count fill)) row = refl
+made_said (Issue disk (Read block count)) row = refl
+made_said (Issue disk Flush) row = refl
+made_said event row = refl
+
+made_row : (kind : RowKind) (values : ValuesOf (row_of kind).fields) → HasRow (made kind values)
+made_row row.Disk values = tt
+made_row kind values = tt
 
 -- the words of a row spell at most one event
 pub one_of_row : (kind : RowKind) (line : List (List ℕ)) (names : NamesState) (a b : Event) → SpellsRow kind line names a → SpellsRow kind line names b → a ≡ b
@@ -62,6 +70,7 @@ row_printable kind line names event spells =
     let is : said event ≡ Some (record { kind = kind; values = spells.values }) =
     ap (λ (e : Event). said e) spells.makes ∙ said_made kind spells.values in
     record {
+      row = subst (λ (e : Event). HasRow e) (sym spells.makes) (made_row kind spells.values);
       fits = subst (λ (s : Option Said). FitsRow names s) (sym is) (fit_fields names (row_of kind).fields line spells.values spells.spelled);
       stands = subst (λ (s : Option Said). RowCanStand names s) (sym is) (stand_in_fields names (row_of kind).fields line spells.values spells.spelled);
     }
@@ -74,7 +83,7 @@ no_one (Some a) names field line word is none = tt
 
 -- a write's row is spelled exactly where its bytes are
 pub if_filled : (found : Option Unit) (line : List (List ℕ)) (names : NamesState) (word place size digits : List ℕ) (disk block count : ℕ) (fill : Fill)
-    → line ≡ word ∷ place ∷ size ∷ digits ∷ [] → NamesDisk names word disk → SpellsNumber place block → SpellsNumber size count
+    → line ≡ word ∷ place ∷ size ∷ digits ∷ [] → NamesLane names word (disk_lane disk) → SpellsNumber place block → SpellsNumber size count
     → OnSome found (SpellsFill digits fill) → OnSome found (SpellsRow row.Write line names (Issue disk (Write block count fill)))
 if_filled None line names word place size digits disk block count fill is named b c filled = tt
 if_filled (Some done) line names word place size digits disk block count fill is named b c filled = record {

@@ -27,7 +27,7 @@ none_spelled line ws names (Some done) is not_blank none = tt
 
 -- A LINE THAT SPELLS AN EVENT says of it what printing it asks for
 blank_printable : (names : NamesState) → CanPrint names Blank
-blank_printable names = record { fits = tt; stands = tt }
+blank_printable names = record { row = tt; fits = tt; stands = tt }
 
 printable_found : (found : Option RowKind) (line : List (List ℕ)) (names : NamesState) (event : Event) → SpellsFound found line names event → CanPrint names event
 printable_found None line names event spells = absurd spells
@@ -48,7 +48,7 @@ is_declared line names event spells = (can_print line names event spells).fits
 pub record Declares (names : NamesState) (disk : DiskDecl) : Type 0 where
   pub open_still : names.ended ≡ false
   pub few : length names.disks < 8
-  pub free : IsFree disk.name names.disks
+  pub free : IsFree names disk.name
   pub limits : IsDisk disk
 
 pub declared_first : (line : List ℕ) (names : NamesState) (disk : DiskDecl) → Spells line names (Disk disk) → Declares names disk

@@ -6,10 +6,10 @@ use Rattle.domain_script.specs.declared.event.Event.TheVariants.{Blank}
 use Rattle.domain_script.specs.declared.event.LineFault.{LineFault}
 use Rattle.domain_script.specs.declared.event.Side.TheVariants.{Client}
 use Rattle.domain_script.specs.declared.fields.Field.{Field}
-use Rattle.domain_script.specs.declared.fields.Field.TheVariants.{NewName, DiskName, LaneName, End, Number, Bytes, Packet}
+use Rattle.domain_script.specs.declared.fields.Field.TheVariants.{NewName, Named, LaneName, End, Number, Bytes, Packet}
 use Rattle.domain_script.specs.declared.rows.RowKind.{RowKind}
 use Rattle.domain_script.specs.Faults.{first_fault, is_blank}
-use Rattle.domain_script.specs.Naming.{disk_named, end_named, lane_named}
+use Rattle.domain_script.specs.Naming.{end_named, lane_named, kind_named}
 use Rattle.domain_script.specs.NamesState.{NamesState, noted}
 use Rattle.domain_script.specs.Rows.{row_named, row_of}
 use Rattle.domain_script.specs.Values.{ValueOf, ValuesOf, made}
@@ -31,7 +31,7 @@ fill_of word = record { len = length (bytes_of word); bytes = bytes_of word ++ r
 -- the value of a field whose word has no fault
 abbrev pub field_value : NamesState → (field : Field) → List ℕ → ValueOf field
 field_value names (NewName kind) word = name_of word
-field_value names DiskName word = unwrap_or (disk_named names word) 0
+field_value names (Named kind) word = unwrap_or (kind_named kind names word) 0
 field_value names LaneName word = unwrap_or (lane_named names word) (disk_lane 0)
 field_value names (End kind) word = unwrap_or (end_named names word) (record { lane = disk_lane 0; side = Client })
 field_value names (Number bounds) word = number_of word

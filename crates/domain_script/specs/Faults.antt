@@ -5,10 +5,10 @@ use Rattle.std.specs.List.{list_all, list_any}
 use Rattle.domain_script.specs.declared.event.LineFault.{LineFault}
 use Rattle.domain_script.specs.declared.event.LineFault.TheVariants as line_fault
 use Rattle.domain_script.specs.declared.fields.Field.{Field}
-use Rattle.domain_script.specs.declared.fields.Field.TheVariants.{NewName, DiskName, LaneName, End, Number, Bytes, Packet}
+use Rattle.domain_script.specs.declared.fields.Field.TheVariants.{NewName, Named, LaneName, End, Number, Bytes, Packet}
 use Rattle.domain_script.specs.declared.rows.RowKind.{RowKind}
 use Rattle.domain_script.specs.Limits.{most_of_a_kind}
-use Rattle.domain_script.specs.Naming.{disk_named, end_named, lane_named, some_of_kind}
+use Rattle.domain_script.specs.Naming.{end_named, lane_named, kind_named, some_of_kind}
 use Rattle.domain_script.specs.NamesState.{NamesState, count_of}
 use Rattle.domain_script.specs.Rows.{row_named, row_of}
 use Rattle.domain_script.specs.Spells.{is_printable}
@@ -66,7 +66,7 @@ is_taken names field word = false
 
 -- 8. a name or an end isn't declared, or isn't of the kind that the row needs
 abbrev pub is_unknown : NamesState → Field → List ℕ → Bool
-is_unknown names DiskName word = is_none (disk_named names word)
+is_unknown names (Named kind) word = is_none (kind_named kind names word)
 is_unknown names LaneName word = is_none (lane_named names word)
 is_unknown names (End kind) word = not (some_of_kind kind (end_named names word))
 is_unknown names field word = false

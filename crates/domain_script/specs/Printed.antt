@@ -1,38 +1,31 @@
 -- The one canonical line of an event: its row's word, and the words of its values, with a space before each.
-use Rattle.std.specs.Prelude.{ℕ, List, [], ◌∷◌, ◌++◌, take, decimal, slice_get, Option, Some, None, IsSomeAnd, ⊤}
+use Rattle.std.specs.Prelude.{ℕ, List, [], ◌∷◌, ◌++◌, take, decimal, Option, Some, None, IsSomeAnd, ⊤}
 use Rattle.hex.specs.Hex.{IsBytes, encode_lower}
 use Rattle.vdisk_msg.specs.declared.request.Fill.{Fill}
-use Rattle.domain_script.specs.declared.event.DiskDecl.{DiskDecl}
 use Rattle.domain_script.specs.declared.event.EndName.{EndName}
 use Rattle.domain_script.specs.declared.event.Event.{Event}
+use Rattle.domain_script.specs.declared.event.Event.TheVariants.{Net, Send, Join}
 use Rattle.domain_script.specs.declared.event.Lane.{Lane}
 use Rattle.domain_script.specs.declared.event.Name.{Name}
 use Rattle.domain_script.specs.declared.fields.Field.{Field}
-use Rattle.domain_script.specs.declared.fields.Field.TheVariants.{NewName, DiskName, LaneName, End, Number, Bytes, Packet}
-use Rattle.domain_script.specs.NamesState.{NamesState, CanDeclare}
+use Rattle.domain_script.specs.declared.fields.Field.TheVariants.{NewName, Named, LaneName, End, Number, Bytes, Packet}
+use Rattle.domain_script.specs.NamesState.{NamesState, CanDeclare, lane_name}
 use Rattle.domain_script.specs.Rows.{row_of}
 use Rattle.domain_script.specs.Spells.{IsDeclared}
 use Rattle.domain_script.specs.Values.{Said, ValueOf, ValuesOf, said}
 use Rattle.domain_script.specs.Words.{side_text, IsName}
-use Rattle.domain_script.specs.LaneKinds.{disk_of}
+use Rattle.domain_script.specs.LaneKinds.{lane_at}
 
--- a name; that of a declared disk, and nothing where there is none; that of a lane; an end
+-- a name; that of a declared lane, and nothing where there is none; an end
 abbrev pub name_text : Name → List ℕ
 name_text name = take name.len name.bytes
 
-abbrev pub declared_name : Option DiskDecl → List ℕ
-declared_name None = []
-declared_name (Some disk) = name_text disk.name
-
-abbrev pub disk_text : NamesState → ℕ → List ℕ
-disk_text names k = declared_name (slice_get names.disks k)
-
-abbrev pub option_text : (ℕ → List ℕ) → Option ℕ → List ℕ
+abbrev pub option_text : {A : Type 0} → (A → List ℕ) → Option A → List ℕ
 option_text text None = []
-option_text text (Some k) = text k
+option_text text (Some x) = text x
 
 abbrev pub lane_text : NamesState → Lane → List ℕ
-lane_text names lane = option_text (disk_text names) (disk_of lane)
+lane_text names lane = option_text name_text (lane_name names lane)
 
 abbrev pub end_text : NamesState → EndName → List ℕ
 end_text names end = lane_text names end.lane ++ side_text end.side
@@ -44,7 +37,7 @@ fill_text fill = encode_lower (take fill.len fill.bytes)
 -- the word of a field's value
 abbrev pub field_text : NamesState → (field : Field) → ValueOf field → List ℕ
 field_text names (NewName kind) name = name_text name
-field_text names DiskName disk = disk_text names disk
+field_text names (Named kind) k = lane_text names (lane_at kind k)
 field_text names LaneName lane = lane_text names lane
 field_text names (End kind) end = end_text names end
 field_text names (Number bounds) n = decimal n
@@ -68,19 +61,16 @@ text_said names (Some s) = followed_by (row_of s.kind).word (field_texts names (
 abbrev pub line_text : NamesState → Event → List ℕ
 line_text names event = text_said names (said event)
 
--- the disk is declared, under a name that a word can spell
-abbrev pub HasName : NamesState → ℕ → Type 0
-HasName names disk = IsSomeAnd (slice_get names.disks disk) (λ d. IsName d.name)
-
-abbrev pub IsLaneNamed : NamesState → Lane → Type 0
-IsLaneNamed names lane = IsSomeAnd (disk_of lane) (HasName names)
+-- the lane is declared, under a name that a word can spell
+abbrev pub HasName : NamesState → Lane → Type 0
+HasName names lane = IsSomeAnd (lane_name names lane) IsName
 
 -- a new name may be declared, and what is named has a name
 abbrev pub CanStand : NamesState → (field : Field) → ValueOf field → Type 0
 CanStand names (NewName kind) name = CanDeclare names kind name
-CanStand names DiskName disk = HasName names disk
-CanStand names LaneName lane = IsLaneNamed names lane
-CanStand names (End kind) end = IsLaneNamed names end.lane
+CanStand names (Named kind) k = HasName names (lane_at kind k)
+CanStand names LaneName lane = HasName names lane
+CanStand names (End kind) end = HasName names end.lane
 CanStand names field value = ⊤
 
 abbrev pub AllCanStand : NamesState → (fields : List Field) → ValuesOf fields → Type 0
@@ -91,9 +81,17 @@ abbrev pub RowCanStand : NamesState → Option Said → Type 0
 RowCanStand names None = ⊤
 RowCanStand names (Some s) = AllCanStand names (row_of s.kind).fields s.values
 
+-- the event is blank or has a row
+abbrev pub HasRow : Event → Type 0
+HasRow (Net port) = ⊥
+HasRow (Send port frame) = ⊥
+HasRow (Join port address) = ⊥
+HasRow event = ⊤
+
 -- WHAT CAN BE PRINTED: what the event says fits its row, the names in its line are names, and a declaration is one that
 -- may be noted
 pub record CanPrint (names : NamesState) (event : Event) : Type 0 where
+  pub row : HasRow event
   pub fits : IsDeclared names event
   pub stands : RowCanStand names (said event)
 

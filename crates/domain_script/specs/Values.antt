@@ -4,20 +4,20 @@ use Rattle.vdisk_msg.specs.declared.request.Fill.{Fill}
 use Rattle.vdisk_msg.specs.declared.request.Request.TheVariants.{Read, Write, Flush}
 use Rattle.domain_script.specs.declared.event.EndName.{EndName}
 use Rattle.domain_script.specs.declared.event.Event.{Event}
-use Rattle.domain_script.specs.declared.event.Event.TheVariants.{Blank, Disk, Issue, Settle, Step, Round, Reset, Restart, Stop, Start, Lose, Tick, Inject, Poke}
+use Rattle.domain_script.specs.declared.event.Event.TheVariants.{Blank, Disk, Net, Send, Join, Issue, Settle, Step, Round, Reset, Restart, Stop, Start, Lose, Tick, Inject, Poke}
 use Rattle.domain_script.specs.declared.event.Lane.{Lane}
 use Rattle.domain_script.specs.declared.event.Name.{Name}
 use Rattle.domain_script.specs.declared.fields.Field.{Field}
-use Rattle.domain_script.specs.declared.fields.Field.TheVariants.{NewName, DiskName, LaneName, End, Number, Bytes, Packet}
+use Rattle.domain_script.specs.declared.fields.Field.TheVariants.{NewName, Named, LaneName, End, Number, Bytes, Packet}
 use Rattle.domain_script.specs.declared.rows.RowKind.{RowKind}
 use Rattle.domain_script.specs.declared.rows.RowKind.TheVariants as row
 use Rattle.domain_script.specs.Rows.{row_of}
 
--- the name that is declared; the number of the disk that is named; the lane, or the end, that is named; a number; bytes,
+-- the name that is declared; the number of the lane of a kind that is named; the lane, or the end, that is named; a number; bytes,
 -- and those of a packet
 abbrev pub ValueOf : Field → Type 0
 ValueOf (NewName kind) = Name
-ValueOf DiskName = ℕ
+ValueOf (Named kind) = ℕ
 ValueOf LaneName = Lane
 ValueOf (End kind) = EndName
 ValueOf (Number bounds) = ℕ
@@ -54,6 +54,9 @@ pub record Said : Type 0 where
 
 abbrev pub said : Event → Option Said
 said Blank = None
+said (Net port) = None
+said (Send port frame) = None
+said (Join port address) = None
 said (Disk disk) = Some (record { kind = row.Disk; values = (disk.name, (disk.blocks, (disk.ring, (disk.queue, tt)))) })
 said (Issue disk (Write block count fill)) = Some (record { kind = row.Write; values = (disk, (block, (count, (fill, tt)))) })
 said (Issue disk (Read block count)) = Some (record { kind = row.Read; values = (disk, (block, (count, tt))) })

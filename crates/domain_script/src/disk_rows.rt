@@ -7,7 +7,7 @@ ghost use Rattle.domain_script.specs.Spells.{SpellsRow};
 ghost use Rattle.domain_script.specs.Words.{words, SpellsName};
 
 use crate::fields::LaneKind;
-use crate::lane_words::{declared_disk, one_disk};
+use crate::lane_words::{declared_number, one_number};
 use crate::numbers::{BLOCKS, QUEUE, RING, number, number_within};
 use crate::spellings::{NO_FILL, name, put_fill};
 use crate::words::{four_words, three_words};
@@ -56,7 +56,7 @@ pub fn write_row(fields: &[u8], names: &Names, event: &mut Event) -> Option<()>
     ensures none { IfNone result ((event : event_data) → SpellsRow row.Write (words fields.now) names.now event → ⊥) }
 {
     let (word, block, count, digits) = four_words(fields)?;
-    let disk = declared_disk(word, names)?;
+    let disk = declared_number(word, names, LaneKind::Disk)?;
     *event = Event::Issue {
         disk,
         request: Request::Write {
@@ -80,7 +80,7 @@ pub fn read_row(fields: &[u8], names: &Names, event: &mut Event) -> Option<()>
     ensures none { IfNone result ((event : event_data) → SpellsRow row.Read (words fields.now) names.now event → ⊥) }
 {
     let (word, block, count) = three_words(fields)?;
-    let disk = declared_disk(word, names)?;
+    let disk = declared_number(word, names, LaneKind::Disk)?;
     let request = Request::Read {
         block: number(block)?,
         count: number(count)?,
@@ -94,7 +94,7 @@ pub fn flush_row(fields: &[u8], names: &Names, event: &mut Event) -> Option<()>
     ensures some { OnSome result (SpellsRow row.Flush (words fields.now) names.now event.new) }
     ensures none { IfNone result ((event : event_data) → SpellsRow row.Flush (words fields.now) names.now event → ⊥) }
 {
-    let disk = one_disk(fields, names)?;
+    let disk = one_number(fields, names, LaneKind::Disk)?;
     *event = Event::Issue {
         disk,
         request: Request::Flush,
@@ -107,7 +107,7 @@ pub fn stop_row(fields: &[u8], names: &Names, event: &mut Event) -> Option<()>
     ensures some { OnSome result (SpellsRow row.Stop (words fields.now) names.now event.new) }
     ensures none { IfNone result ((event : event_data) → SpellsRow row.Stop (words fields.now) names.now event → ⊥) }
 {
-    let disk = one_disk(fields, names)?;
+    let disk = one_number(fields, names, LaneKind::Disk)?;
     *event = Event::Stop { disk };
     Some(())
 }
@@ -117,7 +117,7 @@ pub fn start_row(fields: &[u8], names: &Names, event: &mut Event) -> Option<()>
     ensures some { OnSome result (SpellsRow row.Start (words fields.now) names.now event.new) }
     ensures none { IfNone result ((event : event_data) → SpellsRow row.Start (words fields.now) names.now event → ⊥) }
 {
-    let disk = one_disk(fields, names)?;
+    let disk = one_number(fields, names, LaneKind::Disk)?;
     *event = Event::Start { disk };
     Some(())
 }

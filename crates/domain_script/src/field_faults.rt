@@ -5,7 +5,7 @@ ghost use Rattle.domain_script.specs.Faults.{has_wrong_field, is_misnamed, is_mi
 ghost use Rattle.domain_script.specs.Words.{words};
 
 use crate::fields::Field;
-use crate::lane_words::{declared_disk, declared_end, declared_lane};
+use crate::lane_words::{declared_end, declared_lane, declared_number};
 use crate::numbers::{is_number, is_within, number};
 use crate::rows::row_named;
 use crate::spellings::{is_bytes, is_name, is_packet};
@@ -96,7 +96,7 @@ fn is_unknown(names: &Names, field: Field, word: &[u8]) -> bool
     ensures { result ≡ is_unknown names.now field word.now }
 {
     match field {
-        Field::DiskName => declared_disk(word, names).is_none(),
+        Field::Named(kind) => declared_number(word, names, kind).is_none(),
         Field::LaneName => declared_lane(word, names).is_none(),
         Field::End(kind) => declared_end(word, names, kind).is_none(),
         _ => false,

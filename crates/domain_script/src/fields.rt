@@ -2,6 +2,7 @@
 #[derive(Clone, Copy, Debug, PartialEq, Eq)]
 pub enum LaneKind {
     Disk,
+    Port,
 }
 
 /// The ends that a line may name.
@@ -13,7 +14,7 @@ pub enum EndKind {
     /// The server of a disk.
     DiskServer,
 
-    /// An end that has memory of its own: a disk's client, and not its server.
+    /// An end that has memory of its own: a disk's client and not its server, or either end of a port.
     WithMemory,
 }
 
@@ -36,8 +37,8 @@ pub enum Field {
     /// The name of what the line declares.
     NewName(LaneKind),
 
-    /// The name of a declared disk.
-    DiskName,
+    /// The name of a declared lane of this kind.
+    Named(LaneKind),
 
     /// The name of a declared lane.
     LaneName,

@@ -2,16 +2,17 @@
 ghost use Rattle.std.specs.Prelude.{◌≡◌, ◌≤◌, [], ◌∷◌, take, decimal};
 ghost use Rattle.domain_script.specs.declared.event.Event.TheVariants.{Issue as issue_event};
 ghost use Rattle.domain_script.specs.declared.rows.RowKind.TheVariants as row;
-ghost use Rattle.domain_script.specs.Printed.{CanPrint, EventBytes, HasName, IsLaneNamed, disk_text, end_text, followed_by, line_text, name_text};
+ghost use Rattle.domain_script.specs.Printed.{CanPrint, EventBytes, HasName, end_text, followed_by, lane_text, line_text, name_text};
+ghost use Rattle.domain_script.specs.LaneKinds.{disk_lane};
 ghost use Rattle.domain_script.specs.Rows.{row_of};
 ghost use Rattle.domain_script.specs.Spells.{Spells};
 ghost use Rattle.domain_script.specs.Words.{IsName};
 
 use crate::putting::{
-    put_disk, put_end, put_fill, put_lane, put_name, put_number, put_packet, put_row,
+    put_end, put_fill, put_lane, put_name, put_number, put_packet, put_row,
 };
 use crate::rows::RowKind;
-use crate::{DiskDecl, EndName, Event, Names, Request};
+use crate::{DiskDecl, EndName, Event, Lane, LaneKind, Names, Request};
 
 /// Writes the one canonical line of an event, without its line feed, and answers how many bytes it has; what the buffer
 /// has after them isn't specified. The event's disks have to be declared and its ends of the kind that its line needs,
@@ -36,6 +37,7 @@ fn put_event(event: &Event, names: &Names, out: &mut [u8; 3100]) -> usize
     match event {
         Event::Blank => 0,
         Event::Disk(disk) => put_declared(disk, out),
+        Event::Net(_) | Event::Send { .. } | Event::Join { .. } => unreachable!(),
         Event::Issue { disk, request } => put_request(*disk, request, names, out),
         Event::Settle => put_row(RowKind::Settle, out),
         Event::Step { end, count } => {
@@ -83,17 +85,21 @@ fn put_declared(disk: &DiskDecl, out: &mut [u8; 3100]) -> usize
 
 /// Puts a row's word and a disk.
 fn put_row_of_disk(kind: RowKind, disk: u32, names: &Names, out: &mut [u8; 3100]) -> usize
-    requires { HasName names.now disk }
-    ensures text { take result out.new ≡ followed_by (row_of kind).word (disk_text names.now disk ∷ []) }
+    requires { HasName names.now (disk_lane disk) }
+    ensures text { take result out.new ≡ followed_by (row_of kind).word (lane_text names.now (disk_lane disk) ∷ []) }
     ensures len { result ≤ 16 }
 {
+    let lane = Lane {
+        kind: LaneKind::Disk,
+        number: disk,
+    };
     let len = put_row(kind, out);
-    put_disk(disk, names, out, len)
+    put_lane(lane, names, out, len)
 }
 
 /// Puts a row's word and an end.
 fn put_row_of_end(kind: RowKind, end: EndName, names: &Names, out: &mut [u8; 3100]) -> usize
-    requires { IsLaneNamed names.now end.lane }
+    requires { HasName names.now end.lane }
     ensures text { take result out.new ≡ followed_by (row_of kind).word (end_text names.now end ∷ []) }
     ensures len { result ≤ 18 }
 {
@@ -129,9 +135,9 @@ fn put_transfer(
     names: &Names,
     out: &mut [u8; 3100],
 ) -> usize
-    requires { HasName names.now disk }
+    requires { HasName names.now (disk_lane disk) }
     ensures text { take result out.new ≡ followed_by (row_of kind).word
-        (disk_text names.now disk ∷ decimal block ∷ decimal count ∷ []) }
+        (lane_text names.now (disk_lane disk) ∷ decimal block ∷ decimal count ∷ []) }
     ensures len { result ≤ 98 }
 {
     let len = put_row_of_disk(kind, disk, names, out);

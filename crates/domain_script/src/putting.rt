@@ -2,7 +2,7 @@
 ghost use Rattle.std.specs.Prelude.{◌≡◌, ◌+◌, ◌*◌, ◌≤◌, ◌∷◌, ◌++◌, length, take, decimal};
 ghost use Rattle.hex.specs.Hex.{IsBytes, encode_lower};
 ghost use Rattle.domain_script.specs.Fills.{IsFill};
-ghost use Rattle.domain_script.specs.Printed.{HasName, IsLaneNamed, disk_text, end_text, fill_text, lane_text, name_text};
+ghost use Rattle.domain_script.specs.Printed.{HasName, end_text, fill_text, lane_text, name_text};
 ghost use Rattle.domain_script.specs.Rows.{row_of};
 ghost use Rattle.domain_script.specs.Words.{side_text, IsName};
 
@@ -60,33 +60,22 @@ pub fn put_name(name: &Name, out: &mut [u8; 3100], len: usize) -> usize
     put_word(&name.bytes[..name.len as usize], out, len)
 }
 
-/// Puts the name of a declared disk.
-pub fn put_disk(disk: u32, names: &Names, out: &mut [u8; 3100], len: usize) -> usize
-    requires name { HasName names.now disk }
-    requires room { len + 9 ≤ 3100 }
-    ensures text { take result out.new ≡ take len out.old ++ 32 ∷ disk_text names.now disk }
-    ensures len { result ≤ len + 9 }
-{
-    match names.disk(disk) {
-        Some(declared) => put_name(&declared.name, out, len),
-        None => unreachable!(),
-    }
-}
-
-/// Puts the name of a declared lane: it is a disk's, since no others are declared.
-#[tactic(auto, using(crate::proofs::NamedLanes::named_number, crate::proofs::NamedLanes::named_text))]
+/// Puts the name of a declared lane.
 pub fn put_lane(lane: Lane, names: &Names, out: &mut [u8; 3100], len: usize) -> usize
-    requires name { IsLaneNamed names.now lane }
+    requires name { HasName names.now lane }
     requires room { len + 9 ≤ 3100 }
     ensures text { take result out.new ≡ take len out.old ++ 32 ∷ lane_text names.now lane }
     ensures len { result ≤ len + 9 }
 {
-    put_disk(lane.number, names, out, len)
+    match names.name(lane) {
+        Some(name) => put_name(&name, out, len),
+        None => unreachable!(),
+    }
 }
 
 /// Puts an end: its lane's name, and its side.
 pub fn put_end(end: EndName, names: &Names, out: &mut [u8; 3100], len: usize) -> usize
-    requires name { IsLaneNamed names.now end.lane }
+    requires name { HasName names.now end.lane }
     requires room { len + 11 ≤ 3100 }
     ensures text { take result out.new ≡ take len out.old ++ 32 ∷ end_text names.now end }
     ensures len { result ≤ len + 11 }

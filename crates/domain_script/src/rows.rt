@@ -79,6 +79,9 @@ const ROWS: [RowKind; 15] = [
     RowKind::Poke,
 ];
 
+/// The name of a declared disk.
+const DISK: Field = Field::Named(LaneKind::Disk);
+
 /// A number that the script doesn't bound.
 const ANY: Field = Field::Number(Bounds::Any);
 
@@ -118,9 +121,9 @@ impl RowKind {
                 Field::Number(RING),
                 Field::Number(QUEUE),
             ],
-            RowKind::Write => &[Field::DiskName, ANY, ANY, Field::Bytes],
-            RowKind::Read => &[Field::DiskName, ANY, ANY],
-            RowKind::Flush | RowKind::Stop | RowKind::Start => &[Field::DiskName],
+            RowKind::Write => &[DISK, ANY, ANY, Field::Bytes],
+            RowKind::Read => &[DISK, ANY, ANY],
+            RowKind::Flush | RowKind::Stop | RowKind::Start => &[DISK],
             RowKind::Step => &[Field::End(EndKind::Any), Field::Number(TURNS)],
             RowKind::Round => &[Field::Number(TURNS)],
             RowKind::Settle => &[],
