@@ -1,10 +1,11 @@
 -- The world that a script's declarations make.
-use Rattle.std.specs.Prelude.{ℕ, ◌+◌, ◌*◌, ◌≤◌, List, [], ◌∷◌, Option}
+use Rattle.std.specs.Prelude.{ℕ, ◌+◌, ◌*◌, ◌≤◌, List, [], ◌∷◌, map}
 use Rattle.domain_script.specs.declared.event.DiskDecl.{DiskDecl}
+use Rattle.domain_script.specs.declared.event.PortDecl.{PortDecl}
 use Rattle.disk_law.specs.ListState.{ImageState}
-use Rattle.world_laws.specs.LaneState.{LaneState, Shape}
-use Rattle.domain_laws.specs.Domain.{DomainState, fresh_domain}
 use Rattle.domain_laws.specs.NetLaneState.{NetShape}
+use Rattle.domain_laws.specs.Domain.{DomainState, fresh_domain}
+use Rattle.world_laws.specs.LaneState.{LaneState, Shape}
 
 -- a disk from this block of the image on
 abbrev pub shape_of : ℕ → DiskDecl → Shape
@@ -15,6 +16,13 @@ abbrev pub shapes_of : ℕ → List DiskDecl → List Shape
 shapes_of first [] = []
 shapes_of first (disk ∷ disks) = shape_of first disk ∷ shapes_of (first + disk.blocks) disks
 
+-- a port
+abbrev pub net_of : PortDecl → NetShape
+net_of port = record { address = port.address; slots = port.ring; entries = port.queue }
+
+abbrev pub nets_of : List PortDecl → List NetShape
+nets_of ports = map net_of ports
+
 -- the blocks of all disks together
 abbrev pub blocks_of : List DiskDecl → ℕ
 blocks_of [] = 0
@@ -24,7 +32,7 @@ blocks_of (disk ∷ disks) = disk.blocks + blocks_of disks
 abbrev pub bytes_needed : List DiskDecl → ℕ
 bytes_needed disks = 512 * blocks_of disks
 
--- their world over an image, beside these ports of one switch, before anything was asked
+-- THE WORLD of disks over an image, beside these ports of one switch, before anything was asked
 abbrev pub world_of : List DiskDecl → List NetShape → ImageState → DomainState
 world_of disks nets image = fresh_domain (shapes_of 0 disks) image nets
 
