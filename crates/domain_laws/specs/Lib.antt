@@ -18,3 +18,4 @@ pub use Rattle.port_model.specs.NetEndStep
 pub use Rattle.port_model.specs.NetLaneState
 pub use Rattle.port_model.specs.PortState
 pub use Rattle.switch_laws.specs.Events
+pub use Rattle.vio_tag.specs.declared.cause
