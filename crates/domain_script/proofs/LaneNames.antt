@@ -1,5 +1,5 @@
 -- Lanes by their names: which lane is the first with a name, and what one more declaration changes.
-use Rattle.std.proofs.Common.{◌≡◌, ◌≢◌, ℕ, ◌<◌, List, [], ◌∷◌, ◌++◌, length, map, slice_get, Option, Some, None, ◌⊎◌, inl, inr, refl, sym, ◌∙◌, ap, subst, arith}
+use Rattle.std.proofs.Common.{◌≡◌, ◌≢◌, ℕ, List, [], ◌∷◌, ◌++◌, length, map, slice_get, Option, Some, ◌⊎◌, inl, inr, refl, sym, ◌∙◌, ap, arith}
 use Rattle.std.specs.Option.{option_map}
 use Rattle.std.proofs.lemmas.List.{length-map, map-append}
 use Rattle.std.proofs.lemmas.Option.{slice_get-map}
@@ -9,7 +9,7 @@ use Rattle.domain_script.specs.declared.event.Lane.{Lane}
 use Rattle.domain_script.specs.declared.event.Name.{Name}
 use Rattle.domain_script.specs.declared.fields.LaneKind.{LaneKind}
 use Rattle.domain_script.specs.declared.fields.LaneKind.TheVariants as lanes
-use Rattle.domain_script.specs.Firsts.{IsFirst, IsNoneOf}
+use Rattle.domain_script.specs.Firsts.{IsNoneOf}
 use Rattle.domain_script.specs.LaneKinds.{lane_at}
 use Rattle.domain_script.specs.NamesState.{IsFree, IsLane, IsNamed, IsNoneBefore, NamesDiffer, NamesState, count_of, lane_name, names_of}
 use Rattle.domain_script.proofs.Firsts.{is_first, is_none, no_place, not_there, old_or_last, one_place, place_within}
@@ -59,8 +59,8 @@ pub named_by_own : (names : NamesState) (name : Name) (lane : Lane) → NamesDif
 named_by_own names name lane differ is = (
   none_before names name lane.kind lane.number differ is,
   is_first (names_of lane.kind names) name lane.number is
-  (λ j lt there.
-  let same : j ≡ lane.number = ap (λ (l : Lane). l.number) (differ (lane_at lane.kind j) lane name there is) in omega (arith, lt, same)),
+      (λ j lt there.
+      let same : j ≡ lane.number = ap (λ (l : Lane). l.number) (differ (lane_at lane.kind j) lane name there is) in omega (arith, lt, same)),
 )
 
 -- ONE MORE LANE, of a name that was free: the names of its kind are one more, and those of the other kind the same

@@ -13,6 +13,7 @@ pub mod LaneNames
 pub mod Noting
 pub mod Naming
 pub mod WordTests
+pub mod AddressTests
 pub mod NamingTests
 pub mod FieldValues
 pub mod RowLemmas

@@ -1,5 +1,5 @@
 -- Which lane and which end a word names.
-use Rattle.std.proofs.Common.{◌≡◌, ◌<◌, ℕ, zero, suc, List, [], ◌∷◌, ◌++◌, append_assoc, length, Option, Some, None, MatchOption, IsTrue, ◌↔◌, Bool, not, true, false, IfNone, refl, sym, ◌∙◌, ap, subst, arith}
+use Rattle.std.proofs.Common.{◌≡◌, ℕ, List, [], ◌∷◌, ◌++◌, append_assoc, Option, Some, None, MatchOption, IsTrue, ◌↔◌, Bool, not, true, false, IfNone, refl, sym, ◌∙◌, ap, subst, arith}
 use Rattle.std.specs.Option.{is_some}
 use Rattle.std.proofs.lemmas.List.{append_cancel_right, same_from_push}
 use Rattle.domain_script.specs.declared.event.EndName.{EndName}

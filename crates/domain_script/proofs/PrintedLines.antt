@@ -1,5 +1,5 @@
 -- The one line of an event: it spells the event, and a line that spells it and isn't blank is that line.
-use Rattle.std.proofs.Common.{◌≡◌, ℕ, zero, suc, List, [], ◌∷◌, ◌++◌, length, take, slice_get, Option, Some, None, IsSomeAnd, inl, inr, refl, sym, ◌∙◌, ap, subst, append_assoc}
+use Rattle.std.proofs.Common.{◌≡◌, ℕ, List, [], ◌∷◌, ◌++◌, length, take, Option, Some, None, IsSomeAnd, inl, inr, refl, sym, ◌∙◌, ap, subst, append_assoc}
 use Rattle.std.specs.List.{join_with_byte}
 use Rattle.std.proofs.lemmas.List.{take_at}
 use Rattle.std.proofs.lemmas.List.Splits.{join_with_byte-slice_split}
@@ -8,11 +8,11 @@ use Rattle.domain_script.specs.declared.event.Event.{Event}
 use Rattle.domain_script.specs.declared.event.Lane.{Lane}
 use Rattle.domain_script.specs.declared.event.Name.{Name}
 use Rattle.domain_script.specs.declared.fields.Field.{Field}
-use Rattle.domain_script.specs.declared.fields.Field.TheVariants.{NewName, Named, LaneName, End, Number, Bytes, Packet}
+use Rattle.domain_script.specs.declared.fields.Field.TheVariants.{NewName, NewAddress, Named, LaneName, End, Number, Bytes, Frame, Packet, Group}
 use Rattle.domain_script.specs.declared.rows.RowKind.{RowKind}
 use Rattle.domain_script.specs.declared.rows.RowKind.TheVariants as row
 use Rattle.domain_script.specs.NamesState.{NamesDiffer, NamesState, lane_name, names_of}
-use Rattle.domain_script.specs.Printed.{AllAreBytes, AllCanStand, AreBytes, CanPrint, CanStand, EventBytes, HasName, HasRow, RowBytes, RowCanStand, field_text, field_texts, followed_by, lane_text, line_text, name_text, option_text, text_said}
+use Rattle.domain_script.specs.Printed.{AllAreBytes, AllCanStand, AreBytes, CanPrint, CanStand, EventBytes, HasName, RowBytes, RowCanStand, field_text, field_texts, followed_by, lane_text, line_text, name_text, option_text, text_said}
 use Rattle.domain_script.specs.Rows.{row_named, row_of}
 use Rattle.domain_script.specs.Spells.{FitFields, FitsField, FitsRow, IsBlank, NamesLane, Spells, SpellsField, SpellsFields, SpellsFound, SpellsRow, SpellsWords}
 use Rattle.domain_script.specs.Values.{Said, ValueOf, ValuesOf, said}
@@ -52,16 +52,30 @@ module _ (names : NamesState) (differ : NamesDiffer names) where
   field_spells : (field : Field) (value : ValueOf field) → FitsField names field value → CanStand names field value → AreBytes field value
       → SpellsField names field (field_text names field value) value
   field_spells (NewName kind) name fits stands bytes = (name_spells name fits, stands)
+  field_spells NewAddress address fits stands bytes =
+      (record { long = fits.long; reads = decode_of-encode_lower address bytes; lower = refl }, fits, stands)
   field_spells (Named kind) k fits stands bytes = lane_spells (lane_at kind k) stands
   field_spells LaneName l fits stands bytes = lane_spells l stands
   field_spells (End kind) end fits stands bytes =
       (record { name = lane_text names end.lane; spelled = refl; lane_named = lane_spells end.lane stands }, fits.1)
   field_spells (Number bounds) n fits stands bytes = ((refl, fits.0), fits.1)
   field_spells Bytes fill fits stands bytes = record {
-    limits = fits;
+    some = fits.some;
+    most = fits.most;
+    room = fits.room;
+    zeros = fits.zeros;
     reads = decode_of-encode_lower (take fill.len fill.bytes) bytes;
     lower = refl;
   }
+  field_spells Frame piece fits stands bytes = record {
+    some = fits.some;
+    most = fits.most;
+    room = fits.room;
+    zeros = fits.zeros;
+    reads = decode_of-encode_lower (take piece.len piece.bytes) bytes;
+    lower = refl;
+  }
+  field_spells Group address fits stands bytes = (record { long = fits.long; reads = decode_of-encode_lower address bytes; lower = refl }, fits)
   field_spells Packet packet fits stands bytes = record { long = fits; reads = decode_of-encode_lower packet bytes; lower = refl }
 
   fields_spell : (fields : List Field) (values : ValuesOf fields) → FitFields names fields values → AllCanStand names fields values → AllAreBytes fields values
@@ -93,7 +107,7 @@ said_spells names event (Some s) differ is fits stands bytes =
 
 -- so the line of an event spells it
 pub printed_spells : (names : NamesState) (event : Event) → NamesDiffer names → CanPrint names event → EventBytes event → Spells (line_text names event) names event
-printed_spells names event differ can bytes = said_spells names event (said event) differ (made_said event can.row) can.fits can.stands bytes
+printed_spells names event differ can bytes = said_spells names event (said event) differ (made_said event) can.fits can.stands bytes
 
 -- A WORD IS THE TEXT of the value that it spells
 text_of_lane : (names : NamesState) (word : List ℕ) (lane : Lane) → NamesLane names word lane → word ≡ lane_text names lane
@@ -103,13 +117,16 @@ text_of_lane names word lane named =
 
 text_of_field : (names : NamesState) (field : Field) (word : List ℕ) (value : ValueOf field) → SpellsField names field word value → word ≡ field_text names field value
 text_of_field names (NewName kind) word name spelled = text_of_name word name spelled.0
+text_of_field names NewAddress word address spelled = spelled.0.lower
 text_of_field names (Named kind) word k spelled = text_of_lane names word (lane_at kind k) spelled
 text_of_field names LaneName word l spelled = text_of_lane names word l spelled
 text_of_field names (End kind) word end spelled =
     spelled.0.spelled ∙ ap (λ (l : List ℕ). l ++ side_text end.side) (text_of_lane names spelled.0.name end.lane spelled.0.lane_named)
 text_of_field names (Number bounds) word n spelled = spelled.0.0
 text_of_field names Bytes word fill spelled = spelled.lower
+text_of_field names Frame word piece spelled = spelled.lower
 text_of_field names Packet word packet spelled = spelled.lower
+text_of_field names Group word address spelled = spelled.0.lower
 
 texts_of_fields : (names : NamesState) (fields : List Field) (line : List (List ℕ)) (values : ValuesOf fields) → SpellsFields names fields line values → line ≡ field_texts names fields values
 texts_of_fields names [] [] values spelled = refl

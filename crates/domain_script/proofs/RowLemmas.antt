@@ -6,21 +6,22 @@ use Rattle.std.proofs.lemmas.Slice.Eq.{bytes_eq-Decides}
 use Rattle.vdisk_msg.specs.declared.request.Fill.{Fill}
 use Rattle.vdisk_msg.specs.declared.request.Request.TheVariants.{Read, Write, Flush}
 use Rattle.domain_script.specs.declared.event.Event.{Event}
+use Rattle.domain_script.specs.declared.event.Piece.{Piece}
 use Rattle.domain_script.specs.declared.event.EndName.{EndName}
-use Rattle.domain_script.specs.declared.event.Event.TheVariants.{Blank, Net, Send, Join, Issue, Poke}
+use Rattle.domain_script.specs.declared.event.Event.TheVariants.{Blank, Issue, Poke, Send}
 use Rattle.domain_script.specs.declared.fields.Bounds.TheVariants as numbers
 use Rattle.domain_script.specs.declared.fields.EndKind.TheVariants as ends
 use Rattle.domain_script.specs.declared.fields.Field.{Field}
 use Rattle.domain_script.specs.declared.fields.Field.TheVariants.{Number}
 use Rattle.domain_script.specs.declared.rows.RowKind.{RowKind}
 use Rattle.domain_script.specs.declared.rows.RowKind.TheVariants as row
-use Rattle.domain_script.specs.LaneKinds.{disk_lane}
+use Rattle.domain_script.specs.LaneKinds.{disk_lane, port_lane}
 use Rattle.domain_script.specs.NamesState.{NamesState}
-use Rattle.domain_script.specs.Printed.{CanPrint, HasRow, RowCanStand}
+use Rattle.domain_script.specs.Printed.{CanPrint, RowCanStand}
 use Rattle.domain_script.specs.Rows.{row_among, row_named, row_of, rows}
 use Rattle.domain_script.specs.Spells.{FitsRow, IsOfKind, NamesEnd, NamesLane, SpellsFields, SpellsFound, SpellsRow}
 use Rattle.domain_script.specs.Values.{Said, ValuesOf, made, said}
-use Rattle.domain_script.specs.Words.{SpellsNumber, SpellsFill}
+use Rattle.domain_script.specs.Words.{SpellsNumber, SpellsFill, SpellsPiece}
 use Rattle.domain_script.proofs.FieldValues.{SpellsNothing, as_many, fit_fields, nothing_at, one_values, stand_in_fields}
 
 -- AN EVENT AND WHAT IT IS MADE OF, there and back
@@ -32,19 +33,12 @@ abbrev pub IsMade : Event → Option Said → Type 0
 IsMade event None = event ≡ Blank
 IsMade event (Some s) = event ≡ made s.kind s.values
 
-pub made_said : (event : Event) → HasRow event → IsMade event (said event)
-made_said Blank row = refl
-made_said (Net port) row = absurd row
-made_said (Send port frame) row = absurd row
-made_said (Join port address) row = absurd row
-made_said (Issue disk (Write block count fill)) row = refl
-made_said (Issue disk (Read block count)) row = refl
-made_said (Issue disk Flush) row = refl
-made_said event row = refl
-
-made_row : (kind : RowKind) (values : ValuesOf (row_of kind).fields) → HasRow (made kind values)
-made_row row.Disk values = tt
-made_row kind values = tt
+pub made_said : (event : Event) → IsMade event (said event)
+made_said Blank = refl
+made_said (Issue disk (Write block count fill)) = refl
+made_said (Issue disk (Read block count)) = refl
+made_said (Issue disk Flush) = refl
+made_said event = refl
 
 -- the words of a row spell at most one event
 pub one_of_row : (kind : RowKind) (line : List (List ℕ)) (names : NamesState) (a b : Event) → SpellsRow kind line names a → SpellsRow kind line names b → a ≡ b
@@ -70,7 +64,6 @@ row_printable kind line names event spells =
     let is : said event ≡ Some (record { kind = kind; values = spells.values }) =
     ap (λ (e : Event). said e) spells.makes ∙ said_made kind spells.values in
     record {
-      row = subst (λ (e : Event). HasRow e) (sym spells.makes) (made_row kind spells.values);
       fits = subst (λ (s : Option Said). FitsRow names s) (sym is) (fit_fields names (row_of kind).fields line spells.values spells.spelled);
       stands = subst (λ (s : Option Said). RowCanStand names s) (sym is) (stand_in_fields names (row_of kind).fields line spells.values spells.spelled);
     }
@@ -107,6 +100,17 @@ if_poked None line names word place digits end at fill is named n filled = tt
 if_poked (Some done) line names word place digits end at fill is named n filled = record {
   values = (end, (at, (fill, tt)));
   spelled = rw is (named, ((n, tt), (filled, tt)));
+  makes = refl;
+}
+
+-- and that of a frame
+pub if_sent : (found : Option Unit) (line : List (List ℕ)) (names : NamesState) (word digits : List ℕ) (port : ℕ) (piece : Piece)
+    → line ≡ word ∷ digits ∷ [] → NamesLane names word (port_lane port) → OnSome found (SpellsPiece digits piece)
+    → OnSome found (SpellsRow row.Send line names (Send port piece))
+if_sent None line names word digits port piece is named filled = tt
+if_sent (Some done) line names word digits port piece is named filled = record {
+  values = (port, (piece, tt));
+  spelled = rw is (named, (filled, tt));
   makes = refl;
 }
 

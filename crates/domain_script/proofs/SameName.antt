@@ -48,6 +48,6 @@ pub name_told : (own name : Name) (found : Option Name) (said : Bool) → found 
 name_told own name found said is test = (
   λ holds. is ∙ ap Some (name_from_test own name (sym holds ∙ test)),
   λ same.
-  let one : Some own ≡ Some name = sym is ∙ same in
-  let names : own ≡ name = cc one in test ∙ test_from_name own name names,
+      let one : Some own ≡ Some name = sym is ∙ same in
+      let names : own ≡ name = cc one in test ∙ test_from_name own name names,
 )

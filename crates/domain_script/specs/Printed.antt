@@ -1,15 +1,13 @@
 -- The one canonical line of an event: its row's word, and the words of its values, with a space before each.
 use Rattle.std.specs.Prelude.{ℕ, List, [], ◌∷◌, ◌++◌, take, decimal, Option, Some, None, IsSomeAnd, ⊤}
 use Rattle.hex.specs.Hex.{IsBytes, encode_lower}
-use Rattle.vdisk_msg.specs.declared.request.Fill.{Fill}
 use Rattle.domain_script.specs.declared.event.EndName.{EndName}
 use Rattle.domain_script.specs.declared.event.Event.{Event}
-use Rattle.domain_script.specs.declared.event.Event.TheVariants.{Net, Send, Join}
 use Rattle.domain_script.specs.declared.event.Lane.{Lane}
 use Rattle.domain_script.specs.declared.event.Name.{Name}
 use Rattle.domain_script.specs.declared.fields.Field.{Field}
-use Rattle.domain_script.specs.declared.fields.Field.TheVariants.{NewName, Named, LaneName, End, Number, Bytes, Packet}
-use Rattle.domain_script.specs.NamesState.{NamesState, CanDeclare, lane_name}
+use Rattle.domain_script.specs.declared.fields.Field.TheVariants.{NewName, NewAddress, Named, LaneName, End, Number, Bytes, Frame, Packet, Group}
+use Rattle.domain_script.specs.NamesState.{NamesState, CanDeclare, IsFreeAddress, lane_name}
 use Rattle.domain_script.specs.Rows.{row_of}
 use Rattle.domain_script.specs.Spells.{IsDeclared}
 use Rattle.domain_script.specs.Values.{Said, ValueOf, ValuesOf, said}
@@ -30,19 +28,22 @@ lane_text names lane = option_text name_text (lane_name names lane)
 abbrev pub end_text : NamesState → EndName → List ℕ
 end_text names end = lane_text names end.lane ++ side_text end.side
 
--- bytes in hexadecimal
-abbrev pub fill_text : Fill → List ℕ
-fill_text fill = encode_lower (take fill.len fill.bytes)
+-- bytes in hexadecimal: the first of them
+abbrev pub front_text : ℕ → List ℕ → List ℕ
+front_text len bytes = encode_lower (take len bytes)
 
 -- the word of a field's value
 abbrev pub field_text : NamesState → (field : Field) → ValueOf field → List ℕ
 field_text names (NewName kind) name = name_text name
+field_text names NewAddress address = encode_lower address
 field_text names (Named kind) k = lane_text names (lane_at kind k)
 field_text names LaneName lane = lane_text names lane
 field_text names (End kind) end = end_text names end
 field_text names (Number bounds) n = decimal n
-field_text names Bytes fill = fill_text fill
+field_text names Bytes fill = front_text fill.len fill.bytes
+field_text names Frame piece = front_text piece.len piece.bytes
 field_text names Packet packet = encode_lower packet
+field_text names Group address = encode_lower address
 
 abbrev pub field_texts : NamesState → (fields : List Field) → ValuesOf fields → List (List ℕ)
 field_texts names [] values = []
@@ -65,9 +66,10 @@ line_text names event = text_said names (said event)
 abbrev pub HasName : NamesState → Lane → Type 0
 HasName names lane = IsSomeAnd (lane_name names lane) IsName
 
--- a new name may be declared, and what is named has a name
+-- a new name and a new address may be declared, and what is named has a name
 abbrev pub CanStand : NamesState → (field : Field) → ValueOf field → Type 0
 CanStand names (NewName kind) name = CanDeclare names kind name
+CanStand names NewAddress address = IsFreeAddress names address
 CanStand names (Named kind) k = HasName names (lane_at kind k)
 CanStand names LaneName lane = HasName names lane
 CanStand names (End kind) end = HasName names end.lane
@@ -81,24 +83,19 @@ abbrev pub RowCanStand : NamesState → Option Said → Type 0
 RowCanStand names None = ⊤
 RowCanStand names (Some s) = AllCanStand names (row_of s.kind).fields s.values
 
--- the event is blank or has a row
-abbrev pub HasRow : Event → Type 0
-HasRow (Net port) = ⊥
-HasRow (Send port frame) = ⊥
-HasRow (Join port address) = ⊥
-HasRow event = ⊤
-
 -- WHAT CAN BE PRINTED: what the event says fits its row, the names in its line are names, and a declaration is one that
 -- may be noted
 pub record CanPrint (names : NamesState) (event : Event) : Type 0 where
-  pub row : HasRow event
   pub fits : IsDeclared names event
   pub stands : RowCanStand names (said event)
 
 -- what its type says of a value's bytes
 abbrev pub AreBytes : (field : Field) → ValueOf field → Type 0
+AreBytes NewAddress address = IsBytes address
 AreBytes Bytes fill = IsBytes (take fill.len fill.bytes)
+AreBytes Frame piece = IsBytes (take piece.len piece.bytes)
 AreBytes Packet packet = IsBytes packet
+AreBytes Group address = IsBytes address
 AreBytes field value = ⊤
 
 abbrev pub AllAreBytes : (fields : List Field) → ValuesOf fields → Type 0

@@ -37,6 +37,9 @@ pub enum Field {
     /// The name of what the line declares.
     NewName(LaneKind),
 
+    /// The address of the port that the line declares.
+    NewAddress,
+
     /// The name of a declared lane of this kind.
     Named(LaneKind),
 
@@ -52,6 +55,12 @@ pub enum Field {
     /// 1 to 1,024 bytes, two lower-case hexadecimal digits each.
     Bytes,
 
+    /// The 1 to 1,540 bytes of a frame, likewise.
+    Frame,
+
     /// The 64 bytes of a packet, likewise.
     Packet,
+
+    /// The six bytes of a group's address, likewise.
+    Group,
 }

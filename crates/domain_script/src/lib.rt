@@ -3,6 +3,8 @@
 //! faults; each event is printed as its one line.
 #![tactic(auto)]
 
+mod addresses;
+mod declaring;
 mod digits;
 mod disk_rows;
 mod end_rows;
@@ -16,6 +18,7 @@ mod laws;
 mod names;
 mod numbers;
 mod parser;
+mod port_rows;
 mod printing;
 mod putting;
 mod rows;

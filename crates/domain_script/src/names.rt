@@ -32,8 +32,8 @@ const NO_PORT: PortDecl = PortDecl {
     queue: 0,
 };
 
-/// The names that a script has declared so far: up to eight disks and eight ports, each with a name of its own, and each
-/// port with an address of its own.
+/// The names that a script has declared so far: up to eight disks and eight ports, each with a name of its own. Each
+/// port has an address of its own too.
 #[derive(Drop)]
 pub struct Names {
     disks: [DiskDecl; MOST_DISKS],
@@ -58,10 +58,10 @@ impl Model for Names {
 }
 
 impl Names {
-    ghost use Rattle.domain_script.specs.Declarations.{AddressesDiffer};
+    ghost use Rattle.domain_script.specs.Declarations.{AddressesDiffer, addresses};
     ghost use Rattle.domain_script.specs.Firsts.{IsFirst, IsNoneOf};
     ghost use Rattle.domain_script.specs.Limits.{most_of_a_kind};
-    ghost use Rattle.domain_script.specs.NamesState.{CanNote, IsFree, IsNamed, NamesDiffer, count_of, lane_name, names_of, noted};
+    ghost use Rattle.domain_script.specs.NamesState.{CanNote, IsFree, IsFreeAddress, IsNamed, NamesDiffer, count_of, lane_name, names_of, noted};
 
     /// Nothing is declared.
     pub fn new() -> Self
@@ -109,6 +109,13 @@ impl Names {
             LaneKind::Disk => Some(self.disk(lane.number)?.name),
             LaneKind::Port => Some(self.port(lane.number)?.name),
         }
+    }
+
+    /// The address of the k-th port. None exactly where k or fewer were declared.
+    fn address(&self, k: u32) -> Option<[u8; 6]>
+        ensures { result ≡ slice_get (addresses self.now.ports) k }
+    {
+        Some(self.port(k)?.address)
     }
 
     /// No two lanes have one name: a fact for who holds the names, and nothing that is done.
@@ -194,8 +201,31 @@ impl Names {
         self.find(name).is_none()
     }
 
+    /// Whether no port has this address.
+    pub(crate) fn is_free_address(&self, address: &[u8; 6]) -> bool
+        ensures { IsTrue result ↔ IsFreeAddress self.now address.now }
+    {
+        for k in 0..self.count(LaneKind::Port) {
+            if self.has_address(k, address) {
+                return false;
+            }
+        }
+        true
+    }
+
+    /// Whether the k-th port has this address.
+    fn has_address(&self, k: u32, address: &[u8; 6]) -> bool
+        ensures { IsTrue result ↔ (slice_get (addresses self.now.ports) k ≡ Some address.now) }
+    {
+        match self.address(k) {
+            Some(own) => own == *address,
+            None => false,
+        }
+    }
+
     /// Notes an event of the script. A declaration is added, where the declarations haven't ended, fewer than eight of
-    /// its kind stand and its name and a port's address aren't taken. Any other event but a blank ends the declarations.
+    /// its kind stand, and neither its name nor a port's address is taken. Any other event but a blank ends the
+    /// declarations.
     pub fn note(&mut self, event: &Event)
         requires { CanNote self.old event.now }
         ensures { self.new ≡ noted self.old event.now }

@@ -1,4 +1,4 @@
-use Rattle.std.proofs.Common.{◌≡◌, ◌<◌, true, List, length, take, length-set, refl, sym, ◌∙◌, ap, subst, arith}
+use Rattle.std.proofs.Common.{◌≡◌, ◌<◌, true, length, take, length-set, refl, sym, ◌∙◌, ap, subst, arith}
 use Rattle.std.proofs.lemmas.List.{length-take-le}
 use Rattle.domain_script.specs.declared.event.Event.{Event}
 use Rattle.domain_script.specs.declared.fields.LaneKind.TheVariants as lanes
@@ -20,7 +20,7 @@ invariant_of-self c =
       c.self.invariant.2,
       c.self.invariant.3,
       disk_added c.self.inside.disks c.self.inside.disk_count (take c.self.inside.port_count c.self.inside.ports) c.self.inside.ended c.in-Disk.disk
-      (omega arith) c.self.invariant.4 free,
+          (omega arith) c.self.invariant.4 free,
       c.self.invariant.5,
     )
 
@@ -39,7 +39,7 @@ invariant_of-self-in-Net c =
       omega arith,
       length-set c.self.inside.ports c.self.inside.port_count c.in-Net.port ∙ c.self.invariant.3,
       port_added (take c.self.inside.disk_count c.self.inside.disks) c.self.inside.ports c.self.inside.port_count c.self.inside.ended c.in-Net.port
-      (omega arith) c.self.invariant.4 free,
+          (omega arith) c.self.invariant.4 free,
       address_added c.self.inside.ports c.self.inside.port_count c.in-Net.port (omega arith) c.self.invariant.5 free_address,
     )
 
@@ -50,8 +50,8 @@ invariant_of-self-in_default c = (
   c.self.invariant.2,
   c.self.invariant.3,
   still_differ
-  (record { disks = take c.self.inside.disk_count c.self.inside.disks; ports = take c.self.inside.port_count c.self.inside.ports; ended = c.self.inside.ended })
-  (record { disks = take c.self.inside.disk_count c.self.inside.disks; ports = take c.self.inside.port_count c.self.inside.ports; ended = true })
-  refl refl c.self.invariant.4,
+      (record { disks = take c.self.inside.disk_count c.self.inside.disks; ports = take c.self.inside.port_count c.self.inside.ports; ended = c.self.inside.ended })
+      (record { disks = take c.self.inside.disk_count c.self.inside.disks; ports = take c.self.inside.port_count c.self.inside.ports; ended = true })
+      refl refl c.self.invariant.4,
   c.self.invariant.5,
 )

@@ -2,7 +2,7 @@ use Rattle.std.proofs.Common.{◌≡◌, true, false, sym, ◌∙◌, subst}
 use Rattle.domain_script.specs.declared.event.Name.{Name}
 use Rattle.domain_script.specs.NamesState.{CanDeclare}
 use Rattle.domain_script.proofs.Naming.{one_name}
-use Rattle.domain_script.proofs.disk_rows.new_name.Goals as goal
+use Rattle.domain_script.proofs.declaring.new_name.Goals as goal
 
 pub returns-in_err-name-clause-none : goal.returns-in_err-name-clause-none
 returns-in_err-name-clause-none c = rw c.from_residual.ensures (λ name spelled _. c.in_err-name.ensures.none name spelled)
