@@ -1,4 +1,5 @@
 pub mod EntryKinds
+pub mod Untold
 pub mod Tellings
 pub mod DiskShapes
 pub mod Through
