@@ -16,6 +16,7 @@ use Rattle.world_laws.proofs.Along.{lane_at, lanes_run, shape_at}
 use Rattle.world_laws.proofs.LaneLists.{each_there}
 use Rattle.world_laws.specs.World.{IsWorld, WorldStep, fresh_world}
 use Rattle.domain_laws.specs.Domain.{DomainState}
+use Rattle.port_model.specs.NetLaneState.{NetShape}
 use Rattle.channel_model.specs.WireLog.{WireLog}
 use Rattle.world_laws.proofs.Forging.{forged_by_events}
 use Rattle.script_laws.proofs.Failing.{fails_by_events}
@@ -55,9 +56,9 @@ finishes disks image x shape are of_shape before of clean runs =
     finished_by shape (happened x before) s (shape_at 0 shapes x shape shapes_are of_shape) run
     (of.finished x s lane.1 unforged (agrees.stopped ∙ runs))
 
-module _ (disks : List DiskDecl) (image : ImageState) (are : AreDisks disks)
+module _ (disks : List DiskDecl) (nets : List NetShape) (image : ImageState) (are : AreDisks disks)
     (long : IfSome image.told (λ bytes. bytes_needed disks ≤ length bytes)) (entries : List SettleEntry)
-    (v : DomainState) (leads : Leads disks image entries v) (x : ℕ) (shape : Shape) (s : LaneState)
+    (v : DomainState) (leads : Leads disks nets image entries v) (x : ℕ) (shape : Shape) (s : LaneState)
     (of_shape : slice_get (shapes_of 0 disks) x ≡ Some shape) (there : slice_get v.first.lanes x ≡ Some s) where
   world : IsWorld (shapes_of 0 disks) image
   world = declared_world disks image are long

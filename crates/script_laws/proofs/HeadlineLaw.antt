@@ -10,6 +10,7 @@ use Rattle.domain_laws.specs.Domain.{DomainState}
 use Rattle.lane_kinds.specs.Lanes.{EachOf}
 use Rattle.port_model.specs.NetLaneState.{IsNetShape, NetShape}
 use Rattle.script_laws.proofs.ReachedLanes.{AreLanes}
+use Rattle.script_laws.proofs.PortsAlong.{many_ports, ports_stand}
 use Rattle.script_laws.proofs.Disks.{of_disk}
 use Rattle.script_laws.proofs.Isolated.{stand_apart}
 use Rattle.script_laws.proofs.Leading.{Leads, script_leads}
@@ -32,10 +33,10 @@ if_told : (told : Option (List ℕ)) (P : List ℕ → Type 0) → ((first : Lis
 if_told None P holds = tt
 if_told (Some first) P holds = holds first refl
 
-module _ (disks : List DiskDecl) (image : ImageState) (are : AreDisks disks)
+module _ (disks : List DiskDecl) (nets : List NetShape) (image : ImageState) (are : AreDisks disks)
     (long : IfSome image.told (λ bytes. bytes_needed disks ≤ length bytes)) where
   -- OUTSIDE of all disks
-  outside : (entries : List SettleEntry) (v : DomainState) → Leads disks image entries v
+  outside : (entries : List SettleEntry) (v : DomainState) → Leads disks nets image entries v
       → IfSome image.told (λ first. StaysBehind (shapes_of 0 disks) first v.first.image.told)
   outside entries v leads =
       let world = declared_world disks image are long in
@@ -50,11 +51,11 @@ headline_law disks nets image parts v disks_are few_disks nets_are few_nets long
     let are : AreLanes disks nets =
     record { disks_are = disks_are; few_disks = few_disks; nets_are = nets_are; few_nets = few_nets } in
     let entries : List SettleEntry = told (all_lines parts) in
-    let leads : Leads disks image entries v = script_leads disks nets image are parts v fits in
+    let leads : Leads disks nets image entries v = script_leads disks nets image are parts v fits in
     let each : EachSettles disks nets image (all_lines parts) = script_settles disks nets image parts v fits in
     record {
       many = (lanes_run (shapes_of 0 disks) image entries v.first leads.run).many ∙ many_shapes 0 disks;
-      each = of_disk disks image disks_are long entries v leads;
+      each = of_disk disks nets image disks_are long entries v leads;
       settles = record {
         each = λ before part behind is.
             rules_at disks nets image before (told_by (Settle, part)) (each before part behind is);
@@ -69,6 +70,8 @@ headline_law disks nets image parts v disks_are few_disks nets_are few_nets long
       ticks = λ x shape of_shape. ticks_are_needed disks nets image are x shape of_shape (all_lines parts) each;
       left = λ x shape of_shape. left_where_busy disks nets image are x shape of_shape (all_lines parts) each;
       rests = λ x shape of_shape. rests_or_ticked disks nets image are x shape of_shape (all_lines parts) each;
-      outside = outside disks image disks_are long entries v leads;
+      outside = outside disks nets image disks_are long entries v leads;
+      ports_many = many_ports disks nets image nets_are entries v leads;
+      ports = ports_stand disks nets image nets_are entries v leads;
       apart = stand_apart disks nets image parts v disks_are fits;
     }

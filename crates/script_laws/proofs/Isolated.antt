@@ -1,5 +1,5 @@
 -- A line of a script that is for one lane leaves all others, and the image around its disk's region.
-use Rattle.std.proofs.Common.{◌≡◌, ℕ, ◌≤◌, Option, Some, IfSome, List, [], ◌∷◌, ◌++◌, length, slice_get, sym, ap, ap₂, ◌∙◌, subst, refl}
+use Rattle.std.proofs.Common.{◌≡◌, ℕ, ◌≤◌, Option, Some, IfSome, List, ◌∷◌, ◌++◌, length, slice_get, sym, ap, ◌∙◌, subst}
 use Rattle.runs.specs.Run.{Run, run_split}
 use Rattle.disk_law.specs.ListState.{ImageState}
 use Rattle.disk_model.specs.LaneState.{Shape}
@@ -7,36 +7,21 @@ use Rattle.domain_script.specs.Declarations.{AreDisks}
 use Rattle.domain_script.specs.declared.event.DiskDecl.{DiskDecl}
 use Rattle.domain_script.specs.declared.event.Event.{Event}
 use Rattle.port_model.specs.NetLaneState.{NetShape}
-use Rattle.port_model.specs.PortState.{OnLane, PortState, Receives}
-use Rattle.switch_laws.specs.Events.{OnPort, Switched}
-use Rattle.world_laws.specs.Settle.{OfPort, SettleEntry}
 use Rattle.world_laws.specs.Stays.{StaysAround}
 use Rattle.domain_laws.proofs.OwnLines.{disk_line, line_around, port_line}
 use Rattle.domain_laws.specs.Along.{OnlyDisk}
 use Rattle.domain_laws.specs.Domain.{DomainState}
-use Rattle.domain_laws.specs.Frames.{frames_put, put_by}
+use Rattle.domain_laws.specs.Frames.{frames_put}
 use Rattle.domain_laws.specs.Isolation.{IsFor, OnlyPortPart}
 use Rattle.domain_laws.specs.Lines.{DiskLane, PortLane}
 use Rattle.ldom_entries.specs.declared.entry.Entry.{Entry}
 use Rattle.script_laws.proofs.DeclaredWorlds.{AsLines, as_lines, declared_world, says_told}
-use Rattle.script_laws.proofs.Untold.{all_told}
+use Rattle.script_laws.proofs.Untold.{told_put}
 use Rattle.script_laws.specs.Apart.{StandApart}
 use Rattle.script_laws.specs.Told.{told_by}
 use Rattle.world_parts.specs.Declared.{bytes_needed, shapes_of, world_of}
 use Rattle.world_parts.specs.Lines.{EventStep, line_of}
 use Rattle.world_parts.specs.Script.{FitsScript, ScriptParts}
-use Rattle.world_parts.specs.WorldEvents.{told_of}
-
--- what is told puts the same frames
-told_put : (j : ℕ) (entry : SettleEntry) → put_by j (told_of entry) ≡ put_by j entry
-told_put j (OfPort k (OnPort (OnLane event))) = refl
-told_put j (OfPort k (OnPort (Receives frame))) = refl
-told_put j (OfPort k (Switched frame out full)) = refl
-told_put j entry = refl
-
-told_frames : (j : ℕ) (part : List SettleEntry) → frames_put j (all_told part) ≡ frames_put j part
-told_frames j [] = refl
-told_frames j (entry ∷ part) = ap₂ (λ (a b : List (List ℕ)). a ++ b) (told_put j entry) (told_frames j part)
 
 pub line_of_disk : (w : DomainState) (line : Event × List Entry) (v : DomainState) (k : ℕ) → EventStep w line v
     → IsFor (DiskLane k) (line_of line.0) → OnlyDisk k w v
@@ -52,7 +37,7 @@ line_of_port w line v k step own =
       others = λ j s t other there after.
           real.others j s t other there after
           ∙ ap (λ (l : List (List ℕ)). record s { queue = s.queue ++ l })
-          (sym (ap (frames_put j) (says_told line step.entries step.says) ∙ told_frames j step.entries));
+          (sym (ap (frames_put j) (says_told line step.entries step.says) ∙ told_put j step.entries));
     }
 
 -- AROUND ITS REGION the image stays

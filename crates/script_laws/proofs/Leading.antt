@@ -19,7 +19,7 @@ use Rattle.script_laws.proofs.Entries.{IsName, IsOfLane, NotSettled}
 use Rattle.script_laws.proofs.LineEntries.{begins_lanes, begins_unsettled}
 use Rattle.script_laws.proofs.Places.{InEither, place_in}
 use Rattle.script_laws.proofs.ReachedLanes.{AreLanes, any_front}
-use Rattle.script_laws.proofs.Settling.{FinishedAt, finished_at, none_over, reached_lines, told_finished, unforged_lines}
+use Rattle.script_laws.proofs.Settling.{FinishedAt, PortsRestAt, finished_at, none_over, ports_rest_at, reached_lines, told_finished, unforged_lines}
 use Rattle.script_laws.proofs.DeclaredWorlds.{AsLines, as_lines, says_told}
 use Rattle.script_laws.proofs.Untold.{Untold, all_told, real_settled, real_unsettled, real_unsettled_port, told_forged_all, told_run, untold}
 use Rattle.script_laws.specs.Settled.{NobodyForgesAll}
@@ -37,11 +37,16 @@ record LeadsTo (disks : List DiskDecl) (nets : List NetShape) (image : ImageStat
       → entries ≡ before ++ entry ∷ behind → IsName entry → NobodyForgesAll before → ⊥
   finished : (before behind : List SettleEntry) → entries ≡ before ++ Settled ∷ behind
       → FinishedAt disks image before
+  ports_rest : (before behind : List SettleEntry) → entries ≡ before ++ Settled ∷ behind
+      → PortsRestAt disks nets image before behind v
 
 -- and so those that are told
-pub record Leads (disks : List DiskDecl) (image : ImageState) (entries : List SettleEntry) (v : DomainState) : Type 0 where
+pub record Leads (disks : List DiskDecl) (nets : List NetShape) (image : ImageState) (entries : List SettleEntry) (v : DomainState) : Type 0 where
   pub real : List SettleEntry
   pub told_is : entries ≡ all_told real
+  pub led : Run DomainStep (world_of disks nets image) real v
+  pub ports_rest : (before behind : List SettleEntry) → real ≡ before ++ Settled ∷ behind
+      → PortsRestAt disks nets image before behind v
   pub run : Run WorldStep (fresh_world (shapes_of 0 disks) image) entries v.first
   pub none_left : (before : List SettleEntry) (x : ℕ) (behind : List SettleEntry)
       → entries ≡ before ++ Unsettled x ∷ behind → NobodyForgesAll before → ⊥
@@ -63,10 +68,12 @@ module _ (disks : List DiskDecl) (nets : List NetShape) (image : ImageState) whe
   Start = world_of disks nets image
 
   as_told : (entries : List SettleEntry) (v : DomainState) → LeadsTo disks nets image entries v
-      → Leads disks image (all_told entries) v
+      → Leads disks nets image (all_told entries) v
   as_told entries v leads = record {
     real = entries;
     told_is = refl;
+    led = leads.run;
+    ports_rest = leads.ports_rest;
     run = told_run Start.first entries v.first (disks_run Start entries v leads.run);
     none_left = λ before x behind is none.
         let at : Untold entries before (Unsettled x) behind = untold entries before (Unsettled x) behind is in
@@ -94,13 +101,14 @@ module _ (disks : List DiskDecl) (nets : List NetShape) (image : ImageState) whe
       run = lines_run Start lines v run;
       none_left = none_over disks nets image are lines v run;
       finished = finished_at disks nets image are lines v run;
+      ports_rest = ports_rest_at disks nets image are lines v run;
     }
 
     lines_lead : (lines : List (Event × List Entry)) (v : DomainState) → Run EventStep Start lines v
-        → Leads disks image (told lines) v
+        → Leads disks nets image (told lines) v
     lines_lead lines v run =
         let real : AsLines Start lines v = as_lines Start lines v run in
-        subst (λ (l : List SettleEntry). Leads disks image l v) (sym real.told_is)
+        subst (λ (l : List SettleEntry). Leads disks nets image l v) (sym real.told_is)
         (as_told (world.entries_of_lines real.real) v (whole_lead real.real v real.run))
 
     -- A FRONT OF ONE MORE doesn't say that all is settled; and where nobody forged a lane it names none
@@ -129,6 +137,23 @@ module _ (disks : List DiskDecl) (nets : List NetShape) (image : ImageState) whe
           (each_in NotSettled part at.later Settled behind at.is
           (begins_unsettled line (lanes_in w) part (lanes_in v) begun.begins))
 
+      cut_rest : InEither (world.entries_of_lines lines) part before Settled behind
+          → PortsRestAt disks nets image before behind v
+      cut_rest (inl at) =
+          let rest : PortsRestAt disks nets image before at.rest w =
+          ports_rest_at disks nets image are lines w run before at.rest at.is in
+          record {
+            at = rest.at;
+            run = rest.run;
+            on = subst (λ (l : List SettleEntry). Run DomainStep rest.at l v) at.others
+                (run_append DomainStep rest.at w v at.rest part rest.on begun.run);
+            rests = rest.rests;
+          }
+      cut_rest (inr at) =
+          absurd
+          (each_in NotSettled part at.later Settled behind at.is
+          (begins_unsettled line (lanes_in w) part (lanes_in v) begun.begins))
+
     cut_lead : (lines : List (world.Line × List SettleEntry)) (w : DomainState) (line : world.Line)
         (part : List SettleEntry) (v : DomainState) → Run world.LineStep Start lines w
         → world.LineBegins w line part v → LeadsTo disks nets image (world.entries_of_lines lines ++ part) v
@@ -141,14 +166,17 @@ module _ (disks : List DiskDecl) (nets : List NetShape) (image : ImageState) whe
       finished = λ before behind is.
           cut_finished lines w line part v run begun before behind
           (place_in (world.entries_of_lines lines) part before Settled behind is);
+      ports_rest = λ before behind is.
+          cut_rest lines w line part v run begun before behind
+          (place_in (world.entries_of_lines lines) part before Settled behind is);
     }
 
     -- ALL LINES, of which the last may have been cut off
     module _ (whole : List (Event × List Entry)) (m : DomainState) (run : Run EventStep Start whole m) where
       lead_on : (cut : Option (Event × List Entry)) (v : DomainState) → LastStarts m cut v
-          → Leads disks image (told (with_last whole cut)) v
+          → Leads disks nets image (told (with_last whole cut)) v
       lead_on None v last =
-          subst (λ (x : DomainState). Leads disks image (told whole) x) (sym last) (lines_lead whole m run)
+          subst (λ (x : DomainState). Leads disks nets image (told whole) x) (sym last) (lines_lead whole m run)
       lead_on (Some line) v last =
           let real : AsLines Start whole m = as_lines Start whole m run in
           let past : List SettleEntry = world.entries_of_lines real.real in
@@ -156,9 +184,9 @@ module _ (disks : List DiskDecl) (nets : List NetShape) (image : ImageState) whe
           told_more whole line ∙ ap (λ (l : List SettleEntry). l ++ told_by line) real.told_is
           ∙ ap (λ (l : List SettleEntry). all_told past ++ l) (says_told line last.entries last.says)
           ∙ sym (map_both told_of past last.entries) in
-          subst (λ (l : List SettleEntry). Leads disks image l v) (sym is)
+          subst (λ (l : List SettleEntry). Leads disks nets image l v) (sym is)
           (as_told (past ++ last.entries) v (cut_lead real.real m (line_of line.0) last.entries v real.run last.begins))
 
     pub script_leads : (parts : ScriptParts) (v : DomainState) → FitsScript 0 Start parts v
-        → Leads disks image (told (all_lines parts)) v
+        → Leads disks nets image (told (all_lines parts)) v
     script_leads parts v fits = lead_on parts.whole fits.middle fits.run parts.cut v fits.last

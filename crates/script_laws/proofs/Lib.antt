@@ -31,6 +31,7 @@ pub mod Settling
 pub mod SettleLines
 pub mod Leading
 pub mod Disks
+pub mod PortsAlong
 pub mod HeadlineLaw
 pub mod Undisturbed
 pub mod LaneReport

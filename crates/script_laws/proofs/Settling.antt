@@ -1,6 +1,6 @@
 -- Each settle of a script's lines ends settled, or it names lanes that are left over; and where it ends settled all disks
 -- are finished whose servers run and that nobody forged.
-use Rattle.std.proofs.Common.{◌≡◌, ◌⊎◌, ℕ, zero, suc, ◌+◌, ◌≤◌, true, false, List, [], ◌∷◌, ◌++◌, length, slice_get, Some, sym, ap, ap₂, ◌∙◌, subst, arith}
+use Rattle.std.proofs.Common.{◌≡◌, ◌⊎◌, ℕ, zero, suc, ◌+◌, ◌≤◌, true, false, List, [], ◌∷◌, ◌++◌, length, slice_get, Some, refl, sym, ap, ap₂, ◌∙◌, subst, arith}
 use Rattle.runs.specs.Lawful.{log_of}
 use Rattle.runs.specs.Run.{Run, run_append, run_split}
 use Rattle.disk_law.specs.ListState.{ImageState}
@@ -23,12 +23,14 @@ use Rattle.world_laws.specs.Settle.{SettleEntry, Settled, Unsettled, UnsettledPo
 use Rattle.world_laws.specs.Sums.{IsUnforged}
 use Rattle.world_laws.specs.World.{WorldState, WorldStep, fresh_world}
 use Rattle.domain_laws.proofs.LineEntries.{each_in}
-use Rattle.domain_laws.proofs.Resting.{disks_end}
+use Rattle.domain_laws.proofs.Arriving.{at_there}
+use Rattle.domain_laws.proofs.Resting.{disks_end, ports_end}
 use Rattle.domain_laws.proofs.Running.{disks_run}
 use Rattle.domain_laws.proofs.ScriptEntries.{lines_run}
 use Rattle.domain_laws.specs.Domain.{DomainState, DomainStep, lanes, lanes_in}
 use Rattle.domain_laws.specs.Lines as world
-use Rattle.domain_laws.specs.Settling.{AreUnforged}
+use Rattle.domain_laws.specs.Settling.{AreUnforged, HoldsNoFrame, PortEndsIn, PortsEnd}
+use Rattle.switch_laws.specs.Reached as port
 use Rattle.ldom_entries.specs.declared.entry.Entry.{Entry}
 use Rattle.script_laws.proofs.ReachedLanes.{AreLanes, AreReachedFew, any_front, reached_behind, unforged_by}
 use Rattle.script_laws.proofs.Entries.{IsName, LeavesNone}
@@ -67,6 +69,14 @@ pub record FinishedAt (disks : List DiskDecl) (image : ImageState) (before : Lis
   pub finished : AllFinished at.lanes
   pub still : (x : ℕ) (shape : Shape) → slice_get (shapes_of 0 disks) x ≡ Some shape
       → AreStillBy (log_at shape x before)
+
+-- and the ports that nobody forged are at rest
+pub record PortsRestAt (disks : List DiskDecl) (nets : List NetShape) (image : ImageState) (before behind : List SettleEntry)
+    (v : DomainState) : Type 0 where
+  pub at : DomainState
+  pub run : Run DomainStep (world_of disks nets image) before at
+  pub on : Run DomainStep at behind v
+  pub rests : (k : ℕ) (s : PortState) → slice_get at.second k ≡ Some s → port.IsUnforged s → HoldsNoFrame s
 
 -- the answer leaves the world
 abbrev two_of : WorldState → List PortState → DomainState
@@ -174,6 +184,8 @@ module _ (disks : List DiskDecl) (nets : List NetShape) (image : ImageState) (ar
     run : Run world.LineStep Start place.front at
     next : DomainState
     moves : world.LineMoves at place.line.0 place.line.1 next
+    last : DomainState
+    on : Run world.LineStep next place.later last
 
   line_at : (lines : List (world.Line × List SettleEntry)) (v : DomainState)
       → Run world.LineStep Start lines v → (before : List SettleEntry) (entry : SettleEntry)
@@ -185,7 +197,7 @@ module _ (disks : List DiskDecl) (nets : List NetShape) (image : ImageState) (ar
       subst (λ (l : List (world.Line × List SettleEntry)). Run world.LineStep Start l v)
       place.lines_are run in
       let split = run_split world.LineStep Start v place.front (place.line ∷ place.later) whole in
-      record { place = place; at = split.0; run = split.1; next = split.2.0; moves = split.2.1 }
+      record { place = place; at = split.0; run = split.1; next = split.2.0; moves = split.2.1; last = v; on = split.2.2 }
 
   -- NO LANE IS LEFT OVER where nobody forged one before
   pub none_over : (lines : List (world.Line × List SettleEntry)) (v : DomainState)
@@ -271,4 +283,35 @@ module _ (disks : List DiskDecl) (nets : List NetShape) (image : ImageState) (ar
         run = disks_run Start before of.next (run_to lines before behind of);
         finished = lanes_finished lines before behind of;
         still = lanes_still lines before behind of;
+      }
+
+  -- and the lines after it led to the end
+  last_is : (lines : List (world.Line × List SettleEntry)) (v : DomainState) (run : Run world.LineStep Start lines v)
+      (before : List SettleEntry) (entry : SettleEntry) (behind : List SettleEntry)
+      (is : world.entries_of_lines lines ≡ before ++ entry ∷ behind) → (line_at lines v run before entry behind is).last ≡ v
+  unfolding line_at
+  last_is lines v run before entry behind is = refl
+
+  pub ports_rest_at : (lines : List (world.Line × List SettleEntry)) (v : DomainState)
+      → Run world.LineStep Start lines v → (before behind : List SettleEntry)
+      → world.entries_of_lines lines ≡ before ++ Settled ∷ behind → PortsRestAt disks nets image before behind v
+  ports_rest_at lines v run before behind is =
+      let of : LineAt lines before Settled behind = line_at lines v run before Settled behind is in
+      let line = of.place.line in
+      let place = of.place.place in
+      let later : List SettleEntry = world.entries_of_lines of.place.later in
+      let ends : PortsEnd line.1 of.next.second =
+      ports_end (lanes_in of.at) line.1 (lanes_in of.next) (reached_lines of.place.front of.at of.run).reached
+      (settled_at lines before behind of) in
+      let none : place.rest ≡ [] =
+      none_behind line.1 of.place.so_far place.rest
+      (settled_last (lanes_in of.at) line.1 (lanes_in of.next) (settled_at lines before behind of)) place.is in
+      let behind_is : later ≡ behind = sym (ap (λ (l : List SettleEntry). l ++ later) none) ∙ place.others in
+      record {
+        at = of.next;
+        run = run_to lines before behind of;
+        on = subst (λ (l : List SettleEntry). Run DomainStep of.next l v) behind_is
+            (subst (λ (x : DomainState). Run DomainStep of.next later x) (last_is lines v run before Settled behind is)
+            (lines_run of.next of.place.later of.last of.on));
+        rests = λ k s there clean. (at_there (PortEndsIn line.1) 0 k of.next.second s ends there).rests clean;
       }

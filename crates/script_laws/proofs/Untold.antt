@@ -1,7 +1,7 @@
 -- What a journal doesn't tell: how many frames stood in a port's out queue at a tick. It changes nothing of what entries say of disks, of
 -- names, of ticks, of ends that find no room, or of forging.
 use Rattle.std.proofs.Common.{◌≡◌, ◌⊎◌, inl, inr, ℕ, ◌+◌, ◌≤◌, Bool, true, false, List, [], ◌∷◌, ◌++◌, map, refl, sym, ap, ◌∙◌, subst}
-use Rattle.std.specs.Prelude.{◌==◌}
+use Rattle.std.specs.Prelude.{◌==◌, flat_map, if◌then◌else◌}
 use Rattle.runs.specs.Run.{Run}
 use Rattle.disk_model.specs.DiskEvent.{DiskEvent}
 use Rattle.lane_kinds.proofs.Places.{map_both}
@@ -22,6 +22,7 @@ use Rattle.domain_laws.proofs.LeftOver.{NamesBelow}
 use Rattle.domain_laws.specs.Along.{port_happened, port_said}
 use Rattle.domain_laws.specs.Counts.{disk_stuck, moves, moves_in, port_stuck}
 use Rattle.domain_laws.specs.Forged.{NobodyForgesPort, forges}
+use Rattle.domain_laws.specs.Frames.{arrived_in, frames_arrived, frames_put, frames_queued, frames_switched, of_port, put_by, queued_in, switched_in}
 use Rattle.domain_laws.specs.Settling.{port_ticks, port_ticks_in}
 use Rattle.world_parts.specs.WorldEvents.{told_net, told_of}
 use Rattle.script_laws.specs.Settled.{EndsSettled, EndsUnsettled, NobodyForgesAll}
@@ -174,6 +175,65 @@ told_forged j (entry ∷ part) none =
     of_both IsNone (port_said j entry) (port_happened j part)
     (one_forged j entry (first_none (port_said j (told_of entry)) (port_happened j (all_told part)) none))
     (told_forged j part (later_none (port_said j (told_of entry)) (port_happened j (all_told part)) none))
+
+-- and the other way round
+one_real : (j : ℕ) (entry : SettleEntry) → NobodyForgesPort (port_said j entry) → NobodyForgesPort (port_said j (told_of entry))
+one_real j (OfPort k (OnPort (OnLane event))) none =
+    own_forged (j == k) (OnPort (OnLane event)) (OnPort (OnLane (told_net event))) [] (sym (told_net_forges event)) none
+one_real j (OfPort k (OnPort (Receives frame))) none = none
+one_real j (OfPort k (Switched frame out full)) none = none
+one_real j entry none = none
+
+pub real_forged : (j : ℕ) (part : List SettleEntry) → NobodyForgesPort (port_happened j part) → NobodyForgesPort (port_happened j (all_told part))
+real_forged j [] none = tt
+real_forged j (entry ∷ part) none =
+    of_both IsNone (port_said j (told_of entry)) (port_happened j (all_told part))
+    (one_real j entry (first_none (port_said j entry) (port_happened j part) none))
+    (real_forged j part (later_none (port_said j entry) (port_happened j part) none))
+
+-- OF FRAMES
+if_same : (c : Bool) (one two : List (List ℕ)) → one ≡ two → (if c then one else []) ≡ (if c then two else [])
+if_same c one two same = ap (λ (l : List (List ℕ)). if c then l else []) same
+
+one_frames : (frames : SwitchEvent → List (List ℕ)) → ((event : NetEvent) → frames (OnPort (OnLane (told_net event))) ≡ frames (OnPort (OnLane event))) → (k : ℕ) (entry : SettleEntry)
+    → of_port frames k (told_of entry) ≡ of_port frames k entry
+one_frames frames same k (OfPort j (OnPort (OnLane event))) = if_same (k == j) (frames (OnPort (OnLane (told_net event)))) (frames (OnPort (OnLane event))) (same event)
+one_frames frames same k (OfPort j (OnPort (Receives frame))) = refl
+one_frames frames same k (OfPort j (Switched frame out full)) = refl
+one_frames frames same k entry = refl
+
+all_frames : (said : SettleEntry → List (List ℕ)) → ((entry : SettleEntry) → said (told_of entry) ≡ said entry) → (part : List SettleEntry) → flat_map said (all_told part) ≡ flat_map said part
+all_frames said same [] = refl
+all_frames said same (entry ∷ part) =
+    ap (λ (l : List (List ℕ)). l ++ flat_map said (all_told part)) (same entry) ∙ ap (λ (l : List (List ℕ)). said entry ++ l) (all_frames said same part)
+
+queued_same : (event : NetEvent) → queued_in (OnPort (OnLane (told_net event))) ≡ queued_in (OnPort (OnLane event))
+queued_same (Ticked queued lost) = refl
+queued_same (CalmTick queued) = refl
+queued_same event = refl
+
+arrived_same : (event : NetEvent) → arrived_in (OnPort (OnLane (told_net event))) ≡ arrived_in (OnPort (OnLane event))
+arrived_same (Ticked queued lost) = refl
+arrived_same (CalmTick queued) = refl
+arrived_same event = refl
+
+put_same : (k : ℕ) (entry : SettleEntry) → put_by k (told_of entry) ≡ put_by k entry
+put_same k (OfPort j (OnPort (OnLane event))) = refl
+put_same k (OfPort j (OnPort (Receives frame))) = refl
+put_same k (OfPort j (Switched frame out full)) = refl
+put_same k entry = refl
+
+pub told_queued : (k : ℕ) (part : List SettleEntry) → frames_queued k (all_told part) ≡ frames_queued k part
+told_queued k part = all_frames (of_port queued_in k) (one_frames queued_in queued_same k) part
+
+pub told_switched : (k : ℕ) (part : List SettleEntry) → frames_switched k (all_told part) ≡ frames_switched k part
+told_switched k part = all_frames (of_port switched_in k) (one_frames switched_in (λ event. refl) k) part
+
+pub told_arrived : (k : ℕ) (part : List SettleEntry) → frames_arrived k (all_told part) ≡ frames_arrived k part
+told_arrived k part = all_frames (of_port arrived_in k) (one_frames arrived_in arrived_same k) part
+
+pub told_put : (k : ℕ) (part : List SettleEntry) → frames_put k (all_told part) ≡ frames_put k part
+told_put k part = all_frames (put_by k) (put_same k) part
 
 pub told_forged_all : (part : List SettleEntry) → NobodyForgesAll (all_told part) → NobodyForgesAll part
 told_forged_all part none = record {

@@ -13,6 +13,7 @@ use Rattle.world_parts.specs.Script.{ScriptParts, all_lines}
 use Rattle.script_laws.specs.Apart.{StandApart}
 use Rattle.script_laws.specs.Contents.{DiskHolds, NoStoreFailed, ReadsShow}
 use Rattle.script_laws.specs.Lanes.{LaneStands}
+use Rattle.script_laws.specs.Ports.{PortsStand}
 use Rattle.script_laws.specs.Settled.{FinishesAll, LeftWhereBusy, RestsOrTicked, SettlesEnd, StillBehind, TicksAreNeeded}
 use Rattle.script_laws.specs.Told.{told}
 
@@ -46,4 +47,6 @@ pub record Headline (disks : List DiskDecl) (nets : List NetShape) (start : Imag
   pub rests : (x : ℕ) (shape : Shape) → slice_get (shapes_of 0 disks) x ≡ Some shape
       → RestsOrTicked shape x (all_lines parts)
   pub outside : IfSome start.told (λ first. StaysBehind (shapes_of 0 disks) first v.first.image.told)
+  pub ports_many : length v.second ≡ length nets
+  pub ports : PortsStand nets (told (all_lines parts)) v.second
   pub apart : StandApart disks nets start parts v

@@ -9,6 +9,7 @@ pub mod Lanes
 pub mod Contents
 pub mod Settled
 pub mod Apart
+pub mod Ports
 pub mod Headline
 pub mod PlainRun
 pub mod Quiet
