@@ -17,3 +17,4 @@ pub mod LoopKinds
 pub mod Loops
 pub mod Looping
 pub mod QuietLines
+pub mod DiskParts

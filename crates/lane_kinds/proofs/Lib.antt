@@ -16,6 +16,7 @@ pub mod Ticked
 pub mod Places
 pub mod BothFronts
 pub mod EntriesEach
+pub mod FirstKept
 pub mod RoundsMade
 pub mod LanesMade
 pub mod BothMade

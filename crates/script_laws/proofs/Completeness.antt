@@ -123,7 +123,7 @@ module _ {D : Type 0} (seen : D → ImageState) (script behind : Option (List �
   by_ran status.HostFault ended is replayed = absurd (host ended)
   by_ran (status.ImageSize need have) ended is replayed = absurd (never_short need have ended)
   by_ran status.StoreFault ended is replayed =
-      absurd (store_works image replayed.final.image replayed.faults_are.0 replayed.image_is store replayed.faults_are.1)
+      absurd (store_works image replayed.final.first.image replayed.faults_are.0 replayed.image_is store replayed.faults_are.1)
   by_ran (status.Script at fault) ended is replayed =
       let left : Option (List ℕ) = prepend_known replayed.stopped.held behind in
       let faulty : IsFaulty replayed.stopped.left left names fault = replayed.stopped.stop.0.3 in

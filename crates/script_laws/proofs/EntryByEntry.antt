@@ -8,13 +8,15 @@ use Rattle.domain_script.specs.declared.event.DiskDecl.{DiskDecl}
 use Rattle.domain_script.specs.declared.event.Lane.{Lane}
 use Rattle.domain_script.specs.declared.event.Side.{Side}
 use Rattle.domain_script.specs.declared.event.Side.TheVariants.{Client, Server}
-use Rattle.world_laws.specs.Settle.{OfLane, SettleEntry, Unsettled}
-use Rattle.world_laws.specs.Lines.{Asked, Calls, Line}
-use Rattle.world_laws.specs.Quiet.{IsQuiet}
+use Rattle.world_laws.specs.Settle.{OfLane, OfPort, SettleEntry, Unsettled}
+use Rattle.port_model.specs.PortState.{OnLane, Receives}
+use Rattle.switch_laws.specs.Events.{OnPort, Switched}
+use Rattle.domain_laws.specs.Lines.{Asked, Calls, Line}
+use Rattle.domain_laws.specs.Quiet.{IsQuiet}
 use Rattle.ldom_report.specs.DiskEvents.{defect_of}
 use Rattle.domain_script.specs.LaneKinds.{disk_of}
 use Rattle.ldom_report.specs.LaneEvents.{AtClient, AtLane, AtServer, AtWire, ChangesNothing, Meaning, NoRoomFor, Refuses, end_of, meaning}
-use Rattle.world_parts.specs.WorldEvents.{full_event, refused_event, wire_event, world_event}
+use Rattle.world_parts.specs.WorldEvents.{full_event, refused_event, told_of, wire_event, world_event}
 use Rattle.ldom_entries.specs.declared.entry.Entry.{Entry}
 use Rattle.ldom_entries.specs.declared.entry.Entry.TheVariants as entry
 use Rattle.ldom_entries.specs.declared.entry.Who.{Who}
@@ -129,6 +131,13 @@ one_same disk line (entry.Full who) x quiet is = full_same disk line who x quiet
 one_same disk line (entry.Refused who why) x quiet is = refused_same disk line who why x quiet is
 one_same disk line e x quiet is = entry_has (SameAs disk e) line e x (entry_same disk e refl) is
 
+-- and the same as the entry of which that is told
+real_same : (disk : DiskDecl) (e : Entry) (x : SettleEntry) → SaysSame disk (e ∷ []) (told_of x ∷ []) → SaysSame disk (e ∷ []) (x ∷ [])
+real_same disk e (OfPort k (OnPort (OnLane event))) same = same
+real_same disk e (OfPort k (OnPort (Receives frame))) same = same
+real_same disk e (OfPort k (Switched frame out full)) same = same
+real_same disk e x same = same
+
 -- A PART of a line
 first_said : (one two : Option SettleEntry) (ones twos : List (Option SettleEntry)) → one ∷ ones ≡ two ∷ twos
     → one ≡ two
@@ -144,9 +153,10 @@ part_same disk line [] [] quiet says = (refl, refl)
 part_same disk line [] (x ∷ entries) quiet says = absurd (cc says)
 part_same disk line (e ∷ part) [] quiet says = absurd (cc says)
 part_same disk line (e ∷ part) (x ∷ entries) quiet says =
-    let first : world_event line e ≡ Some x =
-    first_said (world_event line e) (Some x) (map (world_event line) part) (map Some entries) says in
+    let all = map (λ (y : SettleEntry). Some (told_of y)) entries in
+    let first : world_event line e ≡ Some (told_of x) =
+    first_said (world_event line e) (Some (told_of x)) (map (world_event line) part) all says in
     let rest : PartSays line part entries =
-    rest_said (world_event line e) (Some x) (map (world_event line) part) (map Some entries) says in
-    says_append disk (e ∷ []) part (x ∷ []) entries (one_same disk line e x quiet first)
+    rest_said (world_event line e) (Some (told_of x)) (map (world_event line) part) all says in
+    says_append disk (e ∷ []) part (x ∷ []) entries (real_same disk e x (one_same disk line e (told_of x) quiet first))
     (part_same disk line part entries quiet rest)

@@ -20,7 +20,7 @@ use Rattle.ldom_entries.specs.declared.entry.Why.{Why}
 use Rattle.ldom_entries.specs.declared.entry.Why.TheVariants.{Range}
 use Rattle.domain_script.specs.declared.event.EndName.{EndName}
 use Rattle.ldc_queue.specs.declared.end.End.{End}
-use Rattle.world_laws.specs.Lines.{Asked, Call, Calls, Injects, Line, OfDisk, Pokes}
+use Rattle.domain_laws.specs.Lines.{Asked, Call, Calls, DiskLane, Injects, Line, Pokes}
 use Rattle.ldom_report.specs.DiskEvents.{Defective, NoRoom, NotTaken, Nothing, OfDisk, Refusal, defect_of, not_taken_on, refused, request_asked, said}
 use Rattle.ldom_report.specs.LaneEvents.{AtClient, AtLane, AtServer, AtWire, ChangesNothing, LeavesNothing, LeavesOver, Meaning, NoRoomFor, Refuses, meaning}
 use Rattle.world_parts.specs.WorldEvents.{at_disk, declined_at, full_call, full_event, if_so, is_end, refused_call, refused_event, world_event}
@@ -143,7 +143,7 @@ full_silent j (Injects e packet) name m is = declined_silent j e name (InjectedF
 full_silent j call name m is = absurd (cc is)
 
 full_line : (asked : Line) (name : EndName) (m : SettleEntry) → full_event asked (OfEnd name) ≡ Some m → SaysNothing m
-full_line (Calls (OfDisk j) call) name m is = full_silent j call name m is
+full_line (Calls (DiskLane j) call) name m is = full_silent j call name m is
 full_line asked name m is = absurd (cc is)
 
 -- of a whole disk it is told only where the line asks one
@@ -153,7 +153,7 @@ IsAsked _ = ⊥
 
 full_whole : (asked : Line) (lane : Lane) (m : SettleEntry) → full_event asked (OfWhole lane) ≡ Some m → IsAsked asked
 full_whole (Asked j request) lane m is = tt
-full_whole (Calls (OfDisk j) call) lane m is = absurd (cc is)
+full_whole (Calls (DiskLane j) call) lane m is = absurd (cc is)
 full_whole asked lane m is = absurd (cc is)
 
 full_kind : (asked : Event) (who : Who) (m : SettleEntry) → full_event (line_of asked) who ≡ Some m
@@ -185,13 +185,13 @@ refused_silent j call name why m is = absurd (cc is)
 
 refused_line : (asked : Line) (name : EndName) (why : Why) (m : SettleEntry) → refused_event asked (OfEnd name) why ≡ Some m
     → SaysNothing m
-refused_line (Calls (OfDisk j) call) name why m is = refused_silent j call name why m is
+refused_line (Calls (DiskLane j) call) name why m is = refused_silent j call name why m is
 refused_line asked name why m is = absurd (cc is)
 
 refused_whole : (asked : Line) (lane : Lane) (why : Why) (m : SettleEntry)
     → refused_event asked (OfWhole lane) why ≡ Some m → IsAsked asked
 refused_whole (Asked j request) lane why m is = tt
-refused_whole (Calls (OfDisk j) call) lane why m is = absurd (cc is)
+refused_whole (Calls (DiskLane j) call) lane why m is = absurd (cc is)
 refused_whole asked lane why m is = absurd (cc is)
 
 refused_kind : (asked : Event) (who : Who) (why : Why) (m : SettleEntry) → refused_event (line_of asked) who why ≡ Some m

@@ -1,44 +1,61 @@
 -- Where a settle of a script's lines leaves a disk over: the rounds ran out, and the disk moved in them or waits.
-use Rattle.std.proofs.Common.{◌≡◌, ◌⊎◌, inl, inr, ℕ, ◌+◌, ◌*◌, ◌≤◌, List, [], ◌∷◌, ◌++◌, length, slice_get, Some, true, refl, sym, ap, ◌∙◌, subst, arith, append_assoc}
-use Rattle.runs.specs.Run.{Run}
+use Rattle.std.proofs.Common.{◌≡◌, ◌⊎◌, inl, inr, ℕ, ◌+◌, ◌*◌, ◌≤◌, Bool, true, false, List, [], ◌∷◌, ◌++◌, length, slice_get, Some, refl, sym, ap, ◌∙◌, subst, arith, append_assoc}
+use Rattle.std.specs.Prelude.{⊤}
+use Rattle.runs.specs.Run.{Run, run_split}
 use Rattle.disk_law.specs.ListState.{ImageState}
+use Rattle.disk_model.specs.DiskEvent.{DiskEvent}
 use Rattle.disk_model.specs.LaneState.{LaneState, Shape}
-use Rattle.domain_script.specs.Declarations.{AreDisks}
+use Rattle.disk_model.specs.LaneStep.{LaneStep}
 use Rattle.domain_script.specs.declared.event.DiskDecl.{DiskDecl}
 use Rattle.domain_script.specs.declared.event.Event.{Event}
 use Rattle.domain_script.specs.declared.event.Event.TheVariants.{Settle}
+use Rattle.lane_kinds.proofs.EntryRuns.{names_each}
+use Rattle.lane_kinds.proofs.Places.{map_both}
 use Rattle.lane_kinds.proofs.Stuck.{sum_both}
-use Rattle.lane_kinds.specs.Fronts.{NamesFront}
+use Rattle.lane_kinds.specs.Both.{Two}
+use Rattle.lane_kinds.specs.Fronts.{NamesFront, SettleFront}
+use Rattle.lane_kinds.specs.Lanes.{sum_of}
+use Rattle.lane_kinds.specs.Settles.{GoesOn, RunsOut, SettlePart, TicksBehind, begin, entries_of_rounds, most_rounds}
+use Rattle.port_model.specs.NetLaneState.{NetShape}
+use Rattle.switch_laws.specs.Events.{SwitchEvent}
+use Rattle.switch_laws.specs.Ports.{pending, ports}
 use Rattle.world_laws.proofs.Along.{lane_at, shape_at}
-use Rattle.world_laws.proofs.LeftLanes.{left_why, moved_left}
-use Rattle.world_laws.proofs.LineEntries.{each_in, rounds_each}
-use Rattle.world_laws.proofs.Moving.{ends, moves_on, rounds_move_lanes}
+use Rattle.world_laws.proofs.LeftLanes.{Named, moved_left, moved_right, named}
+use Rattle.world_laws.proofs.Moving.{moves_on}
 use Rattle.world_laws.proofs.Pending.{world_pending}
-use Rattle.world_laws.proofs.Stuck.{made_move}
 use Rattle.world_laws.specs.Along.{LanesMove, happened}
-use Rattle.world_laws.specs.Begun.{SettleFront}
-use Rattle.world_laws.specs.Moves.{IsLeftOver, MovedIn, moves, moves_in}
-use Rattle.world_laws.specs.Requests.{pending_of}
 use Rattle.world_laws.specs.DiskKind.{waits_on}
-use Rattle.world_laws.specs.Settle.{GoesOn, RunsOut, SettleEntry, SettlePart, SettleRound, Settled, Settling, Unsettled, begin, disks, entries_of_rounds, left_over, most_rounds, pending_on}
+use Rattle.world_laws.specs.Moves.{IsLeftOver, MovedIn}
+use Rattle.world_laws.specs.Requests.{pending_of}
+use Rattle.world_laws.specs.Rounds.{LaneRound}
+use Rattle.world_laws.specs.Settle.{OfLane, SettleEntry, Settled, Unsettled, UnsettledPort, disks, pending_on, round_entries}
+use Rattle.domain_laws.proofs.Counting.{made_move}
+use Rattle.domain_laws.proofs.DiskParts.{disks_end as names_move, rounds_move_disks}
+use Rattle.domain_laws.proofs.LineEntries.{AllRound, AllSettling, EachEntry, each_in, rounds_each}
+use Rattle.domain_laws.specs.Counts.{moves, moves_in}
+use Rattle.domain_laws.specs.Domain.{Lanes, lanes, lanes_in, port_entries, switch}
+use Rattle.domain_laws.specs.Lines.{fronts}
 use Rattle.ldom_entries.specs.declared.entry.Entry.{Entry}
 use Rattle.script_laws.proofs.DiskShapes.{are_shapes, many_shapes}
 use Rattle.script_laws.proofs.Entries.{IsOfLane}
 use Rattle.script_laws.proofs.LedLanes.{led_run, told_run}
 use Rattle.script_laws.proofs.Places.{InEither, no_place, place_in}
-use Rattle.script_laws.proofs.SettleEntries.{SettledLast, settle_front, settled_last}
+use Rattle.script_laws.proofs.ReachedLanes.{AreLanes}
+use Rattle.script_laws.proofs.SettleEntries.{SettledLast, lane_steps, lane_ticks, settle_front, settled_last}
 use Rattle.script_laws.proofs.SettleLines.{EachSettles, SettlesBehind}
 use Rattle.script_laws.proofs.TicksNeeded.{waits_by}
 use Rattle.script_laws.proofs.TicksStand.{MovedTo, moved_to}
+use Rattle.script_laws.proofs.Untold.{Untold, all_told, real_unsettled, told_happened, told_moves, untold}
 use Rattle.script_laws.specs.Settled.{LeftWhereBusy, RunsOutIn, WaitsBy}
 use Rattle.script_laws.specs.Told.{log_at, told, told_by}
 use Rattle.world_parts.specs.Declared.{shapes_of}
+use Rattle.world_parts.specs.WorldEvents.{told_of}
 
--- AFTER SO MUCH OF A PART, where it names this lane
-pub record LeftAt (x : ℕ) (start : List LaneState) (so_far : List SettleEntry) (behind : List LaneState) : Type 0 where
-  pub moved : most_rounds start ≤ moves_in so_far
-  pub why : IsLeftOver x so_far behind
-  pub leads : LanesMove 0 start so_far behind
+-- AFTER SO MUCH OF A PART, where it names this disk
+pub record LeftAt (x : ℕ) (start : Lanes) (so_far : List SettleEntry) (behind : Lanes) : Type 0 where
+  pub moved : most_rounds lanes start ≤ moves_in so_far
+  pub why : IsLeftOver x so_far behind.first
+  pub leads : LanesMove 0 start.first so_far behind.first
 
 enough : (most made rounds all later : ℕ) → made ≡ most → made ≤ rounds → all ≡ rounds + later → most ≤ all
 enough most made rounds all later is less sum = omega (arith, is, less, sum)
@@ -48,71 +65,126 @@ further : (x : ℕ) (one later : List SettleEntry) (behind : List LaneState) →
 further x one later behind (inl moved) = inl (moved_left x one later moved)
 further x one later behind (inr waits) = inr waits
 
+-- A NAME of a disk is among those of disks
+abbrev IsPortName : SettleEntry → Type 0
+IsPortName (UnsettledPort k) = ⊤
+IsPortName _ = ⊥
+
+port_names : (r : List (List SwitchEvent)) (w : Lanes) → EachEntry IsPortName (switch.names r w.second)
+port_names r w = names_each ports port_entries IsPortName (λ k. tt) 0 r w.second
+
+of_disks_alone : (x : ℕ) (r : Two (List LaneRound) (List (List SwitchEvent))) (w : Lanes) (later rest : List SettleEntry)
+    → InEither (disks.names r.first w.first) (switch.names r.second w.second) later (Unsettled x) rest
+    → (more : List SettleEntry) × (disks.names r.first w.first ≡ later ++ Unsettled x ∷ more)
+of_disks_alone x r w later rest (inl at) = (at.rest, at.is)
+of_disks_alone x r w later rest (inr at) =
+    absurd (each_in IsPortName (switch.names r.second w.second) at.later (Unsettled x) rest at.is (port_names r.second w))
+
+-- THE LAST ROUND that goes on
+goes_moved : (x : ℕ) (quiet : Bool) (w : AllSettling) (steps : Two (List LaneRound) (List (List SwitchEvent))) (between : Lanes)
+    (entries : List SettleEntry) (v : AllSettling) → TicksBehind lanes quiet w steps between entries v
+    → MovedIn x (round_entries 0 steps.first) → MovedIn x entries
+goes_moved x false w steps between entries v behind moved =
+    subst (MovedIn x) (sym behind.1) (moved_left x (round_entries 0 steps.first) (switch.leaves steps.second) moved)
+goes_moved x true w steps between entries v behind moved =
+    subst (MovedIn x) (sym behind.3)
+    (moved_left x (lanes.leaves steps) (lanes.ticks_leave between w.marks)
+    (moved_left x (round_entries 0 steps.first) (switch.leaves steps.second) moved))
+
+rounds_moved : (x : ℕ) (rounds : List AllRound) (last : AllRound) → MovedIn x last.entries
+    → MovedIn x (entries_of_rounds (rounds ++ last ∷ []))
+rounds_moved x [] last moved = moved_left x last.entries [] moved
+rounds_moved x (round ∷ rounds) last moved =
+    moved_right x round.entries (entries_of_rounds (rounds ++ last ∷ [])) (rounds_moved x rounds last moved)
+
+as_left : (x : ℕ) (rounds : List AllRound) (last : AllRound) (w v : AllSettling) (behind : List LaneState) → GoesOn lanes w last v
+    → Named 0 x last.steps.first behind → IsLeftOver x (entries_of_rounds (rounds ++ last ∷ [])) behind
+as_left x rounds last w v behind goes (inl moved) =
+    inl
+    (rounds_moved x rounds last
+    (goes_moved x (lanes.quiet last.steps) w last.steps goes.between last.entries v goes.behind moved))
+as_left x rounds last w v behind goes (inr at) =
+    let number : at.index ≡ x = omega (arith, at.is) in
+    inr (record {
+      lane = at.lane;
+      there = subst (λ (i : ℕ). slice_get behind i ≡ Some at.lane) number at.there;
+      waits = at.waits;
+    })
+
 -- ROUNDS that ran out, and then names
-module _ (start : List LaneState) (rounds : List SettleRound) (last : SettleRound) (now : Settling)
-    (run : Run GoesOn (begin start) (rounds ++ last ∷ []) now)
-    (most : length (rounds ++ last ∷ []) ≡ most_rounds start) where
+module _ (start : Lanes) (rounds : List AllRound) (last : AllRound) (now : AllSettling)
+    (run : Run (GoesOn lanes) (begin lanes start) (rounds ++ last ∷ []) now)
+    (most : length (rounds ++ last ∷ []) ≡ most_rounds lanes start) where
   abbrev all : List SettleEntry
   all = entries_of_rounds (rounds ++ last ∷ [])
 
-  in_names : (x : ℕ) (named unnamed later rest : List SettleEntry)
-      → named ++ unnamed ≡ left_over 0 last.steps now.lanes → named ≡ later ++ Unsettled x ∷ rest
+  left_why : (x : ℕ) (later rest : List SettleEntry) → lanes.names last.steps now.lanes ≡ later ++ Unsettled x ∷ rest
+      → IsLeftOver x all now.lanes.first
+  left_why x later rest is =
+      let split = run_split (GoesOn lanes) (begin lanes start) now rounds (last ∷ []) run in
+      let own = of_disks_alone x last.steps now.lanes later rest
+      (place_in (disks.names last.steps.first now.lanes.first) (switch.names last.steps.second now.lanes.second) later
+      (Unsettled x) rest is) in
+      as_left x rounds last split.0 split.2.0 now.lanes.first split.2.1
+      (named 0 x last.steps.first now.lanes.first later own.0 own.1)
+
+  in_names : (x : ℕ) (names unnamed later rest : List SettleEntry)
+      → names ++ unnamed ≡ lanes.names last.steps now.lanes → names ≡ later ++ Unsettled x ∷ rest
       → LeftAt x start (all ++ later) now.lanes
-  in_names x named unnamed later rest are is =
-      let split : left_over 0 last.steps now.lanes ≡ later ++ Unsettled x ∷ (rest ++ unnamed) =
+  in_names x names unnamed later rest are is =
+      let split : lanes.names last.steps now.lanes ≡ later ++ Unsettled x ∷ (rest ++ unnamed) =
       sym are ∙ ap (λ (l : List SettleEntry). l ++ unnamed) is ∙ append_assoc later (Unsettled x ∷ rest) unnamed in
       record {
-        moved = enough (most_rounds start) (length (rounds ++ last ∷ [])) (moves_in all) (moves_in (all ++ later))
-            (moves_in later) most (made_move (begin start) (rounds ++ last ∷ []) now run) (sum_both moves all later);
-        why = further x all later now.lanes
-            (left_why (begin start) rounds last now now.lanes x later (rest ++ unnamed) run split);
-        leads = moves_on 0 start now.lanes now.lanes all later
-            (rounds_move_lanes (begin start) (rounds ++ last ∷ []) now run)
-            (ends.names last.steps now.lanes later (Unsettled x ∷ (rest ++ unnamed)) (sym split));
+        moved = enough (most_rounds lanes start) (length (rounds ++ last ∷ [])) (moves_in all) (moves_in (all ++ later))
+            (moves_in later) most (made_move (begin lanes start) (rounds ++ last ∷ []) now run) (sum_both moves all later);
+        why = further x all later now.lanes.first (left_why x later (rest ++ unnamed) split);
+        leads = moves_on 0 start.first now.lanes.first now.lanes.first all later
+            (rounds_move_disks (begin lanes start) (rounds ++ last ∷ []) now run)
+            (names_move.names last.steps now.lanes later (Unsettled x ∷ (rest ++ unnamed)) (sym split));
       }
 
-  by_place : (x : ℕ) (named unnamed so_far rest : List SettleEntry)
-      → named ++ unnamed ≡ left_over 0 last.steps now.lanes → InEither all named so_far (Unsettled x) rest
+  by_place : (x : ℕ) (names unnamed so_far rest : List SettleEntry)
+      → names ++ unnamed ≡ lanes.names last.steps now.lanes → InEither all names so_far (Unsettled x) rest
       → LeftAt x start so_far now.lanes
-  by_place x named unnamed so_far rest are (inl at) =
+  by_place x names unnamed so_far rest are (inl at) =
       absurd
       (each_in IsOfLane all so_far (Unsettled x) at.rest at.is
-      (rounds_each IsOfLane (λ k e event step. tt) (λ k. tt) (begin start) (rounds ++ last ∷ []) now run))
-  by_place x named unnamed so_far rest are (inr at) =
+      (rounds_each IsOfLane lane_steps lane_ticks (begin lanes start) (rounds ++ last ∷ []) now run))
+  by_place x names unnamed so_far rest are (inr at) =
       subst (λ (l : List SettleEntry). LeftAt x start l now.lanes) (sym at.before_is)
-      (in_names x named unnamed at.later rest are at.is)
+      (in_names x names unnamed at.later rest are at.is)
 
 -- A WHOLE SETTLE, and a front of one
 nothing_more : (names : List SettleEntry) → names ++ [] ≡ names
 nothing_more [] = refl
 nothing_more (name ∷ names) = ap (λ (l : List SettleEntry). name ∷ l) (nothing_more names)
 
-out_left : (start : List LaneState) (part : List SettleEntry) (behind : List LaneState)
-    (out : RunsOut start part behind) (x : ℕ) (so_far rest : List SettleEntry) → part ≡ so_far ++ Unsettled x ∷ rest
+out_left : (start : Lanes) (part : List SettleEntry) (behind : Lanes)
+    (out : RunsOut lanes start part behind) (x : ℕ) (so_far rest : List SettleEntry) → part ≡ so_far ++ Unsettled x ∷ rest
     → LeftAt x start so_far behind
 out_left start part behind out x so_far rest is =
     let all : List SettleEntry = entries_of_rounds (out.rounds ++ out.last ∷ []) in
-    let names : List SettleEntry = left_over 0 out.last.steps behind in
-    let over : left_over 0 out.last.steps out.now.lanes ≡ names =
-    ap (λ (l : List LaneState). left_over 0 out.last.steps l) (sym out.lanes) in
-    subst (λ (l : List LaneState). LeftAt x start so_far l) (sym out.lanes)
+    let names : List SettleEntry = lanes.names out.last.steps behind in
+    let over : lanes.names out.last.steps out.now.lanes ≡ names =
+    ap (λ (l : Lanes). lanes.names out.last.steps l) (sym out.lanes) in
+    subst (λ (l : Lanes). LeftAt x start so_far l) (sym out.lanes)
     (by_place start out.rounds out.last out.now out.run out.most x names [] so_far rest (nothing_more names ∙ sym over)
     (place_in all names so_far (Unsettled x) rest (sym out.is ∙ is)))
 
-begun_left : (start : List LaneState) (part : List SettleEntry) (behind : List LaneState)
-    (at : SettleFront start part behind) → length at.rounds ≡ most_rounds start
-    → NamesFront disks at.rounds at.now at.later behind → (x : ℕ) (so_far rest : List SettleEntry)
+begun_left : (start : Lanes) (part : List SettleEntry) (behind : Lanes)
+    (at : SettleFront lanes fronts start part behind) → length at.rounds ≡ most_rounds lanes start
+    → NamesFront lanes at.rounds at.now at.later behind → (x : ℕ) (so_far rest : List SettleEntry)
     → part ≡ so_far ++ Unsettled x ∷ rest → LeftAt x start so_far behind
 begun_left start part behind at most front x so_far rest is =
-    let rounds : List SettleRound = front.before ++ front.last ∷ [] in
+    let rounds : List AllRound = front.before ++ front.last ∷ [] in
     let same : entries_of_rounds at.rounds ≡ entries_of_rounds rounds =
-    ap (λ (l : List SettleRound). entries_of_rounds l) front.is_last in
+    ap (λ (l : List AllRound). entries_of_rounds l) front.is_last in
     let place : entries_of_rounds rounds ++ at.later ≡ so_far ++ Unsettled x ∷ rest =
     sym (ap (λ (l : List SettleEntry). l ++ at.later) same) ∙ sym at.is ∙ is in
-    subst (λ (l : List LaneState). LeftAt x start so_far l) (sym front.lanes)
+    subst (λ (l : Lanes). LeftAt x start so_far l) (sym front.lanes)
     (by_place start front.before front.last at.now
-    (subst (λ (l : List SettleRound). Run GoesOn (begin start) l at.now) front.is_last at.run)
-    (sym (ap (λ (l : List SettleRound). length l) front.is_last) ∙ most) x at.later front.unnamed so_far rest front.is
+    (subst (λ (l : List AllRound). Run (GoesOn lanes) (begin lanes start) l at.now) front.is_last at.run)
+    (sym (ap (λ (l : List AllRound). length l) front.is_last) ∙ most) x at.later front.unnamed so_far rest front.is
     (place_in (entries_of_rounds rounds) at.later so_far (Unsettled x) rest place))
 
 no_lane : (part so_far rest : List SettleEntry) (x : ℕ) → SettledLast part → part ≡ so_far ++ Unsettled x ∷ rest → ⊥
@@ -129,9 +201,9 @@ no_lane part so_far rest x last is =
     by_side (inl at) = each_in IsOfLane last.front so_far (Unsettled x) at.rest at.is last.of_lanes
     by_side (inr at) = not_the_answer at.later at.is
 
-pub left_at : (start : List LaneState) (part : List SettleEntry) (behind : List LaneState)
-    → SettlePart start part behind ⊎ SettleFront start part behind → (x : ℕ) (so_far rest : List SettleEntry)
-    → part ≡ so_far ++ Unsettled x ∷ rest → LeftAt x start so_far behind
+pub left_at : (start : Lanes) (part : List SettleEntry) (behind : Lanes)
+    → SettlePart lanes start part behind ⊎ SettleFront lanes fronts start part behind → (x : ℕ)
+    (so_far rest : List SettleEntry) → part ≡ so_far ++ Unsettled x ∷ rest → LeftAt x start so_far behind
 left_at start part behind (inl (inl settles)) x so_far rest is =
     absurd (no_lane part so_far rest x (settled_last start part behind settles) is)
 left_at start part behind (inl (inr out)) x so_far rest is = out_left start part behind out x so_far rest is
@@ -140,45 +212,91 @@ left_at start part behind (inr at) x so_far rest is = elim at.front [
   | inr all ↦ begun_left start part behind at all.0 all.1 x so_far rest is
 ]
 
+-- AS IT IS TOLD
+told_moved : (x : ℕ) (part : List SettleEntry) → MovedIn x part → MovedIn x (all_told part)
+told_moved x part at = record {
+  before = all_told at.before;
+  event = at.event;
+  later = all_told at.later;
+  is = ap all_told at.is ∙ map_both told_of at.before (OfLane x at.event ∷ at.later);
+  loud = at.loud;
+}
+
+most_is : (p q r m n : ℕ) → 4096 + 64 * (p + q) ≤ m → p ≡ r → n ≡ m → 4096 + 64 * (r + q) ≤ n
+most_is p q r m n most one two = omega (arith, most, one, two)
+
 -- OF A SCRIPT'S LINES
-module _ (disks : List DiskDecl) (image : ImageState) (are : AreDisks disks) where
+module _ (disks : List DiskDecl) (nets : List NetShape) (image : ImageState) (are : AreLanes disks nets) where
   abbrev shapes : List Shape
   shapes = shapes_of 0 disks
 
+  -- the name among the real entries, and why it is left over
+  record LeftIn (before : List (Event × List Entry)) (part so_far : List SettleEntry) (x : ℕ)
+      (of : SettlesBehind disks nets image before part) : Type 0 where
+    past : List SettleEntry
+    past_is : so_far ≡ all_told past
+    left : LeftAt x (lanes_in of.at) past of.behind
+
+  left_in : (before : List (Event × List Entry)) (part so_far : List SettleEntry) (x : ℕ)
+      (rest : List SettleEntry) (of : SettlesBehind disks nets image before part) → part ≡ so_far ++ Unsettled x ∷ rest
+      → LeftIn before part so_far x of
+  left_in before part so_far x rest of is =
+      let at : Untold of.real so_far (Unsettled x) rest = untold of.real so_far (Unsettled x) rest (sym of.told_is ∙ is) in
+      let real : of.real ≡ at.past ++ Unsettled x ∷ at.rest =
+      at.is ∙ ap (λ (e : SettleEntry). at.past ++ e ∷ at.rest) (real_unsettled x at.real at.real_is) in
+      record {
+        past = at.past;
+        past_is = at.past_is;
+        left = left_at (lanes_in of.at) of.real of.behind of.goes x at.past at.rest real;
+      }
+
   pub rounds_ran_out : (before : List (Event × List Entry)) (part so_far : List SettleEntry) (x : ℕ)
-      (rest : List SettleEntry) → SettlesBehind disks image before part → part ≡ so_far ++ Unsettled x ∷ rest
-      → RunsOutIn (length disks) (told before) so_far
+      (rest : List SettleEntry) → SettlesBehind disks nets image before part → part ≡ so_far ++ Unsettled x ∷ rest
+      → RunsOutIn disks nets image before so_far
   rounds_ran_out before part so_far x rest of is =
-      let left : LeftAt x of.at.lanes so_far of.behind = left_at of.at.lanes part of.behind of.goes x so_far rest is in
-      let pending : pending_on of.at.lanes ≡ pending_of 0 (length disks) (told before) =
-      world_pending shapes image (told before) of.at (are_shapes 0 disks are) (told_run disks image before of.at of.run)
+      let at : LeftIn before part so_far x of = left_in before part so_far x rest of is in
+      let requests : pending_on of.at.first.lanes ≡ pending_of 0 (length disks) (told before) =
+      world_pending shapes image (told before) of.at.first (are_shapes 0 disks are.disks_are)
+      (told_run disks nets image before of.at of.run)
       ∙ ap (λ (n : ℕ). pending_of 0 n (told before)) (many_shapes 0 disks) in
-      subst (λ (n : ℕ). 4096 + 64 * n ≤ moves_in so_far) pending left.moved
+      record {
+        at = of.at;
+        run = of.run;
+        requests = requests;
+        most = most_is (pending_on of.at.first.lanes) (sum_of pending of.at.second) (pending_of 0 (length disks) (told before))
+            (moves_in at.past) (moves_in so_far) at.left.moved requests
+            (ap (λ (l : List SettleEntry). moves_in l) at.past_is ∙ told_moves at.past);
+      }
 
   module _ (x : ℕ) (shape : Shape) (of_shape : slice_get shapes x ≡ Some shape) where
     busy_at : (before : List (Event × List Entry)) (part so_far rest : List SettleEntry)
-        → SettlesBehind disks image before part → part ≡ so_far ++ Unsettled x ∷ rest
+        → SettlesBehind disks nets image before part → part ≡ so_far ++ Unsettled x ∷ rest
         → MovedIn x so_far ⊎ WaitsBy (log_at shape x (told before ++ so_far))
     busy_at before part so_far rest of is =
-        let left : LeftAt x of.at.lanes so_far of.behind = left_at of.at.lanes part of.behind of.goes x so_far rest is in
-        by_why left.why left.leads
+        let at : LeftIn before part so_far x of = left_in before part so_far x rest of is in
+        subst (λ (l : List SettleEntry). MovedIn x l ⊎ WaitsBy (log_at shape x (told before ++ l))) (sym at.past_is)
+        (by_why at.past at.left.why at.left.leads)
       where
-        by_why : IsLeftOver x so_far of.behind → LanesMove 0 of.at.lanes so_far of.behind
-            → MovedIn x so_far ⊎ WaitsBy (log_at shape x (told before ++ so_far))
-        by_why (inl moved) leads = inl moved
-        by_why (inr waits) leads =
-            let lane = lane_at shapes image (told before) of.at x shape (told_run disks image before of.at of.run)
-            of_shape in
-            let m : MovedTo x so_far lane.0 of.behind = moved_to of.at.lanes so_far of.behind x lane.0 leads lane.1 in
+        by_why : (past : List SettleEntry) → IsLeftOver x past of.behind.first
+            → LanesMove 0 of.at.first.lanes past of.behind.first
+            → MovedIn x (all_told past) ⊎ WaitsBy (log_at shape x (told before ++ all_told past))
+        by_why past (inl moved) leads = inl (told_moved x past moved)
+        by_why past (inr waits) leads =
+            let lane = lane_at shapes image (told before) of.at.first x shape
+            (told_run disks nets image before of.at of.run) of_shape in
+            let m : MovedTo x past lane.0 of.behind.first =
+            moved_to of.at.first.lanes past of.behind.first x lane.0 leads lane.1 in
             let both : Some waits.lane ≡ Some m.lane = sym waits.there ∙ m.there in
             let same : waits.lane ≡ m.lane = cc both in
+            let all : List SettleEntry = told before ++ all_told past in
             inr
-            (waits_by shape (happened x (told before ++ so_far)) m.lane
-            (shape_at 0 shapes x shape (are_shapes 0 disks are) of_shape)
-            (led_run disks image x shape of_shape before of.at of.run lane.0 lane.1 so_far m.lane m.run)
+            (waits_by shape (happened x all) m.lane
+            (shape_at 0 shapes x shape (are_shapes 0 disks are.disks_are) of_shape)
+            (led_run disks nets image x shape of_shape before of.at of.run lane.0 lane.1 (all_told past) m.lane
+            (subst (λ (l : List DiskEvent). Run LaneStep lane.0 l m.lane) (sym (told_happened x past)) m.run))
             (subst (λ (l : LaneState). waits_on l ≡ true) same waits.waits))
 
-    pub left_where_busy : (lines : List (Event × List Entry)) → EachSettles disks image lines
+    pub left_where_busy : (lines : List (Event × List Entry)) → EachSettles disks nets image lines
         → LeftWhereBusy shape x lines
     left_where_busy lines each before part behind so_far rest is place =
         busy_at before (told_by (Settle, part)) so_far rest (each before part behind is) place

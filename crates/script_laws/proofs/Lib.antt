@@ -1,4 +1,5 @@
 pub mod EntryKinds
+pub mod Untold
 pub mod Tellings
 pub mod DiskShapes
 pub mod Through
@@ -30,6 +31,7 @@ pub mod Settling
 pub mod SettleLines
 pub mod Leading
 pub mod Disks
+pub mod PortsAlong
 pub mod HeadlineLaw
 pub mod Undisturbed
 pub mod LaneReport

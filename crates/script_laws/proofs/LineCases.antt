@@ -10,10 +10,11 @@ use Rattle.domain_script.specs.declared.event.Event.TheVariants as line
 use Rattle.domain_script.specs.NamesState.{NamesState, noted}
 use Rattle.domain_script.specs.Spells.{IsDeclared}
 use Rattle.disk_model.specs.LaneState.{LaneState}
-use Rattle.world_laws.specs.Begun.{RoundFront, SettleFront}
-use Rattle.world_laws.specs.Settle.{begin}
-use Rattle.world_laws.specs.Lines.{AreFirstSteps, BeginsPart, EndTurn}
-use Rattle.world_laws.specs.World.{WorldState}
+use Rattle.lane_kinds.specs.Fronts.{SettleFront}
+use Rattle.lane_kinds.specs.Settles.{begin}
+use Rattle.world_laws.specs.Begun.{RoundFront}
+use Rattle.domain_laws.specs.Domain.{DomainState, Lanes, lanes}
+use Rattle.domain_laws.specs.Lines.{AreFirstSteps, BeginsPart, EndTurn, fronts}
 use Rattle.script_laws.specs.Attached.{is_opening}
 use Rattle.world_parts.specs.Lines.{IsForDisks, EventStep, line_of}
 
@@ -40,7 +41,7 @@ by_line P blank declared other (line.Inject end packet) = other (line.Inject end
 by_line P blank declared other (line.Poke end at bytes) = other (line.Poke end at bytes) refl (λ _. refl)
 
 -- a blank line or a declaration gives no entry
-pub silent : (s : WorldState) (e : Event) → IsTrue (is_opening e) → EventStep s (e, []) s
+pub silent : (s : DomainState) (e : Event) → IsTrue (is_opening e) → EventStep s (e, []) s
 silent s e =
     by_line (λ (x : Event). IsTrue (is_opening x) → EventStep s (x, []) s)
     (λ _. record { entries = []; says = refl; moves = record { part_of = refl; run = refl } })
@@ -50,28 +51,35 @@ silent s e =
 no_steps : (turns : List EndTurn) → AreFirstSteps turns []
 no_steps turns = record { made = []; left = turns; turns_are = refl; steps = tt }
 
-no_round : (lanes : List LaneState) → RoundFront lanes [] lanes
-no_round lanes = record { turns = []; between = lanes; made = refl; within = omega arith; begun = []; run = refl; next = inl refl; is = refl }
+no_round : (w : List LaneState) → RoundFront w [] w
+no_round w = record { turns = []; between = w; made = refl; within = omega arith; begun = []; run = refl; next = inl refl; is = refl }
 
-no_settle : (lanes : List LaneState) → SettleFront lanes [] lanes
-no_settle lanes = record { rounds = []; now = begin lanes; run = refl; later = []; front = inl (omega arith, inl (no_round lanes)); is = refl }
+no_settle : (w : Lanes) → SettleFront lanes fronts w [] w
+no_settle w = record {
+  rounds = [];
+  now = begin lanes w;
+  run = refl;
+  later = [];
+  front = inl (omega arith, inl (inl (record { front = no_round w.first; other = refl })));
+  is = refl;
+}
 
 -- of each line no step may have been made
-pub none_begun : (e : Event) (lanes : List LaneState) → BeginsPart (line_of e) lanes [] lanes
-none_begun line.Blank lanes = refl
-none_begun (line.Disk disk) lanes = refl
-none_begun (line.Issue disk request) lanes = refl
-none_begun line.Settle lanes = no_settle lanes
-none_begun (line.Step end count) lanes = no_steps _
-none_begun (line.Round count) lanes = no_steps _
-none_begun (line.Reset end) lanes = refl
-none_begun (line.Restart end) lanes = refl
-none_begun (line.Stop disk) lanes = refl
-none_begun (line.Start disk) lanes = refl
-none_begun (line.Lose end) lanes = refl
-none_begun (line.Tick ticked) lanes = refl
-none_begun (line.Inject end packet) lanes = refl
-none_begun (line.Poke end at bytes) lanes = refl
+pub none_begun : (e : Event) (w : Lanes) → BeginsPart (line_of e) w [] w
+none_begun line.Blank w = refl
+none_begun (line.Disk disk) w = refl
+none_begun (line.Issue disk request) w = refl
+none_begun line.Settle w = no_settle w
+none_begun (line.Step end count) w = no_steps _
+none_begun (line.Round count) w = no_steps _
+none_begun (line.Reset end) w = refl
+none_begun (line.Restart end) w = refl
+none_begun (line.Stop disk) w = refl
+none_begun (line.Start disk) w = refl
+none_begun (line.Lose end) w = refl
+none_begun (line.Tick ticked) w = refl
+none_begun (line.Inject end packet) w = refl
+none_begun (line.Poke end at bytes) w = refl
 
 -- a declaration alone adds to the disks
 pub noted_disks : (names : NamesState) (e : Event) → ((disk : DiskDecl) × (e ≡ line.Disk disk)) ⊎ ((noted names e).disks ≡ names.disks)

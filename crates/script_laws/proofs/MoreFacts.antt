@@ -27,7 +27,7 @@ module _ {D : Type 0} (seen : D → ImageState) (script now : Option (List ℕ))
   Kept first = IfSome image (λ disk. KeepsOthers (IsOutsideDisks names.disks journal) first (seen disk).told)
 
   -- where the journal led
-  kept_of : (first : List ℕ) → KeepsOthers (IsOutsideDisks names.disks journal) first run.final.image.told → Kept first
+  kept_of : (first : List ℕ) → KeepsOthers (IsOutsideDisks names.disks journal) first run.final.first.image.told → Kept first
   kept_of first kept =
       IfSome_then image run.image_is
       (λ disk is. subst (λ (o : Option (List ℕ)). KeepsOthers (IsOutsideDisks names.disks journal) first o) (sym is.told) kept)
@@ -35,19 +35,19 @@ module _ {D : Type 0} (seen : D → ImageState) (script now : Option (List ℕ))
   others : (first : List ℕ) → gives (bytes_needed names.disks) ≡ Some first → bytes_needed names.disks ≤ length first → Kept first
   others first is long =
       kept_of first
-      (subst (λ (l : List Entry). KeepsOthers (IsOutsideDisks names.disks l) first run.final.image.told) run.journal_is.is
-      (script_kept names.disks (start_of names gives).image 0 run.parts run.final
+      (subst (λ (l : List Entry). KeepsOthers (IsOutsideDisks names.disks l) first run.final.first.image.told) run.journal_is.is
+      (script_kept names.disks [] (start_of names gives).first.image 0 run.parts run.final
       (disks_are seen script now gives why lines names journal image lanes run) run.journal_is.fits first is long))
 
   -- or that it didn't begin
   nothing : (first : List ℕ) → gives (bytes_needed names.disks) ≡ Some first → ending why ≡ NotBegun → Kept first
   nothing first is none =
       let empty : journal_of run.parts ≡ [] = subst (λ (e : Ending). EndsSo e run.parts) none run.journal_is.ends in
-      let stays : run.final ≡ start_of names gives =
-      script_nothing names.disks (start_of names gives).image 0 run.parts run.final
+      let stays : run.final.first ≡ (start_of names gives).first =
+      script_nothing names.disks [] (start_of names gives).first.image 0 run.parts run.final
       (disks_are seen script now gives why lines names journal image lanes run) run.journal_is.fits empty in
       kept_of first
-      (unchanged (IsOutsideDisks names.disks journal) first run.final.image.told
+      (unchanged (IsOutsideDisks names.disks journal) first run.final.first.image.told
       (ap (λ (x : WorldState). x.image.told) stays ∙ is))
 
   untold : (d : Option D) → IfSome d (λ disk. KeepsTold None (IsOutsideDisks names.disks journal) (seen disk).told)

@@ -7,9 +7,11 @@ use Rattle.domain_script.specs.Declarations.{IsDisk}
 use Rattle.domain_script.specs.declared.event.DiskDecl.{DiskDecl}
 use Rattle.domain_script.specs.declared.event.Event.{Event}
 use Rattle.world_laws.specs.Settle.{SettleEntry}
-use Rattle.world_laws.proofs.Along.{lines_run}
-use Rattle.world_laws.specs.Lines.{Line, LineStep, entries_of_lines}
-use Rattle.world_laws.specs.World.{WorldState, fresh_world}
+use Rattle.world_laws.specs.World.{WorldState}
+use Rattle.domain_laws.proofs.Running.{disks_run}
+use Rattle.domain_laws.proofs.ScriptEntries.{lines_run}
+use Rattle.domain_laws.specs.Domain.{DomainState, fresh_domain}
+use Rattle.domain_laws.specs.Lines.{Line, LineStep, entries_of_lines}
 use Rattle.ldom_report.specs.EntryText.{report_entries}
 use Rattle.ldom_report.specs.Report.{accepted_count, done_count, end_line, report, reset_count}
 use Rattle.ldom_entries.specs.declared.entry.Entry.{Entry}
@@ -27,11 +29,12 @@ use Rattle.script_laws.specs.Completed.{completed_ids}
 use Rattle.world_parts.specs.Declared.{shape_of, world_of}
 use Rattle.world_parts.specs.Lines.{line_of}
 use Rattle.world_parts.specs.Script.{FitsScript, ScriptParts, entries_in, events_in, events_of, journal_of}
-use Rattle.world_laws.proofs.NoFaults.{lines_before}
-use Rattle.world_laws.proofs.QuietLines.{quiet_lines}
+use Rattle.domain_laws.proofs.QuietLines.{lines_before, quiet_lines}
+use Rattle.domain_laws.specs.PlainLines as plain_lines
+use Rattle.domain_laws.specs.Quiet as quiet_world
+use Rattle.domain_laws.specs.Quiet.{RunsPlainly, RunsQuietly, lines_of, shown_of}
 use Rattle.world_laws.specs.Plain as lanes
-use Rattle.world_laws.specs.Quiet as quiet_world
-use Rattle.world_laws.specs.Quiet.{IsPlain, RunsPlainly, RunsQuietly, lines_of, shown_of}
+use Rattle.world_laws.specs.Quiet.{IsPlain}
 use Rattle.world_laws.proofs.Counting.{world_counts}
 use Rattle.world_laws.specs.Accepted.{accepted_in, next_ids}
 
@@ -58,29 +61,30 @@ record Tells (disk : DiskDecl) (journal : List Entry) (v : WorldState) (p : Plai
 -- and what lines of lanes show
 record ShowsPlain (disk : DiskDecl) (content : List ℕ) (events : List Event) (lines : List (Line × List SettleEntry))
     (v : WorldState) : Type 0 where
-  shows : shown_of lines ≡ lanes.plain_journal (shape_of 0 disk) (lanes.untouched content) (map line_of events)
+  shows : shown_of lines ≡ plain_lines.plain_journal (shape_of 0 disk) (lanes.untouched content) (map line_of events)
   ends : IsPlain (listed (ran disk content events)) v
 
 shows_plain : (disk : DiskDecl) (content : List ℕ) (events : List Event) (lines : List (Line × List SettleEntry))
-    (v : WorldState) → lines_of lines ≡ map line_of events → RunsPlainly (shape_of 0 disk) content lines v
-    → ShowsPlain disk content events lines v
+    (v : DomainState) → lines_of lines ≡ map line_of events → RunsPlainly (shape_of 0 disk) content lines v
+    → ShowsPlain disk content events lines v.first
 shows_plain disk content events lines v are runs =
     let shape = shape_of 0 disk in
     let start = lanes.untouched content in
-    let end = ap (lanes.plain_run shape start) are ∙ sym (run_same disk (untouched content) events) in
+    let end = ap (plain_lines.plain_run shape start) are ∙ sym (run_same disk (untouched content) events) in
     record {
-      shows = runs.shows ∙ ap (lanes.plain_journal shape start) are;
-      ends = subst (λ (l : lanes.Plain). IsPlain l v) end runs.ends;
+      shows = runs.shows ∙ ap (plain_lines.plain_journal shape start) are;
+      ends = subst (λ (l : lanes.Plain). IsPlain l v.first) end runs.ends;
     }
 
 -- the next id of the one lane counts what was accepted
-accepted_all : (disk : DiskDecl) (image : ImageState) (lines : List (Line × List SettleEntry)) (v : WorldState)
-    (p : lanes.Plain) → IsDisk disk → Run LineStep (fresh_world (shape_of 0 disk ∷ []) image) lines v → IsPlain p v
+accepted_all : (disk : DiskDecl) (image : ImageState) (lines : List (Line × List SettleEntry)) (v : DomainState)
+    (p : lanes.Plain) → IsDisk disk → Run LineStep (fresh_domain (shape_of 0 disk ∷ []) image []) lines v → IsPlain p v.first
     → accepted_in (entries_of_lines lines) ≡ p.completed + length p.waiting
 accepted_all disk image lines v p is run plain =
     let shape = shape_of 0 disk in
-    let entries_run = lines_run (fresh_world (shape ∷ []) image) lines v run in
-    let sum = world_counts (shape ∷ []) image (entries_of_lines lines) v (disk_shape disk is, refl, tt) entries_run in
+    let start = fresh_domain (shape ∷ []) image [] in
+    let entries_run = disks_run start (entries_of_lines lines) v (lines_run start lines v run) in
+    let sum = world_counts (shape ∷ []) image (entries_of_lines lines) v.first (disk_shape disk is, refl, tt) entries_run in
     let ids = ap next_ids plain.lanes in
     let accepted = plain.accepted in
     omega (arith, sum, ids, accepted)
@@ -123,14 +127,14 @@ told_plain disk content events journal v tells =
     }
 
 -- A QUIET SCRIPT whose journal fits, over an image that tells its bytes, is long enough and never failed
-pub plain_law : (disk : DiskDecl) (image : ImageState) (content : List ℕ) (parts : ScriptParts) (v : WorldState)
+pub plain_law : (disk : DiskDecl) (image : ImageState) (content : List ℕ) (parts : ScriptParts) (v : DomainState)
     → IsDisk disk → image.told ≡ Some content → 512 * disk.blocks ≤ length content → IsQuiet disk (events_of parts)
-    → parts.cut ≡ None → FitsScript 0 (world_of (disk ∷ []) image) parts v → v.image.faults ≡ 0
-    → PlainLaw disk content (events_of parts) (journal_of parts) v
+    → parts.cut ≡ None → FitsScript 0 (world_of (disk ∷ []) [] image) parts v → v.first.image.faults ≡ 0
+    → PlainLaw disk content (events_of parts) (journal_of parts) v.first
 plain_law disk image content parts v is told holds quiet none_cut fits well =
     let shape = shape_of 0 disk in
     let events : List Event = events_of parts in
-    let w : WorldState = world_of (disk ∷ []) image in
+    let w : DomainState = world_of (disk ∷ []) [] image in
     let whole : RanWhole 0 w parts v = ran_whole 0 w parts v none_cut fits in
     let calm = subst (λ (l : List (Event × List Entry)). quiet_world.AreQuiet (map line_of (events_in l))) whole.lines_are
     (quiet_events disk events quiet) in
@@ -148,5 +152,5 @@ plain_law disk image content parts v is told holds quiet none_cut fits well =
     (sym whole.lines_are) (through.same disk) in
     let p = listed (ran disk content events) in
     let accepted = accepted_all disk image through.lanes v p is through.run shows.ends in
-    let tells = tells_plain disk content events (journal_of parts) through.lanes v says shows accepted in
-    told_plain disk content events (journal_of parts) v tells
+    let tells = tells_plain disk content events (journal_of parts) through.lanes v.first says shows accepted in
+    told_plain disk content events (journal_of parts) v.first tells

@@ -9,7 +9,7 @@ use Rattle.domain_script.specs.declared.event.Event.TheVariants as event
 use Rattle.script_laws.specs.Quiet.{AreQuiet, IsQuiet}
 use Rattle.world_parts.specs.Declared.{shape_of}
 use Rattle.world_parts.specs.Lines.{line_of}
-use Rattle.world_laws.specs.Quiet as quiet_world
+use Rattle.domain_laws.specs.Quiet as quiet_world
 use Rattle.world_laws.specs.Quiet.{IsFront}
 
 -- THE DISK begins its image

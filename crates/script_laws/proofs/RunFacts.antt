@@ -47,7 +47,7 @@ module _ {D : Type 0} (seen : D → ImageState) (script now : Option (List ℕ))
   disks_are = read_disks script run.stopped.left (events_of run.parts) names run.stopped.count run.stopped.read
 
   abbrev start : ImageState
-  start = (start_of names gives).image
+  start = (start_of names gives).first.image
 
   fits : FitsScript 0 (start_of names gives) run.parts run.final
   fits = run.journal_is.fits
@@ -57,35 +57,35 @@ module _ {D : Type 0} (seen : D → ImageState) (script now : Option (List ℕ))
 
   -- each entry has its words
   pub worded : All (HasWords names.disks) journal
-  worded = of_journal (All (HasWords names.disks)) (script_worded names.disks start 0 run.parts run.final disks_are fits)
+  worded = of_journal (All (HasWords names.disks)) (script_worded names.disks [] start 0 run.parts run.final disks_are fits)
 
   -- completions in order, for every disk
   pub once : (disk : ℕ) → CompletesOnceInOrder (history disk journal)
   once disk =
       of_journal (λ (l : List Entry). CompletesOnceInOrder (history disk l))
-      (script_once names.disks start 0 run.parts run.final disks_are fits disk)
+      (script_once names.disks [] start 0 run.parts run.final disks_are fits disk)
 
   -- each completion of a disk that nobody forged has status 0 or 5
   pub statuses : SucceedOrFail journal
-  statuses = of_journal SucceedOrFail (script_statuses names.disks start 0 run.parts run.final disks_are fits)
+  statuses = of_journal SucceedOrFail (script_statuses names.disks [] start 0 run.parts run.final disks_are fits)
 
   -- each request got what it had to get
   pub admits : AdmitsAll names.disks (all_lines run.parts)
-  admits = script_admits names.disks start 0 run.parts run.final disks_are fits
+  admits = script_admits names.disks [] start 0 run.parts run.final disks_are fits
 
   -- its disks are as the headline says
   pub headline : (size : D → ℕ) → SizeIs size why (bytes_needed names.disks) (gives (bytes_needed names.disks)) image
-      → IfSome lanes (λ stand. Headline names.disks start run.parts run.final)
+      → IfSome lanes (λ stand. Headline names.disks [] start run.parts run.final)
   headline size sized =
       IfSome_then lanes
       (lanes_long size why (bytes_needed names.disks) (gives (bytes_needed names.disks)) image lanes run.final sized run.lanes_stand)
-      (λ stand long. headline_law names.disks start run.parts run.final disks_are
-      (read_few script run.stopped.left (events_of run.parts) names run.stopped.count run.stopped.read) long fits)
+      (λ stand long. headline_law names.disks [] start run.parts run.final disks_are
+      (read_few script run.stopped.left (events_of run.parts) names run.stopped.count run.stopped.read) tt (omega (arith)) long fits)
 
   -- at status 0 no call of the image failed
   pub image_unfailed : why ≡ status.Done → IfSome image (λ disk. (seen disk).faults ≡ 0)
   image_unfailed done =
-      let none : run.final.image.faults ≡ 0 = (subst (λ (w : Status). FaultsAre w image run.final.image.faults) done run.faults_are).1 in
+      let none : run.final.first.image.faults ≡ 0 = (subst (λ (w : Status). FaultsAre w image run.final.first.image.faults) done run.faults_are).1 in
       IfSome_then image run.image_is (λ disk is. is.faults ∙ none)
 
   module _ (short : length journal < 2 ^ 63) where
@@ -97,28 +97,28 @@ module _ {D : Type 0} (seen : D → ImageState) (script now : Option (List ℕ))
     failures =
         IfSome_then image run.image_is
         (λ disk is. subst (λ (n : ℕ). FailuresCounted journal n) (sym is.faults)
-        (of_journal (λ (l : List Entry). FailuresCounted l run.final.image.faults)
-        (script_failed names.disks start 0 run.parts run.final disks_are fits refl parts_short)))
+        (of_journal (λ (l : List Entry). FailuresCounted l run.final.first.image.faults)
+        (script_failed names.disks [] start 0 run.parts run.final disks_are fits refl parts_short)))
 
     -- each flush and each write of it is told, and it was called at most as often as that is
     pub calls : IfSome image (λ disk. (seen disk).calls ≤ stored_count journal)
     calls =
-        let told : run.final.image.calls ≡ stored_count journal =
-        script_calls names.disks start 0 run.parts run.final disks_are fits refl parts_short ∙ ap stored_count run.journal_is.is in
+        let told : run.final.first.image.calls ≡ stored_count journal =
+        script_calls names.disks [] start 0 run.parts run.final disks_are fits refl parts_short ∙ ap stored_count run.journal_is.is in
         let most : stored_count journal ≤ length journal = count_by-le-length (is_stored_that (λ operation failed. true)) journal in
-        let few : run.final.image.calls < last_count = omega (arith, told, most, short) in
+        let few : run.final.first.image.calls < last_count = omega (arith, told, most, short) in
         IfSome_then image run.image_is (λ disk is. subst (λ (n : ℕ). (seen disk).calls ≤ n) told (is.calls few))
 
     pub flushes : IfSome image (λ disk. (seen disk).flushes ≡ flush_count journal)
     flushes =
         IfSome_then image run.image_is
         (λ disk is. is.flushes
-        ∙ script_flushes names.disks start 0 run.parts run.final disks_are fits refl parts_short
+        ∙ script_flushes names.disks [] start 0 run.parts run.final disks_are fits refl parts_short
         ∙ ap flush_count run.journal_is.is)
 
     pub writes : IfSome image (λ disk. (seen disk).writes ≡ write_count journal)
     writes =
         IfSome_then image run.image_is
         (λ disk is. is.writes
-        ∙ script_writes names.disks start 0 run.parts run.final disks_are fits refl parts_short
+        ∙ script_writes names.disks [] start 0 run.parts run.final disks_are fits refl parts_short
         ∙ ap write_count run.journal_is.is)

@@ -18,7 +18,7 @@ use Rattle.lane_laws.proofs.AgreementRuns.{run_agrees}
 use Rattle.lane_laws.specs.CalmEnds.{AreStill, HasNoRoom, IsStill}
 use Rattle.lane_kinds.proofs.Sums.{and_left, and_right}
 use Rattle.world_laws.proofs.LaneRounds.{quiet_still}
-use Rattle.world_laws.proofs.LineEntries.{EachEntry, each_both, entry_each}
+use Rattle.domain_laws.proofs.LineEntries.{EachEntry, each_both, entry_each}
 use Rattle.world_laws.specs.Along.{event_at, happened}
 use Rattle.lane_kinds.specs.Lanes.{turn_entries}
 use Rattle.world_laws.specs.DiskKind.{disk_kind, is_calm}

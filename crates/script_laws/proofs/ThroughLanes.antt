@@ -7,24 +7,24 @@ use Rattle.disk_model.specs.DiskEvent.{Asks, Done, Full, OnWire, Refused, Works}
 use Rattle.domain_script.specs.declared.event.DiskDecl.{DiskDecl}
 use Rattle.domain_script.specs.declared.event.Event.{Event}
 use Rattle.world_laws.specs.Settle.{OfLane, SettleEntry}
-use Rattle.world_laws.specs.Lines.{Line, entries_of_lines}
-use Rattle.world_laws.specs.Lines as lane_lines
-use Rattle.world_laws.specs.World.{WorldState}
+use Rattle.domain_laws.specs.Domain.{DomainState}
+use Rattle.domain_laws.specs.Lines.{Line, entries_of_lines}
+use Rattle.domain_laws.specs.Lines as lane_lines
 use Rattle.ldom_entries.specs.declared.entry.Entry.{Entry}
 use Rattle.script_laws.proofs.EntryByEntry.{part_same}
 use Rattle.script_laws.proofs.LaneReport.{SaysSame, says_append, told_append, told_lanes}
 use Rattle.world_parts.specs.Lines.{EventStep, line_of}
-use Rattle.world_laws.specs.Quiet.{AreQuiet, lines_of, shown_of}
+use Rattle.domain_laws.specs.Quiet.{AreQuiet, lines_of, shown_of}
 use Rattle.world_laws.specs.Shown.{is_shown, shown, shown_if}
 
 -- LINES OF LANES by which the world was led as by these lines, and which say the same in a report
-pub record ThroughLanes (w : WorldState) (lines : List (Event × List Entry)) (v : WorldState) : Type 0 where
+pub record ThroughLanes (w : DomainState) (lines : List (Event × List Entry)) (v : DomainState) : Type 0 where
   pub lanes : List (Line × List SettleEntry)
   pub lines_are : lines_of lanes ≡ map line_of (map (λ (l : Event × List Entry). l.0) lines)
   pub run : Run lane_lines.LineStep w lanes v
   pub same : (disk : DiskDecl) → SaysSame disk (flat_map (λ (l : Event × List Entry). l.1) lines) (entries_of_lines lanes)
 
-pub through_lanes : (w : WorldState) (lines : List (Event × List Entry)) (v : WorldState)
+pub through_lanes : (w : DomainState) (lines : List (Event × List Entry)) (v : DomainState)
     → AreQuiet (map line_of (map (λ (l : Event × List Entry). l.0) lines)) → Run EventStep w lines v
     → ThroughLanes w lines v
 through_lanes w [] v quiet run = record { lanes = []; lines_are = refl; run = run; same = λ disk. (refl, refl) }

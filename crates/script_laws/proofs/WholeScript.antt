@@ -10,7 +10,7 @@ use Rattle.domain_script.specs.ScriptLines.{script_lines}
 use Rattle.domain_script.specs.NamesState.{NamesState}
 use Rattle.domain_script.specs.declared.event.DiskDecl.{DiskDecl}
 use Rattle.domain_script.specs.declared.event.Event.{Event}
-use Rattle.world_laws.specs.World.{WorldState}
+use Rattle.domain_laws.specs.Domain.{DomainState}
 use Rattle.ldom_report.specs.Report.{report}
 use Rattle.ldom_entries.specs.declared.entry.Entry.{Entry}
 use Rattle.ldom_report.specs.declared.status.Mode.{Mode}
@@ -82,15 +82,15 @@ module _ {D : Type 0} (shown : Mode) (seen : D → ImageState) (script now : Opt
       ap (λ (w : Status). report shown names.disks lines journal w) told.0
       ∙ ap (λ (n : ℕ). report shown names.disks n journal status.Done) lines_are
 
-  faults : IsSome image × (run.final.image.faults ≡ 0)
-  faults = subst (λ (w : Status). FaultsAre w image run.final.image.faults) told.0 run.faults_are
+  faults : IsSome image × (run.final.first.image.faults ≡ 0)
+  faults = subst (λ (w : Status). FaultsAre w image run.final.first.image.faults) told.0 run.faults_are
 
   pub runs_whole : RunsWhole shown seen script names run.parts run.final journal image old new
   runs_whole = record {
     all = all_spelled;
     none_cut = subst (λ (w : Status). EndsSo (ending w) run.parts) told.0 run.journal_is.ends;
     faultless = faults.1;
-    image_is = seen_so seen image run.final.image run.image_is faults.0;
+    image_is = seen_so seen image run.final.first.image run.image_is faults.0;
     written = subst (λ (l : List ℕ). Appends old new l) text_is told.1;
   }
 
@@ -106,7 +106,7 @@ module _ {D : Type 0} (seen : D → ImageState) (size : D → ℕ) (script now :
   abbrev parts : ScriptParts
   parts = runs.replayed.parts
 
-  abbrev final : WorldState
+  abbrev final : DomainState
   final = runs.replayed.final
 
   whole : RunsWhole mode.Run seen script runs.names parts final journal image old new
@@ -143,16 +143,16 @@ module _ {D : Type 0} (seen : D → ImageState) (size : D → ℕ) (script now :
       subst (λ (n : ℕ). n ≤ length given) least
       (long_at_end size (bytes_needed (disk ∷ [])) (gives (bytes_needed (disk ∷ []))) image given gave_one (some_image image whole.image_is) sized)
     where
-      some_image : (i : Option D) → IsSomeAnd i (λ d. StandsBehind (seen d) final.image) → IsSome i
+      some_image : (i : Option D) → IsSomeAnd i (λ d. StandsBehind (seen d) final.first.image) → IsSome i
       some_image None is = absurd is
       some_image (Some d) is = refl
 
-  fits : FitsScript 0 (world_of (disk ∷ []) (attached (gives (bytes_needed (disk ∷ []))))) parts final
+  fits : FitsScript 0 (world_of (disk ∷ []) [] (attached (gives (bytes_needed (disk ∷ []))))) parts final
   fits =
-      subst (λ (l : List DiskDecl). FitsScript 0 (world_of l (attached (gives (bytes_needed l)))) parts final) declares
+      subst (λ (l : List DiskDecl). FitsScript 0 (world_of l [] (attached (gives (bytes_needed l)))) parts final) declares
       runs.replayed.journal_is.fits
 
-  law : PlainLaw disk given (events_of parts) (journal_of parts) final
+  law : PlainLaw disk given (events_of parts) (journal_of parts) final.first
   law =
       plain_law disk (attached (gives (bytes_needed (disk ∷ [])))) given parts final are.0 gave_one long
       (subst (λ (l : List Event). IsQuiet disk l) one.0 quiet.quiet) whole.none_cut fits whole.faultless
@@ -166,7 +166,7 @@ module _ {D : Type 0} (seen : D → ImageState) (size : D → ℕ) (script now :
   pub runs_plainly : RunsPlainly (λ d. (seen d).told) disk given events journal image old new
   runs_plainly = record {
     written = subst (λ (l : List ℕ). Appends old new l) text_is_plain whole.written;
-    left = left_so seen image final.image (plain_content disk given events) whole.image_is
+    left = left_so seen image final.first.image (plain_content disk given events) whole.image_is
         (law.told ∙ ap (λ (l : List Event). Some (plain_content disk given l)) (sym one.0));
     ids = ap completed_ids (sym runs.replayed.journal_is.is) ∙ law.ids ∙ ap (λ (l : List Event). plain_ids disk given l) (sym one.0);
   }

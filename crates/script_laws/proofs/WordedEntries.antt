@@ -5,7 +5,7 @@ use Rattle.std.proofs.lemmas.List.Elements.{All-cons, All-nil}
 use Rattle.channel_model.specs.WireEvent.{Declines, Reset, WireEvent}
 use Rattle.disk_model.specs.DiskEvent.{Asks, Calms, DiskEvent, Full, OnWire, Refused, Stored, Works}
 use Rattle.world_laws.specs.Settle.{OfLane, SettleEntry, Unsettled}
-use Rattle.world_laws.specs.Lines.{Line}
+use Rattle.domain_laws.specs.Lines.{Line}
 use Rattle.vio_tag.specs.declared.cause.Cause.{Cause}
 use Rattle.vio_tag.specs.declared.cause.Cause.TheVariants as the_cause
 use Rattle.domain_script.specs.declared.event.DiskDecl.{DiskDecl}

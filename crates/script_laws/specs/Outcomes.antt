@@ -1,5 +1,5 @@
 -- What the top call did.
-use Rattle.std.specs.Prelude.{◌≡◌, ℕ, ◌⊎◌, List, Option, IfSome}
+use Rattle.std.specs.Prelude.{◌≡◌, ℕ, ◌⊎◌, List, [], Option, IfSome}
 use Rattle.std.specs.Io.KnownBytes.{Appends}
 use Rattle.domain_script.specs.NamesState.{NamesState}
 use Rattle.gathered_text.specs.Gathered.{WroteFront}
@@ -34,7 +34,7 @@ pub record RunsScript {D : Type 0} (mode : Mode) (host : HostTells D) (before no
   pub replayed : Replayed host.seen before.left now.left host.gives ran lines names left.journal left.image left.lanes
   pub admits : AdmitsAll names.disks (all_lines replayed.parts)
   pub sized : SizeIs host.size ran (bytes_needed names.disks) (host.gives (bytes_needed names.disks)) left.image
-  pub headline : IfSome left.lanes (λ stand. Headline names.disks (start_of names host.gives).image replayed.parts replayed.final)
+  pub headline : IfSome left.lanes (λ stand. Headline names.disks [] (start_of names host.gives).first.image replayed.parts replayed.final)
   pub whole : left.status ≡ Done
       → RunsWhole mode host.seen before.left names replayed.parts replayed.final left.journal left.image before.written now.written
   pub others : IfSome left.image (λ disk. KeepsTold (host.gives (bytes_needed names.disks)) (IsOutsideDisks names.disks left.journal) (host.seen disk).told)

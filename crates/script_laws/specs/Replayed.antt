@@ -1,5 +1,5 @@
 -- What a run did with its script, up to where it stopped.
-use Rattle.std.specs.Prelude.{◌≡◌, ℕ, ◌<◌, Bool, if◌then◌else◌, List, length, Option, IfSome, IsSome, ⊤}
+use Rattle.std.specs.Prelude.{◌≡◌, ℕ, ◌<◌, Bool, if◌then◌else◌, List, [], length, Option, IfSome, IsSome, ⊤}
 use Rattle.disk_law.specs.ListState.{ImageState}
 use Rattle.domain_script.specs.declared.event.Event.{Event}
 use Rattle.domain_script.specs.NamesState.{NamesState}
@@ -13,7 +13,7 @@ use Rattle.script_laws.specs.Attached.{ImageStands}
 use Rattle.script_laws.specs.Behind.{StandsBehind}
 use Rattle.world_parts.specs.Endings.{JournalIs, ending}
 use Rattle.disk_model.specs.LaneState.{LaneState}
-use Rattle.world_laws.specs.World.{WorldState}
+use Rattle.domain_laws.specs.Domain.{DomainState}
 use Rattle.script_laws.specs.Reading.{StopsAt}
 use Rattle.script_laws.specs.LanesStand.{LanesStand}
 use Rattle.script_laws.specs.Script.{ReadSoFar}
@@ -48,8 +48,8 @@ ended_status status.Done faulty = if faulty then status.StoreFault else status.D
 ended_status other faulty = other
 
 -- the world as a run begins, over what attaching gives for so many bytes
-abbrev pub start_of : NamesState → (ℕ → Option (List ℕ)) → WorldState
-start_of names gives = world_of names.disks (attached (gives (bytes_needed names.disks)))
+abbrev pub start_of : NamesState → (ℕ → Option (List ℕ)) → DomainState
+start_of names gives = world_of names.disks [] (attached (gives (bytes_needed names.disks)))
 
 -- A run: its script was read up to where it stopped, its journal is one part for each line, and the image and the lanes are
 -- what the journal makes of the image that was attached and of fresh lanes, but that reads may have been spared the image.
@@ -59,9 +59,9 @@ pub record Replayed {D : Type 0} (seen : D → ImageState) (script now : Option 
   -- its lines with their parts, of which all that is said of the run speaks
   pub parts : ScriptParts
   pub stopped : Stopped script now why (events_of parts) names (length journal) lines
-  pub final : WorldState
+  pub final : DomainState
   pub journal_is : JournalIs (ending why) (start_of names gives) parts journal final
-  pub image_is : IfSome image (λ disk. StandsBehind (seen disk) final.image)
-  pub faults_are : FaultsAre why image final.image.faults
+  pub image_is : IfSome image (λ disk. StandsBehind (seen disk) final.first.image)
+  pub faults_are : FaultsAre why image final.first.image.faults
   pub image_stands : ImageStands why (events_of parts) stopped.left journal image
   pub lanes_stand : LanesStand why image lanes final

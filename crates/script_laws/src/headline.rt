@@ -4,12 +4,14 @@ ghost use Rattle.std.specs.Prelude.{ℕ, ◌≤◌, List, length, IfSome};
 ghost use Rattle.disk_law.specs.ListState.{ImageState};
 ghost use Rattle.domain_script.specs.Declarations.{AreDisks};
 ghost use Rattle.domain_script.specs.declared.event.DiskDecl.{DiskDecl};
-ghost use Rattle.world_laws.specs.World.{WorldState};
+ghost use Rattle.domain_laws.specs.Domain.{DomainState};
+ghost use Rattle.lane_kinds.specs.Lanes.{EachOf};
+ghost use Rattle.port_model.specs.NetLaneState.{IsNetShape, NetShape};
 ghost use Rattle.script_laws.specs.Headline.{Headline};
 ghost use Rattle.world_parts.specs.Declared.{bytes_needed, world_of};
 ghost use Rattle.world_parts.specs.Script.{FitsScript, ScriptParts};
 
-/// For every script over at most eight disks, whatever it resets, stops, restarts, loses and forges, and wherever its
+/// For every script over at most eight disks, beside at most eight ports, whatever it resets, stops, restarts, loses and forges, and wherever its
 /// run ended: each disk's lane is lawful. At the end and behind each front of the entries it stands as its log says.
 /// Where nobody forged it until then, an end that is up heard in order what the other said. Sessions that are open are
 /// one, whose counts and slots stand in their order. After each settle that ends settled both its ends are still.
@@ -23,7 +25,8 @@ ghost use Rattle.world_parts.specs.Script.{FitsScript, ScriptParts};
 /// completed. Where all are completed, the disk holds exactly the accepted ones applied once in order. Outside of all
 /// disks the image stays.
 pub fn the_headline_holds()
-    ensures { (disks : List DiskDecl) (image : ImageState) (parts : ScriptParts) (v : WorldState)
-        → AreDisks disks → length disks ≤ 8 → IfSome image.told (λ bytes. bytes_needed disks ≤ length bytes)
-        → FitsScript 0 (world_of disks image) parts v → Headline disks image parts v }
+    ensures { (disks : List DiskDecl) (nets : List NetShape) (image : ImageState) (parts : ScriptParts)
+        (v : DomainState) → AreDisks disks → length disks ≤ 8 → EachOf IsNetShape nets → length nets ≤ 8
+        → IfSome image.told (λ bytes. bytes_needed disks ≤ length bytes)
+        → FitsScript 0 (world_of disks nets image) parts v → Headline disks nets image parts v }
 {}
