@@ -208,7 +208,7 @@ module _ {S V E : Type 0} (K : LaneKind S V) (N : Entries V E) where
       lane_more k had have some mark get start entries one w v s t up (sym (same_first had have k up.same_marks) ∙ now) there is ticks gets leaves less
 
   -- they are all after the last lane
-  pub   ticked_many : (lanes : List S) (marks : List Bool) (behind : List S) → TickAll K lanes marks behind → length behind ≡ length lanes
+  pub ticked_many : (lanes : List S) (marks : List Bool) (behind : List S) → TickAll K lanes marks behind → length behind ≡ length lanes
   ticked_many [] [] [] ticks = refl
   ticked_many (s ∷ lanes) (mark ∷ marks) (t ∷ behind) ticks = ap suc (ticked_many lanes marks behind ticks.1)
   ticked_many _ _ _ ticks = absurd ticks

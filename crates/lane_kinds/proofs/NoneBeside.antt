@@ -110,11 +110,14 @@ module _ {W V M N R Q E : Type 0} (K : Rounds W M R E) (L : Rounds V N Q E) (Non
       let ticked = K.some_ticks between.first w.marks.first in
       let some : ticked ≡ true = sym (or_false ticked (L.some_ticks between.second w.marks.second) (laws.some between.second w.marks.second none)) ∙ behind.0 in
       record {
-        behind = subst (λ (b : Bool). TicksBehind K b (first_of w) steps.first between.first entries (first_of v)) (sym is)
-            (some, behind.1.of_first, ap (λ (m : Two M N). m.first) behind.2,
-            behind.3
-            ∙ ap₂ (λ (x y : List E). x ++ y) (alone (K.leaves steps.first) (L.leaves steps.second) leaves)
-                (alone (K.ticks_leave between.first w.marks.first) (L.ticks_leave between.second w.marks.second) (laws.ticks_leave between.second w.marks.second none)));
+        behind = subst (λ (b : Bool). TicksBehind K b (first_of w) steps.first between.first entries (first_of v)) (sym is) (
+          some,
+          behind.1.of_first,
+          ap (λ (m : Two M N). m.first) behind.2,
+          behind.3
+              ∙ ap₂ (λ (x y : List E). x ++ y) (alone (K.leaves steps.first) (L.leaves steps.second) leaves)
+              (alone (K.ticks_leave between.first w.marks.first) (L.ticks_leave between.second w.marks.second) (laws.ticks_leave between.second w.marks.second none)),
+        );
         none = laws.ticks between.second w.marks.second v.lanes.second none behind.1.of_second;
       }
 
@@ -195,7 +198,7 @@ module _ {W V M N R Q E : Type 0} (K : Rounds W M R E) (L : Rounds V N Q E) (Non
         lanes = ap (λ (x : Two W V). x.first) out.lanes;
         is = out.is
             ∙ ap₂ (λ (x y : List E). x ++ y) (same_entries whole ∙ ap entries_of_rounds split)
-                (alone (K.names out.last.steps.first behind.first) (L.names out.last.steps.second behind.second) (laws.names out.last.steps.second behind.second behind_none));
+            (alone (K.names out.last.steps.first behind.first) (L.names out.last.steps.second behind.second) (laws.names out.last.steps.second behind.second behind_none));
       }
 
   pub first_part : (start : Two W V) (part : List E) (behind : Two W V) → None start.second → SettlePart (both K L) start part behind → SettlePart K start.first part behind.first

@@ -111,12 +111,7 @@ impl<D: Store> World<D> {
     }
 
     /// A guest asks the disk with this number: the request is accepted with its id, or refused, or finds no room.
-    fn issue(
-        &mut self,
-        disk: u32,
-        request: &Request,
-        journal: &mut Journal,
-    ) -> Result<(), NoMemory>
+    fn issue(&mut self, disk: u32, request: &Request, journal: &mut Journal) -> Result<(), NoMemory>
         requires disk { disk < length self.old.first.lanes }
         requires request { IsRequest request.now }
         requires agrees { Counted journal.old.entries self.old }

@@ -15,8 +15,8 @@ ghost use Rattle.ldom_world.specs.Steps.{MakesAnswer};
 ghost use Rattle.world_laws.specs.World.{WorldStep};
 ghost use Rattle.world_laws.specs.Issued.{issued_on};
 
-use crate::entries::{client_of, disk_end, end_of, server_of};
 use crate::disks::Disks;
+use crate::entries::{client_of, disk_end, end_of, server_of};
 use disk_lane::{DiskLane, PutFault};
 use domain_script::{EndName, Lane, LaneKind, Side};
 use ldom_report::{Entry, Journal, Who};

@@ -23,7 +23,12 @@ use vio_io::Store;
 
 impl<D: Store> Disks<D> {
     /// One step of an end of the disk with this number, once there is room for its entry.
-    pub(crate) fn step(&mut self, disk: u32, side: Side, journal: &mut Journal) -> Result<(), NoMemory>
+    pub(crate) fn step(
+        &mut self,
+        disk: u32,
+        side: Side,
+        journal: &mut Journal,
+    ) -> Result<(), NoMemory>
         requires disk { disk < length self.old.lanes }
         requires agrees { accepted_count journal.old.entries ≡ issued_on self.old.lanes }
         ensures made { OnOk result (MakesStep WorldStep disk (end_of side) self.old journal.old.entries journal.new.entries
