@@ -5,7 +5,7 @@ use Rattle.disk_model.specs.DiskEvent.{Asks, DiskEvent, Off, OnWire, Switches}
 use Rattle.channel_model.specs.WireEvent as wire
 use Rattle.world_laws.specs.DiskKind.{is_calm}
 use Rattle.world_laws.specs.Settle.{OfLane, SettleEntry, entry_of}
-use Rattle.world_laws.specs.Lines.{Line}
+use Rattle.domain_laws.specs.Lines.{Line}
 use Rattle.ldom_entries.specs.JournalState.{JournalState, PutsEntry}
 use Rattle.world_parts.specs.WorldEvents.{world_event}
 use Rattle.ldom_entries.specs.declared.entry.Entry.{Entry}

@@ -4,6 +4,7 @@ pub mod Leaving
 pub mod Answering
 pub mod LaneStepping
 pub mod Lifting
+pub mod Lifted
 pub mod Opened
 pub mod Turning
 pub mod Declaring

@@ -10,7 +10,7 @@ use Rattle.disk_model.specs.LaneState.{LaneState}
 use Rattle.ldc_queue.specs.declared.end.End.{End}
 use Rattle.world_laws.specs.Settle.{OfLane, SettleEntry}
 use Rattle.world_laws.proofs.Along.{lane_step}
-use Rattle.world_laws.specs.Lines.{Line, Nothing}
+use Rattle.domain_laws.specs.Lines.{Line, Nothing}
 use Rattle.world_laws.specs.World.{LaneMoves, OneMoves, WorldState, WorldStep}
 use Rattle.ldom_entries.specs.JournalState.{JournalState}
 use Rattle.world_parts.specs.WorldEvents.{world_event}
@@ -23,7 +23,10 @@ use Rattle.ldom_world.specs.OneLane.{EndSteps, LaneSteps, RecordedBut, Records}
 use Rattle.ldom_world.specs.Resting.{left_out}
 use Rattle.world_laws.proofs.LoopKeeping.{issued_set, next_is}
 use Rattle.world_laws.specs.Issued.{issued_on, next_behind}
-use Rattle.world_parts.specs.Parts.{Adds, Fits, FitsSoFar, MakesQuietStep, MakesStep}
+use Rattle.ldom_world.specs.Steps.{MakesQuietStep, MakesStep}
+use Rattle.world_parts.specs.Parts.{Adds, Fits, FitsSoFar}
+use Rattle.domain_laws.specs.Domain.{DomainState}
+use Rattle.domain_laws.proofs.Running.{disks_run}
 
 -- A LANE BY ITS NUMBER
 pub there_at : (lanes : List LaneState) (k : ℕ) (s : LaneState) → k < length lanes → s ≡ get_or lanes k s
@@ -50,11 +53,13 @@ pub run_many : (w v : WorldState) (entries : List SettleEntry) → Run WorldStep
 run_many w v [] run = ap (λ (x : WorldState). length x.lanes) (sym run)
 run_many w v (x ∷ entries) run = run_many run.0 v entries run.2 ∙ step_many w x run.0 run.1
 
-pub line_many : {E : Type 0} (w v : WorldState) (line : Line) (old new : List Entry) (result : Result Unit E)
+pub line_many : {E : Type 0} (w v : DomainState) (line : Line) (old new : List Entry) (result : Result Unit E)
     → OnOk result (Fits w line old new v) → OnErr result (FitsSoFar w line old new v)
-    → length v.lanes ≡ length w.lanes
-line_many w v line old new (Ok done) fits so_far = run_many w v fits.entries fits.moves.run
-line_many w v line old new (Err fault) fits so_far = run_many w v so_far.entries so_far.begins.run
+    → length v.first.lanes ≡ length w.first.lanes
+line_many w v line old new (Ok done) fits so_far =
+    run_many w.first v.first fits.entries (disks_run w fits.entries v fits.moves.run)
+line_many w v line old new (Err fault) fits so_far =
+    run_many w.first v.first so_far.entries (disks_run w so_far.entries v so_far.begins.run)
 
 -- HOW MANY WERE ACCEPTED
 pub count_push : (old new : List Entry) (x : Entry) → new ≡ old ++ x ∷ []
@@ -152,7 +157,7 @@ module _ (k : ℕ) (event : DiskEvent) (old new : JournalState) (first : List En
 
 module _ (w v : WorldState) (k : ℕ) (e : End) (old : JournalState) (calm : Bool) (new : JournalState)
     (first : List Entry) (same : old.entries ≡ first) where
-  pub makes_step : EndSteps false k e w old calm new v → MakesStep k e w first new.entries v
+  pub makes_step : EndSteps false k e w old calm new v → MakesStep WorldStep k e w first new.entries v
   makes_step at = record {
     event = at.event;
     of_end = at.of_end;
@@ -165,7 +170,7 @@ module _ (w v : WorldState) (k : ℕ) (e : End) (old : JournalState) (calm : Boo
   step_agrees at agrees = recorded_agrees k at.event old new first same w v at.leaves.recorded at.moves agrees
 
   -- in a settle
-  pub makes_quiet_step : EndSteps true k e w old calm new v → MakesQuietStep k e w first new.entries calm v
+  pub makes_quiet_step : EndSteps true k e w old calm new v → MakesQuietStep WorldStep k e w first new.entries calm v
   makes_quiet_step at = record {
     event = at.event;
     of_end = at.of_end;

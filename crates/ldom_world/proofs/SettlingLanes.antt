@@ -8,21 +8,21 @@ use Rattle.domain_script.specs.LaneKinds.{disk_lane, disk_of}
 use Rattle.world_laws.specs.Settle.{OfLane, SettleEntry, Unsettled}
 use Rattle.world_laws.specs.DiskKind.{tick, waits_on}
 use Rattle.world_laws.specs.Ticks.{gets_tick}
-use Rattle.world_laws.specs.Lines.{AnswersCall, Calls, Line, OneEntry, Settles, Ticks, OfDisk}
-use Rattle.world_laws.specs.World.{OneMoves, WorldState, WorldStep}
+use Rattle.domain_laws.specs.Lines.{AnswersCall, Calls, Line, OneEntry, Settles, Ticks, DiskLane}
 use Rattle.ldom_report.specs.LaneEvents.{ChangesNothing, Meaning, NoRoomFor, Refuses, meaning}
-use Rattle.world_parts.specs.WorldEvents.{at_disk, calm_event, if_so, meant, world_event}
+use Rattle.world_parts.specs.WorldEvents.{at_disk, calm_event, if_so, meant, told_of, world_event}
 use Rattle.ldom_report.specs.Report.{accepted_count, is_accepted}
 use Rattle.ldom_entries.specs.declared.entry.Entry.{Entry}
 use Rattle.ldom_entries.specs.declared.entry.Entry.TheVariants as entry
 use Rattle.ldom_entries.specs.declared.entry.Who.{Who}
 use Rattle.ldom_entries.specs.declared.entry.Who.TheVariants.{Lane as OfWhole, End as OfEnd}
 use Rattle.lane_kinds.proofs.Places.{after_one, set_same, take_set_one}
-use Rattle.world_laws.proofs.LineEntries.{one_answer}
-use Rattle.world_laws.proofs.TicksOn.{lane_gets_none, lane_gets_tick}
-use Rattle.world_laws.specs.Names.{name_of}
-use Rattle.world_laws.specs.RoundMade.{all_true}
-use Rattle.world_laws.specs.TicksMade.{LaneTicked}
+use Rattle.domain_laws.proofs.LoopKinds.{disk_gets}
+use Rattle.domain_laws.proofs.Loops.{disk_gets_none}
+use Rattle.domain_laws.specs.Domain.{DomainState, DomainStep}
+use Rattle.domain_laws.specs.NamesMade.{disk_name}
+use Rattle.domain_laws.specs.TicksMade.{DiskTicked}
+use Rattle.lane_kinds.specs.LanesMade.{all_true}
 use Rattle.world_parts.specs.Parts.{Adds, Fits, FitsSoFar, PartSays}
 use Rattle.ldom_world.proofs.Adding.{none_adds, one_adds}
 use Rattle.ldom_world.proofs.Lifting.{count_push}
@@ -69,11 +69,11 @@ calm_at : (k : ℕ) (o : Option ℕ) → at_disk k o (Calms CalmTick) ≡ Some (
 calm_at k None is = cc is
 calm_at k (Some j) is = calm_no_tick (k == j) j k is
 
-tick_of_calm : (k : ℕ) (who : Who) → calm_event (Calls (OfDisk k) Ticks) who ≡ Some (OfLane k tick) → ⊥
+tick_of_calm : (k : ℕ) (who : Who) → calm_event (Calls (DiskLane k) Ticks) who ≡ Some (OfLane k tick) → ⊥
 tick_of_calm k (OfWhole lane) is = calm_at k (disk_of lane) is
 tick_of_calm k (OfEnd name) is = cc is
 
-tick_meant : (k : ℕ) (x : Meaning) → meant (Calls (OfDisk k) Ticks) x ≡ Some (OfLane k tick)
+tick_meant : (k : ℕ) (x : Meaning) → meant (Calls (DiskLane k) Ticks) x ≡ Some (OfLane k tick)
     → meant Settles x ≡ Some (OfLane k tick)
 tick_meant k (NoRoomFor (OfWhole lane)) is = absurd (cc is)
 tick_meant k (NoRoomFor (OfEnd name)) is = absurd (cc is)
@@ -82,28 +82,28 @@ tick_meant k (Refuses (OfEnd name) why) is = absurd (cc is)
 tick_meant k (ChangesNothing who) is = absurd (tick_of_calm k who is)
 tick_meant k x is = is
 
-tick_said : (k : ℕ) (part : List Entry) → PartSays (Calls (OfDisk k) Ticks) part (OfLane k tick ∷ [])
+tick_said : (k : ℕ) (part : List Entry) → PartSays (Calls (DiskLane k) Ticks) part (OfLane k tick ∷ [])
     → PartSays Settles part (OfLane k tick ∷ [])
 tick_said k [] says = absurd (cc says)
 tick_said k (e ∷ []) says =
-    let one : world_event (Calls (OfDisk k) Ticks) e ≡ Some (OfLane k tick) = cc says in
+    let one : world_event (Calls (DiskLane k) Ticks) e ≡ Some (OfLane k tick) = cc says in
     ap (λ (o : Option SettleEntry). o ∷ []) (tick_meant k (meaning e) one)
 tick_said k (e ∷ f ∷ part) says = absurd (cc says)
 
 -- A CALL FOR A TICK of a lane that gets one is the tick of a settle
-run_of_one : (w v : WorldState) (x : SettleEntry) (entries : List SettleEntry) → entries ≡ x ∷ []
-    → Run WorldStep w entries v → WorldStep w x v
+run_of_one : (w v : DomainState) (x : SettleEntry) (entries : List SettleEntry) → entries ≡ x ∷ []
+    → Run DomainStep w entries v → DomainStep w x v
 run_of_one w v x entries is run =
-    let one : Run WorldStep w (x ∷ []) v = subst (λ (l : List SettleEntry). Run WorldStep w l v) is run in
-    subst (λ (u : WorldState). WorldStep w x u) one.2 one.1
+    let one : Run DomainStep w (x ∷ []) v = subst (λ (l : List SettleEntry). Run DomainStep w l v) is run in
+    subst (λ (u : DomainState). DomainStep w x u) one.2 one.1
 
-pub tick_grew : (k : ℕ) (w v : WorldState) (old new : List Entry) (lane : LaneState) (had : Bool)
-    → slice_get w.lanes k ≡ Some lane → gets_tick lane had ≡ true → Fits w (Calls (OfDisk k) Ticks) old new v
-    → Grew (λ es. LaneTicked k had true w es v) old new
+pub tick_grew : (k : ℕ) (w v : DomainState) (old new : List Entry) (lane : LaneState) (had : Bool)
+    → slice_get w.first.lanes k ≡ Some lane → gets_tick lane had ≡ true → Fits w (Calls (DiskLane k) Ticks) old new v
+    → Grew (λ es. DiskTicked k had true w es v) old new
 tick_grew k w v old new lane had there gets fits =
-    let one : OneEntry k (AnswersCall Ticks) fits.entries = one_answer k Ticks fits.entries fits.moves.part_of in
-    let moves : OneMoves w k one.event v = run_of_one w v (OfLane k one.event) fits.entries one.is fits.moves.run in
-    let ticked : LaneTicked k had true w (OfLane k one.event ∷ []) v = lane_gets_tick k had w one.event v lane there
+    let one : OneEntry k (AnswersCall Ticks) fits.entries = fits.moves.part_of in
+    let moves : DomainStep w (OfLane k one.event) v = run_of_one w v (OfLane k one.event) fits.entries one.is fits.moves.run in
+    let ticked : DiskTicked k had true w (OfLane k one.event ∷ []) v = disk_gets k had w one.event v lane there
     gets one.answers moves in
     let is : fits.entries ≡ OfLane k tick ∷ [] = one.is ∙ ticked.ticked.1 in
     record {
@@ -112,19 +112,19 @@ tick_grew k w v old new lane had there gets fits =
         part = fits.adds.part;
         grew = fits.adds.grew;
         says = tick_said k fits.adds.part
-            (subst (λ (l : List SettleEntry). PartSays (Calls (OfDisk k) Ticks) fits.adds.part l) is fits.adds.says);
+            (subst (λ (l : List SettleEntry). PartSays (Calls (DiskLane k) Ticks) fits.adds.part l) is fits.adds.says);
       };
-      holds = subst (λ (l : List SettleEntry). LaneTicked k had true w l v) ticked.ticked.1 ticked;
+      holds = subst (λ (l : List SettleEntry). DiskTicked k had true w l v) ticked.ticked.1 ticked;
     }
 
-pub none_ticked_grew : (k : ℕ) (w : WorldState) (old : List Entry) (lane : LaneState) (had : Bool)
-    → slice_get w.lanes k ≡ Some lane → gets_tick lane had ≡ false
-    → Grew (λ es. LaneTicked k had false w es w) old old
+pub none_ticked_grew : (k : ℕ) (w : DomainState) (old : List Entry) (lane : LaneState) (had : Bool)
+    → slice_get w.first.lanes k ≡ Some lane → gets_tick lane had ≡ false
+    → Grew (λ es. DiskTicked k had false w es w) old old
 none_ticked_grew k w old lane had there gets =
-    record { entries = []; adds = none_adds Settles old old refl; holds = lane_gets_none k had w lane there gets }
+    record { entries = []; adds = none_adds Settles old old refl; holds = disk_gets_none k had w lane there gets }
 
 -- where memory was wanted for it, nothing was done
-pub record Unchanged (w : WorldState) (old new : List Entry) (v : WorldState) : Type 0 where
+pub record Unchanged (w : DomainState) (old new : List Entry) (v : DomainState) : Type 0 where
   pub world_stays : v ≡ w
   pub journal_stays : new ≡ old
 
@@ -132,21 +132,21 @@ no_part : (line : Line) (part : List Entry) → map (λ (e : Entry). world_event
 no_part line [] is = refl
 no_part line (e ∷ part) is = absurd (cc is)
 
-none_begun : (w v : WorldState) (line : Line) (old new : List Entry) (entries : List SettleEntry) → entries ≡ []
-    → Adds line old new entries → Run WorldStep w entries v → Unchanged w old new v
+none_begun : (w v : DomainState) (line : Line) (old new : List Entry) (entries : List SettleEntry) → entries ≡ []
+    → Adds line old new entries → Run DomainStep w entries v → Unchanged w old new v
 none_begun w v line old new entries none adds run =
     let empty : adds.part ≡ [] = no_part line adds.part
-    (adds.says ∙ ap (λ (l : List SettleEntry). map (λ (x : SettleEntry). Some x) l) none) in
-    let stays : w ≡ v = subst (λ (l : List SettleEntry). Run WorldStep w l v) none run in
+    (adds.says ∙ ap (λ (l : List SettleEntry). map (λ (x : SettleEntry). Some (told_of x)) l) none) in
+    let stays : w ≡ v = subst (λ (l : List SettleEntry). Run DomainStep w l v) none run in
     record {
       world_stays = sym stays;
       journal_stays = adds.grew ∙ ap (λ (l : List Entry). old ++ l) empty ∙ append-nil old;
     }
 
-pub tick_wants : (k : ℕ) (w v : WorldState) (old new : List Entry) → FitsSoFar w (Calls (OfDisk k) Ticks) old new v
+pub tick_wants : (k : ℕ) (w v : DomainState) (old new : List Entry) → FitsSoFar w (Calls (DiskLane k) Ticks) old new v
     → Unchanged w old new v
 tick_wants k w v old new so_far =
-    none_begun w v (Calls (OfDisk k) Ticks) old new so_far.entries so_far.begins.begins so_far.adds so_far.begins.run
+    none_begun w v (Calls (DiskLane k) Ticks) old new so_far.entries so_far.begins.begins so_far.adds so_far.begins.run
 
 -- THE TICKS GO ON by a lane that gets one, and by one that gets none
 or_true : (b : Bool) → (b || true) ≡ true
@@ -157,16 +157,16 @@ or_false : (b : Bool) → (b || false) ≡ b
 or_false true = refl
 or_false false = refl
 
-pub ticked_goes_on : (k : ℕ) (w v : WorldState) (old new : List Entry) (have marks : List Bool) (lane : LaneState)
-    (mark : Bool) → slice_get w.lanes k ≡ Some lane → slice_get have k ≡ Some mark → k < length have
-    → gets_tick lane mark ≡ true → marks ≡ slice_set have k true → Fits w (Calls (OfDisk k) Ticks) old new v
+pub ticked_goes_on : (k : ℕ) (w v : DomainState) (old new : List Entry) (have marks : List Bool) (lane : LaneState)
+    (mark : Bool) → slice_get w.first.lanes k ≡ Some lane → slice_get have k ≡ Some mark → k < length have
+    → gets_tick lane mark ≡ true → marks ≡ slice_set have k true → Fits w (Calls (DiskLane k) Ticks) old new v
     → TicksGoOn k w have old true v marks new
 ticked_goes_on k w v old new have marks lane mark there at less gets is fits =
     ticks_go_by k w v old new have marks mark true at (tick_grew k w v old new lane mark there gets fits) less
     (is ∙ ap (λ (b : Bool). slice_set have k b) (sym (or_true mark)))
 
-pub unticked_goes_on : (k : ℕ) (w : WorldState) (old : List Entry) (have : List Bool) (lane : LaneState) (mark : Bool)
-    → slice_get w.lanes k ≡ Some lane → slice_get have k ≡ Some mark → k < length have
+pub unticked_goes_on : (k : ℕ) (w : DomainState) (old : List Entry) (have : List Bool) (lane : LaneState) (mark : Bool)
+    → slice_get w.first.lanes k ≡ Some lane → slice_get have k ≡ Some mark → k < length have
     → gets_tick lane mark ≡ false → TicksGoOn k w have old false w have old
 unticked_goes_on k w old have lane mark there at less gets =
     ticks_go_by k w w old old have have mark false at (none_ticked_grew k w old lane mark there gets) less
@@ -178,13 +178,13 @@ not_by true = refl
 not_by false = refl
 
 name_by : (k : ℕ) (calm rests : Bool) (lane : LaneState) → rests ≡ (calm && not (waits_on lane))
-    → name_of k calm lane ≡ (if rests then [] else Unsettled k ∷ [])
+    → disk_name k calm lane ≡ (if rests then [] else Unsettled k ∷ [])
 name_by k calm rests lane is =
     ap (λ (b : Bool). if calm && b then [] else Unsettled k ∷ []) (not_by (waits_on lane))
     ∙ ap (λ (b : Bool). if b then [] else Unsettled k ∷ []) (sym is)
 
-pub named_goes_on : (k : ℕ) (w : WorldState) (calm rests : Bool) (lane : LaneState) (old new : List Entry)
-    → slice_get w.lanes k ≡ Some lane → rests ≡ (calm && not (waits_on lane)) → rests ≡ false
+pub named_goes_on : (k : ℕ) (w : DomainState) (calm rests : Bool) (lane : LaneState) (old new : List Entry)
+    → slice_get w.first.lanes k ≡ Some lane → rests ≡ (calm && not (waits_on lane)) → rests ≡ false
     → new ≡ old ++ entry.Unsettled (OfWhole (disk_lane k)) ∷ [] → NamesGoOn k w calm old new
 named_goes_on k w calm rests lane old new there is left grew =
     names_go_by k w old new calm lane there
@@ -192,8 +192,8 @@ named_goes_on k w calm rests lane old new there is left grew =
     (sym (name_by k calm rests lane is ∙ ap (λ (b : Bool). if b then [] else Unsettled k ∷ []) left))
     (one_adds Settles old new (entry.Unsettled (OfWhole (disk_lane k))) (Unsettled k) grew refl))
 
-pub unnamed_goes_on : (k : ℕ) (w : WorldState) (calm rests : Bool) (lane : LaneState) (old : List Entry)
-    → slice_get w.lanes k ≡ Some lane → rests ≡ (calm && not (waits_on lane)) → rests ≡ true
+pub unnamed_goes_on : (k : ℕ) (w : DomainState) (calm rests : Bool) (lane : LaneState) (old : List Entry)
+    → slice_get w.first.lanes k ≡ Some lane → rests ≡ (calm && not (waits_on lane)) → rests ≡ true
     → NamesGoOn k w calm old old
 unnamed_goes_on k w calm rests lane old there is left =
     names_go_by k w old old calm lane there

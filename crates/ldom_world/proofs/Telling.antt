@@ -5,7 +5,7 @@ use Rattle.channel_model.specs.WireEvent.{Declines}
 use Rattle.disk_model.specs.DiskEvent.{Asks, Calms, DiskEvent, OnWire}
 use Rattle.disk_model.specs.DiskEvent as disk
 use Rattle.world_laws.specs.Settle.{OfLane, SettleEntry}
-use Rattle.world_laws.specs.Lines.{Line}
+use Rattle.domain_laws.specs.Lines.{Line}
 use Rattle.ldom_report.specs.LaneEvents.{AtClient, AtLane, AtServer, AtWire, ChangesNothing, LeavesNothing, LeavesOver, Meaning, NoRoomFor, Refuses, meaning}
 use Rattle.world_parts.specs.WorldEvents.{world_event}
 use Rattle.ldom_report.specs.Report.{is_accepted}

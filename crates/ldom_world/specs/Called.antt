@@ -3,8 +3,8 @@ use Rattle.std.specs.Prelude.{ℕ}
 use Rattle.domain_script.specs.declared.event.EndName.{EndName}
 use Rattle.domain_script.specs.declared.event.Side.{Side}
 use Rattle.domain_script.specs.LaneKinds.{disk_lane}
-use Rattle.world_laws.specs.Lines.{Call}
-use Rattle.world_laws.specs.Lines as script
+use Rattle.domain_laws.specs.Lines.{Call}
+use Rattle.domain_laws.specs.Lines as script
 use Rattle.ldom_report.specs.LaneEvents.{end_of}
 use Rattle.ldom_entries.specs.declared.entry.Entry.{Entry}
 use Rattle.ldom_entries.specs.declared.entry.Entry.TheVariants as entry

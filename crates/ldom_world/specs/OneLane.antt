@@ -7,7 +7,7 @@ use Rattle.disk_model.specs.LaneState.{LaneState}
 use Rattle.world_laws.specs.CalmEnds.{IsStep}
 use Rattle.world_laws.specs.DiskKind.{is_calm}
 use Rattle.world_laws.specs.Settle.{OfLane}
-use Rattle.world_laws.specs.Lines.{Line}
+use Rattle.domain_laws.specs.Lines.{Line}
 use Rattle.world_laws.specs.World.{LaneMoves, OneMoves, WorldState}
 use Rattle.ldom_entries.specs.JournalState.{JournalState, PutsEntry}
 use Rattle.world_parts.specs.WorldEvents.{world_event}

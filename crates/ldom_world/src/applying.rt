@@ -1,18 +1,21 @@
 // What a line of a script says, done to a world.
 
-ghost use Rattle.std.specs.Prelude.{◌≡◌, length, OnErr, OnOk};
+ghost use Rattle.std.specs.Prelude.{◌≡◌, ◌<◌, length, OnErr, OnOk};
+ghost use Rattle.domain_laws.specs.Lines as script;
+ghost use Rattle.domain_laws.specs.Lines.{Asked, Calls, Pokes, Steps};
 ghost use Rattle.domain_script.specs.Limits.{AreTurns};
+ghost use Rattle.domain_script.specs.declared.event.Side.TheVariants.{Client};
+ghost use Rattle.ldc_queue.specs.declared.end.End.TheVariants.{A};
 ghost use Rattle.ldom_report.specs.LaneEvents.{end_of};
-ghost use Rattle.ldom_report.specs.Report.{accepted_count};
 ghost use Rattle.ldom_world.specs.Called.{call_of};
-ghost use Rattle.world_laws.specs.Issued.{issued_on};
-ghost use Rattle.world_laws.specs.Lines.{Calls, Steps};
+ghost use Rattle.ldom_world.specs.Steps.{Counted};
+ghost use Rattle.vdisk_msg.specs.Fills.{IsRequest};
 ghost use Rattle.world_parts.specs.Lines.{IsDiskOf, IsForDisks, lane_named, line_of};
 ghost use Rattle.world_parts.specs.Parts.{Fits, FitsSoFar};
 
 use crate::calls::LaneCall;
 use crate::world::World;
-use domain_script::{EndName, Event, Lane, LaneKind};
+use domain_script::{EndName, Event, Lane, LaneKind, Request, Side};
 use ldom_report::{Journal, fill_bytes};
 use vio_bytes::NoMemory;
 use vio_io::Store;
@@ -22,13 +25,13 @@ impl<D: Store> World<D> {
     /// every step that was made and no other.
     #[tactic(auto, using(crate::proofs::Lifting::line_many))]
     pub fn apply(&mut self, event: &Event, journal: &mut Journal) -> Result<(), NoMemory>
-        requires event { IsForDisks (length self.old.lanes) event.now }
-        requires agrees { accepted_count journal.old.entries ≡ issued_on self.old.lanes }
+        requires event { IsForDisks (length self.old.first.lanes) event.now }
+        requires agrees { Counted journal.old.entries self.old }
         ensures fits { OnOk result (Fits self.old (line_of event.now) journal.old.entries journal.new.entries self.new) }
         ensures so_far { OnErr result (FitsSoFar self.old (line_of event.now) journal.old.entries
             journal.new.entries self.new) }
-        ensures agrees { accepted_count journal.new.entries ≡ issued_on self.new.lanes }
-        ensures many { length self.new.lanes ≡ length self.old.lanes }
+        ensures agrees { Counted journal.new.entries self.new }
+        ensures many { length self.new.first.lanes ≡ length self.old.first.lanes }
     {
         match event {
             Event::Blank => Ok(()),
@@ -54,14 +57,14 @@ impl<D: Store> World<D> {
 
     /// So many steps of an end, among the lanes of its kind.
     fn step_on(&mut self, end: EndName, count: u32, journal: &mut Journal) -> Result<(), NoMemory>
-        requires lane { IsDiskOf (length self.old.lanes) end.lane }
+        requires lane { IsDiskOf (length self.old.first.lanes) end.lane }
         requires count { AreTurns count }
-        requires agrees { accepted_count journal.old.entries ≡ issued_on self.old.lanes }
+        requires agrees { Counted journal.old.entries self.old }
         ensures fits { OnOk result (Fits self.old (Steps (lane_named end.lane) (end_of end.side) count)
             journal.old.entries journal.new.entries self.new) }
         ensures so_far { OnErr result (FitsSoFar self.old (Steps (lane_named end.lane) (end_of end.side) count)
             journal.old.entries journal.new.entries self.new) }
-        ensures agrees { accepted_count journal.new.entries ≡ issued_on self.new.lanes }
+        ensures agrees { Counted journal.new.entries self.new }
     {
         match end.lane.kind {
             LaneKind::Disk => self.steps(end.lane.number, end.side, count, journal),
@@ -70,16 +73,91 @@ impl<D: Store> World<D> {
 
     /// Calls a lane, among those of its kind.
     fn call_on(&mut self, lane: Lane, call: LaneCall, journal: &mut Journal) -> Result<(), NoMemory>
-        requires lane { IsDiskOf (length self.old.lanes) lane }
-        requires agrees { accepted_count journal.old.entries ≡ issued_on self.old.lanes }
+        requires lane { IsDiskOf (length self.old.first.lanes) lane }
+        requires agrees { Counted journal.old.entries self.old }
         ensures fits { OnOk result (Fits self.old (Calls (lane_named lane) (call_of call)) journal.old.entries
             journal.new.entries self.new) }
         ensures so_far { OnErr result (FitsSoFar self.old (Calls (lane_named lane) (call_of call)) journal.old.entries
             journal.new.entries self.new) }
-        ensures agrees { accepted_count journal.new.entries ≡ issued_on self.new.lanes }
+        ensures agrees { Counted journal.new.entries self.new }
     {
         match lane.kind {
             LaneKind::Disk => self.answer_call(lane.number, call, journal),
         }
+    }
+
+    /// Pokes the memory of an end, among the lanes of its kind: a disk's is its client's.
+    fn poke_on(
+        &mut self,
+        end: EndName,
+        at: u64,
+        bytes: &[u8],
+        journal: &mut Journal,
+    ) -> Result<(), NoMemory>
+        requires lane { IsDiskOf (length self.old.first.lanes) end.lane }
+        requires client { end.side ≡ Client }
+        requires agrees { Counted journal.old.entries self.old }
+        ensures fits { OnOk result (Fits self.old (Calls (lane_named end.lane) (Pokes (end_of end.side) at bytes.now))
+            journal.old.entries journal.new.entries self.new) }
+        ensures so_far { OnErr result (FitsSoFar self.old
+            (Calls (lane_named end.lane) (Pokes (end_of end.side) at bytes.now)) journal.old.entries
+            journal.new.entries self.new) }
+        ensures agrees { Counted journal.new.entries self.new }
+    {
+        match (end.lane.kind, end.side) {
+            (LaneKind::Disk, Side::Client) => self.poke_disk(end.lane.number, at, bytes, journal),
+            (LaneKind::Disk, Side::Server) => unreachable!(),
+        }
+    }
+
+    /// A guest asks the disk with this number: the request is accepted with its id, or refused, or finds no room.
+    fn issue(&mut self, disk: u32, request: &Request, journal: &mut Journal) -> Result<(), NoMemory>
+        requires disk { disk < length self.old.first.lanes }
+        requires request { IsRequest request.now }
+        requires agrees { Counted journal.old.entries self.old }
+        ensures fits { OnOk result (Fits self.old (Asked disk request.now) journal.old.entries journal.new.entries
+            self.new) }
+        ensures so_far { OnErr result (FitsSoFar self.old (Asked disk request.now) journal.old.entries
+            journal.new.entries self.new) }
+        ensures agrees { Counted journal.new.entries self.new }
+    {
+        self.disks.issue(disk, request, journal)
+    }
+
+    /// Calls the lane of the disk with this number.
+    pub(crate) fn answer_call(
+        &mut self,
+        disk: u32,
+        call: LaneCall,
+        journal: &mut Journal,
+    ) -> Result<(), NoMemory>
+        requires disk { disk < length self.old.first.lanes }
+        requires agrees { Counted journal.old.entries self.old }
+        ensures fits { OnOk result (Fits self.old (Calls (script.DiskLane disk) (call_of call)) journal.old.entries
+            journal.new.entries self.new) }
+        ensures so_far { OnErr result (FitsSoFar self.old (Calls (script.DiskLane disk) (call_of call))
+            journal.old.entries journal.new.entries self.new) }
+        ensures agrees { Counted journal.new.entries self.new }
+    {
+        self.disks.answer_call(disk, call, journal)
+    }
+
+    /// Pokes the memory of the disk with this number.
+    fn poke_disk(
+        &mut self,
+        disk: u32,
+        at: u64,
+        bytes: &[u8],
+        journal: &mut Journal,
+    ) -> Result<(), NoMemory>
+        requires disk { disk < length self.old.first.lanes }
+        requires agrees { Counted journal.old.entries self.old }
+        ensures fits { OnOk result (Fits self.old (Calls (script.DiskLane disk) (Pokes A at bytes.now))
+            journal.old.entries journal.new.entries self.new) }
+        ensures so_far { OnErr result (FitsSoFar self.old (Calls (script.DiskLane disk) (Pokes A at bytes.now))
+            journal.old.entries journal.new.entries self.new) }
+        ensures agrees { Counted journal.new.entries self.new }
+    {
+        self.disks.poke(disk, at, bytes, journal)
     }
 }

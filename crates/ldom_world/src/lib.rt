@@ -4,12 +4,15 @@
 
 mod applying;
 mod calls;
+mod disks;
 mod entries;
 mod issuing;
 mod lanes;
 mod poking;
 mod settling;
 mod stepping;
+mod sums;
+mod turns;
 mod world;
 
 pub use cached_store::KeptBlocks;

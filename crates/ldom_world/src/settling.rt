@@ -1,22 +1,23 @@
 // A settle: rounds, until one in which all lanes are quiet and after which none gets a tick.
 
-ghost use Rattle.std.specs.Prelude.{◌≡◌, ◌&&◌, ◌*◌, ◌<◌, ◌≤◌, ◌^◌, length, not, slice_get, slice_set, take, Some, IfOk, OnErr, OnOk};
+ghost use Rattle.std.specs.Prelude.{[], ◌≡◌, ◌&&◌, ◌<◌, ◌≤◌, length, not, slice_get, slice_set, take, Some, IfOk, OnErr, OnOk};
 ghost use Rattle.disk_model.specs.LaneState.{LaneState};
-ghost use Rattle.world_laws.specs.Settle.{most_rounds, pending_on};
+ghost use Rattle.domain_laws.specs.Going.{most_rounds};
+ghost use Rattle.domain_laws.specs.Lines.{Settles};
+ghost use Rattle.domain_laws.specs.RoundMade.{all_quiet};
+ghost use Rattle.lane_kinds.specs.LanesMade.{all_true};
+ghost use Rattle.ldom_report.specs.Report.{accepted_count};
+ghost use Rattle.ldom_world.specs.SettleParts.{DisksAdd, DisksAddFront, DisksNameAdd, DisksNameAddFront};
+ghost use Rattle.ldom_world.specs.SettleParts.{DiskTicksAdd, DiskTicksAddFront, NamesAdd, NamesAddFront, NamesGoOn};
+ghost use Rattle.ldom_world.specs.SettleParts.{of_disks, RoundAdds, RoundAddsFront, RoundBreaks, RoundGoesOn};
+ghost use Rattle.ldom_world.specs.SettleParts.{TicksAdd, TicksAddFront, TicksGoOn, TurnBreaks, TurnGoesOn};
+ghost use Rattle.ldom_world.specs.Steps.{Counted};
 ghost use Rattle.world_laws.specs.DiskKind.{waits_on};
 ghost use Rattle.world_laws.specs.Ticks.{gets_tick};
-ghost use Rattle.world_laws.specs.Lines.{Settles};
-ghost use Rattle.ldom_report.specs.Report.{accepted_count};
-ghost use Rattle.ldom_world.specs.SettleParts.{NamesAdd, NamesAddFront, NamesGoOn, RoundAdds, RoundAddsFront};
-ghost use Rattle.ldom_world.specs.SettleParts.{RoundBreaks, RoundGoesOn, TicksAdd, TicksAddFront, TicksGoOn};
-ghost use Rattle.ldom_world.specs.SettleParts.{TurnBreaks, TurnGoesOn};
-ghost use Rattle.world_laws.specs.Issued.{issued_on};
-ghost use Rattle.world_laws.specs.RoundMade.{all_true};
 ghost use Rattle.world_parts.specs.Parts.{Fits, FitsSoFar};
 
 use crate::calls::LaneCall;
 use crate::world::World;
-use disk_lane::DiskLane;
 use domain_script::{Lane, LaneKind, MOST_DISKS, Side};
 use ldom_report::{Entry, Journal, Who};
 use vio_bytes::NoMemory;
@@ -27,10 +28,10 @@ impl<D: Store> World<D> {
     /// made without that, the lanes that are left over are named.
     #[tactic(auto, using(crate::proofs::SettlingAdds::rounds_begin))]
     pub(crate) fn settle(&mut self, journal: &mut Journal) -> Result<(), NoMemory>
-        requires agrees { accepted_count journal.old.entries ≡ issued_on self.old.lanes }
+        requires agrees { Counted journal.old.entries self.old }
         ensures fits { OnOk result (Fits self.old (Settles) journal.old.entries journal.new.entries self.new) }
         ensures so_far { OnErr result (FitsSoFar self.old (Settles) journal.old.entries journal.new.entries self.new) }
-        ensures agrees { accepted_count journal.new.entries ≡ issued_on self.new.lanes }
+        ensures agrees { Counted journal.new.entries self.new }
     {
         let mut had = [false; MOST_DISKS];
         let mut quiet = [true; MOST_DISKS];
@@ -51,12 +52,12 @@ impl<D: Store> World<D> {
         quiet: &mut [bool; MOST_DISKS],
         journal: &mut Journal,
     ) -> Result<bool, NoMemory>
-        requires agrees { accepted_count journal.old.entries ≡ issued_on self.old.lanes }
-        ensures turned { IfOk result (λ ended. TurnGoesOn ended self.old had.old quiet.old journal.old.entries self.new
-            had.new quiet.new journal.new.entries) }
-        ensures breaks { OnErr result (TurnBreaks self.old had.old quiet.old journal.old.entries self.new
-            journal.new.entries) }
-        ensures agrees { accepted_count journal.new.entries ≡ issued_on self.new.lanes }
+        requires agrees { Counted journal.old.entries self.old }
+        ensures turned { IfOk result (λ ended. TurnGoesOn ended self.old (of_disks had.old) (of_disks quiet.old)
+            journal.old.entries self.new (of_disks had.new) (of_disks quiet.new) journal.new.entries) }
+        ensures breaks { OnErr result (TurnBreaks self.old (of_disks had.old) (of_disks quiet.old)
+            journal.old.entries self.new journal.new.entries) }
+        ensures agrees { Counted journal.new.entries self.new }
     {
         if !self.settle_round(quiet, journal)? {
             return Ok(false);
@@ -69,20 +70,37 @@ impl<D: Store> World<D> {
         Ok(true)
     }
 
-    /// One round, whose steps that idle leave no entry. Tells whether all lanes were quiet in it, and marks those that
-    /// were.
-    #[tactic(auto, using(crate::proofs::SettlingAdds::round_adds_none, crate::proofs::SettlingAdds::round_of_all))]
+    /// One round over all lanes, whose steps that idle leave no entry. Tells whether all lanes were quiet in it, and
+    /// marks those that were.
     fn settle_round(
         &mut self,
         quiet: &mut [bool; MOST_DISKS],
         journal: &mut Journal,
     ) -> Result<bool, NoMemory>
-        requires agrees { accepted_count journal.old.entries ≡ issued_on self.old.lanes }
-        ensures made { OnOk result (RoundAdds (length self.old.lanes) self.old quiet.new self.new journal.old.entries
+        requires agrees { Counted journal.old.entries self.old }
+        ensures made { OnOk result (RoundAdds self.old (of_disks quiet.new) self.new journal.old.entries
             journal.new.entries) }
-        ensures calm { IfOk result (λ calm. all_true (take (length self.old.lanes) quiet.new) ≡ calm) }
+        ensures calm { IfOk result (λ calm. all_quiet self.old (of_disks quiet.new) ≡ calm) }
         ensures begun { OnErr result (RoundAddsFront self.old self.new journal.old.entries journal.new.entries) }
-        ensures agrees { accepted_count journal.new.entries ≡ issued_on self.new.lanes }
+        ensures agrees { Counted journal.new.entries self.new }
+    {
+        self.round_of_disks(quiet, journal)
+    }
+
+    /// The steps of all disks in a round.
+    #[tactic(auto, using(crate::proofs::SettlingAdds::round_adds_none, crate::proofs::SettlingAdds::round_of_all))]
+    fn round_of_disks(
+        &mut self,
+        quiet: &mut [bool; MOST_DISKS],
+        journal: &mut Journal,
+    ) -> Result<bool, NoMemory>
+        requires agrees { Counted journal.old.entries self.old }
+        ensures made { OnOk result (DisksAdd (length self.old.first.lanes) self.old quiet.new self.new
+            journal.old.entries journal.new.entries) }
+        ensures calm { IfOk result (λ calm. all_true (take (length self.old.first.lanes) quiet.new) ≡ calm) }
+        ensures begun { OnErr result (DisksAddFront self.old self.new journal.old.entries journal.new.entries) }
+        ensures agrees { Counted journal.new.entries self.new }
+        ensures no_port { self.old.second ≡ [] }
     {
         let mut all = true;
         for disk in 0..self.disk_count() {
@@ -92,7 +110,7 @@ impl<D: Store> World<D> {
         Ok(all)
     }
 
-    /// The two steps of one lane in a round. Tells whether it was quiet, and marks it so.
+    /// The two steps of one disk in a round. Tells whether it was quiet, and marks it so.
     #[tactic(auto, using(crate::proofs::SettlingAdds::lane_wants, crate::proofs::SettlingAdds::server_wants))]
     fn round_of(
         &mut self,
@@ -100,16 +118,16 @@ impl<D: Store> World<D> {
         quiet: &mut [bool; MOST_DISKS],
         journal: &mut Journal,
     ) -> Result<bool, NoMemory>
-        requires disk { disk < length self.old.lanes }
+        requires disk { disk < length self.old.first.lanes }
         requires place { disk < length quiet.old }
-        requires agrees { accepted_count journal.old.entries ≡ issued_on self.old.lanes }
+        requires agrees { Counted journal.old.entries self.old }
         ensures made { OnOk result (RoundGoesOn disk self.old quiet.old journal.old.entries self.new quiet.new
             journal.new.entries) }
         ensures begun { OnErr result (RoundBreaks disk self.old quiet.old journal.old.entries self.new
             journal.new.entries) }
         ensures marked { IfOk result (λ calm. quiet.new ≡ slice_set quiet.old disk calm) }
-        ensures many { length self.new.lanes ≡ length self.old.lanes }
-        ensures agrees { accepted_count journal.new.entries ≡ issued_on self.new.lanes }
+        ensures many { length self.new.first.lanes ≡ length self.old.first.lanes }
+        ensures agrees { Counted journal.new.entries self.new }
     {
         let client = self.quiet_step(disk, Side::Client, journal)?;
         let server = self.quiet_step(disk, Side::Server, journal)?;
@@ -118,20 +136,37 @@ impl<D: Store> World<D> {
         Ok(calm)
     }
 
-    /// Ticks each lane that isn't finished, whose server runs, and that had none in this settle, and tells whether there
-    /// was one.
-    #[tactic(auto, using(crate::proofs::SettlingAdds::ticks_add_none, crate::proofs::SettlingAdds::ticks_of_all, crate::proofs::SettlingAdds::ticks_add_front))]
+    /// Ticks each lane that isn't finished, that isn't a disk's whose server is stopped, and that had none in this
+    /// settle. Tells whether there was one.
     fn tick_lanes(
         &mut self,
         had: &mut [bool; MOST_DISKS],
         journal: &mut Journal,
     ) -> Result<bool, NoMemory>
-        requires agrees { accepted_count journal.old.entries ≡ issued_on self.old.lanes }
-        ensures ticked { IfOk result (λ some. TicksAdd (length self.old.lanes) self.old had.old some had.new self.new
+        requires agrees { Counted journal.old.entries self.old }
+        ensures ticked { IfOk result (λ some. TicksAdd self.old (of_disks had.old) some (of_disks had.new) self.new
             journal.old.entries journal.new.entries) }
-        ensures begun { OnErr result (TicksAddFront self.old had.old self.new journal.old.entries
+        ensures begun { OnErr result (TicksAddFront self.old (of_disks had.old) self.new journal.old.entries
             journal.new.entries) }
-        ensures agrees { accepted_count journal.new.entries ≡ issued_on self.new.lanes }
+        ensures agrees { Counted journal.new.entries self.new }
+    {
+        self.tick_disks(had, journal)
+    }
+
+    /// The ticks of all disks.
+    #[tactic(auto, using(crate::proofs::SettlingAdds::ticks_add_none, crate::proofs::SettlingAdds::ticks_of_all, crate::proofs::SettlingAdds::ticks_add_front))]
+    fn tick_disks(
+        &mut self,
+        had: &mut [bool; MOST_DISKS],
+        journal: &mut Journal,
+    ) -> Result<bool, NoMemory>
+        requires agrees { Counted journal.old.entries self.old }
+        ensures ticked { IfOk result (λ some. DiskTicksAdd (length self.old.first.lanes) self.old had.old some had.new
+            self.new journal.old.entries journal.new.entries) }
+        ensures begun { OnErr result (DiskTicksAddFront self.old had.old self.new journal.old.entries
+            journal.new.entries) }
+        ensures agrees { Counted journal.new.entries self.new }
+        ensures no_port { self.old.second ≡ [] }
     {
         let mut some = false;
         for disk in 0..self.disk_count() {
@@ -141,7 +176,7 @@ impl<D: Store> World<D> {
         Ok(some)
     }
 
-    /// Ticks one lane where it is its turn, and tells whether it was.
+    /// Ticks one disk where it is its turn, and tells whether it was.
     #[tactic(auto, using(crate::proofs::SettlingLanes::tick_wants))]
     fn tick_of(
         &mut self,
@@ -149,15 +184,15 @@ impl<D: Store> World<D> {
         had: &mut [bool; MOST_DISKS],
         journal: &mut Journal,
     ) -> Result<bool, NoMemory>
-        requires disk { disk < length self.old.lanes }
+        requires disk { disk < length self.old.first.lanes }
         requires place { disk < length had.old }
-        requires agrees { accepted_count journal.old.entries ≡ issued_on self.old.lanes }
+        requires agrees { Counted journal.old.entries self.old }
         ensures ticked { IfOk result (λ ticked. TicksGoOn disk self.old had.old journal.old.entries ticked self.new
             had.new journal.new.entries) }
         ensures same { OnErr result ((self.new ≡ self.old) × (journal.new.entries ≡ journal.old.entries)) }
         ensures same_marks { OnErr result (had.new ≡ had.old) }
-        ensures many { length self.new.lanes ≡ length self.old.lanes }
-        ensures agrees { accepted_count journal.new.entries ≡ issued_on self.new.lanes }
+        ensures many { length self.new.first.lanes ≡ length self.old.first.lanes }
+        ensures agrees { Counted journal.new.entries self.new }
     {
         if !self.gets_tick(disk, had[disk as usize]) {
             return Ok(false);
@@ -168,24 +203,36 @@ impl<D: Store> World<D> {
     }
 
     /// Names each lane that wasn't quiet in the last round, or isn't finished though its server runs.
-    #[tactic(auto, using(crate::proofs::SettlingAdds::names_add_none, crate::proofs::SettlingAdds::names_of_all))]
     fn name_left(&self, quiet: &[bool; MOST_DISKS], journal: &mut Journal) -> Result<(), NoMemory>
-        ensures named { OnOk result (NamesAdd (length self.now.lanes) self.now quiet.now journal.old.entries
+        ensures named { OnOk result (NamesAdd self.now (of_disks quiet.now) journal.old.entries
             journal.new.entries) }
-        ensures begun { OnErr result (NamesAddFront self.now (length self.now.lanes) quiet.now journal.old.entries
+        ensures begun { OnErr result (NamesAddFront self.now (of_disks quiet.now) journal.old.entries
             journal.new.entries) }
         ensures accepted { accepted_count journal.new.entries ≡ accepted_count journal.old.entries }
     {
+        self.name_disks(quiet, journal)
+    }
+
+    /// The names of all disks that are left over.
+    #[tactic(auto, using(crate::proofs::SettlingAdds::names_add_none, crate::proofs::SettlingAdds::names_of_all))]
+    fn name_disks(&self, quiet: &[bool; MOST_DISKS], journal: &mut Journal) -> Result<(), NoMemory>
+        ensures named { OnOk result (DisksNameAdd (length self.now.first.lanes) self.now quiet.now journal.old.entries
+            journal.new.entries) }
+        ensures begun { OnErr result (DisksNameAddFront self.now (length self.now.first.lanes) quiet.now
+            journal.old.entries journal.new.entries) }
+        ensures accepted { accepted_count journal.new.entries ≡ accepted_count journal.old.entries }
+        ensures no_port { self.now.second ≡ [] }
+    {
         for disk in 0..self.disk_count() {
-            self.name_lane(disk, quiet[disk as usize], journal)?;
+            self.name_disk(disk, quiet[disk as usize], journal)?;
         }
         Ok(())
     }
 
-    /// Names one lane where it is left over.
+    /// Names one disk where it is left over.
     #[tactic(auto, using(crate::proofs::SettlingLanes::count_stays))]
-    fn name_lane(&self, disk: u32, calm: bool, journal: &mut Journal) -> Result<(), NoMemory>
-        requires disk { disk < length self.now.lanes }
+    fn name_disk(&self, disk: u32, calm: bool, journal: &mut Journal) -> Result<(), NoMemory>
+        requires disk { disk < length self.now.first.lanes }
         ensures named { OnOk result (NamesGoOn disk self.now calm journal.old.entries journal.new.entries) }
         ensures same { OnErr result (journal.new.entries ≡ journal.old.entries) }
         ensures accepted { accepted_count journal.new.entries ≡ accepted_count journal.old.entries }
@@ -205,16 +252,16 @@ impl<D: Store> World<D> {
 
     /// Whether a lane gets a tick, where `had` says whether it had one before.
     fn gets_tick(&self, disk: u32, had: bool) -> bool
-        requires disk { disk < length self.now.lanes }
-        ensures { (lane : LaneState) → slice_get self.now.lanes disk ≡ Some lane → result ≡ gets_tick lane had }
+        requires disk { disk < length self.now.first.lanes }
+        ensures { (lane : LaneState) → slice_get self.now.first.lanes disk ≡ Some lane → result ≡ gets_tick lane had }
     {
         !had && self.waits(disk)
     }
 
     /// Whether nothing is left to do on a lane, where `calm` says whether it was quiet in the last round.
     fn rests(&self, disk: u32, calm: bool) -> bool
-        requires disk { disk < length self.now.lanes }
-        ensures { (lane : LaneState) → slice_get self.now.lanes disk ≡ Some lane
+        requires disk { disk < length self.now.first.lanes }
+        ensures { (lane : LaneState) → slice_get self.now.first.lanes disk ≡ Some lane
             → result ≡ (calm && not (waits_on lane)) }
     {
         calm && !self.waits(disk)
@@ -222,38 +269,18 @@ impl<D: Store> World<D> {
 
     /// Whether a lane isn't finished though its server runs.
     fn waits(&self, disk: u32) -> bool
-        requires disk { disk < length self.now.lanes }
-        ensures { (lane : LaneState) → slice_get self.now.lanes disk ≡ Some lane → result ≡ waits_on lane }
+        requires disk { disk < length self.now.first.lanes }
+        ensures { (lane : LaneState) → slice_get self.now.first.lanes disk ≡ Some lane → result ≡ waits_on lane }
     {
-        waits_on(&self.disks[disk as usize])
+        self.disks.waits(disk)
     }
 
     /// How many rounds a settle may make: 4,096 and 64 for each pending request.
     fn most_rounds(&self) -> u64
-        ensures most { result ≡ most_rounds self.now.lanes }
-        ensures few { length self.now.lanes ≤ 8 }
+        ensures most { result ≡ most_rounds self.now }
+        ensures few { length self.now.first.lanes ≤ 8 }
+        ensures no_port { self.now.second ≡ [] }
     {
-        4096 + 64 * pending_on(&self.disks)
+        4096 + 64 * self.disks.pending()
     }
-}
-
-/// Whether a lane isn't finished though its server runs.
-#[tactic(auto, using(crate::proofs::SettlingLanes::waits_by))]
-fn waits_on(lane: &DiskLane) -> bool
-    ensures { result ≡ waits_on lane.now }
-{
-    !lane.finished() && lane.running()
-}
-
-/// How many requests are pending on these lanes.
-fn pending_on(lanes: &[DiskLane]) -> u64
-    requires few { length lanes.now ≤ 8 }
-    ensures sum { result ≡ pending_on lanes.now }
-    ensures small { result ≤ 8 * 2 ^ 32 }
-{
-    let mut pending = 0;
-    for lane in lanes {
-        pending += u64::from(lane.pending());
-    }
-    pending
 }

@@ -1,25 +1,22 @@
-use Rattle.std.proofs.Common.{List, ap, ◌∙◌}
-use Rattle.ldom_report.specs.Report.{accepted_count}
-use Rattle.ldom_entries.specs.declared.entry.Entry.{Entry}
-use Rattle.ldom_world.proofs.Lifting.{few_issued}
-use Rattle.ldom_world.proofs.Opened.{answer_agrees, lane_there, request_fits}
+use Rattle.ldom_world.proofs.Lifted.{asks_begin, asks_fit, counted_at, within}
 use Rattle.ldom_world.proofs.world.World.issue.Goals as goal
 
-pub ask_lane-requires-clause-few : goal.ask_lane-requires-clause-few
-ask_lane-requires-clause-few g c =
-    few_issued c.reserve.new.self.entries c.args.self.now.lanes c.args.disk c.index_mut.result.now
-    (lane_there c.args.self.now _ _ c.args.disk c.index_mut.result.now c.self.view_is c.requires.disk
-    c.index_mut.ensures.value)
-    (ap (λ (l : List Entry). accepted_count l) c.in_ok-reserve.ensures.entries ∙ c.requires.agrees)
-    c.len-len.ensures.small
+pub issue-requires-clause-disk : goal.issue-requires-clause-disk
+issue-requires-clause-disk g c = within c.self.inside.disks c.args.self.now c.self.view_is c.args.disk c.requires.disk
+
+pub issue-requires-clause-agrees : goal.issue-requires-clause-agrees
+issue-requires-clause-agrees g c =
+    counted_at c.self.inside.disks c.args.self.now c.self.view_is c.args.journal.now.entries c.requires.agrees
 
 pub returns-clause-fits : goal.returns-clause-fits
 returns-clause-fits g c =
-    request_fits c.args.self.now _ _ c.args.disk _ _ _ _ _ _ c.self.view_is c.requires.disk c.index_mut.ensures.value
-    c.in_ok-reserve.ensures.entries c.ask_lane.ensures.answers.puts.entries _ c.ask_lane.ensures.answers.answer
+    asks_fit c.issue.result c.self.inside.disks c.args.self.now c.self.view_is c.args.disk c.issue.new.self
+    c.args.journal.now.entries c.issue.new.journal.entries c.args.request.now c.issue.ensures.made
+
+pub returns-clause-so_far : goal.returns-clause-so_far
+returns-clause-so_far g c =
+    asks_begin c.issue.result c.self.inside.disks c.args.self.now c.self.view_is c.args.disk c.issue.new.self
+    c.args.journal.now.entries c.issue.new.journal.entries c.args.request.now c.issue.ensures.same
 
 pub returns-clause-agrees : goal.returns-clause-agrees
-returns-clause-agrees g c =
-    answer_agrees c.args.self.now _ _ c.args.disk _ _ _ _ _ _ c.self.view_is c.requires.disk c.index_mut.ensures.value
-    c.in_ok-reserve.ensures.entries c.ask_lane.ensures.answers.puts.entries _ _ c.ask_lane.ensures.answers.answer
-    c.requires.agrees
+returns-clause-agrees g c = record { accepted = c.issue.ensures.agrees }

@@ -6,7 +6,7 @@ use Rattle.ldom_world.proofs.world.World.tick_of.Goals as goal
 
 pub returns-then-not-gets_tick-clause-ticked : goal.returns-then-not-gets_tick-clause-ticked
 returns-then-not-gets_tick-clause-ticked g c =
-    let at = get_within c.args.self.now.lanes c.args.disk c.requires.disk in
+    let at = get_within c.args.self.now.first.lanes c.args.disk c.requires.disk in
     let gets = c.gets_tick.ensures at.0 at.1 in
     unticked_goes_on c.args.disk c.args.self.now c.args.journal.now.entries c.args.had.now at.0 _ at.1
     (slice_get-get_or c.args.had.now c.args.disk false c.requires.place) c.requires.place
@@ -14,7 +14,7 @@ returns-then-not-gets_tick-clause-ticked g c =
 
 pub returns-clause-ticked : goal.returns-clause-ticked
 returns-clause-ticked g c =
-    let at = get_within c.args.self.now.lanes c.args.disk c.requires.disk in
+    let at = get_within c.args.self.now.first.lanes c.args.disk c.requires.disk in
     let gets = c.gets_tick.ensures at.0 at.1 in
     ticked_goes_on c.args.disk c.args.self.now _ c.args.journal.now.entries _ c.args.had.now _ at.0 _ at.1
     (slice_get-get_or c.args.had.now c.args.disk false c.requires.place) c.requires.place

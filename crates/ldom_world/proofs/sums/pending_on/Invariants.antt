@@ -1,6 +1,6 @@
 use Rattle.std.proofs.Common.{◌≡◌, ◌≤◌, ◌*◌, ◌^◌, take}
 use Rattle.world_laws.specs.Settle.{pending_on}
-use Rattle.ldom_world.proofs.settling.pending_on.Given as goal
+use Rattle.ldom_world.proofs.sums.pending_on.Given as goal
 
 abbrev pub invariant-loop-lane : goal.invariant-loop-lane
 invariant-loop-lane l = record {

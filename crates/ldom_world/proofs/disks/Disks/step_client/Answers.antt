@@ -7,13 +7,13 @@ use Rattle.ldom_world.proofs.Lifting.{end_steps}
 use Rattle.ldom_world.proofs.Opened.{lane_set, lane_there, over}
 use Rattle.ldom_world.specs.OneLane.{EndSteps, LaneSteps}
 use Rattle.ldom_world.specs.CachedImage.{cached_image}
-use Rattle.ldom_world.proofs.world.World.step_client.Goals as goal
+use Rattle.ldom_world.proofs.disks.Disks.step_client.Goals as goal
 
 pub returns-clause-steps : goal.returns-clause-steps
 returns-clause-steps g c =
     let image : ImageState =
     cached_image g.D.Store c.self.inside.image in
-    let lanes = c.self.inside.disks.items in
+    let lanes = c.self.inside.lanes.items in
     let w : WorldState = c.args.self.now in
     let old = c.args.journal.now in
     let new = c.client_step.new.journal in

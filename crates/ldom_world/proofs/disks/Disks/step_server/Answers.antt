@@ -6,7 +6,7 @@ use Rattle.ldom_world.proofs.Lifting.{end_steps}
 use Rattle.ldom_world.proofs.Opened.{image_there, lane_there, one_set, over}
 use Rattle.ldom_world.specs.OneLane.{LaneSteps}
 use Rattle.ldom_world.specs.CachedImage.{cached_image}
-use Rattle.ldom_world.proofs.world.World.step_server.Goals as goal
+use Rattle.ldom_world.proofs.disks.Disks.step_server.Goals as goal
 
 pub returns : goal.returns
 returns g c =
@@ -14,7 +14,7 @@ returns g c =
     cached_image g.D.Store c.self.inside.image in
     let behind : ImageState =
     cached_image g.D.Store c.server_step.new.image in
-    let lanes = c.self.inside.disks.items in
+    let lanes = c.self.inside.lanes.items in
     let w : WorldState = c.args.self.now in
     let old = c.args.journal.now in
     let new = c.server_step.new.journal in

@@ -1,18 +1,15 @@
-use Rattle.std.proofs.Common.{◌≤◌, List, length, ap, subst, sym}
+use Rattle.std.proofs.Common.{◌≤◌, ap, subst, sym}
 use Rattle.cached_store.specs.CachedState.{CachedState}
-use Rattle.disk_model.specs.LaneState.{LaneState}
 use Rattle.kept_requests.specs.Bytes.{BytesState}
 use Rattle.world_laws.specs.Rounds.{Each}
 use Rattle.world_parts.specs.Declared.{LiesWithin}
 use Rattle.ldom_world.specs.CachedImage.{cached_image}
-use Rattle.ldom_world.proofs.world.World.over.Goals as goal
+use Rattle.ldom_world.proofs.disks.Disks.over.Goals as goal
 
 pub invariant_of-result : goal.invariant_of-result
 invariant_of-result g c = (
-  subst (λ (l : List LaneState). length l ≤ 8) (sym c.lanes.view_is) c.requires.few,
-  subst (λ (s : CachedState _). Each (LiesWithin (g.D.Store.size s.inner)) c.lanes.inside.disks.items) (sym c.over.ensures)
-      (subst (λ (l : List LaneState). Each (LiesWithin (g.D.Store.size c.args.image)) l) (sym c.lanes.view_is)
-      c.requires.image),
+  c.requires.few,
+  subst (λ (s : CachedState _). Each (LiesWithin (g.D.Store.size s.inner)) c.args.lanes.items) (sym c.over.ensures) c.requires.image,
   ap (λ (b : BytesState). b.items) c.empty.ensures,
 )
 

@@ -1,0 +1,16 @@
+use Rattle.std.proofs.Common.{rules, ◌∙◌}
+use Rattle.ldom_world.proofs.SettlingLanes.{all_set}
+use Rattle.ldom_world.proofs.world.World.round_of_disks.Goals as goal
+
+pub loop-disk-preserved : goal.loop-disk-preserved
+loop-disk-preserved g c =
+    let before = c.loop-disk.invariant in
+    let lane = c.in_ok-calm.ensures in
+    record {
+      made = lane.made c.args.self.now c.args.journal.now.entries before.made;
+      calm = all_set c.loop-disk.disk c.loop-disk.quiet _ c.loop-disk.all c.in_ok-calm.calm
+          (search rules) lane.marked before.calm;
+      many = lane.many ∙ before.many;
+      long = search rules;
+      agrees = lane.agrees;
+    }
