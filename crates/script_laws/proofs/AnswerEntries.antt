@@ -2,11 +2,9 @@
 -- before it are entries of lanes, and no part of a line begins with a name.
 use Rattle.std.proofs.Common.{◌≡◌, ◌⊎◌, inl, inr, ℕ, ◌≤◌, Bool, true, false, Some, List, [], ◌∷◌, ◌++◌, length, map, refl, sym, ap, ◌∙◌, subst, arith}
 use Rattle.std.specs.Prelude.{⊤}
-use Rattle.channel_model.specs.WireEvent.{Declines}
-use Rattle.disk_model.specs.DiskEvent.{Asks, Calms, Full, OnWire, Refused}
+use Rattle.disk_model.specs.DiskEvent.{DiskEvent}
 use Rattle.ldom_entries.specs.declared.entry.Entry.{Entry}
-use Rattle.ldom_report.specs.DiskEvents.{defect_of}
-use Rattle.ldom_report.specs.LaneEvents.{AtClient, AtLane, AtServer, AtWire, ChangesNothing, LeavesNothing, LeavesOver, Meaning, NoRoomFor, Refuses, meaning}
+use Rattle.ldom_report.specs.LaneEvents.{AtLane, AtPort, AtServer, AtWire, ChangesNothing, LeavesNothing, LeavesOver, Meaning, NoRoomFor, Publishes, Refuses, Switches, TakesFrame, meaning}
 use Rattle.lane_kinds.specs.Settles.{SettlePart}
 use Rattle.port_model.specs.PortState.{OnLane, Receives}
 use Rattle.switch_laws.specs.Events.{OnPort, Switched}
@@ -14,7 +12,7 @@ use Rattle.world_laws.specs.Settle.{OfLane, OfPort, SettleEntry, Settled, Unsett
 use Rattle.domain_laws.proofs.LineEntries.{EachEntry}
 use Rattle.domain_laws.specs.Domain.{Lanes, lanes}
 use Rattle.domain_laws.specs.Lines.{BeginsPart, Line, PartOf}
-use Rattle.world_parts.proofs.Meanings.{Holds, disk_has, entry_has, lane_of, left_has, who_has, wire_has}
+use Rattle.world_parts.proofs.Meanings.{AllOf, Holds, all_events, all_left, entry_has}
 use Rattle.world_parts.specs.Parts.{PartSays}
 use Rattle.world_parts.specs.WorldEvents.{told_of, world_event}
 use Rattle.script_laws.proofs.Entries.{IsName, IsOfLane, LeavesNone}
@@ -39,24 +37,26 @@ Tells x Settled = (is_end x ≡ true) × (is_name x ≡ false)
 Tells x (Unsettled k) = (is_end x ≡ true) × (is_name x ≡ true)
 Tells x (UnsettledPort k) = (is_end x ≡ true) × (is_name x ≡ true)
 
+abbrev Any : DiskEvent → Type 0
+Any event = ⊤
+
+-- a meaning that belongs to no answer and names no lane
+of_events : (x : Meaning) → is_end x ≡ false → is_name x ≡ false → AllOf Any x → Holds (Tells x) x
+of_events x end name all =
+    all_events (Tells x) Any (record { of_disk = λ k event any. (end, name); of_port = λ k event. (end, name) }) x all
+
 tells : (x : Meaning) → Holds (Tells x) x
-tells (AtWire e event) = wire_has (Tells (AtWire e event)) e.lane event (λ k. (refl, refl))
-tells (AtClient e event) = disk_has (Tells (AtClient e event)) e.lane event (λ k. (refl, refl))
-tells (AtServer e event) = disk_has (Tells (AtServer e event)) e.lane event (λ k. (refl, refl))
-tells (AtLane k event) = (refl, refl)
-tells (NoRoomFor who) = (
-  λ request. who_has (Tells (NoRoomFor who)) who (Asks (Full request)) (λ k. (refl, refl)),
-  λ d. disk_has (Tells (NoRoomFor who)) (lane_of who) (OnWire (Declines d)) (λ k. (refl, refl)),
-)
-tells (Refuses who why) = (
-  λ request. who_has (Tells (Refuses who why)) who (Asks (Refused (defect_of why) request)) (λ k. (refl, refl)),
-  λ d. disk_has (Tells (Refuses who why)) (lane_of who) (OnWire (Declines d)) (λ k. (refl, refl)),
-)
-tells (ChangesNothing who) = (
-  λ calm. disk_has (Tells (ChangesNothing who)) (lane_of who) (Calms calm) (λ k. (refl, refl)),
-  λ d. disk_has (Tells (ChangesNothing who)) (lane_of who) (OnWire (Declines d)) (λ k. (refl, refl)),
-)
-tells (LeavesOver who) = left_has (Tells (LeavesOver who)) who (λ k. (refl, refl))
+tells (AtWire e event) = of_events (AtWire e event) refl refl tt
+tells (AtServer e event) = of_events (AtServer e event) refl refl tt
+tells (AtLane k event) = of_events (AtLane k event) refl refl tt
+tells (AtPort k gets) = of_events (AtPort k gets) refl refl tt
+tells (Publishes e id) = of_events (Publishes e id) refl refl tt
+tells (TakesFrame e frame) = of_events (TakesFrame e frame) refl refl tt
+tells (Switches e frame out full) = of_events (Switches e frame out full) refl refl tt
+tells (NoRoomFor who) = of_events (NoRoomFor who) refl refl (λ request. tt, λ d. tt)
+tells (Refuses who why) = of_events (Refuses who why) refl refl (λ defect request. tt, λ d. tt)
+tells (ChangesNothing who) = of_events (ChangesNothing who) refl refl (λ calm. tt, λ d. tt)
+tells (LeavesOver who) = all_left (Tells (LeavesOver who)) who (λ k. (refl, refl)) (λ k. (refl, refl))
 tells LeavesNothing = (refl, refl)
 
 -- and so by the entry of which it is told

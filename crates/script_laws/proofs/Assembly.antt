@@ -8,10 +8,13 @@ use Rattle.disk_law.specs.ListState.{ImageState}
 use Rattle.domain_script.specs.declared.event.Event.{Event}
 use Rattle.domain_script.specs.declared.event.Event.TheVariants as line
 use Rattle.script_reader.specs.LinesState.{LinesState, to_come}
-use Rattle.domain_script.specs.NamesState.{NamesState, noted}
+use Rattle.domain_script.specs.Declarations.{Declared}
+use Rattle.domain_script.specs.declared.event.DiskDecl.{DiskDecl}
+use Rattle.domain_script.specs.declared.event.PortDecl.{PortDecl}
+use Rattle.domain_script.specs.NamesState.{NamesState, declared_by, noted}
 use Rattle.domain_script.specs.Spells.{Spells}
 use Rattle.domain_script.proofs.ScriptLemmas.{taken-append}
-use Rattle.domain_script.proofs.Spelling.{declared_first}
+use Rattle.domain_script.proofs.Spelling.{declared_first, port_declared_first}
 use Rattle.ldom_entries.specs.declared.entry.Entry.{Entry}
 use Rattle.ldom_report.specs.declared.status.Status.{Status}
 use Rattle.ldom_report.specs.declared.status.Status.TheVariants as status
@@ -32,7 +35,7 @@ use Rattle.domain_script.specs.ScriptEvents.{AllSpell, no_names}
 use Rattle.world_parts.specs.Script.{BeginBelow, FitsScript, ScriptParts, all_lines, entries_in, events_in, events_of, journal_of}
 use Rattle.disk_model.specs.LaneState.{LaneState}
 use Rattle.domain_laws.specs.Domain.{DomainState, lanes_in}
-use Rattle.script_laws.proofs.LineCases.{none_begun, noted_disks, silent, stays_ended}
+use Rattle.script_laws.proofs.LineCases.{none_begun, noted_disks, noted_ports, silent, stays_ended}
 use Rattle.script_laws.proofs.LineLists.{all_behind, behind_ends, behind_lines, below_both, below_push, by_readers, entries_push, events_behind, events_both, journal_behind, whole_ends}
 use Rattle.script_laws.proofs.ReadLemmas.{opening_halves, other_line, read_none}
 use Rattle.script_laws.proofs.RunLemmas.{keeps_same, line_starts, line_step}
@@ -56,6 +59,24 @@ same_disks (x ∷ xs) before after (e ∷ es) ended spell =
           absurd (cc (ended, (declared_first x before declares.0 spells).open_still))
       | inr same ↦ same
     ]
+
+same_ports : (texts : List (List ℕ)) (before after : NamesState) (events : List Event) → before.ended ≡ true → AllSpell texts before events after
+    → after.ports ≡ before.ports
+same_ports [] before after [] ended spell = ap (λ (n : NamesState). n.ports) spell
+same_ports [] before after (e ∷ es) ended spell = absurd spell
+same_ports (x ∷ xs) before after [] ended spell = absurd spell
+same_ports (x ∷ xs) before after (e ∷ es) ended spell =
+    same_ports xs (noted before e) after es (stays_ended before e ended) spell.1 ∙ elim (noted_ports before e) [
+      | inl declares ↦
+          let spells : Spells x before (line.Net declares.0) = subst (λ (n : Event). Spells x before n) declares.1 spell.0 in
+          absurd (cc (ended, (port_declared_first x before declares.0 spells).open_still))
+      | inr same ↦ same
+    ]
+
+same_declared : (before after : NamesState) → after.disks ≡ before.disks → after.ports ≡ before.ports → declared_by after ≡ declared_by before
+same_declared before after disks ports =
+    ap (λ (d : List DiskDecl). declared_by (record { disks = d; ports = after.ports; ended = after.ended })) disks
+    ∙ ap (λ (p : List PortDecl). declared_by (record { disks = before.disks; ports = p; ended = before.ended })) ports
 
 -- before a line was read, what is to come is what the source has left
 pub from_start : (lines : LinesState) (left : Option (List ℕ)) → lines.held ≡ [] → to_come lines left ≡ left
@@ -229,7 +250,8 @@ module _ (start rest now : Option (List ℕ)) (event : Event) (names after : Nam
           fits = all_fit;
           ends = behind_ends front runs.parts why readers runs.ends;
         };
-        disks = same_disks runs.read.texts names after (events_of runs.parts) opens.ended runs.read.spell;
+        declared = same_declared names after (same_disks runs.read.texts names after (events_of runs.parts) opens.ended runs.read.spell)
+            (same_ports runs.read.texts names after (events_of runs.parts) opens.ended runs.read.spell);
         attached = λ _ are. not_opening opens.opening event (other_line event opens.other)
             (opening_halves (opens.opening ++ event ∷ []) (events_of runs.parts) (subst AreOpening events_are are)).0;
       }
@@ -254,7 +276,7 @@ runs_first_cut start now held event names s t journal number opens fits =
         };
         ends = tt;
       };
-      disks = refl;
+      declared = refl;
       attached = λ _ opening. not_opening opens.opening event (other_line event opens.other) (subst AreOpening are opening);
     }
 
@@ -273,7 +295,7 @@ runs_none_more start now names s lines opens = record {
   parts = declared_parts opens.opening;
   stopped = declared_stopped start now status.Done status.Done names lines opens opens.stopped.stop opens.stopped.lines_are;
   journal_is = record { is = opening_entries opens.opening; fits = declared_fit s opens.opening opens.are; ends = refl };
-  disks = refl;
+  declared = refl;
   attached = λ other. absurd (other refl);
 }
 
@@ -404,7 +426,7 @@ module _ {D : Type 0} (seen : D → ImageState) (start now : Option (List ℕ)) 
       → StandsBehind (seen image) t.first.image → lanes ≡ t.first.lanes → (IsTrue faulty ↔ (0 < t.first.image.faults))
       → Replayed seen start now gives (ended_status why faulty) lines after journal (Some image) (Some lanes)
   replayed_of why faulty names after s t journal lines image lanes readers runs begins told left tells =
-      let begin : s ≡ start_of after gives = begins ∙ ap (λ (disks : List _). start_of (record { disks = disks; ended = true }) gives) (sym runs.disks) in
+      let begin : s ≡ start_of after gives = begins ∙ ap (λ (d : Declared). start_of (record { disks = d.disks; ports = d.ports; ended = true }) gives) (sym runs.declared) in
       record {
         parts = runs.parts;
         stopped = stopped_as start now why (ended_status why faulty) (events_of runs.parts) (events_of runs.parts) after (length journal) (length journal) lines refl runs.stopped

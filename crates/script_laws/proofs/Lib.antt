@@ -1,4 +1,6 @@
 pub mod EntryKinds
+pub mod PortWords
+pub mod ReadPorts
 pub mod Untold
 pub mod Tellings
 pub mod DiskShapes

@@ -13,7 +13,7 @@ use Rattle.script_laws.specs.Sized.{SizeIs}
 use Rattle.script_laws.proofs.RunFacts.{disks_are}
 use Rattle.script_laws.proofs.ScriptLaws.{script_kept, script_nothing}
 use Rattle.script_laws.proofs.Sizes.{long_or_none}
-use Rattle.world_parts.specs.Declared.{bytes_needed}
+use Rattle.world_parts.specs.Declared.{bytes_needed, nets_of}
 use Rattle.world_parts.specs.Endings.{Ending, EndsSo, NotBegun, ending}
 use Rattle.world_parts.specs.Script.{journal_of}
 
@@ -36,7 +36,7 @@ module _ {D : Type 0} (seen : D → ImageState) (script now : Option (List ℕ))
   others first is long =
       kept_of first
       (subst (λ (l : List Entry). KeepsOthers (IsOutsideDisks names.disks l) first run.final.first.image.told) run.journal_is.is
-      (script_kept names.disks [] (start_of names gives).first.image 0 run.parts run.final
+      (script_kept names.disks (nets_of names.ports) (start_of names gives).first.image 0 run.parts run.final
       (disks_are seen script now gives why lines names journal image lanes run) run.journal_is.fits first is long))
 
   -- or that it didn't begin
@@ -44,7 +44,7 @@ module _ {D : Type 0} (seen : D → ImageState) (script now : Option (List ℕ))
   nothing first is none =
       let empty : journal_of run.parts ≡ [] = subst (λ (e : Ending). EndsSo e run.parts) none run.journal_is.ends in
       let stays : run.final.first ≡ (start_of names gives).first =
-      script_nothing names.disks [] (start_of names gives).first.image 0 run.parts run.final
+      script_nothing names.disks (nets_of names.ports) (start_of names gives).first.image 0 run.parts run.final
       (disks_are seen script now gives why lines names journal image lanes run) run.journal_is.fits empty in
       kept_of first
       (unchanged (IsOutsideDisks names.disks journal) first run.final.first.image.told

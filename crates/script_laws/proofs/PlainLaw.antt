@@ -13,16 +13,16 @@ use Rattle.domain_laws.proofs.ScriptEntries.{lines_run}
 use Rattle.domain_laws.specs.Domain.{DomainState, fresh_domain}
 use Rattle.domain_laws.specs.Lines.{Line, LineStep, entries_of_lines}
 use Rattle.ldom_report.specs.EntryText.{report_entries}
-use Rattle.ldom_report.specs.Report.{accepted_count, done_count, end_line, report, reset_count}
+use Rattle.ldom_report.specs.Report.{accepted_count, done_count, end_line, frame_count, report, reset_count}
 use Rattle.ldom_entries.specs.declared.entry.Entry.{Entry}
 use Rattle.ldom_report.specs.declared.status.Mode.TheVariants as mode
 use Rattle.ldom_report.specs.declared.status.Status.TheVariants as status
 use Rattle.script_laws.proofs.EndLine.{ends_agree}
-use Rattle.script_laws.proofs.LaneReport.{SaysSame, Told, ids_in, told_lanes, told_part}
+use Rattle.script_laws.proofs.LaneReport.{SaysSame, Told, ids_in, one_disk, told_lanes, told_part}
 use Rattle.script_laws.proofs.PlainGrows.{Grows, ids_below, listed, run_grows, run_same}
 use Rattle.script_laws.proofs.LineLists.{RanWhole, ran_whole}
 use Rattle.script_laws.proofs.QuietLanes.{disk_front, disk_shape, quiet_events}
-use Rattle.script_laws.proofs.ThroughLanes.{ThroughLanes, all_shown, through_lanes}
+use Rattle.script_laws.proofs.ThroughLanes.{ThroughLanes, all_shown, of_disks, through_lanes}
 use Rattle.script_laws.specs.PlainRun.{Plain, plain_content, plain_ids, plain_run, plain_text, untouched}
 use Rattle.script_laws.specs.Quiet.{IsQuiet}
 use Rattle.script_laws.specs.Completed.{completed_ids}
@@ -41,7 +41,7 @@ use Rattle.world_laws.specs.Accepted.{accepted_in, next_ids}
 -- WHAT A QUIET SCRIPT COMES TO: the report's text, the image's bytes and the completed ids are those of the plain run
 pub record PlainLaw (disk : DiskDecl) (content : List ℕ) (events : List Event) (journal : List Entry) (v : WorldState)
     : Type 0 where
-  pub text : report mode.Run (disk ∷ []) (length events) journal status.Done ≡ plain_text disk content events
+  pub text : report mode.Run (one_disk disk) (length events) journal status.Done ≡ plain_text disk content events
   pub told : v.image.told ≡ Some (plain_content disk content events)
   pub ids : completed_ids journal ≡ plain_ids disk content events
 
@@ -51,11 +51,12 @@ ran disk content events = plain_run disk (untouched content) events
 
 -- THE PLAIN RUN has what the journal tells: its lines, its counts and its ids
 record Tells (disk : DiskDecl) (journal : List Entry) (v : WorldState) (p : Plain) : Type 0 where
-  text : report_entries mode.Run (disk ∷ []) journal ≡ p.text
+  text : report_entries mode.Run (one_disk disk) journal ≡ p.text
   ids : completed_ids journal ≡ ids_below p
   done : done_count journal ≡ p.completed
   accepted : accepted_count journal ≡ p.completed + length p.waiting
   resets : reset_count journal ≡ 0
+  frames : frame_count journal ≡ 0
   told : v.image.told ≡ Some p.content
 
 -- and what lines of lanes show
@@ -110,6 +111,7 @@ tells_plain disk content events journal lines v says shows accepted =
       done = ap (λ (t : Told). t.done) told ∙ long;
       accepted = says.1 ∙ accepted;
       resets = ap (λ (t : Told). t.resets) told ∙ grows.resets;
+      frames = ap (λ (t : Told). t.frames) told;
       told = shows.ends.told;
     }
 
@@ -118,7 +120,7 @@ told_plain : (disk : DiskDecl) (content : List ℕ) (events : List Event) (journ
 told_plain disk content events journal v tells =
     let p = ran disk content events in
     let lines = length events in
-    let ends = ends_agree journal p lines tells.done tells.accepted tells.resets in
+    let ends = ends_agree journal p lines tells.done tells.accepted tells.resets tells.frames in
     record {
       text = ap (λ (l : List ℕ). l ++ end_line lines journal status.Done) tells.text
           ∙ ap (λ (l : List ℕ). p.text ++ l) ends;
@@ -149,7 +151,7 @@ plain_law disk image content parts v is told holds quiet none_cut fits well =
     let shows = shows_plain disk content events through.lanes v are plainly in
     let says : SaysSame disk (journal_of parts) (entries_of_lines through.lanes) =
     subst (λ (l : List (Event × List Entry)). SaysSame disk (entries_in l) (entries_of_lines through.lanes))
-    (sym whole.lines_are) (through.same disk) in
+    (sym whole.lines_are) (through.same disk (of_disks (shape ∷ []) image through.lanes v through.run)) in
     let p = listed (ran disk content events) in
     let accepted = accepted_all disk image through.lanes v p is through.run shows.ends in
     let tells = tells_plain disk content events (journal_of parts) through.lanes v.first says shows accepted in

@@ -1,5 +1,5 @@
 -- What a script's journal says of the requests of its disks and of the image.
-use Rattle.std.proofs.Common.{◌≡◌, inl, inr, ℕ, ◌^◌, ◌<◌, ◌≤◌, ◌==◌, Bool, true, false, Option, Some, IfSome, List, [], ◌∷◌, length, slice_get, slice_index, sym, ap, ◌∙◌, subst, arith}
+use Rattle.std.proofs.Common.{◌≡◌, inl, inr, ℕ, ◌^◌, ◌<◌, ◌≤◌, ◌==◌, Bool, true, false, Option, Some, IfSome, List, [], ◌∷◌, length, map, slice_get, slice_index, sym, ap, ◌∙◌, subst, arith}
 use Rattle.std.specs.List.{All, count_by, filter_map}
 use Rattle.std.proofs.lemmas.Bool.{cases_lt}
 use Rattle.std.proofs.lemmas.List.{length-map}
@@ -16,14 +16,20 @@ use Rattle.disk_model.specs.DiskEvent.{DiskEvent}
 use Rattle.disk_model.specs.LaneState.{Shape, fresh}
 use Rattle.disk_model.specs.LaneStep.{LaneStep}
 use Rattle.lane_laws.specs.DiskLog.{after, nothing_yet}
-use Rattle.domain_script.specs.Declarations.{AreDisks}
+use Rattle.domain_script.specs.Declarations.{AreDisks, Declared}
+use Rattle.lane_kinds.specs.Lanes.{EachOf}
+use Rattle.port_model.specs.PortState.{fresh_port}
+use Rattle.domain_laws.proofs.LineEntries.{EachEntry}
+use Rattle.domain_laws.proofs.Running.{fresh_reached as fresh_ports_reached, ports_run}
+use Rattle.script_laws.proofs.PortWords.{IsPortTold, as_told, ports_told}
+use Rattle.script_laws.proofs.ReadPorts.{many_nets}
 use Rattle.domain_script.specs.declared.event.DiskDecl.{DiskDecl}
 use Rattle.domain_script.specs.declared.event.Event.{Event}
 use Rattle.world_laws.specs.Along.{happened}
 use Rattle.world_laws.proofs.Along.{fresh_reached, lane_at, lanes_run, shape_at}
 use Rattle.lane_kinds.proofs.Places.{get_within}
 use Rattle.world_laws.specs.World.{IsWorld, WorldState, WorldStep, fresh_world}
-use Rattle.port_model.specs.NetLaneState.{NetShape}
+use Rattle.port_model.specs.NetLaneState.{IsNetShape, NetShape}
 use Rattle.domain_laws.specs.Domain.{DomainState}
 use Rattle.world_laws.specs.Failures.{in_entry, is_failed_done, is_flush, is_store, is_store_that, is_write}
 use Rattle.world_laws.specs.Forged.{NobodyForges}
@@ -37,7 +43,7 @@ use Rattle.world_laws.proofs.LawFacts.{log_clean}
 use Rattle.world_laws.proofs.WorldLaws.{disk_counted, world_counted, world_tells}
 use Rattle.world_laws.proofs.BehindDisks.{stays_behind}
 use Rattle.world_laws.proofs.NamedRuns.{stays_at}
-use Rattle.world_parts.specs.Declared.{bytes_needed, shape_of, shapes_of, world_of}
+use Rattle.world_parts.specs.Declared.{bytes_needed, nets_of, shape_of, shapes_of, world_of}
 use Rattle.world_parts.specs.Lines.{all_happened}
 use Rattle.world_parts.specs.Script.{FitsScript, ScriptParts, all_lines, journal_of}
 use Rattle.world_laws.proofs.RequestLaws.{disk_admits, disk_completes}
@@ -276,6 +282,22 @@ module _ (disks : List DiskDecl) (nets : List NetShape) (image : ImageState) (en
       subst (λ (es : List plain.ListEvent). All SucceedsOrFails es) (sym (history_is x))
       (kept_statuses x (none_forges x clean))
 
-  -- each entry has its words
-  pub script_worded : All (HasWords disks) journal
-  script_worded = subst (All (HasWords disks)) tells.journal_is (all_words disks tells.tellings told_all)
+  -- each entry of a port is of one of them
+  pub ports_told_all : EachOf IsNetShape nets → EachEntry (IsPortTold (length nets)) (means_of tells.tellings)
+  ports_told_all nets_are =
+      subst (EachEntry (IsPortTold (length nets))) (sym tells.means_are)
+      (as_told (length nets) tells.real
+      (ports_told (length disks) (length nets) (map fresh_port nets) tells.real v.second (length-map nets fresh_port)
+      (fresh_ports_reached nets nets_are) (ports_run (world_of disks nets image) tells.real v tells.led) tells.real_below))
+
+-- EACH ENTRY has its words
+pub script_worded : (all : Declared) (image : ImageState) (entries : ℕ) (parts : ScriptParts) (v : DomainState) → AreDisks all.disks
+    → EachOf IsNetShape (nets_of all.ports) → FitsScript entries (world_of all.disks (nets_of all.ports) image) parts v
+    → All (HasWords all) (journal_of parts)
+script_worded all image entries parts v are nets_are fits =
+    let nets : List NetShape = nets_of all.ports in
+    let tells : JournalTells all.disks nets image parts v = script_tells all.disks nets image entries parts v fits in
+    subst (All (HasWords all)) tells.journal_is
+    (all_words all tells.tellings (told_all all.disks nets image entries parts v are fits)
+    (subst (λ (n : ℕ). EachEntry (IsPortTold n) (means_of tells.tellings)) (many_nets all.ports)
+    (ports_told_all all.disks nets image entries parts v are fits nets_are)))

@@ -2,6 +2,7 @@
 use Rattle.std.proofs.Common.{◌≡◌, inl, inr, ◌⊎◌, ℕ, ◌+◌, ◌*◌, ◌<◌, ◌≤◌, Bool, List, [], ◌∷◌, ◌++◌, length, map, refl, sym, ap, subst, arith, Option, Some, None, IfSome, replicate}
 use Rattle.std.proofs.Math.ListN.{length-replicate}
 use Rattle.disk_model.specs.LaneState.{LaneState, Shape}
+use Rattle.domain_script.specs.Declarations.{Declared}
 use Rattle.domain_script.specs.declared.event.DiskDecl.{DiskDecl}
 use Rattle.domain_script.specs.declared.event.Event.{Event}
 use Rattle.domain_script.specs.NamesState.{NamesState, noted}
@@ -18,7 +19,7 @@ use Rattle.script_laws.specs.Going.{RunsAll}
 use Rattle.script_laws.specs.Replayed.{attach_status, ended_status, start_of}
 use Rattle.script_laws.specs.Sized.{SizeIs}
 use Rattle.script_laws.proofs.Through.{script_shapes}
-use Rattle.world_parts.specs.Declared.{LiesWithin, blocks_of, shape_of, shapes_of}
+use Rattle.world_parts.specs.Declared.{LiesWithin, blocks_of, nets_of, shape_of, shapes_of}
 use Rattle.world_parts.specs.Endings.{JournalIs, NotBegun, ending}
 use Rattle.script_laws.proofs.LineCases.{noted_disks}
 use Rattle.script_laws.proofs.Assembly.{ended_as}
@@ -135,8 +136,8 @@ module _ {D : Type 0} (size : D → ℕ) where
   sized_run start now gives why faulty names after s t journal lines image readers runs begins within long =
       let is : JournalIs (ending why) (start_of names gives) runs.parts journal t = subst (λ (x : DomainState). JournalIs (ending why) x runs.parts journal t) begins runs.journal_is in
       let enough : 512 * (0 + blocks_of names.disks) ≤ size image =
-      needed_within 0 (size image) names.disks t.first.lanes (script_shapes names.disks [] (start_of names gives).first.image 0 runs.parts t is.fits) within (omega arith) in
-      subst (λ (disks : List DiskDecl). SizeIs size (ended_status why faulty) (512 * blocks_of disks) (gives (512 * blocks_of disks)) (Some image)) (sym runs.disks)
+      needed_within 0 (size image) names.disks t.first.lanes (script_shapes names.disks (nets_of names.ports) (start_of names gives).first.image 0 runs.parts t is.fits) within (omega arith) in
+      subst (λ (disks : List DiskDecl). SizeIs size (ended_status why faulty) (512 * blocks_of disks) (gives (512 * blocks_of disks)) (Some image)) (sym (ap (λ (d : Declared). d.disks) runs.declared))
       (sized_of size why faulty (512 * blocks_of names.disks) (gives (512 * blocks_of names.disks)) image readers (omega (arith, enough)) long)
 
 -- a declaration alone adds blocks

@@ -60,6 +60,7 @@ pub record JournalTells (disks : List DiskDecl) (nets : List NetShape) (image : 
   pub real : List SettleEntry
   pub led : Run DomainStep (world_of disks nets image) real v
   pub means_are : means_of tellings ≡ all_told real
+  pub real_below : NamesBelow (length disks) (length nets) real
 
 module _ (disks : List DiskDecl) (nets : List NetShape) (image : ImageState) where
   abbrev Start : DomainState
@@ -87,6 +88,7 @@ module _ (disks : List DiskDecl) (nets : List NetShape) (image : ImageState) whe
         real = real;
         led = run;
         means_are = tells.means_are;
+        real_below = all_below (length (shapes_of 0 disks)) real (many_shapes 0 disks) below;
       }
 
   -- the whole lines, and the one that was cut off

@@ -4,10 +4,10 @@ use Rattle.std.specs.Prelude.{IsSome, IsSomeAnd}
 use Rattle.std.specs.Io.KnownBytes.{Appends}
 use Rattle.disk_law.specs.ListState.{ImageState}
 use Rattle.disk_model.specs.LaneState.{LaneState}
-use Rattle.domain_script.specs.Declarations.{AreDisks}
+use Rattle.domain_script.specs.Declarations.{AreDisks, Declared}
 use Rattle.domain_script.specs.ScriptEvents.{AllSpell, no_names}
 use Rattle.domain_script.specs.ScriptLines.{script_lines}
-use Rattle.domain_script.specs.NamesState.{NamesState}
+use Rattle.domain_script.specs.NamesState.{NamesState, declared_by}
 use Rattle.domain_script.specs.declared.event.DiskDecl.{DiskDecl}
 use Rattle.domain_script.specs.declared.event.Event.{Event}
 use Rattle.domain_laws.specs.Domain.{DomainState}
@@ -22,7 +22,7 @@ use Rattle.script_laws.specs.Completed.{completed_ids}
 use Rattle.script_laws.specs.PlainRun.{plain_content, plain_ids, plain_text}
 use Rattle.script_laws.specs.Quiet.{IsQuiet, IsQuietScript}
 use Rattle.script_laws.proofs.PlainLaw.{PlainLaw, plain_law}
-use Rattle.script_laws.proofs.QuietNames.{quiet_disks}
+use Rattle.script_laws.proofs.QuietNames.{quiet_names}
 use Rattle.script_laws.specs.Counts.{Counts}
 use Rattle.script_laws.specs.Outcomes.{Reports, RunsScript}
 use Rattle.script_laws.specs.Reading.{StopsAt}
@@ -31,12 +31,13 @@ use Rattle.script_laws.specs.Script.{ReadSoFar}
 use Rattle.script_laws.specs.Sized.{SizeIs}
 use Rattle.script_laws.specs.Whole.{RunsPlainly, RunsWhole, SpellsAll}
 use Rattle.disk_law.specs.ListState.{attached}
-use Rattle.world_parts.specs.Declared.{bytes_needed, world_of}
+use Rattle.world_parts.specs.Declared.{bytes_needed, nets_of, world_of}
 use Rattle.world_parts.specs.Endings.{EndsSo, ending}
 use Rattle.world_parts.specs.Script.{FitsScript, ScriptParts, events_of, journal_of}
 use Rattle.ldom_report.specs.LinesEnd.{counted_lines}
 use Rattle.script_laws.proofs.OneReading.{all_read, as_many, one_reading}
-use Rattle.script_laws.proofs.ReadLemmas.{are_disks}
+use Rattle.script_laws.proofs.ReadLemmas.{are_declared, none_declared}
+use Rattle.script_laws.proofs.LaneReport.{one_disk}
 
 ran_done : (ran why : Status) (old new : Option (List ℕ)) (text : List ℕ) → why ≡ status.Done → Reports ran why old new text → (ran ≡ status.Done) × Appends old new text
 ran_done ran why old new text done (inl told) = (sym told.0 ∙ done, told.1)
@@ -53,12 +54,12 @@ seen_so seen (Some d) i is some = is
 
 -- WHAT A RUN ENDED WITH at the script's end
 module _ {D : Type 0} (shown : Mode) (seen : D → ImageState) (script now : Option (List ℕ)) (gives : ℕ → Option (List ℕ)) (ran : Status) (lines : ℕ) (names : NamesState) (journal : List Entry) (image : Option D) (lanes : Option (List LaneState)) (old new : Option (List ℕ))
-    (run : Replayed seen script now gives ran lines names journal image lanes) (why : Status) (reports : Reports ran why old new (report shown names.disks lines journal ran)) (done : why ≡ status.Done) where
+    (run : Replayed seen script now gives ran lines names journal image lanes) (why : Status) (reports : Reports ran why old new (report shown (declared_by names) lines journal ran)) (done : why ≡ status.Done) where
   abbrev read_events : List Event
   read_events = events_of run.parts
 
-  told : (ran ≡ status.Done) × Appends old new (report shown names.disks lines journal ran)
-  told = ran_done ran why old new (report shown names.disks lines journal ran) done reports
+  told : (ran ≡ status.Done) × Appends old new (report shown (declared_by names) lines journal ran)
+  told = ran_done ran why old new (report shown (declared_by names) lines journal ran) done reports
 
   stop : StopsAt status.Done run.stopped.left run.stopped.held now names run.stopped.count (length journal)
   stop = subst (λ (w : Status). StopsAt w run.stopped.left run.stopped.held now names run.stopped.count (length journal)) told.0 run.stopped.stop
@@ -77,10 +78,10 @@ module _ {D : Type 0} (shown : Mode) (seen : D → ImageState) (script now : Opt
       subst (λ (w : Status). lines ≡ counted_lines w run.stopped.count) told.0 run.stopped.lines_are
       ∙ read.counts ∙ sym (as_many read.texts no_names names read_events read.spell)
 
-  text_is : report shown names.disks lines journal ran ≡ report shown names.disks (length read_events) journal status.Done
+  text_is : report shown (declared_by names) lines journal ran ≡ report shown (declared_by names) (length read_events) journal status.Done
   text_is =
-      ap (λ (w : Status). report shown names.disks lines journal w) told.0
-      ∙ ap (λ (n : ℕ). report shown names.disks n journal status.Done) lines_are
+      ap (λ (w : Status). report shown (declared_by names) lines journal w) told.0
+      ∙ ap (λ (n : ℕ). report shown (declared_by names) n journal status.Done) lines_are
 
   faults : IsSome image × (run.final.first.image.faults ≡ 0)
   faults = subst (λ (w : Status). FaultsAre w image run.final.first.image.faults) told.0 run.faults_are
@@ -116,14 +117,20 @@ module _ {D : Type 0} (seen : D → ImageState) (size : D → ℕ) (script now :
   one = whole.all bytes events quiet.names known quiet.spelled
 
   -- it declares one disk
+  alone : declared_by quiet.names ≡ one_disk disk
+  alone = quiet_names disk (script_lines bytes) events quiet.names quiet.quiet quiet.spelled
+
   declared : quiet.names.disks ≡ disk ∷ []
-  declared = quiet_disks disk (script_lines bytes) events quiet.names quiet.quiet quiet.spelled
+  declared = ap (λ (d : Declared). d.disks) alone
+
+  all_declared : declared_by runs.names ≡ one_disk disk
+  all_declared = ap declared_by (sym one.1) ∙ alone
 
   declares : runs.names.disks ≡ disk ∷ []
   declares = ap (λ (n : NamesState). n.disks) (sym one.1) ∙ declared
 
   are : AreDisks (disk ∷ [])
-  are = subst AreDisks declared (are_disks (script_lines bytes) no_names quiet.names events tt quiet.spelled)
+  are = subst AreDisks declared (are_declared (script_lines bytes) no_names quiet.names events none_declared quiet.spelled).disks
 
   least : bytes_needed (disk ∷ []) ≡ 512 * disk.blocks
   least = omega arith
@@ -134,7 +141,7 @@ module _ {D : Type 0} (seen : D → ImageState) (size : D → ℕ) (script now :
   -- the image is as long as it needs
   sized : SizeIs size status.Done (bytes_needed (disk ∷ [])) (gives (bytes_needed (disk ∷ []))) image
   sized =
-      let ran = ran_done runs.ran why old new (report mode.Run runs.names.disks runs.lines journal runs.ran) done runs.reports in
+      let ran = ran_done runs.ran why old new (report mode.Run (declared_by runs.names) runs.lines journal runs.ran) done runs.reports in
       subst (λ (l : List DiskDecl). SizeIs size status.Done (bytes_needed l) (gives (bytes_needed l)) image) declares
       (subst (λ (w : Status). SizeIs size w (bytes_needed runs.names.disks) (gives (bytes_needed runs.names.disks)) image) ran.0 runs.sized)
 
@@ -149,7 +156,7 @@ module _ {D : Type 0} (seen : D → ImageState) (size : D → ℕ) (script now :
 
   fits : FitsScript 0 (world_of (disk ∷ []) [] (attached (gives (bytes_needed (disk ∷ []))))) parts final
   fits =
-      subst (λ (l : List DiskDecl). FitsScript 0 (world_of l [] (attached (gives (bytes_needed l)))) parts final) declares
+      subst (λ (d : Declared). FitsScript 0 (world_of d.disks (nets_of d.ports) (attached (gives (bytes_needed d.disks)))) parts final) all_declared
       runs.replayed.journal_is.fits
 
   law : PlainLaw disk given (events_of parts) (journal_of parts) final.first
@@ -157,10 +164,10 @@ module _ {D : Type 0} (seen : D → ImageState) (size : D → ℕ) (script now :
       plain_law disk (attached (gives (bytes_needed (disk ∷ [])))) given parts final are.0 gave_one long
       (subst (λ (l : List Event). IsQuiet disk l) one.0 quiet.quiet) whole.none_cut fits whole.faultless
 
-  text_is_plain : report mode.Run runs.names.disks (length (events_of parts)) journal status.Done ≡ plain_text disk given events
+  text_is_plain : report mode.Run (declared_by runs.names) (length (events_of parts)) journal status.Done ≡ plain_text disk given events
   text_is_plain =
-      ap (λ (l : List DiskDecl). report mode.Run l (length (events_of parts)) journal status.Done) declares
-      ∙ ap (λ (l : List Entry). report mode.Run (disk ∷ []) (length (events_of parts)) l status.Done) (sym runs.replayed.journal_is.is)
+      ap (λ (d : Declared). report mode.Run d (length (events_of parts)) journal status.Done) all_declared
+      ∙ ap (λ (l : List Entry). report mode.Run (one_disk disk) (length (events_of parts)) l status.Done) (sym runs.replayed.journal_is.is)
       ∙ law.text ∙ ap (λ (l : List Event). plain_text disk given l) (sym one.0)
 
   pub runs_plainly : RunsPlainly (λ d. (seen d).told) disk given events journal image old new

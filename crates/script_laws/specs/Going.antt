@@ -1,7 +1,7 @@
 -- The lines of a script after its declarations.
 use Rattle.std.specs.Prelude.{◌≡◌, ◌≢◌, ℕ, ◌+◌, ◌≤◌, List, ◌++◌, length, Option}
 use Rattle.domain_script.specs.declared.event.Event.{Event}
-use Rattle.domain_script.specs.NamesState.{NamesState}
+use Rattle.domain_script.specs.NamesState.{NamesState, declared_by}
 use Rattle.ldom_entries.specs.declared.entry.Entry.{Entry}
 use Rattle.ldom_report.specs.declared.status.Status.{Status}
 use Rattle.ldom_report.specs.declared.status.Status.TheVariants as status
@@ -42,6 +42,6 @@ pub record RunsAll (start now : Option (List ℕ)) (before : NamesState) (s : Do
   pub parts : ScriptParts
   pub stopped : Stopped start now why (events_of parts) after (length journal) lines
   pub journal_is : JournalIs (ending why) s parts journal t
-  pub disks : after.disks ≡ before.disks
+  pub declared : declared_by after ≡ declared_by before
   -- but at the input's end, a line came at which the image is attached
   pub attached : why ≢ status.Done → AreOpening (events_of parts) → ⊥

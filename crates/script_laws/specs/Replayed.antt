@@ -18,7 +18,7 @@ use Rattle.script_laws.specs.Reading.{StopsAt}
 use Rattle.script_laws.specs.LanesStand.{LanesStand}
 use Rattle.script_laws.specs.Script.{ReadSoFar}
 use Rattle.disk_law.specs.ListState.{attached}
-use Rattle.world_parts.specs.Declared.{bytes_needed, world_of}
+use Rattle.world_parts.specs.Declared.{bytes_needed, nets_of, world_of}
 use Rattle.world_parts.specs.Script.{ScriptParts, events_of}
 
 -- These events were read, and then no further line was taken up, where the journal has so many entries; the report counts
@@ -49,7 +49,7 @@ ended_status other faulty = other
 
 -- the world as a run begins, over what attaching gives for so many bytes
 abbrev pub start_of : NamesState → (ℕ → Option (List ℕ)) → DomainState
-start_of names gives = world_of names.disks [] (attached (gives (bytes_needed names.disks)))
+start_of names gives = world_of names.disks (nets_of names.ports) (attached (gives (bytes_needed names.disks)))
 
 -- A run: its script was read up to where it stopped, its journal is one part for each line, and the image and the lanes are
 -- what the journal makes of the image that was attached and of fresh lanes, but that reads may have been spared the image.

@@ -4,7 +4,7 @@ use Rattle.std.specs.Io.KnownBytes.{Appends}
 use Rattle.disk_law.specs.ListState.{ImageState}
 use Rattle.domain_script.specs.declared.event.DiskDecl.{DiskDecl}
 use Rattle.domain_script.specs.declared.event.Event.{Event}
-use Rattle.domain_script.specs.NamesState.{NamesState}
+use Rattle.domain_script.specs.NamesState.{NamesState, declared_by}
 use Rattle.domain_script.specs.ScriptEvents.{AllSpell, no_names}
 use Rattle.domain_script.specs.ScriptLines.{script_lines}
 use Rattle.ldom_report.specs.Report.{report}
@@ -30,7 +30,7 @@ pub record RunsWhole {D : Type 0} (mode : Mode) (seen : D → ImageState) (scrip
   pub none_cut : parts.cut ≡ None
   pub faultless : final.first.image.faults ≡ 0
   pub image_is : IsSomeAnd image (λ disk. StandsBehind (seen disk) final.first.image)
-  pub written : Appends old new (report mode names.disks (length (events_of parts)) journal Done)
+  pub written : Appends old new (report mode (declared_by names) (length (events_of parts)) journal Done)
 
 -- the written text is that of the plain run over these bytes, and so are what the image is left with and the ids of the
 -- completions

@@ -4,7 +4,7 @@ ghost use Rattle.std.specs.Prelude.{◌≡◌, ℕ, ◌^◌, ◌<◌, ◌≤◌,
 ghost use Rattle.std.specs.List.{All};
 ghost use Rattle.disk_law.specs.Issued.{CompletesOnceInOrder};
 ghost use Rattle.disk_law.specs.ListState.{ImageState};
-ghost use Rattle.domain_script.specs.Declarations.{AreDisks};
+ghost use Rattle.domain_script.specs.Declarations.{AreDisks, Declared};
 ghost use Rattle.domain_script.specs.declared.event.DiskDecl.{DiskDecl};
 ghost use Rattle.domain_laws.specs.Domain.{DomainState};
 ghost use Rattle.lane_kinds.specs.Lanes.{EachOf};
@@ -15,7 +15,7 @@ ghost use Rattle.script_laws.specs.Admitting.{AdmitsAll};
 ghost use Rattle.script_laws.specs.Failures.{FailuresCounted, SucceedOrFail};
 ghost use Rattle.script_laws.specs.Outside.{IsOutsideDisks, KeepsOthers};
 ghost use Rattle.script_laws.specs.Stored.{flush_count, stored_count, write_count};
-ghost use Rattle.world_parts.specs.Declared.{bytes_needed, world_of};
+ghost use Rattle.world_parts.specs.Declared.{bytes_needed, nets_of, world_of};
 ghost use Rattle.world_parts.specs.Script.{FitsScript, ScriptParts, all_lines, events_of, journal_of};
 
 /// A journal cuts into the parts of its lines in one way. Over at most eight disks, take two lists of lines with the
@@ -87,9 +87,10 @@ pub fn completions_succeed_or_fail()
         (parts : ScriptParts) (v : DomainState) → AreDisks disks → FitsScript entries (world_of disks nets image) parts v → SucceedOrFail (journal_of parts) }
 {}
 
-/// Each entry names what the script declared, and its values have their words.
+/// Each entry names what the script declared, a disk or a port, and its values have their words.
 pub fn entries_have_their_words()
-    ensures { (disks : List DiskDecl) (nets : List NetShape) (image : ImageState) (entries : ℕ)
-        (parts : ScriptParts) (v : DomainState) → AreDisks disks → FitsScript entries (world_of disks nets image) parts v
-        → All (HasWords disks) (journal_of parts) }
+    ensures { (declared : Declared) (image : ImageState) (entries : ℕ) (parts : ScriptParts) (v : DomainState)
+        → AreDisks declared.disks → EachOf IsNetShape (nets_of declared.ports)
+        → FitsScript entries (world_of declared.disks (nets_of declared.ports) image) parts v
+        → All (HasWords declared) (journal_of parts) }
 {}

@@ -5,21 +5,23 @@ use Rattle.std.proofs.lemmas.Bool.{eqb-true}
 use Rattle.vdisk_msg.specs.declared.request.Request.{Request}
 use Rattle.disk_law.specs.Requests.{Defect}
 use Rattle.world_laws.specs.WireEvent.{Declined, Declines, InjectedFull, NothingLost, NotInjected, PokeRefused, WireEvent}
-use Rattle.world_laws.specs.DiskEvent.{Asks, Calm, CalmReset, CalmRestart, CalmStart, CalmStop, CalmTick, DiskEvent, Full, OnWire, Refused, Calms}
+use Rattle.world_laws.specs.DiskEvent.{Asks, Calm, CalmReset, CalmRestart, CalmStart, CalmStop, CalmTick, DiskEvent, Full, OnWire, Published, Refused, Calms, Works}
 use Rattle.domain_laws.specs.NetEvent.{CalmTick as CalmPortTick, Gives, Joins, NetEvent, Steps}
+use Rattle.domain_laws.specs.NetEvent as net
 use Rattle.domain_laws.specs.NetEndStep.{Already, BadLength, Frame, GroupsFull}
 use Rattle.domain_laws.specs.NetEndStep as port
-use Rattle.domain_laws.specs.Events.{SwitchEvent, Switched}
+use Rattle.domain_laws.specs.PortState.{OnLane}
+use Rattle.domain_laws.specs.Events.{OnPort, SwitchEvent, Switched}
 use Rattle.ldc_queue.specs.declared.end.End.{End}
 use Rattle.ldc_queue.specs.declared.end.End.TheVariants.{A, B}
-use Rattle.world_laws.specs.Settle.{OfLane, OfPort, SettleEntry, Settled}
+use Rattle.world_laws.specs.Settle.{OfLane, OfPort, SettleEntry, Settled, Unsettled, UnsettledPort}
 use Rattle.domain_laws.specs.Lines.{Asked, Call, Calls, DiskLane, Injects, LaneName, Line, Loses, Pokes, PortLane, Resets, Restarts, Sends, Starts, Stops, Ticks}
 use Rattle.domain_laws.specs.Lines as line
 use Rattle.domain_script.specs.declared.event.EndName.{EndName}
 use Rattle.domain_script.specs.declared.event.Lane.{Lane}
 use Rattle.domain_script.specs.declared.fields.LaneKind.{LaneKind}
 use Rattle.domain_script.specs.declared.fields.LaneKind.TheVariants as kinds
-use Rattle.domain_script.specs.LaneKinds.{disk_of, if_disk, if_port, port_of}
+use Rattle.domain_script.specs.LaneKinds.{disk_lane, disk_of, if_disk, if_port, lane_at, port_lane, port_of}
 use Rattle.domain_script.specs.declared.event.Side.{Side}
 use Rattle.domain_script.specs.declared.event.Side.TheVariants.{Client, Server}
 use Rattle.ldom_entries.specs.declared.entry.Entry.{Entry}
@@ -29,7 +31,7 @@ use Rattle.ldom_entries.specs.declared.entry.Why.{Why}
 use Rattle.ldom_entries.specs.declared.entry.Why.TheVariants.{Groups, Length, Range}
 use Rattle.ldom_report.specs.DiskEvents.{defect_of}
 use Rattle.ldom_report.specs.LaneEvents.{AtLane, AtPort, AtServer, AtWire, ChangesNothing, LeavesNothing, LeavesOver, Meaning, NoRoomFor, Publishes, Refuses, Switches, TakesFrame, end_of, meaning}
-use Rattle.world_parts.specs.WorldEvents.{at_disk, at_port, declined_at, disk_called, disk_event, full_call, given_to, if_so, is_end, is_lane, is_same, kind_of, lane_called, meant, net_event, number_in, number_of, of_net, of_server, port_called, published_by, refused_asked, refused_call, switched_by, taken_by, unsettled_event, wire_by, wire_event, world_event}
+use Rattle.world_parts.specs.WorldEvents.{at_disk, at_port, declined_at, disk_called, disk_event, full_call, given_to, if_so, is_end, is_lane, is_same, kind_of, lane_called, meant, left_over, net_event, number_in, number_of, of_net, of_server, on_channel, port_called, published_by, refused_asked, refused_call, switched_by, taken_by, unsettled_event, wire_by, wire_event, world_event}
 
 -- the lane of whom an entry is about
 abbrev pub lane_of : Who → Lane
@@ -105,7 +107,7 @@ whole_has : (P : SettleEntry → Type 0) (j k : ℕ) (same : Bool) (f : ℕ → 
 whole_has P j k true f is holds = subst (λ (n : ℕ). P (f n)) (sym (eqb-true j k is)) holds
 whole_has P j k false f is holds = tt
 
-at_has : (P : SettleEntry → Type 0) (j : ℕ) (o : Option ℕ) (f : ℕ → SettleEntry) → Has P (option_map f o) → Has P (if_so (is_lane j o) (f j))
+pub at_has : (P : SettleEntry → Type 0) (j : ℕ) (o : Option ℕ) (f : ℕ → SettleEntry) → Has P (option_map f o) → Has P (if_so (is_lane j o) (f j))
 at_has P j None f holds = tt
 at_has P j (Some k) f holds = whole_has P j k (j == k) f refl holds
 
@@ -122,15 +124,15 @@ switched_has P Client lane event holds = tt
 switched_has P Server lane event holds = holds
 
 -- A CALL OF AN END that came to nothing: the line's lane is that of the end
-wire_has : (P : SettleEntry → Type 0) (name : LaneName) (kind : LaneKind) (n : ℕ) (also : Bool) (d : Declined) → P (wire_by kind n (Declines d))
+end_wire_has : (P : SettleEntry → Type 0) (name : LaneName) (kind : LaneKind) (n : ℕ) (also : Bool) (d : Declined) → P (wire_by kind n (Declines d))
     → Has P (if_so (is_lane (number_of name) (number_in name (record { kind = kind; number = n })) && also) (wire_by (kind_of name) (number_of name) (Declines d)))
-wire_has P (DiskLane j) kinds.Disk n also d holds = named_has P j (Some n) also (λ k. wire_by kinds.Disk k (Declines d)) holds
-wire_has P (DiskLane j) kinds.Port n also d holds = tt
-wire_has P (PortLane j) kinds.Disk n also d holds = tt
-wire_has P (PortLane j) kinds.Port n also d holds = named_has P j (Some n) also (λ k. wire_by kinds.Port k (Declines d)) holds
+end_wire_has P (DiskLane j) kinds.Disk n also d holds = named_has P j (Some n) also (λ k. wire_by kinds.Disk k (Declines d)) holds
+end_wire_has P (DiskLane j) kinds.Port n also d holds = tt
+end_wire_has P (PortLane j) kinds.Disk n also d holds = tt
+end_wire_has P (PortLane j) kinds.Port n also d holds = named_has P j (Some n) also (λ k. wire_by kinds.Port k (Declines d)) holds
 
 declined_has : (P : SettleEntry → Type 0) (name : LaneName) (e : End) (at : EndName) (d : Declined) → DeclinedHas P (OfEnd at) → Has P (declined_at name e at d)
-declined_has P name e at d holds = wire_has P name at.lane.kind at.lane.number (is_same e (end_of at.side)) d (holds d)
+declined_has P name e at d holds = end_wire_has P name at.lane.kind at.lane.number (is_same e (end_of at.side)) d (holds d)
 
 full_has : (P : SettleEntry → Type 0) (name : LaneName) (call : Call) (at : EndName) → DeclinedHas P (OfEnd at) → Has P (full_call name call at)
 full_has P name (Injects e packet) at holds = declined_has P name e at (InjectedFull e packet) holds
@@ -188,3 +190,149 @@ meant_has P asked x holds = tt
 -- SO HAS WHAT AN ENTRY IS for the lanes
 pub entry_has : (P : SettleEntry → Type 0) (asked : Line) (e : Entry) (m : SettleEntry) → Holds P (meaning e) → world_event asked e ≡ Some m → P m
 entry_has P asked e m holds is = subst (Has P) is (meant_has P asked (meaning e) holds)
+
+-- OF A LANE, by its kind: what all lanes of that kind have with something of theirs
+disk_kind : (P : Lane → SettleEntry → Type 0) (kind : LaneKind) (n : ℕ) (f : ℕ → SettleEntry) → ((k : ℕ) → P (disk_lane k) (f k))
+    → Has (P (lane_at kind n)) (option_map f (if_disk kind n))
+disk_kind P kinds.Disk n f holds = holds n
+disk_kind P kinds.Port n f holds = tt
+
+pub lane_has : (P : Lane → SettleEntry → Type 0) (f : ℕ → SettleEntry) (lane : Lane) → ((k : ℕ) → P (disk_lane k) (f k))
+    → Has (P lane) (option_map f (disk_of lane))
+lane_has P f lane holds = disk_kind P lane.kind lane.number f holds
+
+port_kind : (P : Lane → SettleEntry → Type 0) (kind : LaneKind) (n : ℕ) (f : ℕ → SettleEntry) → ((k : ℕ) → P (port_lane k) (f k))
+    → Has (P (lane_at kind n)) (option_map f (if_port kind n))
+port_kind P kinds.Disk n f holds = tt
+port_kind P kinds.Port n f holds = holds n
+
+pub port_has : (P : Lane → SettleEntry → Type 0) (f : ℕ → SettleEntry) (lane : Lane) → ((k : ℕ) → P (port_lane k) (f k))
+    → Has (P lane) (option_map f (port_of lane))
+port_has P f lane holds = port_kind P lane.kind lane.number f holds
+
+wire_kind : (P : Lane → SettleEntry → Type 0) (event : WireEvent) (kind : LaneKind) (n : ℕ)
+    → ((k : ℕ) → P (disk_lane k) (OfLane k (OnWire event))) → ((k : ℕ) → P (port_lane k) (of_net k (on_channel event)))
+    → P (lane_at kind n) (wire_by kind n event)
+wire_kind P event kinds.Disk n disks ports = disks n
+wire_kind P event kinds.Port n disks ports = ports n
+
+pub wire_has : (P : Lane → SettleEntry → Type 0) (event : WireEvent) (lane : Lane)
+    → ((k : ℕ) → P (disk_lane k) (OfLane k (OnWire event))) → ((k : ℕ) → P (port_lane k) (of_net k (on_channel event)))
+    → Has (P lane) (wire_event lane event)
+wire_has P event lane disks ports = wire_kind P event lane.kind lane.number disks ports
+
+left_kind : (P : Lane → SettleEntry → Type 0) (kind : LaneKind) (n : ℕ) → ((k : ℕ) → P (disk_lane k) (Unsettled k))
+    → ((k : ℕ) → P (port_lane k) (UnsettledPort k)) → P (lane_at kind n) (left_over kind n)
+left_kind P kinds.Disk n disks ports = disks n
+left_kind P kinds.Port n disks ports = ports n
+
+pub left_has : (P : Lane → SettleEntry → Type 0) (who : Who) → ((k : ℕ) → P (disk_lane k) (Unsettled k))
+    → ((k : ℕ) → P (port_lane k) (UnsettledPort k)) → Has (P (lane_of who)) (unsettled_event who)
+left_has P (OfWhole lane) disks ports = left_kind P lane.kind lane.number disks ports
+left_has P (OfEnd e) disks ports = tt
+
+published_kind : (P : Lane → SettleEntry → Type 0) (id : ℕ) (kind : LaneKind) (side : Side) (n : ℕ)
+    → ((k : ℕ) → P (disk_lane k) (OfLane k (Works (Published id))))
+    → ((k : ℕ) (e : End) → P (port_lane k) (of_net k (Steps e (port.Published id))))
+    → Has (P (lane_at kind n)) (published_by kind side n id)
+published_kind P id kinds.Disk Client n disks ports = disks n
+published_kind P id kinds.Disk Server n disks ports = tt
+published_kind P id kinds.Port side n disks ports = ports n (end_of side)
+
+pub published_has : (P : Lane → SettleEntry → Type 0) (id : ℕ) (e : EndName)
+    → ((k : ℕ) → P (disk_lane k) (OfLane k (Works (Published id))))
+    → ((k : ℕ) (end : End) → P (port_lane k) (of_net k (Steps end (port.Published id))))
+    → Has (P e.lane) (published_by e.lane.kind e.side e.lane.number id)
+published_has P id e disks ports = published_kind P id e.lane.kind e.side e.lane.number disks ports
+
+-- WHAT AN ENTRY MAY BE FOR THE LANES, by the events of disks and of ports that it may be
+pub record Events (P : Lane → SettleEntry → Type 0) (Q : DiskEvent → Type 0) : Type 0 where
+  pub of_disk : (k : ℕ) (event : DiskEvent) → Q event → P (disk_lane k) (OfLane k event)
+  pub of_port : (k : ℕ) (event : SwitchEvent) → P (port_lane k) (OfPort k event)
+
+abbrev pub AllOf : (DiskEvent → Type 0) → Meaning → Type 0
+AllOf Q (AtWire e event) = Q (OnWire event)
+AllOf Q (AtServer e event) = Q event
+AllOf Q (AtLane k event) = Q event
+AllOf Q (AtPort k gets) = ⊤
+AllOf Q (Publishes e id) = Q (Works (Published id))
+AllOf Q (TakesFrame e frame) = ⊤
+AllOf Q (Switches e frame out full) = ⊤
+AllOf Q (NoRoomFor who) = ((request : Request) → Q (Asks (Full request))) × ((d : Declined) → Q (OnWire (Declines d)))
+AllOf Q (Refuses who why) =
+    ((defect : Defect) (request : Request) → Q (Asks (Refused defect request))) × ((d : Declined) → Q (OnWire (Declines d)))
+AllOf Q (ChangesNothing who) = ((calm : Calm) → Q (Calms calm)) × ((d : Declined) → Q (OnWire (Declines d)))
+AllOf Q (LeavesOver who) = ⊥
+AllOf Q LeavesNothing = ⊥
+
+-- the lane that a meaning is about
+abbrev pub about : Meaning → Lane
+about (AtWire e event) = e.lane
+about (AtServer e event) = e.lane
+about (AtLane k event) = disk_lane k
+about (AtPort k gets) = port_lane k
+about (Publishes e id) = e.lane
+about (TakesFrame e frame) = e.lane
+about (Switches e frame out full) = e.lane
+about (NoRoomFor who) = lane_of who
+about (Refuses who why) = lane_of who
+about (ChangesNothing who) = lane_of who
+about (LeavesOver who) = lane_of who
+about LeavesNothing = disk_lane 0
+
+module _ (P : Lane → SettleEntry → Type 0) (Q : DiskEvent → Type 0) (events : Events P Q) where
+  declined : (who : Who) → ((d : Declined) → Q (OnWire (Declines d))) → DeclinedHas (P (lane_of who)) who
+  declined who all d = wire_has P (Declines d) (lane_of who) (λ k. events.of_disk k (OnWire (Declines d)) (all d))
+      (λ k. events.of_port k (OnPort (OnLane (net.Declines d))))
+
+  disk_whole : (who : Who) (event : DiskEvent) → Q event → DiskHas (P (lane_of who)) who event
+  disk_whole (OfWhole lane) event q = lane_has P (λ k. OfLane k event) lane (λ k. events.of_disk k event q)
+  disk_whole (OfEnd e) event q = tt
+
+  net_whole : (who : Who) (event : NetEvent) → NetHas (P (lane_of who)) who event
+  net_whole (OfWhole lane) event = port_has P (λ k. of_net k event) lane (λ k. events.of_port k (OnPort (OnLane event)))
+  net_whole (OfEnd e) event = tt
+
+  pub by_events : (x : Meaning) → AllOf Q x → Holds (P (about x)) x
+  by_events (AtWire e event) q = wire_has P event e.lane (λ k. events.of_disk k (OnWire event) q)
+      (λ k. events.of_port k (OnPort (OnLane (on_channel event))))
+  by_events (AtServer e event) q = lane_has P (λ k. OfLane k event) e.lane (λ k. events.of_disk k event q)
+  by_events (AtLane k event) q = events.of_disk k event q
+  by_events (AtPort k gets) q = events.of_port k (OnPort (OnLane (given_to gets)))
+  by_events (Publishes e id) q = published_has P id e (λ k. events.of_disk k (Works (Published id)) q)
+      (λ k end. events.of_port k (OnPort (OnLane (Steps end (port.Published id)))))
+  by_events (TakesFrame e frame) q = port_has P (λ k. of_net k (Steps A (Frame frame))) e.lane
+      (λ k. events.of_port k (OnPort (OnLane (Steps A (Frame frame)))))
+  by_events (Switches e frame out full) q = port_has P (λ k. OfPort k (Switched frame out full)) e.lane
+      (λ k. events.of_port k (Switched frame out full))
+  by_events (NoRoomFor who) q = record {
+    request = λ request. disk_whole who (Asks (Full request)) (q.0 request);
+    frame = λ frame. net_whole who (Gives A (port.Full frame));
+    declined = declined who q.1;
+  }
+  by_events (Refuses who why) q = record {
+    request = λ defect request. disk_whole who (Asks (Refused defect request)) (q.0 defect request);
+    frame = λ frame. net_whole who (Gives A (BadLength frame));
+    group = λ address. net_whole who (Joins (GroupsFull address));
+    declined = declined who q.1;
+  }
+  by_events (ChangesNothing who) q = record {
+    disk = λ calm. lane_has P (λ k. OfLane k (Calms calm)) (lane_of who) (λ k. events.of_disk k (Calms calm) (q.0 calm));
+    tick = net_whole who (CalmPortTick 0);
+    group = λ address. net_whole who (Joins (Already address));
+    declined = declined who q.1;
+  }
+  by_events (LeavesOver who) q = absurd q
+  by_events LeavesNothing q = absurd q
+
+-- THE SAME of all lanes
+pub record SameEvents (P : SettleEntry → Type 0) (Q : DiskEvent → Type 0) : Type 0 where
+  pub of_disk : (k : ℕ) (event : DiskEvent) → Q event → P (OfLane k event)
+  pub of_port : (k : ℕ) (event : SwitchEvent) → P (OfPort k event)
+
+pub all_events : (P : SettleEntry → Type 0) (Q : DiskEvent → Type 0) → SameEvents P Q → (x : Meaning) → AllOf Q x → Holds P x
+all_events P Q events x q = by_events (λ lane. P) Q (record { of_disk = events.of_disk; of_port = events.of_port }) x q
+
+pub all_left : (P : SettleEntry → Type 0) (who : Who) → ((k : ℕ) → P (Unsettled k)) → ((k : ℕ) → P (UnsettledPort k))
+    → Has P (unsettled_event who)
+all_left P who disks ports = left_has (λ lane. P) who disks ports
