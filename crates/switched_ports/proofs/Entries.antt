@@ -19,7 +19,7 @@ use Rattle.switch_laws.specs.Ports.{gets, gift, ports as kind}
 use Rattle.switch_laws.specs.Reached.{IsReached}
 use Rattle.vnet_switch.proofs.Bits.{set_from}
 use Rattle.vnet_switch.proofs.Changes.{port_holds}
-use Rattle.vnet_switch.specs.Queues.{HasRoom}
+use Rattle.vnet_switch.specs.Queues.{QueueHasRoom}
 use Rattle.switched_ports.specs.Given.{GivenBelow, GivesNoMore, GivesOneMore, IsBelow}
 use Rattle.switched_ports.specs.HubSteps.{Known}
 use Rattle.switched_ports.specs.Shapes.{AddressesDiffer}
@@ -43,7 +43,7 @@ receives : (xs : List PortState) (k : ℕ) (event : SwitchEvent) → SeesSwitch 
 receives xs k (OnPort event) sees is n y at = refl
 receives xs k (Switched frame out full) sees is n y at = gift_run (bit_at out n == 1) frame y (λ bit. (
   is,
-  port_holds (views xs) n (port_view y) HasRoom (slice_get-map port_view xs n ∙ ap (option_map port_view) at)
+  port_holds (views xs) n (port_view y) QueueHasRoom (slice_get-map port_view xs n ∙ ap (option_map port_view) at)
       ((sees.gets n).0 (set_from out n (eqb-true (bit_at out n) 1 bit))).1,
 ))
 

@@ -14,7 +14,7 @@ use Rattle.net_lane.specs.Frames.{IsFrame}
 use Rattle.vnet_switch.specs.Forward.{GetsFrame, PortIs}
 use Rattle.vnet_switch.specs.PortSet.{IsSetOf}
 use Rattle.vnet_switch.specs.PortView.{PortView}
-use Rattle.vnet_switch.specs.Queues.{ChangesAt, HasRoom, IsFull, waiting_for, with_last}
+use Rattle.vnet_switch.specs.Queues.{ChangesAt, QueueHasRoom, IsFull, waiting_for, with_last}
 use Rattle.vnet_switch.specs.declared.forwarding.Switched.{Switched as Sets}
 
 abbrev pub Known : Type 0
@@ -34,7 +34,7 @@ pub record HandsOver (k : ℕ) (s : NetLaneState) (old : Known) (t : NetLaneStat
 
 -- A FRAME THAT WAS TAKEN is put into the queues of its forwarding set
 pub record GoesTo (k : ℕ) (frame : List ℕ) (known : Known) (sets : Sets) : Type 0 where
-  pub gets : IsSetOf sets.out (λ j. GetsFrame known (take 6 frame) k j × PortIs known j HasRoom)
+  pub gets : IsSetOf sets.out (λ j. GetsFrame known (take 6 frame) k j × PortIs known j QueueHasRoom)
   pub lacks : IsSetOf sets.full (λ j. GetsFrame known (take 6 frame) k j × PortIs known j IsFull)
 
 abbrev pub HandsOn : ℕ → List ℕ → Known → Option Sets → Known → Type 0
