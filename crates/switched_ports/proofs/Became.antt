@@ -157,7 +157,7 @@ module _ (k : ℕ) (event : SwitchEvent) (t : PortState) where
   each_from P Q j (x ∷ xs) each one = (
     subst (λ (i : ℕ). Q (became (i == k) i event t x)) (sym (place_first j)) (one 0 x refl each.0),
     each_from P Q (j + 1) xs each.1 (λ n y at holds.
-    subst (λ (i : ℕ). Q (became (i == k) i event t y)) (sym (place_next j n)) (one (suc n) y at holds)),
+        subst (λ (i : ℕ). Q (became (i == k) i event t y)) (sym (place_next j n)) (one (suc n) y at holds)),
   )
 
   by_place : (Q : PortState → Type 0) (n : ℕ) (x : PortState) (b : Bool) → (n == k) ≡ b
@@ -182,10 +182,10 @@ module _ (k : ℕ) (event : SwitchEvent) (t : PortState) where
   steps_from j [] each = tt
   steps_from j (x ∷ xs) each = (
     subst (λ (i : ℕ). Run SwitchStep x (own_or (i == k) event (gets i event)) (became (i == k) i event t x)) (sym (place_first j))
-    (each 0 x refl),
+        (each 0 x refl),
     steps_from (j + 1) xs (λ n y at.
-    subst (λ (i : ℕ). Run SwitchStep y (own_or (i == k) event (gets i event)) (became (i == k) i event t y)) (sym (place_next j n))
-    (each (suc n) y at)),
+        subst (λ (i : ℕ). Run SwitchStep y (own_or (i == k) event (gets i event)) (became (i == k) i event t y)) (sym (place_next j n))
+        (each (suc n) y at)),
   )
 
   run_at : (n : ℕ) (x : PortState) (b : Bool) → (n == k) ≡ b → (n ≡ k → SwitchStep x event t)

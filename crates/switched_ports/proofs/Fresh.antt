@@ -15,7 +15,6 @@ use Rattle.switched_ports.specs.States.{lanes_in, shapes_in, states}
 use Rattle.switched_ports.specs.Tied.{Tied}
 use Rattle.switched_ports.proofs.Places.{states_back}
 
-
 fresh_lanes : (shapes : List NetShape) → map fresh_net shapes ≡ lanes_in (map fresh_port shapes)
 fresh_lanes [] = refl
 fresh_lanes (shape ∷ shapes) = ap (λ (l : List NetLaneState). fresh_net shape ∷ l) (fresh_lanes shapes)

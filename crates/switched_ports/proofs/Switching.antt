@@ -102,10 +102,14 @@ module _ (k : ℕ) (frame : List ℕ) (old new : Known) (same : (j : ℕ) → j 
 
   gets_same : (Holds : PortView (List ℕ) → Type 0) (j : ℕ) → Gets new Holds j ↔ Gets old Holds j
   gets_same Holds j = (
-    λ g. ((g.0.0, subst (λ (o : Option (PortView (List ℕ))). IsSomeAnd o (IsFor (take 6 frame))) (same j g.0.0) g.0.1),
-        subst (λ (o : Option (PortView (List ℕ))). IsSomeAnd o Holds) (same j g.0.0) g.1),
-    λ g. ((g.0.0, subst (λ (o : Option (PortView (List ℕ))). IsSomeAnd o (IsFor (take 6 frame))) (sym (same j g.0.0)) g.0.1),
-        subst (λ (o : Option (PortView (List ℕ))). IsSomeAnd o Holds) (sym (same j g.0.0)) g.1),
+    λ g. (
+      (g.0.0, subst (λ (o : Option (PortView (List ℕ))). IsSomeAnd o (IsFor (take 6 frame))) (same j g.0.0) g.0.1),
+      subst (λ (o : Option (PortView (List ℕ))). IsSomeAnd o Holds) (same j g.0.0) g.1,
+    ),
+    λ g. (
+      (g.0.0, subst (λ (o : Option (PortView (List ℕ))). IsSomeAnd o (IsFor (take 6 frame))) (sym (same j g.0.0)) g.0.1),
+      subst (λ (o : Option (PortView (List ℕ))). IsSomeAnd o Holds) (sym (same j g.0.0)) g.1,
+    ),
   )
 
   set_same : (set : ℕ) (Holds : PortView (List ℕ) → Type 0) → IsSetOf set (Gets new Holds) → IsSetOf set (Gets old Holds)
