@@ -30,7 +30,8 @@ aside_alone queue (Steps A answer) aside = tt
 aside_alone queue (Steps B answer) aside = absurd aside
 aside_alone queue _ aside = tt
 
-pub aside_step : (queue : List (List ℕ)) (s t : NetLaneState) (event : NetEvent) → Aside queue event → NetLaneStep s event t
+pub aside_step : (queue : List (List ℕ)) (s t : NetLaneState) (event : NetEvent) → Aside queue event
+    → NetLaneStep s event t
     → PortStep (state_of s queue) (OnLane event) (state_of t queue)
 aside_step queue s t (Steps A answer) aside step = (tt, step, refl)
 aside_step queue s t (Steps B answer) aside step = absurd aside
@@ -47,9 +48,11 @@ pub record Keeps (s t : NetLaneState) : Type 0 where
   pub shape : t.shape ≡ s.shape
 
 kept : (s u t : NetLaneState) → t ≡ u → u.hub ≡ s.hub → u.shape ≡ s.shape → Keeps s t
-kept s u t is hub shape = record { hub = ap (λ (l : NetLaneState). l.hub) is ∙ hub; shape = ap (λ (l : NetLaneState). l.shape) is ∙ shape }
+kept s u t is hub shape =
+    record { hub = ap (λ (l : NetLaneState). l.hub) is ∙ hub; shape = ap (λ (l : NetLaneState). l.shape) is ∙ shape }
 
-pub aside_keeps : (queue : List (List ℕ)) (s t : NetLaneState) (event : NetEvent) → Aside queue event → NetLaneStep s event t → Keeps s t
+pub aside_keeps : (queue : List (List ℕ)) (s t : NetLaneState) (event : NetEvent) → Aside queue event
+    → NetLaneStep s event t → Keeps s t
 aside_keeps queue s t (Steps A answer) aside step = kept s _ t step.is refl refl
 aside_keeps queue s t (Steps B answer) aside step = absurd aside
 aside_keeps queue s t (Asked e lost) aside step = absurd aside
@@ -69,16 +72,19 @@ pub lost_aside : (queue : List (List ℕ)) (e : End) (answer : Option (List ℕ)
 lost_aside queue e (Some packet) = tt
 lost_aside queue e None = tt
 
-pub injected_aside : {U : Type 0} (queue : List (List ℕ)) (e : End) (packet : List ℕ) (answer : Result U PutFault) → Aside queue (injected_event e packet answer)
+pub injected_aside : {U : Type 0} (queue : List (List ℕ)) (e : End) (packet : List ℕ) (answer : Result U PutFault)
+    → Aside queue (injected_event e packet answer)
 injected_aside queue e packet (Ok done) = tt
 injected_aside queue e packet (Err put.NotUp) = tt
 injected_aside queue e packet (Err put.Full) = tt
 
-pub poked_aside : (queue : List (List ℕ)) (e : End) (at : ℕ) (bytes : List ℕ) (answer : Bool) → Aside queue (poked_event e at bytes answer)
+pub poked_aside : (queue : List (List ℕ)) (e : End) (at : ℕ) (bytes : List ℕ) (answer : Bool)
+    → Aside queue (poked_event e at bytes answer)
 poked_aside queue e at bytes true = tt
 poked_aside queue e at bytes false = tt
 
-pub ticked_aside : (queue : List (List ℕ)) (queued : ℕ) (answer : Option ℕ) → queued ≡ length queue → Aside queue (ticked_event queued answer)
+pub ticked_aside : (queue : List (List ℕ)) (queued : ℕ) (answer : Option ℕ) → queued ≡ length queue
+    → Aside queue (ticked_event queued answer)
 ticked_aside queue queued (Some lost) is = is
 ticked_aside queue queued None is = is
 

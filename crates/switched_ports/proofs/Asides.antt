@@ -26,7 +26,8 @@ use Rattle.switched_ports.proofs.Became.{seen_given}
 use Rattle.switched_ports.proofs.Entries.{Move, Rises, entry, gives_none, gives_one, last_behind, tied_behind}
 use Rattle.switched_ports.proofs.Places.{There, as_many, map_same, there, view_of}
 
-pub each_at : (P : PortState → Type 0) (xs : List PortState) (k : ℕ) (x : PortState) → EachOf P xs → slice_get xs k ≡ Some x → P x
+pub each_at : (P : PortState → Type 0) (xs : List PortState) (k : ℕ) (x : PortState) → EachOf P xs
+    → slice_get xs k ≡ Some x → P x
 each_at P [] k x each at = absurd (cc at)
 each_at P (y ∷ xs) zero x each at = let same : y ≡ x = cc at in subst P same each.0
 each_at P (y ∷ xs) (suc k) x each at = each_at P xs k x each.1 at
@@ -37,36 +38,46 @@ pub record Read (known : Known) (xs : List PortState) (k : ℕ) (s : NetLaneStat
   pub there_is : There known xs k s port
   pub reached : IsReached port
 
-pub reads : (lanes : List NetLaneState) (known : Known) (xs : List PortState) (k : ℕ) (s : NetLaneState) → Tied lanes known xs
+pub reads : (lanes : List NetLaneState) (known : Known) (xs : List PortState) (k : ℕ) (s : NetLaneState)
+    → Tied lanes known xs
     → k < length xs → s ≡ get_or lanes k s → Read known xs k s
 reads lanes known xs k s tied within at =
-    let found = there lanes known xs k s tied (slice_get_read lanes (length lanes) k s refl (subst (λ (n : ℕ). k < n) (sym (as_many lanes known xs tied)) within) at) in
+    let found =
+    there lanes known xs k s tied (slice_get_read lanes (length lanes) k s refl
+    (subst (λ (n : ℕ). k < n) (sym (as_many lanes known xs tied)) within) at) in
     record { port = found.0; there_is = found.1; reached = each_at IsReached xs k found.0 tied.reached found.1.at }
 
-pub same_queue : (lanes : List NetLaneState) (known : Known) (xs : List PortState) (k : ℕ) → Tied lanes known xs → waiting_for k known ≡ queue_at k xs
+pub same_queue : (lanes : List NetLaneState) (known : Known) (xs : List PortState) (k : ℕ) → Tied lanes known xs
+    → waiting_for k known ≡ queue_at k xs
 same_queue lanes known xs k tied =
     ap (λ (l : Known). waiting_for k l) tied.known_are
     ∙ ap (λ (o : Option (PortView (List ℕ))). option_map_or (λ p. p.queue) o []) (slice_get-map port_view xs k)
     ∙ by_option (slice_get xs k)
   where
-    by_option : (o : Option PortState) → option_map_or (λ (p : PortView (List ℕ)). p.queue) (option_map port_view o) [] ≡ option_map_or (λ (p : PortState). p.queue) o []
+    by_option : (o : Option PortState) → option_map_or (λ (p : PortView (List ℕ)). p.queue) (option_map port_view o) []
+        ≡ option_map_or (λ (p : PortState). p.queue) o []
     by_option None = refl
     by_option (Some x) = refl
 
 pub queue_seen : (lanes : List NetLaneState) (known : Known) (xs : List PortState) (k : ℕ) → states lanes known ≡ xs
     → Tied lanes known (states lanes known) → waiting_for k known ≡ queue_at k xs
-queue_seen lanes known xs k is tied = same_queue lanes known xs k (subst (λ (l : List PortState). Tied lanes known l) is tied)
+queue_seen lanes known xs k is tied =
+    same_queue lanes known xs k (subst (λ (l : List PortState). Tied lanes known l) is tied)
 
-view_kept : (s t : NetLaneState) (queue : List (List ℕ)) → Keeps s t → port_view (state_of t queue) ≡ port_view (state_of s queue)
+view_kept : (s t : NetLaneState) (queue : List (List ℕ)) → Keeps s t
+    → port_view (state_of t queue) ≡ port_view (state_of s queue)
 view_kept s t queue keeps =
-    ap₂ (λ (hub : NetEndState) (shape : NetShape). view_of (address_in hub.session shape.address) hub.groups shape.slots queue)
+    ap₂ (λ (hub : NetEndState) (shape : NetShape). view_of (address_in hub.session shape.address) hub.groups shape.slots
+    queue)
     keeps.hub keeps.shape
 
 queue_there : (xs : List PortState) (k : ℕ) (x : PortState) → slice_get xs k ≡ Some x → queue_at k xs ≡ x.queue
 queue_there xs k x at = ap (λ (o : Option PortState). option_map_or (λ (p : PortState). p.queue) o []) at
 
-module _ (lanes : List NetLaneState) (known : Known) (xs : List PortState) (k : ℕ) (s t : NetLaneState) (event : NetEvent)
-    (is : states lanes known ≡ xs) (seen : Tied lanes known (states lanes known)) (within : k < length xs) (at : s ≡ get_or lanes k s)
+module _ (lanes : List NetLaneState) (known : Known) (xs : List PortState) (k : ℕ) (s t : NetLaneState)
+    (event : NetEvent)
+    (is : states lanes known ≡ xs) (seen : Tied lanes known (states lanes known)) (within : k < length xs)
+    (at : s ≡ get_or lanes k s)
     (aside : Aside (queue_at k xs) event) (step : NetLaneStep s event t) where
   tied : Tied lanes known xs
   tied = subst (λ (l : List PortState). Tied lanes known l) is seen
@@ -108,7 +119,9 @@ module _ (lanes : List NetLaneState) (known : Known) (xs : List PortState) (k : 
   aside_last = last_behind lanes known known xs k (OnPort (OnLane event)) read.port behind_it tied move
 
   rises : (r : ℕ) → t.guest.next_id ≤ s.guest.next_id + r → t.hub.next_id ≤ s.hub.next_id → Rises r read.port behind_it
-  rises r guest hub = subst (λ (l : NetLaneState). (t.guest.next_id ≤ l.guest.next_id + r) → (t.hub.next_id ≤ l.hub.next_id) → Rises r read.port behind_it)
+  rises r guest hub =
+      subst (λ (l : NetLaneState). (t.guest.next_id ≤ l.guest.next_id + r) → (t.hub.next_id ≤ l.hub.next_id) → Rises r
+      read.port behind_it)
       (sym read.there_is.lane) (λ g h. record { guest = g; hub = omega (arith, h) }) guest hub
 
   pub aside_none : SameIds s t → GivesNoMore xs (states (slice_set lanes k t) known)
@@ -116,14 +129,19 @@ module _ (lanes : List NetLaneState) (known : Known) (xs : List PortState) (k : 
       gives_none lanes known known xs k (OnPort (OnLane event)) read.port behind_it tied move refl
       (rises 0 (omega (arith, same.guest)) (omega (arith, same.hub)))
 
-  pub aside_one : t.guest.next_id ≤ s.guest.next_id + 1 → t.hub.next_id ≡ s.hub.next_id → GivesOneMore xs (states (slice_set lanes k t) known)
+  pub aside_one : t.guest.next_id ≤ s.guest.next_id + 1 → t.hub.next_id ≡ s.hub.next_id
+      → GivesOneMore xs (states (slice_set lanes k t) known)
   aside_one guest hub =
-      gives_one lanes known known xs k (OnPort (OnLane event)) read.port behind_it tied move 1 (omega arith) (omega arith)
+      gives_one lanes known known xs k (OnPort (OnLane event)) read.port behind_it tied move 1 (omega arith)
+      (omega arith)
       (rises 1 guest (omega (arith, hub)))
 
-pub few_given : (lanes : List NetLaneState) (known : Known) (xs : List PortState) (k : ℕ) (s : NetLaneState) → states lanes known ≡ xs
-    → Tied lanes known (states lanes known) → k < length xs → s ≡ get_or lanes k s → (n : ℕ) → GivenBelow n xs → s.guest.next_id < n
+pub few_given : (lanes : List NetLaneState) (known : Known) (xs : List PortState) (k : ℕ) (s : NetLaneState)
+    → states lanes known ≡ xs
+    → Tied lanes known (states lanes known) → k < length xs → s ≡ get_or lanes k s → (n : ℕ) → GivenBelow n xs
+    → s.guest.next_id < n
 few_given lanes known xs k s is seen within at n below =
-    let read : Read known xs k s = reads lanes known xs k s (subst (λ (l : List PortState). Tied lanes known l) is seen) within at in
+    let read : Read known xs k s =
+    reads lanes known xs k s (subst (λ (l : List PortState). Tied lanes known l) is seen) within at in
     let own : IsBelow n read.port = each_at (IsBelow n) xs k read.port below read.there_is.at in
     subst (λ (l : NetLaneState). l.guest.next_id < n) (sym read.there_is.lane) own.guest

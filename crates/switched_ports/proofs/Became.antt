@@ -44,7 +44,8 @@ got_seen : (b : Bool) (frame : List ℕ) (port : PortState)
 got_seen true frame port = refl
 got_seen false frame port = refl
 
-seen_behind : (j : ℕ) (event : SwitchEvent) (port : PortState) → seen_given j event (port_view port) ≡ port_view (given_to j event port)
+seen_behind : (j : ℕ) (event : SwitchEvent) (port : PortState)
+    → seen_given j event (port_view port) ≡ port_view (given_to j event port)
 seen_behind j (Switched frame out full) port = got_seen (bit_at out j == 1) frame port
 seen_behind j (OnPort event) port = refl
 
@@ -80,7 +81,8 @@ module _ (k : ℕ) (event : SwitchEvent) (t : PortState) where
   at_place xs n =
       at_from 0 xs n ∙ ap (λ (i : ℕ). option_map (became (i == k) i event t) (slice_get xs n)) (zero_first n)
 
-  pub at_own : (xs : List PortState) (x : PortState) → slice_get xs k ≡ Some x → slice_get (behind 0 k event t xs) k ≡ Some t
+  pub at_own : (xs : List PortState) (x : PortState) → slice_get xs k ≡ Some x
+      → slice_get (behind 0 k event t xs) k ≡ Some t
   at_own xs x here =
       at_place xs k
       ∙ ap (λ (b : Bool). option_map (became b k event t) (slice_get xs k)) (eq-eqb k k refl)
@@ -115,7 +117,8 @@ module _ (k : ℕ) (event : SwitchEvent) (t : PortState) where
       ∙ map_agrees (λ (p : PortState). (given_to n event p).lane) (λ (p : PortState). p.lane) (slice_get xs n)
       (λ p is. given_lane n event p)))
 
-  pub views_behind : (known new : Known) (xs : List PortState) (x : PortState) → known ≡ views xs → slice_get xs k ≡ Some x
+  pub views_behind : (known new : Known) (xs : List PortState) (x : PortState) → known ≡ views xs
+      → slice_get xs k ≡ Some x
       → slice_get new k ≡ Some (port_view t)
       → ((n : ℕ) → n ≢ k → slice_get new n ≡ option_map (seen_given n event) (slice_get known n))
       → new ≡ views (behind 0 k event t xs)
@@ -127,7 +130,8 @@ module _ (k : ℕ) (event : SwitchEvent) (t : PortState) where
       ∙ ap (λ (l : Known). option_map (seen_given n event) (slice_get l n)) is
       ∙ ap (option_map (seen_given n event)) (slice_get-map port_view xs n)
       ∙ map_twice (seen_given n event) port_view (slice_get xs n)
-      ∙ map_agrees (λ (p : PortState). seen_given n event (port_view p)) (λ (p : PortState). port_view (given_to n event p))
+      ∙ map_agrees (λ (p : PortState). seen_given n event (port_view p))
+      (λ (p : PortState). port_view (given_to n event p))
       (slice_get xs n) (λ p there. seen_behind n event p)
       ∙ sym (slice_get-map port_view (behind 0 k event t xs) n
       ∙ ap (option_map port_view) (at_other xs n other)
@@ -140,12 +144,14 @@ module _ (k : ℕ) (event : SwitchEvent) (t : PortState) where
       (slice_get-map (λ (p : PortState). p.lane.shape) (behind 0 k event t xs) k
       ∙ ap (option_map (λ (p : PortState). p.lane.shape)) (at_own xs x here)
       ∙ ap Some same
-      ∙ sym (slice_get-map (λ (p : PortState). p.lane.shape) xs k ∙ ap (option_map (λ (p : PortState). p.lane.shape)) here))
+      ∙ sym (slice_get-map (λ (p : PortState). p.lane.shape) xs k ∙ ap (option_map (λ (p : PortState). p.lane.shape))
+      here))
       (λ n other.
       slice_get-map (λ (p : PortState). p.lane.shape) (behind 0 k event t xs) n
       ∙ ap (option_map (λ (p : PortState). p.lane.shape)) (at_other xs n other)
       ∙ map_twice (λ (p : PortState). p.lane.shape) (given_to n event) (slice_get xs n)
-      ∙ map_agrees (λ (p : PortState). (given_to n event p).lane.shape) (λ (p : PortState). p.lane.shape) (slice_get xs n)
+      ∙ map_agrees (λ (p : PortState). (given_to n event p).lane.shape) (λ (p : PortState). p.lane.shape)
+      (slice_get xs n)
       (λ p is. ap (λ (l : NetLaneState). l.shape) (given_lane n event p))
       ∙ sym (slice_get-map (λ (p : PortState). p.lane.shape) xs n))
 
@@ -163,7 +169,8 @@ module _ (k : ℕ) (event : SwitchEvent) (t : PortState) where
   by_place : (Q : PortState → Type 0) (n : ℕ) (x : PortState) (b : Bool) → (n == k) ≡ b
       → (n ≡ k → Q t) → (n ≢ k → Q (given_to n event x)) → Q (became b n event t x)
   by_place Q n x true is own other = own (eqb-true n k is)
-  by_place Q n x false is own other = other (λ same. (let wrong : true ≡ false = sym (eq-eqb n k same) ∙ is in cc wrong))
+  by_place Q n x false is own other =
+      other (λ same. (let wrong : true ≡ false = sym (eq-eqb n k same) ∙ is in cc wrong))
 
   pub each_behind : (P Q : PortState → Type 0) (xs : List PortState) → EachOf P xs
       → ((x : PortState) → slice_get xs k ≡ Some x → P x → Q t)
@@ -181,10 +188,12 @@ module _ (k : ℕ) (event : SwitchEvent) (t : PortState) where
       → AllStep kind j xs k event (behind j k event t xs)
   steps_from j [] each = tt
   steps_from j (x ∷ xs) each = (
-    subst (λ (i : ℕ). Run SwitchStep x (own_or (i == k) event (gets i event)) (became (i == k) i event t x)) (sym (place_first j))
+    subst (λ (i : ℕ). Run SwitchStep x (own_or (i == k) event (gets i event)) (became (i == k) i event t x))
+        (sym (place_first j))
         (each 0 x refl),
     steps_from (j + 1) xs (λ n y at.
-        subst (λ (i : ℕ). Run SwitchStep y (own_or (i == k) event (gets i event)) (became (i == k) i event t y)) (sym (place_next j n))
+        subst (λ (i : ℕ). Run SwitchStep y (own_or (i == k) event (gets i event)) (became (i == k) i event t y))
+        (sym (place_next j n))
         (each (suc n) y at)),
   )
 
@@ -195,10 +204,12 @@ module _ (k : ℕ) (event : SwitchEvent) (t : PortState) where
   run_at n x false is own other = other (λ same. (let wrong : true ≡ false = sym (eq-eqb n k same) ∙ is in cc wrong))
 
   pub all_step : (xs : List PortState) (x : PortState) → slice_get xs k ≡ Some x → SwitchStep x event t
-      → ((n : ℕ) (y : PortState) → slice_get xs n ≡ Some y → n ≢ k → Run SwitchStep y (gets n event) (given_to n event y))
+      → ((n : ℕ) (y : PortState) → slice_get xs n ≡ Some y → n ≢ k
+      → Run SwitchStep y (gets n event) (given_to n event y))
       → AllStep kind 0 xs k event (behind 0 k event t xs)
   all_step xs x here step other = steps_from 0 xs (λ n y at.
-      subst (λ (i : ℕ). Run SwitchStep y (own_or (i == k) event (gets i event)) (became (i == k) i event t y)) (sym (zero_first n))
+      subst (λ (i : ℕ). Run SwitchStep y (own_or (i == k) event (gets i event)) (became (i == k) i event t y))
+      (sym (zero_first n))
       (run_at n y (n == k) refl
       (λ same. (let is : x ≡ y = same_Some x y (sym here ∙ subst (λ (i : ℕ). slice_get xs i ≡ Some y) same at) in
       subst (λ (p : PortState). SwitchStep p event t) is step))

@@ -29,7 +29,8 @@ use Rattle.switched_ports.proofs.Became.{all_step, as_long, at_own, behind, each
 use Rattle.switched_ports.proofs.Places.{states_back}
 
 -- WHAT OTHERS GET
-gift_run : (b : Bool) (frame : List ℕ) (y : PortState) → (b ≡ true → IsFrame frame × (length y.queue < y.lane.shape.slots))
+gift_run : (b : Bool) (frame : List ℕ) (y : PortState)
+    → (b ≡ true → IsFrame frame × (length y.queue < y.lane.shape.slots))
     → Run SwitchStep y (gift b frame) (got b frame y)
 gift_run true frame y may = let fits = may refl in (got true frame y, (tt, (fits.0, fits.1, refl), tt), refl)
 gift_run false frame y may = refl
@@ -70,15 +71,19 @@ below_more n r m x t few rises below = record {
   hub = omega (arith, few, rises.hub, below.hub);
 }
 
+pub below_later : (n m : ℕ) (xs : List PortState) → n ≤ m → GivenBelow n xs → GivenBelow m xs
+below_later n m [] later each = tt
+below_later n m (x ∷ xs) later each = (
+  record { guest = omega (arith, later, each.0.guest); hub = omega (arith, later, each.0.hub) },
+  below_later n m xs later each.1,
+)
+
 pub one_more : (xs ys : List PortState) → GivesNoMore xs ys → GivesOneMore xs ys
-one_more xs ys same n below = each_more n ys (same n below)
-  where
-    each_more : (m : ℕ) (zs : List PortState) → GivenBelow m zs → GivenBelow (m + 1) zs
-    each_more m [] each = tt
-    each_more m (z ∷ zs) each = (record { guest = omega (arith, each.0.guest); hub = omega (arith, each.0.hub) }, each_more m zs each.1)
+one_more xs ys same n below = below_later n (n + 1) ys (omega arith) (same n below)
 
 -- THE EVENT, with what the switch knows behind it
-pub record Move (known : Known) (xs : List PortState) (k : ℕ) (event : SwitchEvent) (x t : PortState) (new : Known) : Type 0 where
+pub record Move (known : Known) (xs : List PortState) (k : ℕ) (event : SwitchEvent) (x t : PortState)
+    (new : Known) : Type 0 where
   pub here : slice_get xs k ≡ Some x
   pub step : SwitchStep x event t
   pub sees : SeesSwitch xs k event
@@ -87,13 +92,15 @@ pub record Move (known : Known) (xs : List PortState) (k : ℕ) (event : SwitchE
   pub told : slice_get new k ≡ Some (port_view t)
   pub others : (n : ℕ) → n ≢ k → slice_get new n ≡ option_map (seen_given n event) (slice_get known n)
 
-module _ (lanes : List NetLaneState) (known new : Known) (xs : List PortState) (k : ℕ) (event : SwitchEvent) (x t : PortState)
+module _ (lanes : List NetLaneState) (known new : Known) (xs : List PortState) (k : ℕ) (event : SwitchEvent)
+    (x t : PortState)
     (tied : Tied lanes known xs) (move : Move known xs k event x t new) where
   abbrev after : List PortState
   after = behind 0 k event t xs
 
   lanes_after : slice_set lanes k t.lane ≡ lanes_in after
-  lanes_after = ap (λ (l : List NetLaneState). slice_set l k t.lane) tied.lanes_are ∙ lanes_behind k event t xs x move.here
+  lanes_after =
+      ap (λ (l : List NetLaneState). slice_set l k t.lane) tied.lanes_are ∙ lanes_behind k event t xs x move.here
 
   known_after : new ≡ views after
   known_after = views_behind k event t known new xs x tied.known_are move.here move.told move.others
@@ -105,7 +112,8 @@ module _ (lanes : List NetLaneState) (known new : Known) (xs : List PortState) (
   there_behind = ap (λ (l : List PortState). slice_get l k) value_is ∙ at_own k event t xs x move.here
 
   pub last_behind : (e : End) → last_at e k (states (slice_set lanes k t.lane) new) ≡ (net_end e t.lane).last
-  last_behind e = ap (λ (o : Option PortState). option_map_or (λ (p : PortState). (net_end e p.lane).last) o []) there_behind
+  last_behind e =
+      ap (λ (o : Option PortState). option_map_or (λ (p : PortState). (net_end e p.lane).last) o []) there_behind
 
   gets_run : (n : ℕ) (y : PortState) → slice_get xs n ≡ Some y → Run SwitchStep y (gets n event) (given_to n event y)
   gets_run = receives xs k event move.sees move.of_frame
@@ -132,20 +140,25 @@ module _ (lanes : List NetLaneState) (known new : Known) (xs : List PortState) (
         (λ n y at other reached.
         run_keeps SwitchStep IsReached (λ s e u step r. reached_step s e u r step) y (given_to n event y) (gets n event)
         (gets_run n y at) reached);
-    differ = subst (λ (l : List NetShape). AddressesDiffer l) (sym (shapes_behind k event t xs x move.here move.shape)) tied.differ;
+    differ =
+        subst (λ (l : List NetShape). AddressesDiffer l) (sym (shapes_behind k event t xs x move.here move.shape))
+        tied.differ;
   }
 
   pub tied_behind : Tied (slice_set lanes k t.lane) new (states (slice_set lanes k t.lane) new)
   tied_behind = subst (λ (l : List PortState). Tied (slice_set lanes k t.lane) new l) (sym value_is) tied_after
 
-  below_behind : (n r m : ℕ) → r ≤ m → raises event ≤ m → Rises r x t → GivenBelow n xs → GivenBelow (n + m) (states (slice_set lanes k t.lane) new)
+  below_behind : (n r m : ℕ) → r ≤ m → raises event ≤ m → Rises r x t → GivenBelow n xs
+      → GivenBelow (n + m) (states (slice_set lanes k t.lane) new)
   below_behind n r m few raised rises below =
       subst (λ (l : List PortState). GivenBelow (n + m) l) (sym value_is)
       (each_behind k event t (IsBelow n) (IsBelow (n + m)) xs below
-      (λ y at is. below_more n r m y t few (subst (λ (p : PortState). Rises r p t) (same_Some x y (sym move.here ∙ at)) rises) is)
+      (λ y at is. below_more n r m y t few (subst (λ (p : PortState). Rises r p t) (same_Some x y (sym move.here ∙ at))
+      rises) is)
       (λ i y at other is. below_more n (raises event) m y (given_to i event y) raised (given_rises event i y) is))
 
-  pub gives_one : (r : ℕ) → r ≤ 1 → raises event ≤ 1 → Rises r x t → GivesOneMore xs (states (slice_set lanes k t.lane) new)
+  pub gives_one : (r : ℕ) → r ≤ 1 → raises event ≤ 1 → Rises r x t
+      → GivesOneMore xs (states (slice_set lanes k t.lane) new)
   gives_one r few raised rises n below = below_behind n r 1 few raised rises below
 
   pub gives_none : raises event ≡ 0 → Rises 0 x t → GivesNoMore xs (states (slice_set lanes k t.lane) new)

@@ -9,6 +9,7 @@ use Rattle.switch_laws.specs.Reached.{IsReached}
 use Rattle.vnet_switch.specs.PortView.{PortView}
 use Rattle.vnet_switch.specs.Queues.{fresh_port as fresh_view}
 use Rattle.switched_ports.specs.HubSteps.{Known}
+use Rattle.switched_ports.specs.Given.{GivenBelow}
 use Rattle.switched_ports.specs.Shapes.{AddressesDiffer, lane_of, shape_of, shapes_of}
 use Rattle.switched_ports.specs.declared.shape.PortShape.{PortShape}
 use Rattle.switched_ports.specs.States.{lanes_in, shapes_in, states}
@@ -19,7 +20,8 @@ fresh_lanes : (shapes : List NetShape) → map fresh_net shapes ≡ lanes_in (ma
 fresh_lanes [] = refl
 fresh_lanes (shape ∷ shapes) = ap (λ (l : List NetLaneState). fresh_net shape ∷ l) (fresh_lanes shapes)
 
-fresh_views : (shapes : List NetShape) → map fresh_view (map (λ (shape : NetShape). shape.slots) shapes) ≡ views (map fresh_port shapes)
+fresh_views : (shapes : List NetShape) → map fresh_view (map (λ (shape : NetShape). shape.slots) shapes) ≡ views
+    (map fresh_port shapes)
 fresh_views [] = refl
 fresh_views (shape ∷ shapes) = ap (λ (l : Known). fresh_view shape.slots ∷ l) (fresh_views shapes)
 
@@ -29,13 +31,20 @@ fresh_shapes (shape ∷ shapes) = ap (λ (l : List NetShape). shape ∷ l) (fres
 
 fresh_reached : (shapes : List NetShape) → EachOf IsNetShape shapes → EachOf IsReached (map fresh_port shapes)
 fresh_reached [] each = tt
-fresh_reached (shape ∷ shapes) each = (record { shape = shape; sound = each.0; events = []; run = refl }, fresh_reached shapes each.1)
+fresh_reached (shape ∷ shapes) each =
+    (record { shape = shape; sound = each.0; events = []; run = refl }, fresh_reached shapes each.1)
+
+-- no end was given a frame
+pub fresh_below : (shapes : List NetShape) → GivenBelow 1 (map fresh_port shapes)
+fresh_below [] = tt
+fresh_below (shape ∷ shapes) = (record { guest = omega arith; hub = omega arith }, fresh_below shapes)
 
 lanes_made : (made : List PortShape) → map lane_of made ≡ map fresh_net (shapes_of made)
 lanes_made [] = refl
 lanes_made (shape ∷ made) = ap (λ (l : List NetLaneState). lane_of shape ∷ l) (lanes_made made)
 
-rooms_made : (made : List PortShape) → map (λ (shape : PortShape). shape.slots) made ≡ map (λ (shape : NetShape). shape.slots) (shapes_of made)
+rooms_made : (made : List PortShape) → map (λ (shape : PortShape). shape.slots) made ≡ map
+    (λ (shape : NetShape). shape.slots) (shapes_of made)
 rooms_made [] = refl
 rooms_made (shape ∷ made) = ap (λ (l : List ℕ). shape.slots ∷ l) (rooms_made made)
 
@@ -49,9 +58,11 @@ one_made : (made : List PortShape) (k : ℕ) (d : PortShape) → k < length made
     → map lane_of (take (suc k) made) ≡ map lane_of (take k made) ++ lane_of (get_or made k d) ∷ []
 one_made [] k d within = absurd (omega (arith, within))
 one_made (x ∷ made) zero d within = refl
-one_made (x ∷ made) (suc k) d within = ap (λ (l : List NetLaneState). lane_of x ∷ l) (one_made made k d (omega (arith, within)))
+one_made (x ∷ made) (suc k) d within =
+    ap (λ (l : List NetLaneState). lane_of x ∷ l) (one_made made k d (omega (arith, within)))
 
-pub lanes_more : (made : List PortShape) (k : ℕ) (d : PortShape) (lanes new : List NetLaneState) (lane : NetLaneState) → k < length made
+pub lanes_more : (made : List PortShape) (k : ℕ) (d : PortShape) (lanes new : List NetLaneState) (lane : NetLaneState)
+    → k < length made
     → lanes ≡ map lane_of (take k made) → new ≡ lanes ++ lane ∷ [] → lane ≡ lane_of (get_or made k d)
     → new ≡ map lane_of (take (k + 1) made)
 lanes_more made k d lanes new lane within are put is =
@@ -59,7 +70,8 @@ lanes_more made k d lanes new lane within are put is =
     put ∙ ap₂ (λ (l : List NetLaneState) (x : NetLaneState). l ++ x ∷ []) are is
     ∙ sym (one_made made k d within) ∙ ap (λ (n : ℕ). map lane_of (take n made)) next
 
-module _ (made : List PortShape) (lanes : List NetLaneState) (rooms : List ℕ) (known : Known) (lanes_are : lanes ≡ map lane_of made)
+module _ (made : List PortShape) (lanes : List NetLaneState) (rooms : List ℕ) (known : Known)
+    (lanes_are : lanes ≡ map lane_of made)
     (rooms_are : rooms ≡ map (λ (shape : PortShape). shape.slots) made) (known_are : known ≡ map fresh_view rooms) where
   abbrev shapes : List NetShape
   shapes = shapes_of made
@@ -72,10 +84,12 @@ module _ (made : List PortShape) (lanes : List NetLaneState) (rooms : List ℕ) 
 
   pub fresh_states : states lanes known ≡ map fresh_port shapes
   fresh_states =
-      ap₂ (λ (l : List NetLaneState) (p : Known). states l p) (lanes_is ∙ fresh_lanes shapes) (known_is ∙ fresh_views shapes)
+      ap₂ (λ (l : List NetLaneState) (p : Known). states l p) (lanes_is ∙ fresh_lanes shapes)
+      (known_is ∙ fresh_views shapes)
       ∙ states_back (map fresh_port shapes)
 
-  pub fresh_tied : length made ≤ 8 → EachOf IsNetShape shapes → AddressesDiffer shapes → Tied lanes known (states lanes known)
+  pub fresh_tied : length made ≤ 8 → EachOf IsNetShape shapes → AddressesDiffer shapes
+      → Tied lanes known (states lanes known)
   fresh_tied few sound differ = subst (λ (l : List PortState). Tied lanes known l) (sym fresh_states) (record {
     lanes_are = lanes_is ∙ fresh_lanes shapes;
     known_are = known_is ∙ fresh_views shapes;

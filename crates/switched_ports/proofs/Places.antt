@@ -38,7 +38,8 @@ pub map_agrees : {A B : Type 0} (f g : A → B) (o : Option A) → ((x : A) → 
 map_agrees f g None same = refl
 map_agrees f g (Some x) same = ap Some (same x refl)
 
-pub map_twice : {A B C : Type 0} (f : B → C) (g : A → B) (o : Option A) → option_map f (option_map g o) ≡ option_map (λ x. f (g x)) o
+pub map_twice : {A B C : Type 0} (f : B → C) (g : A → B) (o : Option A)
+    → option_map f (option_map g o) ≡ option_map (λ x. f (g x)) o
 map_twice f g None = refl
 map_twice f g (Some x) = refl
 
@@ -59,15 +60,18 @@ pub record There (known : Known) (ports : List PortState) (k : ℕ) (s : NetLane
   pub queue : waiting_for k known ≡ port.queue
   pub is : port_at k s known ≡ port
 
-pub there : (lanes : List NetLaneState) (known : Known) (ports : List PortState) (k : ℕ) (s : NetLaneState) → Tied lanes known ports
+pub there : (lanes : List NetLaneState) (known : Known) (ports : List PortState) (k : ℕ) (s : NetLaneState)
+    → Tied lanes known ports
     → slice_get lanes k ≡ Some s → (port : PortState) × There known ports k s port
 there lanes known ports k s tied read =
     let mapped : option_map (λ (p : PortState). p.lane) (slice_get ports k) ≡ Some s =
-    sym (slice_get-map (λ (p : PortState). p.lane) ports k) ∙ ap (λ (l : List NetLaneState). slice_get l k) (sym tied.lanes_are) ∙ read in
+    sym (slice_get-map (λ (p : PortState). p.lane) ports k) ∙ ap (λ (l : List NetLaneState). slice_get l k)
+    (sym tied.lanes_are) ∙ read in
     let from : (p : PortState) × (slice_get ports k ≡ Some p) × (s ≡ p.lane) =
     option_map_some (λ (p : PortState). p.lane) (slice_get ports k) s mapped in
     let seen : slice_get known k ≡ Some (port_view from.0) =
-    ap (λ (l : Known). slice_get l k) tied.known_are ∙ slice_get-map port_view ports k ∙ ap (option_map port_view) from.1 in
+    ap (λ (l : Known). slice_get l k) tied.known_are ∙ slice_get-map port_view ports k ∙ ap (option_map port_view)
+    from.1 in
     let queue : waiting_for k known ≡ from.0.queue =
     ap (λ (o : Option (PortView (List ℕ))). option_map_or (λ p. p.queue) o []) seen in (
       from.0,
@@ -81,6 +85,7 @@ there lanes known ports k s tied read =
     )
 
 -- the lanes are as many as the ports
-pub as_many : (lanes : List NetLaneState) (known : Known) (ports : List PortState) → Tied lanes known ports → length lanes ≡ length ports
+pub as_many : (lanes : List NetLaneState) (known : Known) (ports : List PortState) → Tied lanes known ports
+    → length lanes ≡ length ports
 as_many lanes known ports tied =
     ap (λ (l : List NetLaneState). length l) tied.lanes_are ∙ length-map ports (λ (p : PortState). p.lane)

@@ -26,7 +26,7 @@ use Rattle.vnet_switch.proofs.Bits.{set_from, set_means}
 use Rattle.vnet_switch.specs.Forward.{GetsFrame, HasAddress, IsFor, PortIs}
 use Rattle.vnet_switch.specs.PortSet.{IsSetOf}
 use Rattle.vnet_switch.specs.PortView.{PortView}
-use Rattle.vnet_switch.specs.Queues.{ChangesAt, QueueHasRoom, IsFull, waiting_for, with_last, with_session}
+use Rattle.vnet_switch.specs.Queues.{ChangesAt, HasRoom, IsFull, waiting_for, with_last, with_session}
 use Rattle.vnet_switch.specs.declared.forwarding.Switched.{Switched as Sets}
 use Rattle.switched_ports.specs.HubSteps.{GoesTo, HandsOn, HandsOver, HubSteps, Known, TakesFrame, given_by, port_at, with_queue}
 use Rattle.switched_ports.specs.States.{state_of}
@@ -34,13 +34,17 @@ use Rattle.switched_ports.proofs.Moving.{same_guest, same_shape, same_sum}
 use Rattle.switched_ports.proofs.Places.{map_same, view_of}
 
 -- A FRAME that a reached port's end takes has its length
-frame_is : (s t : PortState) (frame : List ℕ) → IsReached s → PortStep s (OnLane (Steps B (Frame frame))) t → IsFrame frame
+frame_is : (s t : PortState) (frame : List ℕ) → IsReached s → PortStep s (OnLane (Steps B (Frame frame))) t
+    → IsFrame frame
 frame_is s t frame at step =
     let event = OnLane (Steps B (Frame frame)) in
-    let lawful = port_takes at.shape (at.events ++ event ∷ []) t at.sound (run_push PortStep (fresh_port at.shape) s t at.events event at.run step) in
+    let lawful =
+    port_takes at.shape (at.events ++ event ∷ []) t at.sound
+    (run_push PortStep (fresh_port at.shape) s t at.events event at.run step) in
     (lawful_split TakingAt after (no_events at.shape) at.events (event ∷ []) lawful).1.0.0
 
-pub takes_frame : (s t : PortState) (answer : NetOut) (last : List ℕ) → IsReached s → PortStep s (OnLane (Steps B (net_answer answer last))) t
+pub takes_frame : (s t : PortState) (answer : NetOut) (last : List ℕ) → IsReached s
+    → PortStep s (OnLane (Steps B (net_answer answer last))) t
     → TakesFrame answer last
 takes_frame s t (out.Frame len) last at step = frame_is s t last at step
 takes_frame s t _ last at step = tt
@@ -57,7 +61,9 @@ module _ (k : ℕ) (s mid t : NetLaneState) (old handed : Known) (answer : NetOu
   own_step queue is = (tt, lane_step, is ∙ ap (λ (p : PortState). p.queue) over.moves)
 
   pub takes : IsReached (port_at k s old) → TakesFrame answer t.hub.last
-  takes at = takes_frame (port_at k s old) (state_of t (waiting_for k handed)) answer t.hub.last at (own_step (waiting_for k handed) refl)
+  takes at =
+      takes_frame (port_at k s old) (state_of t (waiting_for k handed)) answer t.hub.last at
+      (own_step (waiting_for k handed) refl)
 
   shape_mid : t.shape ≡ mid.shape
   shape_mid = ap (λ (l : NetLaneState). l.shape) step.is
@@ -66,7 +72,8 @@ module _ (k : ℕ) (s mid t : NetLaneState) (old handed : Known) (answer : NetOu
   shape_is = shape_mid ∙ ap (λ (p : PortState). p.lane.shape) over.moves ∙ same_shape (port_at k s old)
 
 -- WHAT WAS HANDED ON leaves the port's own place, and gives others the frame
-bit_given : (b : Bool) (frame : List ℕ) (o n : Option (PortView (List ℕ))) → (b ≡ true → n ≡ option_map (with_last frame) o)
+bit_given : (b : Bool) (frame : List ℕ) (o n : Option (PortView (List ℕ)))
+    → (b ≡ true → n ≡ option_map (with_last frame) o)
     → (b ≡ false → n ≡ o) → n ≡ option_map (λ port. if b then with_last frame port else port) o
 bit_given true frame o n set_ not_ = set_ refl
 bit_given false frame o n set_ not_ = not_ refl ∙ sym (map_same o)
@@ -107,26 +114,35 @@ module _ (k : ℕ) (frame : List ℕ) (old new : Known) (same : (j : ℕ) → j 
       subst (λ (o : Option (PortView (List ℕ))). IsSomeAnd o Holds) (same j g.0.0) g.1,
     ),
     λ g. (
-      (g.0.0, subst (λ (o : Option (PortView (List ℕ))). IsSomeAnd o (IsFor (take 6 frame))) (sym (same j g.0.0)) g.0.1),
+      (
+        g.0.0,
+        subst (λ (o : Option (PortView (List ℕ))). IsSomeAnd o (IsFor (take 6 frame))) (sym (same j g.0.0))
+            g.0.1,
+      ),
       subst (λ (o : Option (PortView (List ℕ))). IsSomeAnd o Holds) (sym (same j g.0.0)) g.1,
     ),
   )
 
-  set_same : (set : ℕ) (Holds : PortView (List ℕ) → Type 0) → IsSetOf set (Gets new Holds) → IsSetOf set (Gets old Holds)
+  set_same : (set : ℕ) (Holds : PortView (List ℕ) → Type 0) → IsSetOf set (Gets new Holds)
+      → IsSetOf set (Gets old Holds)
   set_same set Holds is j = (λ bit. (gets_same Holds j).0 ((is j).0 bit), λ g. (is j).1 ((gets_same Holds j).1 g))
 
   pub goes_same : (sets : Option Sets) → IfSome sets (GoesTo k frame new) → IfSome sets (GoesTo k frame old)
   goes_same None goes_ = tt
-  goes_same (Some sets) goes_ = record { gets = set_same sets.out QueueHasRoom goes_.gets; lacks = set_same sets.full IsFull goes_.lacks }
+  goes_same (Some sets) goes_ =
+      record { gets = set_same sets.out HasRoom goes_.gets; lacks = set_same sets.full IsFull goes_.lacks }
 
 -- AN ADDRESS is where it was
-has_before : (o n : Option (PortView (List ℕ))) (sets : Option Sets) (frame address : List ℕ) (j : ℕ) → n ≡ option_map (given_by sets frame j) o
+has_before : (o n : Option (PortView (List ℕ))) (sets : Option Sets) (frame address : List ℕ) (j : ℕ)
+    → n ≡ option_map (given_by sets frame j) o
     → IsSomeAnd n (λ port. port.address ≡ Some address) → IsSomeAnd o (λ port. port.address ≡ Some address)
-has_before None n sets frame address j is has = subst (λ (x : Option (PortView (List ℕ))). IsSomeAnd x (λ port. port.address ≡ Some address)) is has
+has_before None n sets frame address j is has =
+    subst (λ (x : Option (PortView (List ℕ))). IsSomeAnd x (λ port. port.address ≡ Some address)) is has
 has_before (Some port) n sets frame address j is has =
     kept sets (subst (λ (x : Option (PortView (List ℕ))). IsSomeAnd x (λ p. p.address ≡ Some address)) is has)
   where
-    by_bit : (b : Bool) → (if b then with_last frame port else port).address ≡ Some address → port.address ≡ Some address
+    by_bit : (b : Bool) → (if b then with_last frame port else port).address ≡ Some address
+        → port.address ≡ Some address
     by_bit true at = at
     by_bit false at = at
 
@@ -142,23 +158,30 @@ module _ (k : ℕ) (s mid t : NetLaneState) (old handed behind : Known) (answer 
       others_given k t.hub.last handed sets behind on j
       ∙ ap (option_map (given_by sets t.hub.last j)) (over.known.others j other)
 
-  pub still_differ : ((j : ℕ) → HasAddress old s.shape.address j → j ≡ k) → (j : ℕ) → HasAddress behind t.shape.address j → j ≡ k
+  pub still_differ : ((j : ℕ) → HasAddress old s.shape.address j → j ≡ k) → (j : ℕ)
+      → HasAddress behind t.shape.address j → j ≡ k
   still_differ differ j has = elim (cases_eq j k) [
     | inl same ↦ same
-    | inr other ↦ differ j (has_before (slice_get old j) (slice_get behind j) sets t.hub.last s.shape.address j (others_before j other)
-        (subst (λ (shape : NetShape). HasAddress behind shape.address j) (shape_is k s mid t old handed answer over step) has))
+    | inr other ↦ differ j (has_before (slice_get old j) (slice_get behind j) sets t.hub.last s.shape.address j
+        (others_before j other)
+        (subst (λ (shape : NetShape). HasAddress behind shape.address j)
+        (shape_is k s mid t old handed answer over step) has))
   ]
 
   module _ (new : Known) (known : slice_get old k ≡ Some (port_view (port_at k s old))) (ids : SameIds mid t)
-      (told : ChangesAt (λ j. j ≡ k) (with_session (address_in t.hub.session t.shape.address) t.hub.groups) behind new) where
+      (told : ChangesAt (λ j. j ≡ k) (with_session (address_in t.hub.session t.shape.address) t.hub.groups) behind
+      new) where
     abbrev own : PortView (List ℕ)
-    own = with_session (address_in t.hub.session t.shape.address) t.hub.groups (with_queue (waiting_for k handed) (port_view (port_at k s old)))
+    own =
+        with_session (address_in t.hub.session t.shape.address) t.hub.groups
+        (with_queue (waiting_for k handed) (port_view (port_at k s old)))
 
     own_is : slice_get new k ≡ Some own
     own_is =
         told.these k refl
         ∙ ap (option_map (with_session (address_in t.hub.session t.shape.address) t.hub.groups))
-        (own_stays k t.hub.last handed sets behind on ∙ over.known.these k refl ∙ ap (option_map (with_queue (waiting_for k handed))) known)
+        (own_stays k t.hub.last handed sets behind on ∙ over.known.these k refl ∙ ap
+        (option_map (with_queue (waiting_for k handed))) known)
 
     queue_is : waiting_for k new ≡ waiting_for k handed
     queue_is = ap (λ (o : Option (PortView (List ℕ))). option_map_or (λ (p : PortView (List ℕ)). p.queue) o []) own_is
@@ -166,7 +189,8 @@ module _ (k : ℕ) (s mid t : NetLaneState) (old handed behind : Known) (answer 
     told_is : slice_get new k ≡ Some (port_view (port_at k t new))
     told_is =
         own_is
-        ∙ ap₂ (λ (room : ℕ) (queue : List (List ℕ)). Some (view_of (address_in t.hub.session t.shape.address) t.hub.groups room queue))
+        ∙ ap₂ (λ (room : ℕ) (queue : List (List ℕ)). Some (view_of (address_in t.hub.session t.shape.address)
+        t.hub.groups room queue))
         (sym (ap (λ (shape : NetShape). shape.slots) (shape_is k s mid t old handed answer over step))) (sym queue_is)
 
     moved_ids : mid.hub.next_id + length (waiting_for k handed) ≡ s.hub.next_id + length (waiting_for k old)

@@ -1,4 +1,5 @@
--- The ports as states: each lane with its out queue, which the switch keeps. And what is read of the port with a number.
+-- The ports as states: each lane with its out queue, which the switch keeps. And what is read of the port with a
+-- number.
 use Rattle.std.specs.Prelude.{ℕ, List, [], ◌∷◌, map, slice_get, IsSomeAnd}
 use Rattle.std.specs.Option.{option_map_or}
 use Rattle.ldc_queue.specs.declared.end.End.{End}

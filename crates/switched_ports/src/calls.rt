@@ -16,9 +16,9 @@ use crate::ports::Ports;
 use net_lane::{End, GroupsFull, PutFault, SendFault};
 
 impl Ports {
-    /// Gives the guest of a port a frame, which is held last, and answers its id: 0, 1, 2 and so on. Else nothing changes.
-    /// The answer is `Length` where it hasn't 14 to 1,514 bytes, and else `Full`, where as many are held as the ring has
-    /// slots.
+    /// Gives the guest of a port a frame, which is held last, and answers its id: 0, 1, 2 and so on. Else nothing
+    /// changes. The answer is `Length` where it hasn't 14 to 1,514 bytes, and else `Full`, where as many are held as
+    /// the ring has slots.
     pub fn send(&mut self, port: u32, frame: &[u8]) -> Result<u64, SendFault>
         requires port { port < length self.old }
         requires few { GivenBelow (2 ^ 64 - 1) self.old }
@@ -29,8 +29,8 @@ impl Ports {
         self.lanes[port as usize].send(End::A, frame)
     }
 
-    /// Puts a group's address last into the list of a port's guest, which is told to the switch. The answer is false where
-    /// it is in the list. `GroupsFull` comes where it isn't, and seven others are. Then nothing changes.
+    /// Puts a group's address last into the list of a port's guest, which is told to the switch. The answer is false
+    /// where it is in the list. `GroupsFull` comes where it isn't, and seven others are. Then nothing changes.
     pub fn join_group(&mut self, port: u32, address: [u8; 6]) -> Result<bool, GroupsFull>
         requires { port < length self.old }
         ensures entry { EntryOf ports port self.old (OnPort (OnLane (Joins (joining result address)))) self.new }
@@ -39,8 +39,8 @@ impl Ports {
         self.lanes[port as usize].join_group(address)
     }
 
-    /// Nothing comes any more: resets the guest's end of a port that isn't finished, and answers how many frames are lost.
-    /// `None` where the port is finished.
+    /// Nothing comes any more: resets the guest's end of a port that isn't finished, and answers how many frames are
+    /// lost. `None` where the port is finished.
     pub fn tick(&mut self, port: u32) -> Option<u32>
         requires { port < length self.old }
         ensures entry { EntryOf ports port self.old
@@ -60,8 +60,8 @@ impl Ports {
         self.lanes[port as usize].lose(end)
     }
 
-    /// Makes a packet wait last for an end of a port, though the other end never put it. Refused where the end isn't `Up`,
-    /// and where its queue is full.
+    /// Makes a packet wait last for an end of a port, though the other end never put it. Refused where the end isn't
+    /// `Up`, and where its queue is full.
     pub fn inject(&mut self, port: u32, end: End, packet: &[u8; 64]) -> Result<(), PutFault>
         requires { port < length self.old }
         ensures entry { EntryOf ports port self.old (OnPort (OnLane (injected_event end packet.now result))) self.new }
@@ -70,8 +70,8 @@ impl Ports {
         self.lanes[port as usize].inject(end, packet)
     }
 
-    /// Writes bytes into the memory of an end of a port, though the end never wrote them. False where they don't lie within
-    /// it: then nothing changes.
+    /// Writes bytes into the memory of an end of a port, though the end never wrote them. False where they don't lie
+    /// within it: then nothing changes.
     pub fn poke(&mut self, port: u32, end: End, at: u64, bytes: &[u8]) -> bool
         requires { port < length self.old }
         ensures entry { EntryOf ports port self.old (OnPort (OnLane (poked_event end at bytes.now result))) self.new }

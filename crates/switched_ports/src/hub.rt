@@ -37,7 +37,8 @@ pub(crate) fn step_hub(
     switched
 }
 
-/// Tells the switch of a port what its end at the switch was told: its address where the session is open, and the groups.
+/// Tells the switch of a port what its end at the switch was told: its address where the session is open, and the
+/// groups.
 pub(crate) fn tell(lane: &NetLane, switch: &mut Switch, port: u32)
     requires port { port < length switch.old.ports }
     requires differ { (k : ℕ) → HasAddress switch.old.ports lane.now.shape.address k → k ≡ port }

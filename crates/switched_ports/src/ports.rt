@@ -16,8 +16,8 @@ use std::marker::Model;
 use vio_bytes::NoMemory;
 use vnet_switch::Switch;
 
-/// Up to eight ports of one switch, numbered from 0. Each is seen as the state of its lane, and the frames that wait for
-/// it in the switch.
+/// Up to eight ports of one switch, numbered from 0. Each is seen as the state of its lane, and the frames that wait
+/// for it in the switch.
 #[derive(Drop)]
 pub struct Ports {
     pub(crate) lanes: Vec<NetLane>,
@@ -38,8 +38,8 @@ impl Model for Ports {
 }
 
 impl Ports {
-    /// At most eight ports, no two of them with one address. No end is configured, and nothing waits. The one refusal is
-    /// for want of memory, and no later call takes any.
+    /// At most eight ports, no two of them with one address. No end is configured, and nothing waits. The one refusal
+    /// is for want of memory, and no later call takes any.
     pub fn new(alloc: Global, shapes: &[PortShape]) -> Result<Ports, NoMemory>
         requires few { length shapes.now ≤ 8 }
         requires shapes { EachOf IsNetShape (shapes_of shapes.now) }

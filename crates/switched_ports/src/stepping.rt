@@ -18,15 +18,15 @@ use net_lane::{End, NetOut};
 use vnet_switch::Switched;
 
 impl Ports {
-    /// Makes one step of an end of a port, and writes its answer into the caller's. Before one of the switch's end a frame
-    /// moves to it from the port's queue, where its session is open and it has room. A frame that the switch's end takes
-    /// goes into the queues of one set of ports, and misses another, whose queues are full: then the answer has both. The
-    /// end shows the frame that it took.
+    /// Makes one step of an end of a port, and writes its answer into the caller's. Before one of the switch's end a
+    /// frame moves to it from the port's queue, where its session is open and it has room. A frame that the switch's
+    /// end takes goes into the queues of one set of ports, and misses another, whose queues are full: then the answer
+    /// has both. The end shows the frame that it took.
     pub fn step_into(&mut self, port: u32, end: End, out: &mut NetOut) -> Option<Switched>
         requires port { port < length self.old }
         requires few { GivenBelow (2 ^ 64 - 1) self.old }
-        ensures entry { EntryOf ports port self.old (step_event end (net_answer out.new (last_at end port self.new)) result)
-            self.new }
+        ensures entry { EntryOf ports port self.old
+            (step_event end (net_answer out.new (last_at end port self.new)) result) self.new }
         ensures switched { is_some result ≡ is_switched end out.new }
         ensures count { TellsLength out.new (last_at end port self.new) }
 
@@ -58,7 +58,8 @@ impl Ports {
     // One step of the guest's end.
     fn step_guest(&mut self, port: u32, out: &mut NetOut)
         requires port { port < length self.old }
-        ensures entry { EntryOf ports port self.old (step_event A (net_answer out.new (last_at A port self.new)) None) self.new }
+        ensures entry { EntryOf ports port self.old
+            (step_event A (net_answer out.new (last_at A port self.new)) None) self.new }
         ensures count { TellsLength out.new (last_at A port self.new) }
         ensures ids { GivesNoMore self.old self.new }
     {
@@ -69,7 +70,8 @@ impl Ports {
     fn step_hub(&mut self, port: u32, out: &mut NetOut) -> Option<Switched>
         requires port { port < length self.old }
         requires few { GivenBelow (2 ^ 64 - 1) self.old }
-        ensures entry { EntryOf ports port self.old (step_event B (net_answer out.new (last_at B port self.new)) result) self.new }
+        ensures entry { EntryOf ports port self.old
+            (step_event B (net_answer out.new (last_at B port self.new)) result) self.new }
         ensures switched { is_some result ≡ is_frame out.new }
         ensures count { TellsLength out.new (last_at B port self.new) }
         ensures ids { GivesOneMore self.old self.new }

@@ -9,8 +9,8 @@ ghost use Rattle.switched_ports.specs.States.{PortAt};
 use crate::ports::Ports;
 
 impl Ports {
-    /// Whether a port is finished: its guest is in session and told its groups, which was answered, and no frame is left,
-    /// at neither end, nor in the switch.
+    /// Whether a port is finished: its guest is in session and told its groups, which was answered, and no frame is
+    /// left, at neither end, nor in the switch.
     pub fn finished(&self, port: u32) -> bool
         requires { port < length self.now }
         ensures { PortAt self.now port (λ at. result ≡ is_finished at.lane (length at.queue)) }
