@@ -26,7 +26,7 @@ use Rattle.vnet_switch.proofs.Bits.{set_from, set_means}
 use Rattle.vnet_switch.specs.Forward.{GetsFrame, HasAddress, IsFor, PortIs}
 use Rattle.vnet_switch.specs.PortSet.{IsSetOf}
 use Rattle.vnet_switch.specs.PortView.{PortView}
-use Rattle.vnet_switch.specs.Queues.{ChangesAt, HasRoom, IsFull, waiting_for, with_last, with_session}
+use Rattle.vnet_switch.specs.Queues.{ChangesAt, QueueHasRoom, IsFull, waiting_for, with_last, with_session}
 use Rattle.vnet_switch.specs.declared.forwarding.Switched.{Switched as Sets}
 use Rattle.switched_ports.specs.HubSteps.{GoesTo, HandsOn, HandsOver, HubSteps, Known, TakesFrame, given_by, port_at, with_queue}
 use Rattle.switched_ports.specs.States.{state_of}
@@ -130,7 +130,7 @@ module _ (k : ℕ) (frame : List ℕ) (old new : Known) (same : (j : ℕ) → j 
   pub goes_same : (sets : Option Sets) → IfSome sets (GoesTo k frame new) → IfSome sets (GoesTo k frame old)
   goes_same None goes_ = tt
   goes_same (Some sets) goes_ =
-      record { gets = set_same sets.out HasRoom goes_.gets; lacks = set_same sets.full IsFull goes_.lacks }
+      record { gets = set_same sets.out QueueHasRoom goes_.gets; lacks = set_same sets.full IsFull goes_.lacks }
 
 -- AN ADDRESS is where it was
 has_before : (o n : Option (PortView (List ℕ))) (sets : Option Sets) (frame address : List ℕ) (j : ℕ)
