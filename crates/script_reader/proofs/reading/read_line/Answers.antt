@@ -24,8 +24,7 @@ returns-then-branch-2-clause-reads g c =
     keeps_on rest (g.S.Source.left c.loop-piece.source) left c.loop-piece.line.items c.loop-piece.piece c.fill.new.self c.loop-piece.invariant.told c.fill.ensures.told in
     let moved : MovesPart c.fill.new.self c.loop-piece.line.items (Ok true) c.take_part.new.piece c.take_part.new.line.items =
     subst (λ (b : Bool). MovesPart c.fill.new.self c.loop-piece.line.items (Ok b) c.take_part.new.piece c.take_part.new.line.items)
-    c.if-branch-2.true c.in_ok-take_part.ensures.moves in
-    (
+    c.if-branch-2.true c.in_ok-take_part.ensures.moves in (
       takes_line rest left c.loop-piece.line.items c.fill.new.self c.take_part.new.line.items c.take_part.new.piece told moved.0 moved.1,
       has_feed rest left c.loop-piece.line.items c.fill.new.self c.take_part.new.line.items c.take_part.new.piece told moved.0,
     )

@@ -42,8 +42,7 @@ returns-then-is_empty-clause-reads g c =
     subst (λ (b : Bool). ReadsLine begun (Ok b) line c.read_line.new.piece after)
     c.in-Ok-false.field-0-test c.in-Ok-false.ensures.reads in
     let long : vec_len c.read_line.new.line ≡ length line = search rules in
-    let tells = empty_tells line (vec_len c.read_line.new.line) c.is_empty.result long c.is_empty.ensures in
-    (
+    let tells = empty_tells line (vec_len c.read_line.new.line) c.is_empty.result long c.is_empty.ensures in (
       gives_none c.self.inside c.args.self.now (line ++ c.read_line.new.piece) left after Ended c.self.view_is c.requires.forgotten reads.0,
       subst (λ (rest : Option (List ℕ)). IsAtEnd rest) is (at_end begun after line c.read_line.new.piece reads.0 reads.1 reads.2 (tells.0 c.if-is_empty.true)),
     )
