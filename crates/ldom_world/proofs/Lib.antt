@@ -1,6 +1,8 @@
 pub mod Telling
 pub mod Adding
 pub mod Leaving
+pub mod PortLeaving
+pub mod PortAnswering
 pub mod Answering
 pub mod LaneStepping
 pub mod Lifting
