@@ -12,6 +12,8 @@ use Rattle.switched_ports.specs.Given.{GivesNoMore, GivesOneMore}
 use Rattle.world_laws.specs.Settle.{OfPort, SettleEntry}
 use Rattle.ldom_entries.specs.JournalState.{JournalState, PutsEntry}
 use Rattle.domain_script.specs.declared.event.EndName.{EndName}
+use Rattle.domain_script.specs.declared.fields.LaneKind.{LaneKind}
+use Rattle.domain_script.specs.declared.fields.LaneKind.TheVariants as kinds
 use Rattle.kept_requests.specs.Bytes.{BytesState}
 use Rattle.ldom_entries.specs.declared.entry.Entry.{Entry}
 use Rattle.ldom_entries.specs.declared.entry.Entry.TheVariants as entry
@@ -79,6 +81,11 @@ IsPortCall lane.Restart = ⊥
 IsPortCall lane.Stop = ⊥
 IsPortCall lane.Start = ⊥
 IsPortCall _ = ⊤
+
+-- and one of a lane, by its kind
+abbrev pub IsCallOf : LaneKind → LaneCall → Type 0
+IsCallOf kinds.Disk call = ⊤
+IsCallOf kinds.Port call = IsPortCall call
 
 -- a step resets its end without a packet for what it read in the peer's memory: neither because a script asked, nor for a tick
 abbrev pub IsOwnReset : NetOut → Type 0

@@ -124,7 +124,6 @@ impl PortLanes {
     }
 
     /// Gives a guest a frame, and gives the entry, with this copy of the bytes where it is held.
-    #[tactic(auto, using(crate::proofs::PortAnswering::frame_answered))]
     fn give_frame(&mut self, port: u32, frame: &[u8], kept: Bytes) -> Entry
         requires port { port < length self.old }
         requires few { GivenBelow (2 ^ 64 - 1) self.old }

@@ -88,7 +88,7 @@ fn port_blocked(out: &NetOut) -> bool
 }
 
 /// Puts the entry of the step of a port's end last. The bytes of a frame are put into the room that was made for them.
-#[tactic(auto, using(crate::proofs::PortLeaving::port_recorded))]
+
 fn record_port(
     port: u32,
     side: Side,

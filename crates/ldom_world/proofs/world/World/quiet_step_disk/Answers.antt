@@ -5,7 +5,7 @@ use Rattle.world_laws.specs.World.{WorldStep}
 use Rattle.ldom_report.specs.LaneEvents.{end_of}
 use Rattle.ldom_world.proofs.Lifted.{counted_at, many_at, quiet_step_at, same_at, with_disks, within}
 use Rattle.ldom_world.specs.Steps.{MakesQuietStep}
-use Rattle.ldom_world.proofs.world.World.quiet_step.Goals as goal
+use Rattle.ldom_world.proofs.world.World.quiet_step_disk.Goals as goal
 
 pub quiet_step-requires-clause-disk : goal.quiet_step-requires-clause-disk
 quiet_step-requires-clause-disk g c = within c.self.inside.disks c.args.self.now c.self.view_is c.args.disk c.requires.disk

@@ -1,7 +1,7 @@
 use Rattle.std.proofs.lemmas.Result.{on_err_weaker, on_ok_weaker}
 use Rattle.ldom_report.specs.LaneEvents.{end_of}
 use Rattle.ldom_world.proofs.Lifted.{counted_at, many_at, same_at, step_at, within}
-use Rattle.ldom_world.proofs.world.World.step.Goals as goal
+use Rattle.ldom_world.proofs.world.World.step_disk.Goals as goal
 
 pub step-requires-clause-disk : goal.step-requires-clause-disk
 step-requires-clause-disk g c = within c.self.inside.disks c.args.self.now c.self.view_is c.args.disk c.requires.disk
