@@ -14,3 +14,5 @@ pub mod Turning
 pub mod Declaring
 pub mod SettlingAdds
 pub mod SettlingLanes
+pub mod PortsAdding
+pub mod SettlingPorts
