@@ -3,7 +3,9 @@ use Rattle.std.proofs.Common.{◌≡◌, ℕ, ◌+◌, ◌≤◌, ◌<◌, Bool,
 use Rattle.std.specs.Prelude.{IfOk, OnErr, OnOk}
 use Rattle.std.proofs.lemmas.Result.{IfOk-weaker, on_err_weaker, on_ok_weaker}
 use Rattle.lane_kinds.specs.Both.{BothStep}
-use Rattle.world_laws.specs.Settle.{SettleEntry}
+use Rattle.disk_model.specs.DiskEvent.{DiskEvent}
+use Rattle.switch_laws.specs.Events.{SwitchEvent}
+use Rattle.world_laws.specs.Settle.{OfLane, OfPort, SettleEntry}
 use Rattle.world_laws.specs.World.{WorldState, WorldStep}
 use Rattle.world_laws.specs.Issued.{issued_on}
 use Rattle.domain_laws.specs.Domain.{DomainState, DomainStep, PortsStep, lanes_in}
@@ -15,6 +17,7 @@ use Rattle.switched_ports.proofs.Entries.{below_later}
 use Rattle.switched_ports.specs.Given.{GivenBelow}
 use Rattle.ldom_world.proofs.Adding.{none_adds}
 use Rattle.ldom_world.specs.Steps.{AnswerMade, Counted, OneMade, QuietMade}
+use Rattle.ldom_world.specs.TurnsMade.{SameNumbers}
 use Rattle.world_parts.specs.Parts.{Adds, Fits, FitsSoFar}
 
 abbrev pub both : WorldState → List PortState → DomainState
@@ -83,3 +86,54 @@ module _ {W V : Type 0} (KindStep : W → SettleEntry → W → Type 0) (of_lane
       adds = none_adds line old new same.1;
       begins = record { begins = begins; run = sym (ap state same.0 ∙ is) };
     }
+
+-- EACH KIND in a world: the disks beside these ports, and the ports beside these disks
+pub lift_disks : (ports : List PortState) (d : WorldState) (k : ℕ) (event : DiskEvent) (e : WorldState)
+    → WorldStep d (OfLane k event) e → DomainStep (both d ports) (OfLane k event) (both e ports)
+lift_disks ports d k event e moves = record { of_first = moves; of_second = refl }
+
+pub lift_ports : (disks : WorldState) (d : List PortState) (k : ℕ) (event : SwitchEvent) (e : List PortState)
+    → PortsStep d (OfPort k event) e → DomainStep (both disks d) (OfPort k event) (both disks e)
+lift_ports disks d k event e moves = record { of_first = refl; of_second = moves }
+
+module _ (d : WorldState) (p : List PortState) (w : DomainState) (is : both d p ≡ w) where
+  -- WHAT IS ASKED of the world is so of each kind
+  pub disk_within : (k : ℕ) → k < length w.first.lanes → k < length d.lanes
+  disk_within k less = subst (λ (x : DomainState). k < length x.first.lanes) (sym is) less
+
+  pub port_within : (k : ℕ) → k < length w.second → k < length p
+  port_within k less = subst (λ (x : DomainState). k < length x.second) (sym is) less
+
+  pub counted_at : (entries : List Entry) → Counted entries w → accepted_count entries ≡ issued_on d.lanes
+  counted_at entries counted = subst (λ (x : DomainState). accepted_count entries ≡ issued_on x.first.lanes) (sym is) counted.accepted
+
+  pub given_at : (entries : List Entry) → Counted entries w → GivenBelow (length entries + 1) p
+  given_at entries counted = subst (λ (x : DomainState). GivenBelow (length entries + 1) x.second) (sym is) counted.given
+
+  pub disks_same_numbers : (e : WorldState) → length e.lanes ≡ length d.lanes → SameNumbers w (both e p)
+  disks_same_numbers e many =
+      subst (λ (x : DomainState). SameNumbers x (both e p)) is (record { disks = many; ports = refl })
+
+  pub ports_same_numbers : (e : List PortState) → length e ≡ length p → SameNumbers w (both d e)
+  ports_same_numbers e many =
+      subst (λ (x : DomainState). SameNumbers x (both d e)) is (record { disks = refl; ports = many })
+
+  -- THE JOURNAL COUNTS behind an event of a disk, by which it didn't shrink; and behind one of a port, which accepts nothing
+  pub disks_counted : (e : WorldState) (old new : List Entry) → Counted old w → length old + 1 ≤ length new + 1
+      → accepted_count new ≡ issued_on e.lanes → Counted new (both e p)
+  disks_counted e old new counted grows accepted = record {
+    accepted = accepted;
+    given = below_later (length old + 1) (length new + 1) p grows (given_at old counted);
+  }
+
+  pub ports_counted : (e : List PortState) (old new : List Entry) → Counted old w → accepted_count new ≡ accepted_count old
+      → GivenBelow (length new + 1) e → Counted new (both d e)
+  ports_counted e old new counted same given =
+      record { accepted = same ∙ counted_at old counted; given = given }
+
+-- by what a call answered, its journal didn't shrink
+pub grows_by : {X E : Type 0} (result : Result X E) (Made Same : Type 0) (old new : List Entry)
+    → (Made → length old + 1 ≤ length new + 1) → (Same → length old + 1 ≤ length new + 1)
+    → OnOk result Made → OnErr result Same → length old + 1 ≤ length new + 1
+grows_by (Ok x) Made Same old new grew stayed made same = grew made
+grows_by (Err e) Made Same old new grew stayed made same = stayed same
