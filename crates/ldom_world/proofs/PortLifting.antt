@@ -1,5 +1,5 @@
 -- One event of one port: what it does to the ports, which part of the journal it gives, and how many frames were given.
-use Rattle.std.proofs.Common.{◌≡◌, ℕ, ◌+◌, ◌-◌, ◌^◌, ◌<◌, ◌≤◌, Bool, true, false, cond, Option, Some, None, List, [], ◌∷◌, ◌++◌, length, refl, sym, ap, subst, ◌∙◌, arith, length-append}
+use Rattle.std.proofs.Common.{◌≡◌, ℕ, ◌+◌, ◌-◌, ◌^◌, ◌<◌, ◌≤◌, Bool, true, false, cond, Option, Some, None, List, [], ◌∷◌, ◌++◌, length, is_some, IfNone, refl, sym, ap, subst, ◌∙◌, arith, length-append}
 use Rattle.std.specs.Prelude.{◌&&◌, if◌then◌else◌}
 use Rattle.domain_laws.proofs.Running.{ports_many}
 use Rattle.domain_laws.specs.Domain.{IsOwn, PortsStep}
@@ -11,17 +11,20 @@ use Rattle.ldom_entries.specs.JournalState.{JournalState}
 use Rattle.ldom_entries.specs.declared.entry.Entry.{Entry}
 use Rattle.ldom_report.specs.Report.{accepted_count, is_accepted}
 use Rattle.lane_kinds.specs.Lanes.{EntryOf}
+use Rattle.net_lane.specs.Stepping.{net_answer}
+use Rattle.net_lane.specs.net_out.NetOut.{NetOut}
+use Rattle.net_lane.specs.net_out.NetOut.TheVariants as out
 use Rattle.port_model.specs.NetEndStep.{Frame, NetAnswer}
 use Rattle.switch_laws.specs.Events.{SwitchEvent}
 use Rattle.switch_laws.specs.Ports.{IsStepOf, is_silent, ports as kind}
 use Rattle.switched_ports.proofs.Entries.{below_later, one_more}
-use Rattle.switched_ports.specs.Events.{step_event}
+use Rattle.switched_ports.specs.Events.{is_switched, step_event}
 use Rattle.switched_ports.specs.Given.{GivenBelow, GivesNoMore, GivesOneMore}
 use Rattle.vnet_switch.specs.declared.forwarding.Switched.{Switched as Sets}
 use Rattle.world_laws.specs.Settle.{OfPort, SettleEntry}
 use Rattle.ldom_world.proofs.Adding.{none_adds, one_adds}
 use Rattle.ldom_world.proofs.Lifting.{count_push}
-use Rattle.ldom_world.specs.OnePort.{GivesBut, PortAnswers, PortEndSteps, PortRecordedBut, PortRecords, TellsPort}
+use Rattle.ldom_world.specs.OnePort.{GivesBut, PortAnswers, PortEndSteps, PortLeaves, PortRecordedBut, PortRecords, TellsPort}
 use Rattle.ldom_world.specs.Steps.{AnswerMade, OneMade, QuietMade, MakesPortAnswer, MakesPortStep, MakesQuietPortStep, port_entry_of}
 use Rattle.world_parts.specs.Parts.{Adds}
 
@@ -145,3 +148,36 @@ module _ (w v : List PortState) (k : ℕ) (x : Entry) (old mid new : List Entry)
 
   pub port_answer_many : PortAnswers line k Answers w x v → length v ≡ length w
   port_answer_many answer = port_many w v k answer.event answer.moves
+
+-- A STEP, by what the ports and the journal say of it: where it is silent no frame was switched
+none_given : (e : End) (answer : NetOut) (last : List ℕ) (sets : Option Sets) (Gives : Type 0)
+    → is_silent (step_event e (net_answer answer last) sets) ≡ true → is_some sets ≡ is_switched e answer → IfNone sets Gives
+    → Gives
+none_given e answer last None Gives silent same gives = gives
+none_given A answer last (Some sets) Gives silent same gives = absurd (cc same)
+none_given B (out.Frame len) last (Some sets) Gives silent same gives = absurd (cc silent)
+none_given B answer last (Some sets) Gives silent same gives = absurd (cc same)
+
+gives_by : (left : Bool) (w v : List PortState) → (left ≡ true → GivesNoMore w v) → GivesOneMore w v → GivesBut left w v
+gives_by true w v none one = none refl
+gives_by false w v none one = one
+
+second_of : (a b : Bool) → (a && b) ≡ true → b ≡ true
+second_of true b both = both
+second_of false b both = absurd (cc both)
+
+pub end_stepped : (in_settle : Bool) (k : ℕ) (e : End) (w v : List PortState) (answer : NetOut) (last : List ℕ)
+    (sets : Option Sets) (old new : JournalState) (calm : Bool)
+    → EntryOf kind k w (step_event e (net_answer answer last) sets) v → is_some sets ≡ is_switched e answer
+    → GivesOneMore w v → IfNone sets (GivesNoMore w v)
+    → PortLeaves in_settle k (step_event e (net_answer answer last) sets) old calm new
+    → PortEndSteps in_settle k e w old calm new v
+end_stepped in_settle k e w v answer last sets old new calm entry switched one none leaves = record {
+  event = step_event e (net_answer answer last) sets;
+  of_end = step_of_end e (net_answer answer last) sets;
+  moves = step_moves k w e (net_answer answer last) sets v entry;
+  leaves = leaves;
+  gives = gives_by (in_settle && is_silent (step_event e (net_answer answer last) sets)) w v
+      (λ left. none_given e answer last sets (GivesNoMore w v)
+      (second_of in_settle (is_silent (step_event e (net_answer answer last) sets)) left) switched none) one;
+}
