@@ -9,7 +9,7 @@ use Rattle.world_laws.specs.Settle.{OfLane, OfPort, SettleEntry}
 use Rattle.world_laws.specs.World.{WorldState, WorldStep}
 use Rattle.world_laws.specs.Issued.{issued_on}
 use Rattle.domain_laws.specs.Domain.{DomainState, DomainStep, PortsStep, lanes_in}
-use Rattle.domain_laws.specs.Lines.{BeginsPart, Line, PartOf}
+use Rattle.domain_laws.specs.Lines.{BeginsPart, Line, Nothing, PartOf}
 use Rattle.domain_laws.specs.PortState.{PortState}
 use Rattle.ldom_entries.specs.declared.entry.Entry.{Entry}
 use Rattle.ldom_report.specs.Report.{accepted_count}
@@ -137,3 +137,14 @@ pub grows_by : {X E : Type 0} (result : Result X E) (Made Same : Type 0) (old ne
     → OnOk result Made → OnErr result Same → length old + 1 ≤ length new + 1
 grows_by (Ok x) Made Same old new grew stayed made same = grew made
 grows_by (Err e) Made Same old new grew stayed made same = stayed same
+
+-- and in a settle, by what it adds
+pub quiet_grows : {X E : Type 0} (result : Result X E) (Made : X → Type 0) (Same : Type 0) (old new : List Entry)
+    → ((x : X) → Made x → (entries : List SettleEntry) × Adds Nothing old new entries) → IfOk result Made
+    → OnErr result (Same × (new ≡ old)) → length old + 1 ≤ length new + 1
+quiet_grows (Ok x) Made Same old new adds made same = let at = adds x made in adds_grow Nothing old new at.0 at.1
+quiet_grows (Err e) Made Same old new adds made same = same_grows old new same.1
+
+-- as many lanes of each kind, one after the other
+pub both_numbers : {u v w : DomainState} → SameNumbers u v → SameNumbers v w → SameNumbers u w
+both_numbers one two = record { disks = two.disks ∙ one.disks; ports = two.ports ∙ one.ports }
