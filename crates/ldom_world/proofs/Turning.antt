@@ -33,7 +33,18 @@ both_steps (next ∷ first) second [] two steps more = absurd steps
 both_steps (next ∷ first) second (entry ∷ one) two steps more =
     (steps.0, both_steps first second one two steps.1 more)
 
-pub npub disk_turned : (k : ℕ) (e : End) (w v : DomainState) (old new : List Entry) → MakesStep DomainStep k e w old new v
+pub none_turned : (w v : DomainState) (old new : List Entry) → v ≡ w → new ≡ old → TurnsMade [] w old new v
+none_turned w v old new same none = record {
+  entries = [];
+  adds = λ line. none_adds line old new none;
+  steps = tt;
+  run = sym same;
+}
+
+pub nothing_turned : (w : DomainState) (old : List Entry) → TurnsMade [] w old old w
+nothing_turned w old = none_turned w w old old refl refl
+
+pub disk_turned : (k : ℕ) (e : End) (w v : DomainState) (old new : List Entry) → MakesStep DomainStep k e w old new v
     → TurnsMade (turn (DiskLane k) e ∷ []) w old new v
 disk_turned k e w v old new made = record {
   entries = OfLane k made.event ∷ [];

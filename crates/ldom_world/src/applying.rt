@@ -179,7 +179,12 @@ impl<D: Store> World<D> {
     }
 
     /// Calls the port with this number.
-    pub(crate) fn answer_port(&mut self, port: u32, call: LaneCall, journal: &mut Journal) -> Result<(), NoMemory>
+    pub(crate) fn answer_port(
+        &mut self,
+        port: u32,
+        call: LaneCall,
+        journal: &mut Journal,
+    ) -> Result<(), NoMemory>
         requires port { port < length self.old.second }
         requires call { IsPortCall call }
         requires agrees { Counted journal.old.entries self.old }
@@ -193,7 +198,14 @@ impl<D: Store> World<D> {
     }
 
     /// Pokes the memory of an end of the port with this number.
-    fn poke_port(&mut self, port: u32, side: Side, at: u64, bytes: &[u8], journal: &mut Journal) -> Result<(), NoMemory>
+    fn poke_port(
+        &mut self,
+        port: u32,
+        side: Side,
+        at: u64,
+        bytes: &[u8],
+        journal: &mut Journal,
+    ) -> Result<(), NoMemory>
         requires port { port < length self.old.second }
         requires agrees { Counted journal.old.entries self.old }
         ensures fits { OnOk result (Fits self.old (Calls (script.PortLane port) (Pokes (end_of side) at bytes.now))

@@ -38,8 +38,10 @@ impl Lanes {
     pub fn new(alloc: Global, names: &Names) -> Result<Lanes, NoMemory>
         requires disks { AreDisks names.now.disks }
         requires ports { ArePorts names.now.ports }
-        ensures lanes { IfOk result (λ lanes. lanes ≡ record { first = map fresh (shapes_of 0 names.now.disks);
-            second = map fresh_port (nets_of names.now.ports) }) }
+        ensures lanes { IfOk result (λ lanes. lanes ≡ record {
+          first = map fresh (shapes_of 0 names.now.disks);
+          second = map fresh_port (nets_of names.now.ports);
+        }) }
         ensures few { IfOk result (λ lanes. length lanes.first ≤ 8) }
     {
         Ok(Lanes {

@@ -119,7 +119,11 @@ fn record_port(
             let bytes = filled(room, answer.frame, alloc);
             record_frame(end, answer.switched, bytes, journal);
         }
-        NetOut::Reset { cause, packet, lost } => journal.push_reset(end, *cause, packet, *lost),
+        NetOut::Reset {
+            cause,
+            packet,
+            lost,
+        } => journal.push_reset(end, *cause, packet, *lost),
     }
 }
 

@@ -92,7 +92,15 @@ impl PortLanes {
             switched,
             frame: self.last_frame(port, side),
         };
-        let calm = leave_port(port, side, answer, in_settle, &mut self.room, self.alloc, journal);
+        let calm = leave_port(
+            port,
+            side,
+            answer,
+            in_settle,
+            &mut self.room,
+            self.alloc,
+            journal,
+        );
         Ok(calm)
     }
 

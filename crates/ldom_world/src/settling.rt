@@ -164,11 +164,7 @@ impl<D: Store> World<D> {
 
     /// Ticks each lane that isn't finished, that isn't a disk's whose server is stopped, and that had none in this
     /// settle. Tells whether there was one.
-    fn tick_lanes(
-        &mut self,
-        had: &mut LaneMarks,
-        journal: &mut Journal,
-    ) -> Result<bool, NoMemory>
+    fn tick_lanes(&mut self, had: &mut LaneMarks, journal: &mut Journal) -> Result<bool, NoMemory>
         requires agrees { Counted journal.old.entries self.old }
         ensures ticked { IfOk result (λ some. TicksAdd self.old (marks_of had.old) some (marks_of had.new) self.new
             journal.old.entries journal.new.entries) }

@@ -19,7 +19,13 @@ use vio_io::Store;
 impl<D: Store> World<D> {
     /// So many steps of an end of a lane.
     #[tactic(auto, using(crate::proofs::Turning::steps_on))]
-    pub(crate) fn steps(&mut self, lane: Lane, side: Side, count: u32, journal: &mut Journal) -> Result<(), NoMemory>
+    pub(crate) fn steps(
+        &mut self,
+        lane: Lane,
+        side: Side,
+        count: u32,
+        journal: &mut Journal,
+    ) -> Result<(), NoMemory>
         requires lane { IsLaneOf self.old lane }
         requires agrees { Counted journal.old.entries self.old }
         ensures fits { OnOk result (Fits self.old (Steps (lane_named lane) (end_of side) count) journal.old.entries
@@ -128,7 +134,12 @@ impl<D: Store> World<D> {
     }
 
     /// The same in a settle, where a step that idles leaves no entry, nor one of a stopped server; and whether it was calm.
-    pub(crate) fn quiet_step_disk(&mut self, disk: u32, side: Side, journal: &mut Journal) -> Result<bool, NoMemory>
+    pub(crate) fn quiet_step_disk(
+        &mut self,
+        disk: u32,
+        side: Side,
+        journal: &mut Journal,
+    ) -> Result<bool, NoMemory>
         requires disk { disk < length self.old.first.lanes }
         requires agrees { Counted journal.old.entries self.old }
         ensures made { IfOk result (λ calm. MakesQuietStep DomainStep disk (end_of side) self.old
@@ -154,7 +165,12 @@ impl<D: Store> World<D> {
     }
 
     /// The same in a settle, where a step that idles leaves no entry; and whether it was calm.
-    pub(crate) fn quiet_step_port(&mut self, port: u32, side: Side, journal: &mut Journal) -> Result<bool, NoMemory>
+    pub(crate) fn quiet_step_port(
+        &mut self,
+        port: u32,
+        side: Side,
+        journal: &mut Journal,
+    ) -> Result<bool, NoMemory>
         requires port { port < length self.old.second }
         requires agrees { Counted journal.old.entries self.old }
         ensures made { IfOk result (λ calm. MakesQuietPortStep DomainStep port (end_of side) self.old

@@ -40,8 +40,10 @@ impl<D: Store> Model for World<D> {
 pub fn room_for(alloc: Global, names: &Names) -> Result<(Lanes, KeptBlocks), NoMemory>
     requires disks { AreDisks names.now.disks }
     requires ports { ArePorts names.now.ports }
-    ensures lanes { IfOk result (λ room. room.0 ≡ record { first = map fresh (shapes_of 0 names.now.disks);
-        second = map fresh_port (nets_of names.now.ports) }) }
+    ensures lanes { IfOk result (λ room. room.0 ≡ record {
+      first = map fresh (shapes_of 0 names.now.disks);
+      second = map fresh_port (nets_of names.now.ports);
+    }) }
     ensures few { IfOk result (λ room. length room.0.first ≤ 8) }
     ensures blocks { IfOk result (λ room. room.1 ≡ record { kept = []; most = 64 }) }
 {
