@@ -16,3 +16,4 @@ pub mod SettlingAdds
 pub mod SettlingLanes
 pub mod PortsAdding
 pub mod SettlingPorts
+pub mod Calling

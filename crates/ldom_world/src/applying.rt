@@ -24,7 +24,7 @@ use vio_io::Store;
 impl<D: Store> World<D> {
     /// Does what a line of the script says, and adds its part to the journal. After want of memory the journal holds
     /// every step that was made and no other.
-    #[tactic(auto, using(crate::proofs::Lifting::line_many))]
+    #[tactic(auto, using(crate::proofs::Lifting::line_many, crate::proofs::Calling::calls_on))]
     pub fn apply(&mut self, event: &Event, journal: &mut Journal) -> Result<(), NoMemory>
         requires event { IsForLanes self.old event.now }
         requires agrees { Counted journal.old.entries self.old }

@@ -1,4 +1,4 @@
-ghost use Rattle.std.specs.Prelude.{◌≡◌, ◌≤◌, ◌<◌, length};
+ghost use Rattle.std.specs.Prelude.{◌≡◌, ◌*◌, ◌≤◌, ◌<◌, length};
 ghost use Rattle.lane_kinds.specs.Lanes.{sum_of};
 ghost use Rattle.switch_laws.specs.Ports.{pending, waits_on};
 ghost use Rattle.switched_ports.specs.States.{PortAt};
@@ -59,7 +59,8 @@ impl PortLanes {
 
     /// How many frames are held by all ends, and wait in all queues.
     pub fn pending(&self) -> u64
-        ensures { result ≡ sum_of pending self.now }
+        ensures sum { result ≡ sum_of pending self.now }
+        ensures small { result ≤ 8 * 12884901885 }
     {
         self.lanes.pending()
     }
