@@ -17,3 +17,4 @@ pub mod SettlingLanes
 pub mod PortsAdding
 pub mod SettlingPorts
 pub mod Calling
+pub mod DeclaringPorts

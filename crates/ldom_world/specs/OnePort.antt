@@ -1,5 +1,5 @@
 -- One event of one port, and what it leaves in the journal.
-use Rattle.std.specs.Prelude.{◌≡◌, ℕ, Bool, true, false, ◌&&◌, List, Option, Some, None, ⊤}
+use Rattle.std.specs.Prelude.{◌≡◌, ℕ, ◌≤◌, Bool, true, false, ◌&&◌, List, length, Option, Some, None, ⊤}
 use Rattle.ldc_queue.specs.declared.end.End.{End}
 use Rattle.net_lane.specs.net_out.NetOut.{NetOut}
 use Rattle.net_lane.specs.net_out.NetOut.TheVariants as out
@@ -97,3 +97,8 @@ IsOwnReset _ = ⊤
 abbrev pub frame_entry : EndName → Option Sets → BytesState → Entry
 frame_entry e (Some sets) bytes = entry.Switched e sets.out sets.full bytes
 frame_entry e None bytes = entry.Frame e bytes
+
+-- what a step needs to put a frame that it takes; no other answer carries any bytes
+abbrev pub HasRoomForFrame : NetOut → List ℕ → ℕ → Type 0
+HasRoomForFrame (out.Frame len) last room = length last ≤ room
+HasRoomForFrame _ last room = ⊤

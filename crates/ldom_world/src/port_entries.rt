@@ -1,11 +1,11 @@
 // What an answer of a port's end leaves in the journal.
 
-ghost use Rattle.std.specs.Prelude.{◌≡◌, ◌≤◌, ◌<◌, ◌||◌, [], is_some, length};
+ghost use Rattle.std.specs.Prelude.{◌≡◌, ◌<◌, ◌||◌, [], is_some};
 ghost use Rattle.domain_script.specs.LaneKinds.{port_lane};
 ghost use Rattle.ldom_report.specs.LaneEvents.{end_of};
 ghost use Rattle.ldom_world.specs.Called.{port_end};
 ghost use Rattle.ldom_entries.specs.JournalState.{PutsEntry};
-ghost use Rattle.ldom_world.specs.OnePort.{frame_entry, IsOwnReset, port_blocked, port_rests, PortLeaves, PortRecords};
+ghost use Rattle.ldom_world.specs.OnePort.{frame_entry, HasRoomForFrame, IsOwnReset, port_blocked, port_rests, PortLeaves, PortRecords};
 ghost use Rattle.net_lane.specs.Stepping.{net_answer};
 ghost use Rattle.switched_ports.specs.Events.{is_switched, step_event};
 
@@ -55,7 +55,7 @@ pub fn leave_port(
     journal: &mut Journal,
 ) -> bool
     requires ready { 0 < journal.old.room }
-    requires room { length answer.frame.now ≤ room.old.room }
+    requires room { HasRoomForFrame answer.out.now answer.frame.now room.old.room }
     requires empty { room.old.items ≡ [] }
     requires switched { is_some answer.switched ≡ is_switched (end_of side) answer.out.now }
     requires own { IsOwnReset answer.out.now }
@@ -98,7 +98,7 @@ fn record_port(
     journal: &mut Journal,
 )
     requires ready { 0 < journal.old.room }
-    requires room { length answer.frame.now ≤ room.old.room }
+    requires room { HasRoomForFrame answer.out.now answer.frame.now room.old.room }
     requires empty { room.old.items ≡ [] }
     requires switched { is_some answer.switched ≡ is_switched (end_of side) answer.out.now }
     requires own { IsOwnReset answer.out.now }
