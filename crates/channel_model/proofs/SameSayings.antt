@@ -40,14 +40,14 @@ parts_more : (packets : List (List ℕ)) (packet : List ℕ)
 parts_more packets packet =
     fragments_in-append packets (numbered (packet ∷ [])) ∙ ap (λ (parts : List Fragment). fragments_in packets ++ parts) (part_of packet)
 
-pub half_said_is : (turns : List Turn) → half_said turns ≡ in_order.half_said turns
+pub half_said_is : (turns : List Turn) → half_said turns ≡ in_order.unfinished_said turns
 half_said_is [] = refl
 half_said_is (Heard packet ∷ turns) = half_said_is turns
 half_said_is (Said packet ∷ turns) =
     ap (half_past (is_part packet) (fragment_at packet)) (half_said_is turns)
     ∙ sym (ap (half_in []) (parts_more (numbered_said turns) packet) ∙ half_more (is_part packet) (fragment_at packet) (fragments_in (numbered_said turns)))
 
-pub half_heard_is : (turns : List Turn) → half_heard turns ≡ in_order.half_heard turns
+pub half_heard_is : (turns : List Turn) → half_heard turns ≡ in_order.unfinished_heard turns
 half_heard_is [] = refl
 half_heard_is (Said packet ∷ turns) = half_heard_is turns
 half_heard_is (Heard packet ∷ turns) =
@@ -59,7 +59,7 @@ said_is [] = refl
 said_is (Heard packet ∷ turns) = said_is turns
 said_is (Said packet ∷ turns) =
     ap (λ (half : List ℕ). whole_past (is_part packet) (fragment_at packet) half (said turns)) (half_said_is turns)
-    ∙ ap (whole_past (is_part packet) (fragment_at packet) (in_order.half_said turns)) (said_is turns)
+    ∙ ap (whole_past (is_part packet) (fragment_at packet) (in_order.unfinished_said turns)) (said_is turns)
     ∙ sym (ap (whole_in []) (parts_more (numbered_said turns) packet) ∙ whole_more (is_part packet) (fragment_at packet) (fragments_in (numbered_said turns)))
 
 pub heard_is : (turns : List Turn) → heard turns ≡ messages_heard turns
@@ -67,5 +67,5 @@ heard_is [] = refl
 heard_is (Said packet ∷ turns) = heard_is turns
 heard_is (Heard packet ∷ turns) =
     ap (λ (half : List ℕ). whole_past (is_part packet) (fragment_at packet) half (heard turns)) (half_heard_is turns)
-    ∙ ap (whole_past (is_part packet) (fragment_at packet) (in_order.half_heard turns)) (heard_is turns)
+    ∙ ap (whole_past (is_part packet) (fragment_at packet) (in_order.unfinished_heard turns)) (heard_is turns)
     ∙ sym (ap (whole_in []) (parts_more (numbered_heard turns) packet) ∙ whole_more (is_part packet) (fragment_at packet) (fragments_in (numbered_heard turns)))

@@ -11,6 +11,6 @@ ghost use Rattle.channel_model.specs.Sayings.{half_heard, half_said, heard, said
 pub fn transcripts_count_messages()
     ensures said { (turns : List Turn) → said turns ≡ in_order.messages_said turns }
     ensures heard { (turns : List Turn) → heard turns ≡ in_order.messages_heard turns }
-    ensures half_said { (turns : List Turn) → half_said turns ≡ in_order.half_said turns }
-    ensures half_heard { (turns : List Turn) → half_heard turns ≡ in_order.half_heard turns }
+    ensures half_said { (turns : List Turn) → half_said turns ≡ in_order.unfinished_said turns }
+    ensures half_heard { (turns : List Turn) → half_heard turns ≡ in_order.unfinished_heard turns }
 {}

@@ -1,6 +1,6 @@
 -- Fronts of ranges of a file's bytes, where it tells them, and what its calls came to.
-use Rattle.std.specs.Prelude.{◌≡◌, ℕ, ◌+◌, ◌≤◌, ◌==◌, ◌⊎◌, if◌then◌else◌, List, take, min, Option, Result, Ok, Err}
-use Rattle.vio_io.specs.Causes.{last_count, next_count}
+use Rattle.std.specs.Prelude.{◌≡◌, ℕ, ◌<◌, ◌==◌, ◌⊎◌, if◌then◌else◌, List, take, Option, Result, Ok, Err}
+use Rattle.vio_io.specs.Causes.{count_after, next_count}
 use Rattle.vio_io.specs.Stores.{ReadsRange, WritesRange}
 use Rattle.flat_store.specs.declared.image_file.FileFault.{FileFault}
 use Rattle.flat_store.specs.declared.image_file.FileFault.TheVariants.{Interrupted, Other}
@@ -51,20 +51,45 @@ abbrev pub after_sync : {A : Type 0} → Result A FileFault → FileCalls → Fi
 after_sync (Ok done) c = one_synced c
 after_sync (Err fault) c = after_fault fault c
 
+-- how often in a row a call of a file is tried before its interruptions are a fault
+abbrev pub most_tries : ℕ
+most_tries = 10000
+
+-- so often calls were interrupted, as far as the count goes
+pub record WereInterrupted (Often : ℕ → Type 0) (old new : ℕ) : Type 0 where
+  pub times : ℕ
+  pub often : Often times
+  pub count : new ≡ count_after times old
+
+-- fewer calls than may be were interrupted, before one that wasn't
+abbrev pub FewInterrupted : ℕ → ℕ → Type 0
+FewInterrupted old new = WereInterrupted (λ times. times < most_tries) old new
+
+-- all that may be made were
+abbrev pub AllInterrupted : ℕ → ℕ → Type 0
+AllInterrupted old new = WereInterrupted (λ times. times ≡ most_tries) old new
+
 -- one call moved all that was asked, and no other did anything
 pub record MovedOnce (old new : FileCalls) : Type 0 where
   pub moved : new.moved ≡ next_count old.moved
   pub synced : new.synced ≡ old.synced
   pub failed : new.failed ≡ old.failed
+  pub interrupted : FewInterrupted old.interrupted new.interrupted
 
 -- one call synced what was written, and no other did anything
 pub record SyncedOnce (old new : FileCalls) : Type 0 where
   pub moved : new.moved ≡ old.moved
   pub synced : new.synced ≡ next_count old.synced
   pub failed : new.failed ≡ old.failed
+  pub interrupted : FewInterrupted old.interrupted new.interrupted
 
--- no call did what was asked: one moved less or failed, or 10,000 or more were interrupted, as far as the count goes
+-- why no call did what was asked: one moved less or failed, behind fewer that were interrupted, or all that may be made were
+abbrev pub LackedSo : FileCalls → FileCalls → Type 0
+LackedSo old new = ((new.failed ≡ next_count old.failed) × FewInterrupted old.interrupted new.interrupted)
+    ⊎ ((new.failed ≡ old.failed) × AllInterrupted old.interrupted new.interrupted)
+
+-- no call did what was asked, and this is why
 pub record Lacked (old new : FileCalls) : Type 0 where
   pub moved : new.moved ≡ old.moved
   pub synced : new.synced ≡ old.synced
-  pub why : (new.failed ≡ next_count old.failed) ⊎ ((new.failed ≡ old.failed) × (min (old.interrupted + 10000) last_count ≤ new.interrupted))
+  pub why : LackedSo old new

@@ -10,7 +10,7 @@ use vio_io::{Failed, Store};
 const MOST_TRIES: u32 = 10_000;
 
 /// A file as a store: a range is moved by one call of the file, and a call that moves less is a fault. A call that the
-/// system interrupted is tried again, and isn't a fault before 10,000 times in a row.
+/// system interrupted is tried again, up to 10,000 times in a row: 10,000 interruptions are a fault, and fewer aren't.
 #[derive(Drop)]
 pub struct FileStore<F: ImageFile> {
     file: F,
@@ -137,6 +137,7 @@ fn whole(moved: usize, wanted: usize) -> Result<(), Failed>
     if moved == wanted { Ok(()) } else { Err(Failed) }
 }
 
+#[tactic(auto, using(crate::proofs::Tries::interrupted_more))]
 fn read_whole<F: ImageFile>(file: &mut F, at: u64, buf: &mut [u8]) -> Result<(), Failed>
     requires { IsUnitRange (F.size file.old) at (length buf.old) }
     ensures told { OnOk result (ReadsRange (F.content file.old) at buf.new) }
@@ -155,6 +156,7 @@ fn read_whole<F: ImageFile>(file: &mut F, at: u64, buf: &mut [u8]) -> Result<(),
     Err(Failed)
 }
 
+#[tactic(auto, using(crate::proofs::Tries::interrupted_more))]
 fn write_whole<F: ImageFile>(file: &mut F, at: u64, bytes: &[u8]) -> Result<(), Failed>
     requires { IsUnitRange (F.size file.old) at (length bytes.now) }
     ensures told { OnOk result (WritesRange (F.content file.old) (F.content file.new) at bytes.now) }
@@ -174,6 +176,7 @@ fn write_whole<F: ImageFile>(file: &mut F, at: u64, bytes: &[u8]) -> Result<(), 
     Err(Failed)
 }
 
+#[tactic(auto, using(crate::proofs::Tries::interrupted_more))]
 fn sync<F: ImageFile>(file: &mut F) -> Result<(), Failed>
     ensures content { F.content file.new ≡ F.content file.old }
     ensures size { F.size file.new ≡ F.size file.old }

@@ -16,7 +16,7 @@ use Rattle.lane_kinds.specs.Stuck.{NeverThree, sum_over}
 use Rattle.kind_cases.proofs.PortLaws.{port_rests, turn_steps}
 use Rattle.kind_cases.proofs.Settling.{Whole, begins, keeps}
 use Rattle.kind_cases.specs.PortCounts.{moves, port_blocked, port_stuck, port_ticks}
-use Rattle.kind_cases.specs.Ports.{HasRoom, IsEither, IsLossless, IsPortTurn, IsSwitch, IsUnforged, Port, PortEvent, port_calm, port_silent, port_waits, ports}
+use Rattle.kind_cases.specs.Ports.{WayHasRoom, IsEither, IsLossless, IsPortTurn, IsSwitch, IsUnforged, Port, PortEvent, port_calm, port_silent, port_waits, ports}
 use Rattle.kind_cases.specs.Ports.{Blocked, GuestIdle, Joined, Published, SwitchIdle, Switched, Taken, Tick}
 use Rattle.kind_cases.specs.World.{OfPort, OfTwin, WorldEntry, of_ports, of_twins, two_switches}
 
@@ -133,14 +133,14 @@ pub never_three : (start : Two (List Port) (List Port)) (part : List WorldEntry)
 never_three start part behind k settle = part_never two_switches (port_stuck k) (port_blocked k) moves (all_unstick k) start part behind settle
 
 -- NAMES: a port waits behind its tick, as its guest's end isn't up
-tick_waits : TickWaits ports HasRoom
+tick_waits : TickWaits ports WayHasRoom
 tick_waits s t at waits step = subst (λ (x : Port). port_waits x ≡ true) (sym step) refl
 
 named : Names two_switches (BothStand (EachMarked Whole) (EachMarked Whole))
 named =
     both_name (lanes_of ports of_ports) (lanes_of ports of_twins) (EachMarked Whole) (EachMarked Whole)
-    (lanes_name ports of_ports HasRoom IsUnforged IsLossless port_rests tick_waits) (lanes_name ports of_twins HasRoom IsUnforged IsLossless port_rests tick_waits)
+    (lanes_name ports of_ports WayHasRoom IsUnforged IsLossless port_rests tick_waits) (lanes_name ports of_twins WayHasRoom IsUnforged IsLossless port_rests tick_waits)
 
 pub some_named : (start : Two (List Port) (List Port)) (part : List WorldEntry) (behind : Two (List Port) (List Port)) (out : RunsOut two_switches start part behind)
-    → BothHold (EachOf HasRoom) (EachOf HasRoom) start → 1 ≤ length (two_switches.names out.last.steps behind)
+    → BothHold (EachOf WayHasRoom) (EachOf WayHasRoom) start → 1 ≤ length (two_switches.names out.last.steps behind)
 some_named start part behind out rooms = out_names two_switches (BothStand (EachMarked Whole) (EachMarked Whole)) keeps named start part behind out (begins start rooms)

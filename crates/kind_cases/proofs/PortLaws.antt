@@ -4,7 +4,7 @@ use Rattle.std.specs.Prelude.{◌||◌, if◌then◌else◌, ⊤}
 use Rattle.runs.specs.Run.{Run}
 use Rattle.lane_kinds.proofs.Sums.{and_left, and_right}
 use Rattle.lane_kinds.specs.Lanes.{CalmTurn, EachStep, IsSilent, LaneFalls, LaneRests, all_calm}
-use Rattle.kind_cases.specs.Ports.{HasRoom, IsClean, IsEither, IsGuest, IsLossless, IsPortTurn, IsSwitch, IsUnforged, Port, PortEvent, PortStep, if_so, is_none, port_calm, port_gets, port_raises, port_remaining, port_silent, port_waits, ports}
+use Rattle.kind_cases.specs.Ports.{WayHasRoom, IsClean, IsEither, IsGuest, IsLossless, IsPortTurn, IsSwitch, IsUnforged, Port, PortEvent, PortStep, if_so, is_none, port_calm, port_gets, port_raises, port_remaining, port_silent, port_waits, ports}
 use Rattle.kind_cases.specs.Ports.{Blocked, Forged, Given, GuestIdle, Joined, Lost, Published, SwitchIdle, Switched, Taken, Tick}
 
 -- what remains, by its parts
@@ -79,7 +79,7 @@ honest : (event : PortEvent) → IsEither event → IsHonest event
 honest Forged own = absurd own
 honest _ own = tt
 
-has_room : (s : Port) (event : PortEvent) (t : Port) → HasRoom s → PortStep s event t → HasRoom t
+has_room : (s : Port) (event : PortEvent) (t : Port) → WayHasRoom s → PortStep s event t → WayHasRoom t
 has_room s Forged t at step = record { some = subst (λ (n : ℕ). 0 < n) (sym (ap (λ (x : Port). x.room) step)) at.some }
 has_room s event t at step = record { some = subst (λ (n : ℕ). 0 < n) (sym (keeps s event t step tt).room) at.some }
 
@@ -163,7 +163,7 @@ record Rests (s : Port) : Type 0 where
   up : s.up ≡ true
   held : s.to_switch + s.out + s.to_guest ≡ 0
 
-rests : (s : Port) (one two : PortEvent) (m t : Port) → HasRoom s → IsGuest one → IsSwitch two → port_calm one ≡ true → port_calm two ≡ true → PortStep s one m → PortStep m two t → Rests t
+rests : (s : Port) (one two : PortEvent) (m t : Port) → WayHasRoom s → IsGuest one → IsSwitch two → port_calm one ≡ true → port_calm two ≡ true → PortStep s one m → PortStep m two t → Rests t
 rests s GuestIdle SwitchIdle m t at guest switch one two first second =
     subst Rests (sym second.2) (record {
       up = ap (λ (x : Port). x.up) first.2 ∙ first.0;
@@ -178,7 +178,7 @@ rests s Taken next m t at guest switch one two first second = absurd (cc one)
 rests s GuestIdle next m t at guest switch one two first second = absurd switch
 rests s _ next m t at guest switch one two first second = absurd guest
 
-turn_rests : (s : Port) (events : List PortEvent) (t : Port) → HasRoom s → CalmTurn ports s events t → Rests t
+turn_rests : (s : Port) (events : List PortEvent) (t : Port) → WayHasRoom s → CalmTurn ports s events t → Rests t
 turn_rests s (one ∷ two ∷ []) t at turn =
     let calm = turn.calm in
     rests s one two turn.run.0 t at turn.of_turn.0 turn.of_turn.1 (and_left (port_calm one) (all_calm ports (two ∷ [])) calm)
@@ -205,7 +205,7 @@ run_lossless : (s : Port) (events : List PortEvent) (t : Port) → EachStep port
 run_lossless s [] t steps run whole = subst IsLossless run whole
 run_lossless s (event ∷ events) t steps run whole = run_lossless run.0 events t steps.1 run.2 (lossless s event run.0 run.1 steps.0 ∙ whole)
 
-finishes : (s : Port) (events : List PortEvent) (t : Port) → HasRoom s → IsLossless s → CalmTurn ports s events t → port_waits t ≡ false
+finishes : (s : Port) (events : List PortEvent) (t : Port) → WayHasRoom s → IsLossless s → CalmTurn ports s events t → port_waits t ≡ false
 finishes s events t at whole turn =
     let still : Rests t = turn_rests s events t at turn in
     not_waiting t.lossy t.up (t.to_switch + t.out + t.to_guest) (run_lossless s events t (turn_steps events turn.of_turn) turn.run whole) still.up still.held
@@ -224,7 +224,7 @@ port_falls = record {
   tick_falls = tick_falls;
 }
 
-pub port_rests : LaneRests ports HasRoom IsUnforged IsLossless
+pub port_rests : LaneRests ports WayHasRoom IsUnforged IsLossless
 port_rests = record {
   turn_steps = turn_steps;
   reached = has_room;

@@ -12,11 +12,11 @@ use Rattle.lane_kinds.specs.Lanes.{AllMove, AreClean, EachMarked, EachOf, IsAtRe
 use Rattle.lane_kinds.specs.Laws.{Ends, Falls, Keeps, Leads}
 use Rattle.lane_kinds.specs.Settles.{EndsWith, SettlePart, Settles, most_rounds}
 use Rattle.kind_cases.proofs.PortLaws.{port_bound, port_falls, port_rests, port_silence}
-use Rattle.kind_cases.specs.Ports.{HasRoom, IsClean, IsLossless, IsUnforged, Port, port_raises, port_remaining, ports}
+use Rattle.kind_cases.specs.Ports.{WayHasRoom, IsClean, IsLossless, IsUnforged, Port, port_raises, port_remaining, ports}
 use Rattle.kind_cases.specs.World.{WorldEntry, of_ports, of_twins, said_port, said_twin, two_switches}
 
 abbrev pub Whole : Port → Bool → Type 0
-Whole = IsWhole ports HasRoom IsUnforged IsLossless port_rests
+Whole = IsWhole ports WayHasRoom IsUnforged IsLossless port_rests
 
 abbrev Clean : List Port → Type 0
 Clean = AreClean IsClean
@@ -51,24 +51,24 @@ two_settle start part behind at settle =
 pub keeps : Keeps two_switches (BothStand (EachMarked Whole) (EachMarked Whole))
 keeps =
     both_keep (lanes_of ports of_ports) (lanes_of ports of_twins) (EachMarked Whole) (EachMarked Whole)
-    (lanes_keep ports HasRoom IsUnforged IsLossless port_rests of_ports) (lanes_keep ports HasRoom IsUnforged IsLossless port_rests of_twins)
+    (lanes_keep ports WayHasRoom IsUnforged IsLossless port_rests of_ports) (lanes_keep ports WayHasRoom IsUnforged IsLossless port_rests of_twins)
 
-pub begins : (start : Two (List Port) (List Port)) → BothHold (EachOf HasRoom) (EachOf HasRoom) start
+pub begins : (start : Two (List Port) (List Port)) → BothHold (EachOf WayHasRoom) (EachOf WayHasRoom) start
     → BothStand (EachMarked Whole) (EachMarked Whole) start (two_switches.unmarked start)
 begins start at = record {
-  of_first = whole_fresh ports HasRoom IsUnforged IsLossless port_rests start.first at.of_first;
-  of_second = whole_fresh ports HasRoom IsUnforged IsLossless port_rests start.second at.of_second;
+  of_first = whole_fresh ports WayHasRoom IsUnforged IsLossless port_rests start.first at.of_first;
+  of_second = whole_fresh ports WayHasRoom IsUnforged IsLossless port_rests start.second at.of_second;
 }
 
 pub two_rest : (start : Two (List Port) (List Port)) (part : List WorldEntry) (behind : Two (List Port) (List Port)) (at : Settles two_switches start part behind)
-    → BothHold (EachOf HasRoom) (EachOf HasRoom) start → BothStand (EachMarked (IsAtRest ports IsUnforged)) (EachMarked (IsAtRest ports IsUnforged)) behind at.now.marks
+    → BothHold (EachOf WayHasRoom) (EachOf WayHasRoom) start → BothStand (EachMarked (IsAtRest ports IsUnforged)) (EachMarked (IsAtRest ports IsUnforged)) behind at.now.marks
 two_rest start part behind at rooms =
     let last : EndsWith two_switches (BothStand (EachMarked Whole) (EachMarked Whole)) behind at.now.marks =
     ends_with two_switches (BothStand (EachMarked Whole) (EachMarked Whole)) keeps start part behind at (begins start rooms) in
     record {
-      of_first = all_rest ports HasRoom IsUnforged IsLossless port_rests of_ports behind.first at.now.marks.first
+      of_first = all_rest ports WayHasRoom IsUnforged IsLossless port_rests of_ports behind.first at.now.marks.first
           (first_ends_with (lanes_of ports of_ports) (lanes_of ports of_twins) (EachMarked Whole) (EachMarked Whole) behind at.now.marks last);
-      of_second = all_rest ports HasRoom IsUnforged IsLossless port_rests of_twins behind.second at.now.marks.second
+      of_second = all_rest ports WayHasRoom IsUnforged IsLossless port_rests of_twins behind.second at.now.marks.second
           (second_ends_with (lanes_of ports of_ports) (lanes_of ports of_twins) (EachMarked Whole) (EachMarked Whole) behind at.now.marks last);
     }
 

@@ -117,7 +117,7 @@ port_raises Switched = 2
 port_raises _ = 0
 
 -- its way to the guest has room; and nobody meddled with it; and nothing was lost
-pub record HasRoom (s : Port) : Type 0 where
+pub record WayHasRoom (s : Port) : Type 0 where
   pub some : 0 < s.room
 
 abbrev pub IsUnforged : Port → Type 0
@@ -127,5 +127,5 @@ abbrev pub IsLossless : Port → Type 0
 IsLossless s = s.lossy ≡ false
 
 pub record IsClean (s : Port) : Type 0 where
-  pub room : HasRoom s
+  pub room : WayHasRoom s
   pub unforged : IsUnforged s

@@ -7,7 +7,7 @@ ghost use Rattle.lane_kinds.specs.Lanes.{AllMove, AreClean, EachMarked, EachOf, 
 ghost use Rattle.lane_kinds.specs.Settles.{most_rounds, RunsOut, SettlePart, Settles};
 ghost use Rattle.lane_kinds.specs.Stuck.{NeverThree, sum_over};
 ghost use Rattle.kind_cases.specs.PortCounts.{moves, port_stuck, port_ticks};
-ghost use Rattle.kind_cases.specs.Ports.{HasRoom, IsClean, IsUnforged, Port, ports};
+ghost use Rattle.kind_cases.specs.Ports.{WayHasRoom, IsClean, IsUnforged, Port, ports};
 ghost use Rattle.kind_cases.specs.World.{said_port, said_twin, two_fronts, two_switches, WorldEntry};
 
 /// A settle over the ports of two switches, at most eight each, none of them forged, ends settled, though each frame
@@ -22,7 +22,7 @@ pub fn two_switches_end_settled()
 /// beside ports that somebody forged.
 pub fn ports_are_finished_behind_a_settle()
     ensures { (start : Two (List Port) (List Port)) (part : List WorldEntry) (behind : Two (List Port) (List Port))
-        (at : Settles two_switches start part behind) → BothHold (EachOf HasRoom) (EachOf HasRoom) start
+        (at : Settles two_switches start part behind) → BothHold (EachOf WayHasRoom) (EachOf WayHasRoom) start
         → BothStand (EachMarked (IsAtRest ports IsUnforged)) (EachMarked (IsAtRest ports IsUnforged)) behind
         at.now.marks }
 {}
@@ -55,7 +55,7 @@ pub fn rounds_that_run_out_move_and_name()
         → most_rounds two_switches start ≤ sum_over moves part }
     ensures named { (start : Two (List Port) (List Port)) (part : List WorldEntry)
         (behind : Two (List Port) (List Port)) (out : RunsOut two_switches start part behind)
-        → BothHold (EachOf HasRoom) (EachOf HasRoom) start → 1 ≤ length (two_switches.names out.last.steps behind) }
+        → BothHold (EachOf WayHasRoom) (EachOf WayHasRoom) start → 1 ≤ length (two_switches.names out.last.steps behind) }
 {}
 
 /// Where memory is wanted in a settle its part, as far as it goes, says what happened to each port of both switches, and

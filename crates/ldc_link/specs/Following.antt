@@ -1,6 +1,6 @@
 -- A link's numbers and its half message are those of what its end said and heard since it joined.
 use Rattle.std.specs.Prelude.{◌≡◌, ◌+◌, ◌≤◌, ◌%◌, List, length, ⊤}
-use Rattle.ldc_queue.specs.Messages.{half_heard}
+use Rattle.ldc_queue.specs.Messages.{unfinished_heard}
 use Rattle.ldc_queue.specs.Transcript.{Turn, numbered_heard, numbered_said}
 use Rattle.ldc_link.specs.declared.phase.LinkPhase.{LinkPhase}
 use Rattle.ldc_link.specs.declared.phase.LinkPhase.TheVariants as phase
@@ -14,5 +14,5 @@ OffersLittle _ = ⊤
 pub record Follows (k : LinkState) (turns : List Turn) : Type 0 where
   pub puts : k.put_next ≡ (length (numbered_said turns) + 1) % 4294967296
   pub takes : k.take_next ≡ (length (numbered_heard turns) + 1) % 4294967296
-  pub half : k.half_heard ≡ half_heard turns
+  pub half : k.half_heard ≡ unfinished_heard turns
   pub offers : OffersLittle k.phase

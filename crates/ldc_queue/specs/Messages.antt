@@ -28,11 +28,11 @@ messages_said turns = whole_in [] (fragments_in (numbered_said turns))
 abbrev pub messages_heard : List Turn → List (List ℕ)
 messages_heard turns = whole_in [] (fragments_in (numbered_heard turns))
 
-abbrev pub half_said : List Turn → List ℕ
-half_said turns = half_in [] (fragments_in (numbered_said turns))
+abbrev pub unfinished_said : List Turn → List ℕ
+unfinished_said turns = half_in [] (fragments_in (numbered_said turns))
 
-abbrev pub half_heard : List Turn → List ℕ
-half_heard turns = half_in [] (fragments_in (numbered_heard turns))
+abbrev pub unfinished_heard : List Turn → List ℕ
+unfinished_heard turns = half_in [] (fragments_in (numbered_heard turns))
 
 abbrev pub is_empty : List ℕ → Bool
 is_empty [] = true

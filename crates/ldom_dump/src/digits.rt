@@ -1,7 +1,6 @@
 // A line of hexadecimal digits.
 ghost use Rattle.std.specs.Prelude.{◌≡◌, ◌+◌, ◌≤◌, ℕ, List, IfErr, IfNone, IfOk, IfSome};
-ghost use Rattle.script_reader.specs.declared.lines.LinesStop.TheVariants.{Going};
-ghost use Rattle.script_reader.specs.LinesState.{to_come};
+ghost use Rattle.script_reader.specs.LinesState.{GoesOn, to_come};
 ghost use Rattle.ldom_report.specs.LinesEnd.{counted_lines};
 ghost use Rattle.ldom_dump.specs.Decoded.{SpellsBytes};
 ghost use Rattle.vio_io.specs.Causes.{Fails};
@@ -32,13 +31,13 @@ pub fn bytes_of(line: &[u8]) -> Option<[u8; 64]>
 
 /// The bytes of the next line; else why there are none.
 pub fn read_bytes<S: Source>(lines: &mut Lines, source: &mut S) -> Result<[u8; 64], Stop>
-    requires going { lines.old.stop ≡ Going }
+    requires goes { GoesOn lines.old (S.left source.old) }
     requires few { lines.old.number ≤ most_lines }
 
     ensures bytes { IfOk result (ReadsBytes (to_come lines.old (S.left source.old))
         (to_come lines.new (S.left source.new))) }
     ensures next { IfOk result (λ _. (lines.new.number ≡ lines.old.number + 1) × (lines.new.number ≤ most_lines)
-        × (lines.new.stop ≡ Going)) }
+        × GoesOn lines.new (S.left source.new)) }
 
     ensures stop { IfErr result (λ stop. DumpStopsAt (stop_status stop lines.new.number)
         (to_come lines.old (S.left source.old)) lines.new.held (S.left source.new) lines.old.number) }

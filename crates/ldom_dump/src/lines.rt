@@ -1,7 +1,6 @@
 // The lines of a dump, one after another.
 ghost use Rattle.std.specs.Prelude.{◌≡◌, ◌+◌, ◌≤◌, [], length, IfOk, OnErr, IsErr};
-ghost use Rattle.script_reader.specs.declared.lines.LinesStop.TheVariants.{Going};
-ghost use Rattle.script_reader.specs.LinesState.{to_come};
+ghost use Rattle.script_reader.specs.LinesState.{GoesOn, to_come};
 ghost use Rattle.vio_io.specs.Causes.{Fails};
 ghost use Rattle.gathered_text.specs.Gathered.{Gathers, WroteFront};
 ghost use Rattle.ldc_packet.specs.Form.{IsWellFormed};
@@ -116,7 +115,7 @@ fn dump_lines<S: Source, K: Sink>(
     text: &mut Text,
     out: &mut K,
 ) -> Ended
-    requires going { lines.old.stop ≡ Going }
+    requires goes { GoesOn lines.old (S.left source.old) }
     requires first { lines.old.number ≡ 0 }
     requires empty { text.old ≡ [] }
     ensures dumps { DumpsLines (to_come lines.old (S.left source.old)) (S.left source.new) result.why

@@ -1,7 +1,7 @@
 // What a run has read of its script.
 ghost use Rattle.std.specs.Prelude.{◌≡◌, ◌+◌, ◌<◌, ◌≤◌, [], length, IfErr, IfOk, OnOk};
 ghost use Rattle.script_reader.specs.declared.lines.LinesStop.TheVariants.{Going};
-ghost use Rattle.script_reader.specs.LinesState.{to_come};
+ghost use Rattle.script_reader.specs.LinesState.{GoesOn, to_come};
 ghost use Rattle.domain_script.specs.ScriptEvents.{no_names};
 ghost use Rattle.domain_script.specs.Spells.{IsDeclared};
 ghost use Rattle.ldom_report.specs.LinesEnd.{counted_lines, most_entries};
@@ -45,14 +45,14 @@ impl Reader {
     /// Reads the event of the next line, which is noted in the names; else says why no line was taken up. A line that
     /// begins with too many entries is read, and nothing is made of it.
     pub fn read_event<S: Source>(&mut self, source: &mut S, event: &mut Event) -> Result<(), Stop>
-        requires going { self.old.lines.stop ≡ Going }
+        requires goes { GoesOn self.old.lines (S.left source.old) }
         requires few { self.old.lines.number ≤ most_lines }
 
         ensures event { OnOk result (ReadsEvent (to_come self.old.lines (S.left source.old))
             (to_come self.new.lines (S.left source.new)) self.old.names event.new self.new.names) }
         ensures declared { OnOk result (IsDeclared self.new.names event.new) }
         ensures next { OnOk result ((self.new.lines.number ≡ self.old.lines.number + 1)
-            × (self.new.lines.number ≤ most_lines) × (self.new.lines.stop ≡ Going)) }
+            × (self.new.lines.number ≤ most_lines) × GoesOn self.new.lines (S.left source.new)) }
         ensures most { self.new.lines.number ≤ most_lines }
         ensures below { OnOk result (length self.old.journal.entries < most_entries) }
         ensures journal { self.new.journal ≡ self.old.journal }

@@ -3,8 +3,7 @@ ghost use Rattle.std.specs.Prelude.{◌≡◌, ◌≢◌, ℕ, ◌*◌, ◌≤�
 ghost use Rattle.std.specs.Prelude.{IfOk, IfSome, IsSome, IsTrue, OnOk};
 ghost use Rattle.vio_io.specs.Given.{Gave};
 ghost use Rattle.domain_script.specs.Declarations.{AreDisks};
-ghost use Rattle.script_reader.specs.declared.lines.LinesStop.TheVariants.{Going};
-ghost use Rattle.script_reader.specs.LinesState.{to_come};
+ghost use Rattle.script_reader.specs.LinesState.{GoesOn, to_come};
 ghost use Rattle.domain_script.specs.Spells.{IsDeclared};
 ghost use Rattle.ldom_report.specs.Report.{accepted_count};
 ghost use Rattle.ldom_report.specs.Stops.{stop_lines, stop_status};
@@ -34,7 +33,7 @@ use vio_io::{AttachFault, Host, Source, Store};
 /// Reads the lines up to the first that is neither blank nor a declaration, and gives its event; else says why there
 /// is none.
 fn read_opening<S: Source>(reader: &mut Reader, source: &mut S) -> Result<Event, Stop>
-    requires going { reader.old.lines.stop ≡ Going }
+    requires goes { GoesOn reader.old.lines (S.left source.old) }
     requires first { reader.old.lines.number ≡ 0 }
     requires names { reader.old.names ≡ no_names }
     requires empty { reader.old.journal.entries ≡ [] }
@@ -42,7 +41,7 @@ fn read_opening<S: Source>(reader: &mut Reader, source: &mut S) -> Result<Event,
     ensures opens { IfOk result (λ event. Opens (to_come reader.old.lines (S.left source.old))
         (to_come reader.new.lines (S.left source.new)) event reader.new.names reader.new.lines.number) }
     ensures declared { IfOk result (IsDeclared reader.new.names) }
-    ensures going { OnOk result (reader.new.lines.stop ≡ Going) }
+    ensures goes { OnOk result (GoesOn reader.new.lines (S.left source.new)) }
     ensures ended { OnOk result (reader.new.names.ended ≡ true) }
     ensures most { reader.new.lines.number ≤ most_lines }
     ensures disks { AreDisks reader.new.names.disks }
@@ -75,7 +74,7 @@ fn is_opening(event: &Event) -> bool
 // Runs the lines after the first that isn't a declaration, up to the one at which no further line is taken up. Answers
 // why.
 fn run_lines<S: Source, D: Store>(reader: &mut Reader, source: &mut S, world: &mut World<D>) -> Stop
-    requires going { reader.old.lines.stop ≡ Going }
+    requires goes { GoesOn reader.old.lines (S.left source.old) }
     requires few { reader.old.lines.number ≤ most_lines }
     requires ended { reader.old.names.ended ≡ true }
     requires many { length world.old.lanes ≡ length reader.old.names.disks }
@@ -181,7 +180,7 @@ fn attach<H: Host, S: Source>(
     reader: Reader,
     first: Option<Event>,
 ) -> Run<H::Disk>
-    requires going { IsSome first → (reader.lines.stop ≡ Going) × (reader.names.ended ≡ true) }
+    requires goes { IsSome first → GoesOn reader.lines (S.left source.old) × (reader.names.ended ≡ true) }
     requires few { reader.lines.number ≤ most_lines }
     requires disks { AreDisks reader.names.disks }
     requires declared { IfSome first (IsDeclared reader.names) }
@@ -225,7 +224,7 @@ fn run_over<D: Store, S: Source>(
     reader: Reader,
     first: Option<Event>,
 ) -> Run<D>
-    requires going { IsSome first → (reader.lines.stop ≡ Going) × (reader.names.ended ≡ true) }
+    requires goes { IsSome first → GoesOn reader.lines (S.left source.old) × (reader.names.ended ≡ true) }
     requires few { reader.lines.number ≤ most_lines }
     requires disks { AreDisks reader.names.disks }
     requires declared { IfSome first (IsDeclared reader.names) }
@@ -268,7 +267,7 @@ fn run_world<S: Source, D: Store>(
     mut world: World<D>,
     first: Option<Event>,
 ) -> Run<D>
-    requires going { IsSome first → (reader.lines.stop ≡ Going) × (reader.names.ended ≡ true) }
+    requires goes { IsSome first → GoesOn reader.lines (S.left source.old) × (reader.names.ended ≡ true) }
     requires few { reader.lines.number ≤ most_lines }
     requires many { length world.lanes ≡ length reader.names.disks }
     requires declared { IfSome first (IsDeclared reader.names) }
@@ -314,7 +313,7 @@ fn run_first<S: Source, D: Store>(
     source: &mut S,
     world: &mut World<D>,
 ) -> Stop
-    requires going { IsSome first → (reader.old.lines.stop ≡ Going) × (reader.old.names.ended ≡ true) }
+    requires goes { IsSome first → GoesOn reader.old.lines (S.left source.old) × (reader.old.names.ended ≡ true) }
     requires few { reader.old.lines.number ≤ most_lines }
     requires many { length world.old.lanes ≡ length reader.old.names.disks }
     requires declared { IfSome first (IsDeclared reader.old.names) }

@@ -40,6 +40,10 @@ use vio_io::{Failed, Host, Sink, Source, Store};
 #[derive(Drop)]
 pub struct Outcome<D: Store> {
     pub status: Status,
+
+    /// How the run ended before its report was written: the status, unless the sink failed. So a run that wanted memory
+    /// says so where its report failed as well.
+    pub ran: Status,
     pub journal: Journal,
     pub image: Option<D>,
 
@@ -69,7 +73,7 @@ pub fn replay<H: Host, S: Source, K: Sink>(
         (host_tells (H.gives host.old image) H.Disk.Store)
         (tells (S.left script.old) (K.written out.old) (S.faults script.old) (H.faults host.old) (K.faults out.old))
         (tells (S.left script.new) (K.written out.new) (S.faults script.new) (H.faults host.new) (K.faults out.new))
-        (run_leaves result.status result.journal.entries result.image result.lanes) }
+        (run_leaves result.status result.ran result.journal.entries result.image result.lanes) }
 
     // So a quiet script over an image that tells its bytes is what the plain run makes of it.
     ensures quiet { (image : List ℕ) → AsksRun (map string_bytes words.now) image
@@ -87,7 +91,7 @@ pub fn replay<H: Host, S: Source, K: Sink>(
         (host_tells (H.gives host.old (codes "-")) H.Disk.Store)
         (tells (S.left script.old) (K.written out.old) (S.faults script.old) (H.faults host.old) (K.faults out.old))
         (tells (S.left script.new) (K.written out.new) (S.faults script.new) (H.faults host.new) (K.faults out.new))
-        (run_leaves result.status result.journal.entries result.image result.lanes) }
+        (run_leaves result.status result.ran result.journal.entries result.image result.lanes) }
     ensures samples_whole { (number : ℕ) → AsksSample (map string_bytes words.now) number
         → StandsStill (H.faults host.old) (H.faults host.new) → StandsStill (K.faults out.old) (K.faults out.new)
         → IfSome result.image (λ disk. H.Disk.faults disk ≡ 0)
@@ -105,6 +109,14 @@ pub fn replay<H: Host, S: Source, K: Sink>(
         → IfSome result.image (λ disk. H.Disk.faults disk ≡ 0)
         → (image ≢ codes "-" → IfSome result.image (λ disk. bytes_needed clean.names.disks ≤ H.Disk.size disk))
         → EndsClean result.status result.journal.entries }
+
+    // It is run so whatever becomes of its report: a sink that fails cuts no run short.
+    ensures complete_run { (mode : Mode) (image : List ℕ) → AsksFor mode (map string_bytes words.now) image
+        → (bytes : List ℕ) → S.left script.old ≡ Some bytes → (clean : IsCleanScript bytes)
+        → StandsStill (S.faults script.old) (S.faults script.new) → StandsStill (H.faults host.old) (H.faults host.new)
+        → IfSome result.image (λ disk. H.Disk.faults disk ≡ 0)
+        → (image ≢ codes "-" → IfSome result.image (λ disk. bytes_needed clean.names.disks ≤ H.Disk.size disk))
+        → EndsClean result.ran result.journal.entries }
 
     // So over a source, a host and a disk whose types never fail, where the sink doesn't either.
     ensures infallible { (mode : Mode) (image : List ℕ) → AsksFor mode (map string_bytes words.now) image
@@ -149,6 +161,9 @@ pub fn replay<H: Host, S: Source, K: Sink>(
     ensures nothing { AsksNoRun (map string_bytes words.now)
         → (result.journal.entries ≡ []) × IsNone result.image × IsNone result.lanes }
 
+    // The status is how the run ended, unless the sink failed.
+    ensures ran { result.status ≢ Status.SinkFault → result.ran ≡ result.status }
+
     // A fault of the source, the host or the sink is answered only where its count rose, and each other status where it
     // didn't, but that a fault of the sink comes last. At status 0 the image never failed either.
     ensures faults { FaultsTold result.status
@@ -179,6 +194,7 @@ fn report_dump<D: Store, S: Source, K: Sink>(
     ensures whole { (bytes : List ℕ) → S.left script.old ≡ Some bytes → IsWhole bytes
         → ¬ Rose (S.faults script.old) (S.faults script.new) → ¬ Rose (K.faults out.old) (K.faults out.new)
         → (result.status ≡ Status.Done) ⊎ (result.status ≡ Status.NoMemory) }
+    ensures ran { result.ran ≡ result.status }
     ensures journal { result.journal ≡ record { entries = []; room = 0 } }
     ensures none { IsNone result.image × IsNone result.lanes }
     ensures source_fault { result.status ≡ Status.SourceFault → Rose (S.faults script.old) (S.faults script.new) }
@@ -190,8 +206,10 @@ fn report_dump<D: Store, S: Source, K: Sink>(
     ensures source_count { S.faults script.old ≤ S.faults script.new }
     ensures sink_count { K.faults out.old ≤ K.faults out.new }
 {
+    let status = dump(alloc, script, out);
     Outcome {
-        status: dump(alloc, script, out),
+        status,
+        ran: status,
         journal: Journal::new(alloc),
         image: None,
         lanes: None,
@@ -204,6 +222,7 @@ fn report_run<D: Store, K: Sink>(mode: Mode, run: Run<D>, out: &mut K) -> Outcom
     requires ran { run.status ≢ Status.Usage }
     ensures reports { Reports run.status result.status (K.written out.old) (K.written out.new)
         (report mode run.names.disks run.lines run.journal.entries run.status) }
+    ensures ran { result.ran ≡ run.status }
     ensures journal { result.journal ≡ run.journal }
     ensures small { length result.journal.entries < 2 ^ 63 }
     ensures image { result.image ≡ run.image }
@@ -215,21 +234,22 @@ fn report_run<D: Store, K: Sink>(mode: Mode, run: Run<D>, out: &mut K) -> Outcom
     ensures sink_count { K.faults out.old ≤ K.faults out.new }
 {
     let Run {
-        status,
+        status: ran,
         lines,
         names,
         journal,
         image,
         lanes,
     } = run;
-    let status = match write_report(mode, &journal, &names, lines, &status, out) {
-        Ok(()) => status,
+    let status = match write_report(mode, &journal, &names, lines, &ran, out) {
+        Ok(()) => ran,
         Err(Failed) => Status::SinkFault,
     };
     // That there are fewer than 2^63 entries is known by this call alone.
     let _len = journal.len();
     Outcome {
         status,
+        ran,
         journal,
         image,
         lanes,
@@ -262,6 +282,7 @@ fn write_report<K: Sink>(
 fn report_usage<D: Store, K: Sink>(journal: Journal, out: &mut K) -> Outcome<D>
     requires { journal.entries ≡ [] }
     ensures reports { Reports Status.Usage result.status (K.written out.old) (K.written out.new) usage_line }
+    ensures ran { result.ran ≡ Status.Usage }
     ensures journal { result.journal ≡ journal }
     ensures none { IsNone result.image × IsNone result.lanes }
     ensures sink_fault { result.status ≡ Status.SinkFault → Rose (K.faults out.old) (K.faults out.new) }
@@ -274,6 +295,7 @@ fn report_usage<D: Store, K: Sink>(journal: Journal, out: &mut K) -> Outcome<D>
     };
     Outcome {
         status,
+        ran: Status::Usage,
         journal,
         image: None,
         lanes: None,

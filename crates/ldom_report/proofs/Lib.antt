@@ -1,4 +1,5 @@
 mod LineParts
+mod NextLine
 pub mod ReportLines
 pub mod StopLemmas
 mod WholeLines

@@ -1,7 +1,7 @@
 // The lines of a source, one after another, and why no further one is taken up.
 ghost use Rattle.std.specs.Prelude.{◌≡◌, ◌-◌, ◌^◌, ◌<◌, IfErr, OnOk};
-ghost use Rattle.script_reader.specs.declared.lines.LinesStop.TheVariants.{Going};
-ghost use Rattle.script_reader.specs.LinesState.{GivesLine, to_come};
+ghost use Rattle.script_reader.specs.declared.lines.LinesStop.TheVariants.{Ended};
+ghost use Rattle.script_reader.specs.LinesState.{GivesLine, GoesOn, to_come};
 ghost use Rattle.vio_io.specs.Causes.{Fails};
 ghost use Rattle.ldom_report.specs.Stops.{StopsReading, stop_lines, stop_of, stop_status};
 
@@ -80,15 +80,18 @@ impl Stop {
     }
 }
 
-/// Reads the next line, which is the reader's `line` then.
+/// Reads the next line, which is the reader's `line` then. Behind a last line without a line feed the source isn't asked:
+/// it was at its end.
 pub fn next_line<S: Source>(lines: &mut Lines, source: &mut S) -> Result<(), Stop>
-    requires going { lines.old.stop ≡ Going }
+    requires goes { GoesOn lines.old (S.left source.old) }
     ensures gives { OnOk result (GivesLine (to_come lines.old (S.left source.old))
         (to_come lines.new (S.left source.new)) lines.old lines.new) }
+    ensures goes { OnOk result (GoesOn lines.new (S.left source.new)) }
     ensures stops { IfErr result (λ stop. StopsReading stop (to_come lines.old (S.left source.old))
         (to_come lines.new (S.left source.new)) lines.new.held lines.old.number) }
     ensures number { IfErr result (λ stop. lines.new.number ≡ lines.old.number) }
     ensures source { Fails (result ≡ Err Stop.Source) (S.faults source.old) (S.faults source.new) }
+    ensures ended { lines.old.stop ≡ Ended → source.new ≡ source.old }
 {
     match lines.advance(source) {
         Ok(true) => Ok(()),

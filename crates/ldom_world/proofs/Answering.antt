@@ -39,7 +39,7 @@ same_end : (side : Side) → is_same (end_of side) (end_of side) ≡ true
 same_end Client = refl
 same_end Server = refl
 
-own_end : (k : ℕ) (side : Side) → is_end k (end_of side) (disk_end k side) ≡ true
+own_end : (k : ℕ) (side : Side) → is_end (DiskLane k) (end_of side) (disk_end k side) ≡ true
 own_end k side = ap (λ (b : Bool). b && is_same (end_of side) (end_of side)) (eq-eqb k k refl) ∙ same_end side
 
 own_said : (b : Bool) (x : SettleEntry) → b ≡ true → if_so b x ≡ Some x
@@ -76,7 +76,7 @@ module _ (k : ℕ) (s t : LaneState) (x : Entry) where
     answers = refl;
     moves = λ (i : ImageState). (subst (λ (b : Bool). LaneStep s (reset_event (end_of side) b) t) no_is step, refl);
     says = ap (λ (z : Entry). world_event (Calls (DiskLane k) (Resets (end_of side))) z) is
-        ∙ own_said (is_end k (end_of side) (disk_end k side)) (OfLane k (Calms (CalmReset (end_of side))))
+        ∙ own_said (is_end (DiskLane k) (end_of side) (disk_end k side)) (OfLane k (Calms (CalmReset (end_of side))))
         (own_end k side);
   }
 
@@ -99,7 +99,7 @@ module _ (k : ℕ) (s t : LaneState) (x : Entry) where
     answers = tt;
     moves = λ (i : ImageState). (subst (λ (b : Bool). LaneStep s (restart_event b) t) no_is step, refl);
     says = ap (λ (z : Entry). world_event (Calls (DiskLane k) Restarts) z) is
-        ∙ own_said (is_end k B (disk_end k Server)) (OfLane k (Calms CalmRestart)) (own_end k Server);
+        ∙ own_said (is_end (DiskLane k) B (disk_end k Server)) (OfLane k (Calms CalmRestart)) (own_end k Server);
   }
 
   -- A STOP
@@ -167,7 +167,7 @@ module _ (k : ℕ) (s t : LaneState) (x : Entry) where
       refl,
     );
     says = ap (λ (z : Entry). world_event (Calls (DiskLane k) (Loses (end_of side))) z) is
-        ∙ own_said (is_end k (end_of side) (disk_end k side)) (OfLane k (OnWire (Declines (NothingLost (end_of side)))))
+        ∙ own_said (is_end (DiskLane k) (end_of side) (disk_end k side)) (OfLane k (OnWire (Declines (NothingLost (end_of side)))))
         (own_end k side);
   }
 
@@ -217,7 +217,7 @@ module _ (k : ℕ) (s t : LaneState) (x : Entry) where
         refl,
       );
       says = ap (λ (z : Entry). world_event (Calls (DiskLane k) (Injects (end_of side) packet)) z) is
-          ∙ own_said (is_end k (end_of side) (disk_end k side))
+          ∙ own_said (is_end (DiskLane k) (end_of side) (disk_end k side))
           (OfLane k (OnWire (Declines (NotInjected (end_of side) packet)))) (own_end k side);
     }
 
@@ -231,7 +231,7 @@ module _ (k : ℕ) (s t : LaneState) (x : Entry) where
         refl,
       );
       says = ap (λ (z : Entry). world_event (Calls (DiskLane k) (Injects (end_of side) packet)) z) is
-          ∙ own_said (is_end k (end_of side) (disk_end k side))
+          ∙ own_said (is_end (DiskLane k) (end_of side) (disk_end k side))
           (OfLane k (OnWire (Declines (InjectedFull (end_of side) packet)))) (own_end k side);
     }
 
@@ -254,7 +254,7 @@ module _ (k : ℕ) (s t : LaneState) (x : Entry) where
     answers = (refl, refl, refl);
     moves = λ (i : ImageState). (subst (λ (b : Bool). LaneStep s (poked_event at bytes b) t) no_is step, refl);
     says = ap (λ (z : Entry). world_event (Calls (DiskLane k) (Pokes A at bytes)) z) is
-        ∙ own_said (is_end k A (disk_end k Client)) (OfLane k (OnWire (Declines (PokeRefused A at (length bytes)))))
+        ∙ own_said (is_end (DiskLane k) A (disk_end k Client)) (OfLane k (OnWire (Declines (PokeRefused A at (length bytes)))))
         (own_end k Client);
   }
 

@@ -1,6 +1,10 @@
 pub mod Telling
 pub mod Adding
 pub mod Leaving
+pub mod PortLeaving
+pub mod PortAnswering
+pub mod PortResets
+pub mod PortLifting
 pub mod Answering
 pub mod LaneStepping
 pub mod Lifting
@@ -10,3 +14,7 @@ pub mod Turning
 pub mod Declaring
 pub mod SettlingAdds
 pub mod SettlingLanes
+pub mod PortsAdding
+pub mod SettlingPorts
+pub mod Calling
+pub mod DeclaringPorts

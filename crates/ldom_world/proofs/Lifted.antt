@@ -1,108 +1,150 @@
--- A world whose disks made one event, and which has no port: what it did there, it did to the world.
-use Rattle.std.proofs.Common.{◌≡◌, ℕ, ◌<◌, Bool, List, [], ◌∷◌, length, Result, Ok, Err, refl, sym, ap, subst, ◌∙◌}
+-- A world whose disks, or whose ports, made one event: what it did there, it did to the world, and the others stay.
+use Rattle.std.proofs.Common.{◌≡◌, ℕ, ◌+◌, ◌≤◌, ◌<◌, Bool, List, [], ◌∷◌, ◌++◌, length, Result, Ok, Err, refl, sym, ap, subst, ◌∙◌, arith, length-append}
 use Rattle.std.specs.Prelude.{IfOk, OnErr, OnOk}
 use Rattle.std.proofs.lemmas.Result.{IfOk-weaker, on_err_weaker, on_ok_weaker}
-use Rattle.ldc_queue.specs.declared.end.End.{End}
+use Rattle.lane_kinds.specs.Both.{BothStep}
 use Rattle.disk_model.specs.DiskEvent.{DiskEvent}
-use Rattle.vdisk_msg.specs.declared.request.Request.{Request}
-use Rattle.world_laws.specs.Issued.{issued_on}
-use Rattle.world_laws.specs.Settle.{OfLane, SettleEntry}
+use Rattle.switch_laws.specs.Events.{SwitchEvent}
+use Rattle.world_laws.specs.Settle.{OfLane, OfPort, SettleEntry}
 use Rattle.world_laws.specs.World.{WorldState, WorldStep}
-use Rattle.domain_laws.specs.Domain.{DomainState, DomainStep, lanes_in}
-use Rattle.domain_laws.specs.Lines.{AnswersCall, AnswersRequest, Asked, BeginsPart, Call, Calls, DiskLane, Line, OneEntry, PartOf}
+use Rattle.world_laws.specs.Issued.{issued_on}
+use Rattle.domain_laws.specs.Domain.{DomainState, DomainStep, PortsStep, lanes_in}
+use Rattle.domain_laws.specs.Lines.{BeginsPart, Line, Nothing, PartOf}
+use Rattle.domain_laws.specs.PortState.{PortState}
 use Rattle.ldom_entries.specs.declared.entry.Entry.{Entry}
 use Rattle.ldom_report.specs.Report.{accepted_count}
+use Rattle.switched_ports.proofs.Entries.{below_later}
+use Rattle.switched_ports.specs.Given.{GivenBelow}
 use Rattle.ldom_world.proofs.Adding.{none_adds}
-use Rattle.ldom_world.specs.Steps.{Counted, MakesAnswer, MakesQuietStep, MakesStep}
-use Rattle.world_parts.specs.Parts.{Fits, FitsSoFar}
+use Rattle.ldom_world.specs.Steps.{AnswerMade, Counted, OneMade, QuietMade}
+use Rattle.ldom_world.specs.TurnsMade.{SameNumbers}
+use Rattle.world_parts.specs.Parts.{Adds, Fits, FitsSoFar}
 
-abbrev pub with_disks : WorldState → DomainState
-with_disks disks = record { first = disks; second = [] }
+abbrev pub both : WorldState → List PortState → DomainState
+both disks ports = record { first = disks; second = ports }
 
-module _ (d : WorldState) (w : DomainState) (is : with_disks d ≡ w) where
-  -- WHAT IS ASKED of the world is so of its disks
-  pub within : (k : ℕ) → k < length w.first.lanes → k < length d.lanes
-  within k less = subst (λ (x : DomainState). k < length x.first.lanes) (sym is) less
+-- HOW A JOURNAL GREW by what it adds
+pub adds_grow : (line : Line) (old new : List Entry) (entries : List SettleEntry) → Adds line old new entries
+    → length old + 1 ≤ length new + 1
+adds_grow line old new entries adds =
+    omega (arith, ap (λ (l : List Entry). length l) adds.grew, length-append old adds.part)
+
+pub same_grows : (old new : List Entry) → new ≡ old → length old + 1 ≤ length new + 1
+same_grows old new same = omega (arith, ap (λ (l : List Entry). length l) same)
+
+-- one kind made an event, by which the world goes from one state to another
+module _ {W V : Type 0} (KindStep : W → SettleEntry → W → Type 0) (of_lane : ℕ → V → SettleEntry) (state : W → DomainState)
+    (lift : (d : W) (k : ℕ) (event : V) (e : W) → KindStep d (of_lane k event) e
+    → DomainStep (state d) (of_lane k event) (state e))
+    (d : W) (w : DomainState) (is : state d ≡ w) where
+  moves_at : (k : ℕ) (event : V) (e : W) → KindStep d (of_lane k event) e → DomainStep w (of_lane k event) (state e)
+  moves_at k event e moves =
+      subst (λ (x : DomainState). DomainStep x (of_lane k event) (state e)) is (lift d k event e moves)
+
+  pub same_at : (e : W) (old new : List Entry) → (e ≡ d) × (new ≡ old) → (state e ≡ w) × (new ≡ old)
+  same_at e old new same = (ap state same.0 ∙ is, same.1)
+
+  -- A STEP
+  pub step_at : (OfEnd : V → Type 0) (k : ℕ) (e : W) (old new : List Entry) → OneMade KindStep of_lane OfEnd k d old new e
+      → OneMade DomainStep of_lane OfEnd k w old new (state e)
+  step_at OfEnd k e old new made = record {
+    event = made.event;
+    of_end = made.of_end;
+    moves = moves_at k made.event e made.moves;
+    adds = made.adds;
+  }
+
+  pub quiet_step_at : (leaves : ℕ → V → List SettleEntry) (calm_at : V → Bool) (OfEnd : V → Type 0) (k : ℕ) (e : W)
+      (old new : List Entry) (calm : Bool) → QuietMade KindStep of_lane leaves calm_at OfEnd k d old new calm e
+      → QuietMade DomainStep of_lane leaves calm_at OfEnd k w old new calm (state e)
+  quiet_step_at leaves calm_at OfEnd k e old new calm made = record {
+    event = made.event;
+    of_end = made.of_end;
+    moves = moves_at k made.event e made.moves;
+    calm_is = made.calm_is;
+    adds = made.adds;
+  }
+
+  -- WHAT A LINE ASKED of one lane: it fits, or nothing was done
+  module _ (line : Line) (k : ℕ) (Answers : V → Type 0) (e : W) (old new : List Entry) where
+    pub answer_fits : ((event : V) → Answers event
+        → PartOf line (lanes_in w) (of_lane k event ∷ []) (lanes_in (state e)))
+        → AnswerMade KindStep of_lane line k Answers d old new e → Fits w line old new (state e)
+    answer_fits as_part made = record {
+      entries = of_lane k made.event ∷ [];
+      adds = made.adds;
+      moves = record {
+        part_of = as_part made.event made.answers;
+        run = (state e, moves_at k made.event e made.moves, refl);
+      };
+    }
+
+    pub nothing_begun : BeginsPart line (lanes_in w) [] (lanes_in (state e)) → (e ≡ d) × (new ≡ old)
+        → FitsSoFar w line old new (state e)
+    nothing_begun begins same = record {
+      entries = [];
+      adds = none_adds line old new same.1;
+      begins = record { begins = begins; run = sym (ap state same.0 ∙ is) };
+    }
+
+-- EACH KIND in a world: the disks beside these ports, and the ports beside these disks
+pub lift_disks : (ports : List PortState) (d : WorldState) (k : ℕ) (event : DiskEvent) (e : WorldState)
+    → WorldStep d (OfLane k event) e → DomainStep (both d ports) (OfLane k event) (both e ports)
+lift_disks ports d k event e moves = record { of_first = moves; of_second = refl }
+
+pub lift_ports : (disks : WorldState) (d : List PortState) (k : ℕ) (event : SwitchEvent) (e : List PortState)
+    → PortsStep d (OfPort k event) e → DomainStep (both disks d) (OfPort k event) (both disks e)
+lift_ports disks d k event e moves = record { of_first = refl; of_second = moves }
+
+module _ (d : WorldState) (p : List PortState) (w : DomainState) (is : both d p ≡ w) where
+  -- WHAT IS ASKED of the world is so of each kind
+  pub disk_within : (k : ℕ) → k < length w.first.lanes → k < length d.lanes
+  disk_within k less = subst (λ (x : DomainState). k < length x.first.lanes) (sym is) less
+
+  pub port_within : (k : ℕ) → k < length w.second → k < length p
+  port_within k less = subst (λ (x : DomainState). k < length x.second) (sym is) less
 
   pub counted_at : (entries : List Entry) → Counted entries w → accepted_count entries ≡ issued_on d.lanes
   counted_at entries counted = subst (λ (x : DomainState). accepted_count entries ≡ issued_on x.first.lanes) (sym is) counted.accepted
 
-  pub many_at : (e : WorldState) → length e.lanes ≡ length d.lanes → length e.lanes ≡ length w.first.lanes
-  many_at e many = subst (λ (x : DomainState). length e.lanes ≡ length x.first.lanes) is many
+  pub given_at : (entries : List Entry) → Counted entries w → GivenBelow (length entries + 1) p
+  given_at entries counted = subst (λ (x : DomainState). GivenBelow (length entries + 1) x.second) (sym is) counted.given
 
-  pub no_port : w.second ≡ []
-  no_port = sym (ap (λ (x : DomainState). x.second) is)
+  pub disks_same_numbers : (e : WorldState) → length e.lanes ≡ length d.lanes → SameNumbers w (both e p)
+  disks_same_numbers e many =
+      subst (λ (x : DomainState). SameNumbers x (both e p)) is (record { disks = many; ports = refl })
 
-  pub same_at : (e : WorldState) (old new : List Entry) → (e ≡ d) × (new ≡ old) → (with_disks e ≡ w) × (new ≡ old)
-  same_at e old new same = (ap with_disks same.0 ∙ is, same.1)
+  pub ports_same_numbers : (e : List PortState) → length e ≡ length p → SameNumbers w (both d e)
+  ports_same_numbers e many =
+      subst (λ (x : DomainState). SameNumbers x (both d e)) is (record { disks = refl; ports = many })
 
-  -- A STEP
-  pub step_at : (k : ℕ) (side : End) (e : WorldState) (old new : List Entry) → MakesStep WorldStep k side d old new e
-      → MakesStep DomainStep k side w old new (with_disks e)
-  step_at k side e old new made =
-      subst (λ (x : DomainState). MakesStep DomainStep k side x old new (with_disks e)) is
-      (record { event = made.event; of_end = made.of_end; moves = record { of_first = made.moves; of_second = refl }; adds = made.adds })
+  -- THE JOURNAL COUNTS behind an event of a disk, by which it didn't shrink; and behind one of a port, which accepts nothing
+  pub disks_counted : (e : WorldState) (old new : List Entry) → Counted old w → length old + 1 ≤ length new + 1
+      → accepted_count new ≡ issued_on e.lanes → Counted new (both e p)
+  disks_counted e old new counted grows accepted = record {
+    accepted = accepted;
+    given = below_later (length old + 1) (length new + 1) p grows (given_at old counted);
+  }
 
-  pub quiet_step_at : (k : ℕ) (side : End) (e : WorldState) (old new : List Entry) (calm : Bool)
-      → MakesQuietStep WorldStep k side d old new calm e → MakesQuietStep DomainStep k side w old new calm (with_disks e)
-  quiet_step_at k side e old new calm made =
-      subst (λ (x : DomainState). MakesQuietStep DomainStep k side x old new calm (with_disks e)) is
-      (record {
-        event = made.event;
-        of_end = made.of_end;
-        moves = record { of_first = made.moves; of_second = refl };
-        calm_is = made.calm_is;
-        adds = made.adds;
-      })
+  pub ports_counted : (e : List PortState) (old new : List Entry) → Counted old w → accepted_count new ≡ accepted_count old
+      → GivenBelow (length new + 1) e → Counted new (both d e)
+  ports_counted e old new counted same given =
+      record { accepted = same ∙ counted_at old counted; given = given }
 
-  -- WHAT A LINE ASKED of one disk: it fits, or nothing was done
-  module _ (line : Line) (k : ℕ) (Answers : DiskEvent → Type 0) (e : WorldState) (old new : List Entry) where
-    pub answer_fits : ((part : List SettleEntry) → OneEntry k Answers part → PartOf line (lanes_in w) part (lanes_in (with_disks e)))
-        → MakesAnswer WorldStep line k Answers d old new e → Fits w line old new (with_disks e)
-    answer_fits as_part made =
-        let moves : DomainStep (with_disks d) (OfLane k made.event) (with_disks e) = record { of_first = made.moves; of_second = refl } in
-        record {
-          entries = OfLane k made.event ∷ [];
-          adds = made.adds;
-          moves = record {
-            part_of = as_part (OfLane k made.event ∷ []) (record { event = made.event; answers = made.answers; is = refl });
-            run = (with_disks e, subst (λ (x : DomainState). DomainStep x (OfLane k made.event) (with_disks e)) is moves, refl);
-          };
-        }
+-- by what a call answered, its journal didn't shrink
+pub grows_by : {X E : Type 0} (result : Result X E) (Made Same : Type 0) (old new : List Entry)
+    → (Made → length old + 1 ≤ length new + 1) → (Same → length old + 1 ≤ length new + 1)
+    → OnOk result Made → OnErr result Same → length old + 1 ≤ length new + 1
+grows_by (Ok x) Made Same old new grew stayed made same = grew made
+grows_by (Err e) Made Same old new grew stayed made same = stayed same
 
-    pub nothing_begun : BeginsPart line (lanes_in w) [] (lanes_in (with_disks e)) → (e ≡ d) × (new ≡ old)
-        → FitsSoFar w line old new (with_disks e)
-    nothing_begun begins same = record {
-      entries = [];
-      adds = none_adds line old new same.1;
-      begins = record { begins = begins; run = sym (ap with_disks same.0 ∙ is) };
-    }
+-- and in a settle, by what it adds
+pub quiet_grows : {X E : Type 0} (result : Result X E) (Made : X → Type 0) (Same : Type 0) (old new : List Entry)
+    → ((x : X) → Made x → (entries : List SettleEntry) × Adds Nothing old new entries) → IfOk result Made
+    → OnErr result (Same × (new ≡ old)) → length old + 1 ≤ length new + 1
+quiet_grows (Ok x) Made Same old new adds made same = let at = adds x made in adds_grow Nothing old new at.0 at.1
+quiet_grows (Err e) Made Same old new adds made same = same_grows old new same.1
 
--- by the answer of the call
-module _ {X : Type 0} (result : Result Unit X) (d : WorldState) (w : DomainState) (is : with_disks d ≡ w) (k : ℕ)
-    (e : WorldState) (old new : List Entry) where
-  pub calls_fit : (call : Call)
-      → OnOk result (MakesAnswer WorldStep (Calls (DiskLane k) call) k (AnswersCall call) d old new e)
-      → OnOk result (Fits w (Calls (DiskLane k) call) old new (with_disks e))
-  calls_fit call made =
-      on_ok_weaker result
-      (λ at. answer_fits d w is (Calls (DiskLane k) call) k (AnswersCall call) e old new (λ part one. one) at) made
-
-  pub asks_fit : (request : Request)
-      → OnOk result (MakesAnswer WorldStep (Asked k request) k (AnswersRequest request) d old new e)
-      → OnOk result (Fits w (Asked k request) old new (with_disks e))
-  asks_fit request made =
-      on_ok_weaker result
-      (λ at. answer_fits d w is (Asked k request) k (AnswersRequest request) e old new (λ part one. one) at) made
-
-  pub calls_begin : (call : Call) → OnErr result ((e ≡ d) × (new ≡ old))
-      → OnErr result (FitsSoFar w (Calls (DiskLane k) call) old new (with_disks e))
-  calls_begin call same =
-      on_err_weaker result
-      (λ at. nothing_begun d w is (Calls (DiskLane k) call) k (AnswersCall call) e old new refl at) same
-
-  pub asks_begin : (request : Request) → OnErr result ((e ≡ d) × (new ≡ old))
-      → OnErr result (FitsSoFar w (Asked k request) old new (with_disks e))
-  asks_begin request same =
-      on_err_weaker result
-      (λ at. nothing_begun d w is (Asked k request) k (AnswersRequest request) e old new refl at) same
+-- as many lanes of each kind, one after the other
+pub both_numbers : {u v w : DomainState} → SameNumbers u v → SameNumbers v w → SameNumbers u w
+both_numbers one two = record { disks = two.disks ∙ one.disks; ports = two.ports ∙ one.ports }

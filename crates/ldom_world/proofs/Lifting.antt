@@ -24,9 +24,10 @@ use Rattle.ldom_world.specs.Resting.{left_out}
 use Rattle.world_laws.proofs.LoopKeeping.{issued_set, next_is}
 use Rattle.world_laws.specs.Issued.{issued_on, next_behind}
 use Rattle.ldom_world.specs.Steps.{MakesQuietStep, MakesStep}
+use Rattle.ldom_world.specs.TurnsMade.{SameNumbers}
 use Rattle.world_parts.specs.Parts.{Adds, Fits, FitsSoFar}
-use Rattle.domain_laws.specs.Domain.{DomainState}
-use Rattle.domain_laws.proofs.Running.{disks_run}
+use Rattle.domain_laws.specs.Domain.{DomainState, DomainStep}
+use Rattle.domain_laws.proofs.Running.{disks_run, ports_many, ports_run}
 
 -- A LANE BY ITS NUMBER
 pub there_at : (lanes : List LaneState) (k : ℕ) (s : LaneState) → k < length lanes → s ≡ get_or lanes k s
@@ -53,13 +54,17 @@ pub run_many : (w v : WorldState) (entries : List SettleEntry) → Run WorldStep
 run_many w v [] run = ap (λ (x : WorldState). length x.lanes) (sym run)
 run_many w v (x ∷ entries) run = run_many run.0 v entries run.2 ∙ step_many w x run.0 run.1
 
+same_numbers : (w v : DomainState) (entries : List SettleEntry) → Run DomainStep w entries v → SameNumbers w v
+same_numbers w v entries run = record {
+  disks = run_many w.first v.first entries (disks_run w entries v run);
+  ports = ports_many w.second entries v.second (ports_run w entries v run);
+}
+
 pub line_many : {E : Type 0} (w v : DomainState) (line : Line) (old new : List Entry) (result : Result Unit E)
     → OnOk result (Fits w line old new v) → OnErr result (FitsSoFar w line old new v)
-    → length v.first.lanes ≡ length w.first.lanes
-line_many w v line old new (Ok done) fits so_far =
-    run_many w.first v.first fits.entries (disks_run w fits.entries v fits.moves.run)
-line_many w v line old new (Err fault) fits so_far =
-    run_many w.first v.first so_far.entries (disks_run w so_far.entries v so_far.begins.run)
+    → SameNumbers w v
+line_many w v line old new (Ok done) fits so_far = same_numbers w v fits.entries fits.moves.run
+line_many w v line old new (Err fault) fits so_far = same_numbers w v so_far.entries so_far.begins.run
 
 -- HOW MANY WERE ACCEPTED
 pub count_push : (old new : List Entry) (x : Entry) → new ≡ old ++ x ∷ []

@@ -1,27 +1,24 @@
 -- A journal in a settle: each turn adds its own entries after those of the turns before.
-use Rattle.std.proofs.Common.{◌≡◌, ℕ, ◌+◌, ◌<◌, ◌≤◌, Bool, true, false, Some, Result, Ok, Err, List, [], ◌∷◌, ◌++◌, length, take, replicate, slice_get, slice_set, refl, sym, ap, subst, ◌∙◌, arith, append-nil}
+use Rattle.std.proofs.Common.{◌≡◌, ℕ, ◌+◌, ◌<◌, ◌≤◌, Bool, true, false, Some, Result, Ok, Err, List, [], ◌∷◌, ◌++◌, length, take, slice_get, slice_set, refl, sym, ap, subst, ◌∙◌, arith}
 use Rattle.std.specs.Prelude.{◌&&◌, ◌||◌, OnErr}
-use Rattle.lane_kinds.proofs.LanesMade as made
-use Rattle.lane_kinds.specs.Lanes.{unmarked}
 use Rattle.lane_kinds.specs.LanesMade.{Marks, all_true, first_marks}
 use Rattle.ldc_queue.specs.declared.end.End.{End}
 use Rattle.ldc_queue.specs.declared.end.End.TheVariants.{A, B}
 use Rattle.disk_model.specs.LaneState.{LaneState}
-use Rattle.domain_laws.specs.PortState.{PortState}
 use Rattle.world_laws.specs.Settle.{SettleEntry, Settled, entry_of}
 use Rattle.domain_laws.proofs.Looping as going
-use Rattle.domain_laws.proofs.Loops.{disk_names_begin, disk_names_go_on, disk_round_begins, disk_round_goes_on, disk_round_wants, disk_ticks_begin, disk_ticks_go_on, disk_ticks_want, disk_turn_wants, port_names_begin, port_round_begins, port_ticks_begin}
+use Rattle.domain_laws.proofs.Loops.{disk_names_begin, disk_names_go_on, disk_round_begins, disk_round_goes_on, disk_round_wants, disk_ticks_begin, disk_ticks_go_on, disk_ticks_want, disk_turn_wants}
 use Rattle.domain_laws.specs.Domain.{DomainState, DomainStep, lanes_in}
-use Rattle.domain_laws.specs.Going.{GoneOn, most_rounds, no_marks}
+use Rattle.domain_laws.specs.Going.{GoneOn, fresh_marks, most_rounds}
 use Rattle.domain_laws.specs.Lines.{LineBegins, LineMoves}
 use Rattle.domain_laws.specs.Lines as script
 use Rattle.domain_laws.specs.NamesMade.{AllNamed, DisksNamed, NamesBegun, PortsNamed, disk_name}
-use Rattle.domain_laws.specs.RoundMade.{DiskMade, DisksBegun, DisksUpTo, PortsUpTo, RoundBegun, RoundMade, all_quiet}
-use Rattle.domain_laws.specs.TicksMade.{DiskTicked, DiskTicksBegun, DiskTicksUpTo, PortTicksUpTo, TicksBegun, TicksMade}
+use Rattle.domain_laws.specs.RoundMade.{DiskMade, DisksBegun, DisksUpTo, PortsBegun, PortsUpTo, RoundBegun, RoundMade, all_quiet}
+use Rattle.domain_laws.specs.TicksMade.{DiskTicked, DiskTicksBegun, DiskTicksUpTo, PortTicksBegun, PortTicksUpTo, TicksBegun, TicksMade}
 use Rattle.ldom_entries.specs.declared.entry.Entry.{Entry}
 use Rattle.ldom_entries.specs.declared.entry.Entry.TheVariants as entry
 use Rattle.ldom_world.proofs.Adding.{both_add, none_adds, one_adds}
-use Rattle.ldom_world.specs.SettleParts.{DiskTicksAdd, DiskTicksAddFront, DisksAdd, DisksAddFront, DisksNameAdd, DisksNameAddFront, Grew, NamesAdd, NamesAddFront, NamesGoOn, RoundAdds, RoundAddsFront, RoundBreaks, RoundGoesOn, RoundsAdd, TicksAdd, TicksAddFront, TicksGoOn, TurnBreaks, TurnGoesOn, of_disks}
+use Rattle.ldom_world.specs.SettleParts.{DiskTicksAdd, DiskTicksAddFront, DisksAdd, DisksAddFront, DisksNameAdd, DisksNameAddFront, Grew, NamesAdd, NamesAddFront, NamesGoOn, PortTicksAdd, PortTicksAddFront, PortsAdd, PortsAddFront, PortsNameAdd, PortsNameAddFront, RoundAdds, RoundAddsFront, RoundBreaks, RoundGoesOn, RoundsAdd, TicksAdd, TicksAddFront, TicksGoOn, TurnBreaks, TurnGoesOn}
 use Rattle.ldom_world.specs.Steps.{MakesQuietStep}
 use Rattle.world_parts.specs.Parts.{Adds, Fits, FitsSoFar}
 
@@ -98,17 +95,14 @@ client_adds_front k start w v first old new quiet calm up made =
     (λ one two before now. disk_turn_wants k start w v one two quiet calm before now) up
     (end_grew k A w v old new calm made)
 
--- and where there is no port that is the round
-no_ports : (m : DomainState) → m.second ≡ [] → PortsUpTo (length m.second) m [] [] m
-no_ports m none =
-    subst (λ (l : List PortState). PortsUpTo (length l) m [] [] m) (sym none) (port_round_begins m [])
-
-pub whole_round : (start now : DomainState) (old new : List Entry) (quiet : List Bool) → start.second ≡ []
-    → DisksAdd (length start.first.lanes) start quiet now old new → RoundAdds start (of_disks quiet) now old new
-whole_round start now old new quiet none up =
-    also_grew (λ es. DisksUpTo (length start.first.lanes) start es quiet now) (λ es. RoundMade start es (of_disks quiet) now) old new
-    (λ es at. subst (λ (l : List SettleEntry). RoundMade start l (of_disks quiet) now) (append-nil es)
-    (going.round_made start now now es [] (of_disks quiet) at (no_ports now (at.stays ∙ none)))) up
+-- and behind the disks the ports make the round whole
+pub whole_round : (start m now : DomainState) (old mid new : List Entry) (quiet : Marks)
+    → DisksAdd (length start.first.lanes) start quiet.first m old mid
+    → PortsAdd (length m.second) m quiet.second now mid new → RoundAdds start quiet now old new
+whole_round start m now old mid new quiet disks ports =
+    both_grew (λ es. DisksUpTo (length start.first.lanes) start es quiet.first m)
+    (λ es. PortsUpTo (length m.second) m es quiet.second now) (λ es. RoundMade start es quiet now) old mid new
+    (λ one two before after. going.round_made start m now one two quiet before after) disks ports
 
 pub whole_round_front : (start now : DomainState) (old new : List Entry) → DisksAddFront start now old new
     → RoundAddsFront start now old new
@@ -116,15 +110,22 @@ whole_round_front start now old new begun =
     also_grew (λ es. DisksBegun start es now) (λ es. RoundBegun start es now) old new
     (λ es at. going.round_of_disks start now es at) begun
 
-and_true : (b : Bool) → (b && true) ≡ b
-and_true true = refl
-and_true false = refl
+pub ports_round_front : (start m now : DomainState) (old mid new : List Entry) (quiet : List Bool)
+    → DisksAdd (length start.first.lanes) start quiet m old mid → PortsAddFront m now mid new
+    → RoundAddsFront start now old new
+ports_round_front start m now old mid new quiet disks begun =
+    both_grew (λ es. DisksUpTo (length start.first.lanes) start es quiet m) (λ es. PortsBegun m es now)
+    (λ es. RoundBegun start es now) old mid new
+    (λ one two before after. going.round_of_ports start m now one two quiet before after) disks begun
 
-pub whole_quiet : (w : DomainState) (quiet : List Bool) (calm : Bool) → w.second ≡ []
-    → all_true (take (length w.first.lanes) quiet) ≡ calm → all_quiet w (of_disks quiet) ≡ calm
-whole_quiet w quiet calm none is =
-    ap (λ (l : List PortState). all_true (take (length w.first.lanes) quiet) && all_true (take (length l) [])) none
-    ∙ and_true (all_true (take (length w.first.lanes) quiet)) ∙ is
+-- as many ports stand behind the disks' part, by which all marks say whether all lanes were quiet
+pub whole_quiet : (start m : DomainState) (quiet : Marks) (disks ports : Bool) → length m.second ≡ length start.second
+    → all_true (take (length start.first.lanes) quiet.first) ≡ disks
+    → all_true (take (length m.second) quiet.second) ≡ ports → all_quiet start quiet ≡ (disks && ports)
+whole_quiet start m quiet disks ports many of_disks of_ports =
+    ap (λ (n : ℕ). all_true (take (length start.first.lanes) quiet.first) && all_true (take n quiet.second)) (sym many)
+    ∙ ap (λ (b : Bool). b && all_true (take (length m.second) quiet.second)) of_disks
+    ∙ ap (λ (b : Bool). disks && b) of_ports
 
 -- THE TICKS of the disks
 pub ticks_add_none : (w : DomainState) (had : List Bool) (old : List Entry) → DiskTicksAdd 0 w had false had w old old
@@ -146,31 +147,30 @@ ticks_add_front k start now old new had have some up within =
     also_grew (λ es. DiskTicksUpTo k start had es some have now) (λ es. DiskTicksBegun start had es now) old new
     (λ es at. disk_ticks_want k start now had have es some at within) up
 
--- and where there is no port those are all
-no_port_ticks : (m : DomainState) → m.second ≡ [] → PortTicksUpTo (length m.second) m [] [] false [] m
-no_port_ticks m none =
-    subst (λ (l : List PortState). PortTicksUpTo (length l) m [] [] false [] m) (sym none) (port_ticks_begin m [])
+-- and behind them those of the ports
+pub whole_ticks : (start m now : DomainState) (old mid new : List Entry) (had have : Marks) (some any : Bool)
+    → DiskTicksAdd (length start.first.lanes) start had.first some have.first m old mid
+    → PortTicksAdd (length m.second) m had.second any have.second now mid new
+    → TicksAdd start had (some || any) have now old new
+whole_ticks start m now old mid new had have some any disks ports =
+    both_grew (λ es. DiskTicksUpTo (length start.first.lanes) start had.first es some have.first m)
+    (λ es. PortTicksUpTo (length m.second) m had.second es any have.second now)
+    (λ es. TicksMade start had es (some || any) have now) old mid new
+    (λ one two before after. going.ticks_of_all start m now one two had have some any before after) disks ports
 
-or_false : (b : Bool) → (b || false) ≡ b
-or_false true = refl
-or_false false = refl
-
-pub whole_ticks : (start now : DomainState) (old new : List Entry) (had have : List Bool) (some : Bool) → start.second ≡ []
-    → DiskTicksAdd (length start.first.lanes) start had some have now old new
-    → TicksAdd start (of_disks had) some (of_disks have) now old new
-whole_ticks start now old new had have some none up =
-    also_grew (λ es. DiskTicksUpTo (length start.first.lanes) start had es some have now)
-    (λ es. TicksMade start (of_disks had) es some (of_disks have) now) old new
-    (λ es at. subst (λ (b : Bool). TicksMade start (of_disks had) es b (of_disks have) now) (or_false some)
-    (subst (λ (l : List SettleEntry). TicksMade start (of_disks had) l (some || false) (of_disks have) now) (append-nil es)
-    (going.ticks_of_all start now now es [] (of_disks had) (of_disks have) some false at
-    (no_port_ticks now (at.stays ∙ none))))) up
-
-pub whole_ticks_front : (start now : DomainState) (old new : List Entry) (had : List Bool)
-    → DiskTicksAddFront start had now old new → TicksAddFront start (of_disks had) now old new
+pub whole_ticks_front : (start now : DomainState) (old new : List Entry) (had : Marks)
+    → DiskTicksAddFront start had.first now old new → TicksAddFront start had now old new
 whole_ticks_front start now old new had begun =
-    also_grew (λ es. DiskTicksBegun start had es now) (λ es. TicksBegun start (of_disks had) es now) old new
-    (λ es at. going.ticks_of_disks start now es (of_disks had) at) begun
+    also_grew (λ es. DiskTicksBegun start had.first es now) (λ es. TicksBegun start had es now) old new
+    (λ es at. going.ticks_of_disks start now es had at) begun
+
+pub ports_ticks_front : (start m now : DomainState) (old mid new : List Entry) (had : Marks) (have : List Bool)
+    (some : Bool) → DiskTicksAdd (length start.first.lanes) start had.first some have m old mid
+    → PortTicksAddFront m had.second now mid new → TicksAddFront start had now old new
+ports_ticks_front start m now old mid new had have some disks begun =
+    both_grew (λ es. DiskTicksUpTo (length start.first.lanes) start had.first es some have m)
+    (λ es. PortTicksBegun m had.second es now) (λ es. TicksBegun start had es now) old mid new
+    (λ one two before after. going.ticks_of_ports start m now one two had have some before after) disks begun
 
 -- THE NAMES of the disks
 pub names_add_none : (w : DomainState) (quiet : List Bool) (old : List Entry) → DisksNameAdd 0 w quiet old old
@@ -186,28 +186,33 @@ names_add k w quiet first old new calm lane up there mark adds =
     (λ one two before now. disk_names_go_on k w quiet one two calm lane before there mark now) up
     (record { entries = disk_name k calm lane; adds = adds; holds = refl })
 
--- and where there is no port those are all
-no_port_names : (w : DomainState) → w.second ≡ [] → PortsNamed (length w.second) w [] []
-no_port_names w none = subst (λ (l : List PortState). PortsNamed (length l) w [] []) (sym none) (port_names_begin w [])
+-- and behind them those of the ports
+pub whole_names : (w : DomainState) (old mid new : List Entry) (quiet : Marks)
+    → DisksNameAdd (length w.first.lanes) w quiet.first old mid → PortsNameAdd (length w.second) w quiet.second mid new
+    → NamesAdd w quiet old new
+whole_names w old mid new quiet disks ports =
+    both_grew (λ es. DisksNamed (length w.first.lanes) w quiet.first es) (λ es. PortsNamed (length w.second) w quiet.second es)
+    (λ es. AllNamed w quiet es) old mid new
+    (λ one two before after. going.names_of_all w quiet one two before after) disks ports
 
-pub whole_names : (w : DomainState) (old new : List Entry) (quiet : List Bool) → w.second ≡ []
-    → DisksNameAdd (length w.first.lanes) w quiet old new → NamesAdd w (of_disks quiet) old new
-whole_names w old new quiet none named =
-    also_grew (λ es. DisksNamed (length w.first.lanes) w quiet es) (λ es. AllNamed w (of_disks quiet) es) old new
-    (λ es at. subst (λ (l : List SettleEntry). AllNamed w (of_disks quiet) l) (append-nil es)
-    (going.names_of_all w (of_disks quiet) es [] at (no_port_names w none))) named
-
-pub whole_names_front : (w : DomainState) (old new : List Entry) (quiet : List Bool)
-    → DisksNameAddFront w (length w.first.lanes) quiet old new → NamesAddFront w (of_disks quiet) old new
+pub whole_names_front : (w : DomainState) (old new : List Entry) (quiet : Marks)
+    → DisksNameAddFront w (length w.first.lanes) quiet.first old new → NamesAddFront w quiet old new
 whole_names_front w old new quiet begun =
-    also_grew (λ es. DisksNamed begun.named w quiet es) (λ es. NamesBegun w (of_disks quiet) es) old new
-    (λ es at. going.names_of_disks begun.named w (of_disks quiet) es at begun.within) begun.adds
+    also_grew (λ es. DisksNamed begun.named w quiet.first es) (λ es. NamesBegun w quiet es) old new
+    (λ es at. going.names_of_disks begun.named w quiet es at begun.within) begun.adds
+
+pub ports_names_front : (w : DomainState) (old mid new : List Entry) (quiet : Marks)
+    → DisksNameAdd (length w.first.lanes) w quiet.first old mid
+    → PortsNameAddFront w (length w.second) quiet.second mid new → NamesAddFront w quiet old new
+ports_names_front w old mid new quiet disks begun =
+    both_grew (λ es. DisksNamed (length w.first.lanes) w quiet.first es) (λ es. PortsNamed begun.named w quiet.second es)
+    (λ es. NamesBegun w quiet es) old mid new
+    (λ one two before after. going.names_of_ports begun.named w quiet one two before after begun.within) disks begun.adds
 
 -- THE ROUNDS
-pub rounds_add_none : (start : DomainState) (had : List Bool) (quiet : Marks) (old : List Entry)
-    → GoneOn start 0 [] (of_disks had) quiet start → RoundsAdd start 0 (of_disks had) quiet start old old
-rounds_add_none start had quiet old gone =
-    none_grew (λ es. GoneOn start 0 es (of_disks had) quiet start) old gone
+pub rounds_add_none : (start : DomainState) (had quiet : Marks) (old : List Entry) → GoneOn start 0 [] had quiet start
+    → RoundsAdd start 0 had quiet start old old
+rounds_add_none start had quiet old gone = none_grew (λ es. GoneOn start 0 es had quiet start) old gone
 
 pub loud_round_adds : (start w v : DomainState) (count : ℕ) (first old new : List Entry) (had quiet marks : Marks)
     → RoundsAdd start count had quiet w first old
@@ -383,21 +388,12 @@ ended_fits true start w v count first old new had have quiet marks ends turned g
 ended_fits false start w v count first old new had have quiet marks ends turned gone few = absurd (cc ends)
 
 -- HOW A SETTLE BEGINS, and where memory is wanted among the names
-abbrev two_marks : List Bool → List Bool → Marks
-two_marks first second = record { first = first; second = second }
-
-no_marks_at : (start : DomainState) → length start.first.lanes ≤ 8 → start.second ≡ []
-    → first_marks (lanes_in start) (of_disks (replicate 8 false)) ≡ no_marks start
-no_marks_at start few none =
-    ap (λ (l : List Bool). two_marks l (take (length start.second) [])) (made.fresh_marks 8 start.first.lanes few)
-    ∙ ap (λ (l : List PortState). two_marks (unmarked start.first.lanes) (take (length l) [])) none
-    ∙ ap (λ (l : List PortState). two_marks (unmarked start.first.lanes) (unmarked l)) (sym none)
-
-pub rounds_begin : (start : DomainState) (quiet : List Bool) (old : List Entry) → length start.first.lanes ≤ 8
-    → start.second ≡ [] → RoundsAdd start 0 (of_disks (replicate 8 false)) (of_disks quiet) start old old
-rounds_begin start quiet old few none =
-    rounds_add_none start (replicate 8 false) (of_disks quiet) old
-    (going.nothing_gone start (of_disks (replicate 8 false)) (of_disks quiet) (no_marks_at start few none))
+pub rounds_begin : (start : DomainState) (had quiet : Marks) (old : List Entry) → length start.first.lanes ≤ 8
+    → length start.second ≤ 8 → had ≡ fresh_marks 8 → RoundsAdd start 0 had quiet start old old
+rounds_begin start had quiet old few few_ports none =
+    rounds_add_none start had quiet old
+    (going.nothing_gone start had quiet
+    (ap (λ (m : Marks). first_marks (lanes_in start) m) none ∙ going.fresh_are 8 start few few_ports))
 
 pub names_want : (start w : DomainState) (count : ℕ) (first old new : List Entry) (had quiet : Marks)
     → RoundsAdd start count had quiet w first old → count ≡ most_rounds start

@@ -91,7 +91,7 @@ tick_said k (e ∷ []) says =
 tick_said k (e ∷ f ∷ part) says = absurd (cc says)
 
 -- A CALL FOR A TICK of a lane that gets one is the tick of a settle
-run_of_one : (w v : DomainState) (x : SettleEntry) (entries : List SettleEntry) → entries ≡ x ∷ []
+pub run_of_one : (w v : DomainState) (x : SettleEntry) (entries : List SettleEntry) → entries ≡ x ∷ []
     → Run DomainStep w entries v → DomainStep w x v
 run_of_one w v x entries is run =
     let one : Run DomainStep w (x ∷ []) v = subst (λ (l : List SettleEntry). Run DomainStep w l v) is run in
@@ -132,7 +132,7 @@ no_part : (line : Line) (part : List Entry) → map (λ (e : Entry). world_event
 no_part line [] is = refl
 no_part line (e ∷ part) is = absurd (cc is)
 
-none_begun : (w v : DomainState) (line : Line) (old new : List Entry) (entries : List SettleEntry) → entries ≡ []
+pub none_begun : (w v : DomainState) (line : Line) (old new : List Entry) (entries : List SettleEntry) → entries ≡ []
     → Adds line old new entries → Run DomainStep w entries v → Unchanged w old new v
 none_begun w v line old new entries none adds run =
     let empty : adds.part ≡ [] = no_part line adds.part
@@ -149,11 +149,11 @@ tick_wants k w v old new so_far =
     none_begun w v (Calls (DiskLane k) Ticks) old new so_far.entries so_far.begins.begins so_far.adds so_far.begins.run
 
 -- THE TICKS GO ON by a lane that gets one, and by one that gets none
-or_true : (b : Bool) → (b || true) ≡ true
+pub or_true : (b : Bool) → (b || true) ≡ true
 or_true true = refl
 or_true false = refl
 
-or_false : (b : Bool) → (b || false) ≡ b
+pub or_false : (b : Bool) → (b || false) ≡ b
 or_false true = refl
 or_false false = refl
 
@@ -173,7 +173,7 @@ unticked_goes_on k w old have lane mark there at less gets =
     (sym (set_same have k mark at) ∙ ap (λ (b : Bool). slice_set have k b) (sym (or_false mark)))
 
 -- THE NAMES GO ON by a lane that is left over, and by one that isn't
-not_by : (b : Bool) → (if b then false else true) ≡ not b
+pub not_by : (b : Bool) → (if b then false else true) ≡ not b
 not_by true = refl
 not_by false = refl
 

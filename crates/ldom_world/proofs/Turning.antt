@@ -3,18 +3,20 @@
 use Rattle.std.proofs.Common.{◌≡◌, ℕ, zero, suc, ◌+◌, ◌-◌, ◌<◌, Result, Ok, Err, List, [], ◌∷◌, ◌++◌, length, replicate, refl, sym, ap, ap₂, subst, ◌∙◌, arith, append_assoc, append-nil}
 use Rattle.std.specs.Prelude.{OnErr}
 use Rattle.runs.specs.Run.{Run, run_append}
-use Rattle.world_laws.specs.Settle.{OfLane, SettleEntry}
+use Rattle.world_laws.specs.Settle.{OfLane, OfPort, SettleEntry}
 use Rattle.domain_laws.proofs.Running.{disks_run, ports_many, ports_run}
 use Rattle.domain_laws.specs.Domain.{DomainState, DomainStep, Lanes, lanes_in}
-use Rattle.domain_laws.specs.Lines.{AreSteps, DiskLane, EndTurn, PortLane, Rounds, Steps, both_ends, lanes_from, round_turns, turn, turns_of}
-use Rattle.domain_laws.specs.PortState.{PortState}
+use Rattle.domain_laws.specs.Lines.{AreSteps, DiskLane, EndTurn, LaneName, PortLane, Rounds, Steps, both_ends, lanes_from, round_turns, turn, turns_of}
+use Rattle.domain_script.specs.declared.fields.LaneKind.{LaneKind}
+use Rattle.domain_script.specs.declared.fields.LaneKind.TheVariants as kinds
 use Rattle.ldc_queue.specs.declared.end.End.{End}
 use Rattle.ldc_queue.specs.declared.end.End.TheVariants.{A, B}
 use Rattle.ldom_entries.specs.declared.entry.Entry.{Entry}
 use Rattle.ldom_world.proofs.Adding.{both_add, none_adds}
 use Rattle.ldom_world.proofs.Lifting.{run_many}
-use Rattle.ldom_world.specs.Steps.{MakesStep}
-use Rattle.ldom_world.specs.TurnsMade.{TurnsBegun, TurnsMade, disk_turns}
+use Rattle.ldom_world.specs.Steps.{MakesPortStep, MakesStep}
+use Rattle.ldom_world.specs.TurnsMade.{SameNumbers, TurnsBegun, TurnsMade, kind_turns, lane_turns}
+use Rattle.world_parts.specs.Lines.{number_of_kind, of_kind}
 use Rattle.world_parts.specs.Parts.{Fits, FitsSoFar}
 
 -- what holds where memory was wanted, of a call's answer
@@ -42,10 +44,19 @@ none_turned w v old new same none = record {
 pub nothing_turned : (w : DomainState) (old : List Entry) → TurnsMade [] w old old w
 nothing_turned w old = none_turned w w old old refl refl
 
-one_turned : (k : ℕ) (e : End) (w v : DomainState) (old new : List Entry) → MakesStep DomainStep k e w old new v
+pub disk_turned : (k : ℕ) (e : End) (w v : DomainState) (old new : List Entry) → MakesStep DomainStep k e w old new v
     → TurnsMade (turn (DiskLane k) e ∷ []) w old new v
-one_turned k e w v old new made = record {
+disk_turned k e w v old new made = record {
   entries = OfLane k made.event ∷ [];
+  adds = made.adds;
+  steps = ((refl, made.of_end), tt);
+  run = (v, made.moves, refl);
+}
+
+pub port_turned : (k : ℕ) (e : End) (w v : DomainState) (old new : List Entry) → MakesPortStep DomainStep k e w old new v
+    → TurnsMade (turn (PortLane k) e ∷ []) w old new v
+port_turned k e w v old new made = record {
+  entries = OfPort k made.event ∷ [];
   adds = made.adds;
   steps = ((refl, made.of_end), tt);
   run = (v, made.moves, refl);
@@ -98,64 +109,96 @@ as_begun : (turns others : List EndTurn) (w v : DomainState) (old new : List Ent
 as_begun turns others w v old new is begun = subst (λ (l : List EndTurn). TurnsBegun l w old new v) is begun
 
 -- THE TWO STEPS of a lane
-pub both_made : (k : ℕ) (w m v : DomainState) (old mid new : List Entry) → MakesStep DomainStep k A w old mid m
-    → MakesStep DomainStep k B m mid new v → TurnsMade (turn (DiskLane k) A ∷ turn (DiskLane k) B ∷ []) w old new v
-both_made k w m v old mid new client server =
-    both_turned (turn (DiskLane k) A ∷ []) (turn (DiskLane k) B ∷ []) w m v old mid new (one_turned k A w m old mid client)
-    (one_turned k B m v mid new server)
+pub both_made : (lane : LaneName) (w m v : DomainState) (old mid new : List Entry) → TurnsMade (turn lane A ∷ []) w old mid m
+    → TurnsMade (turn lane B ∷ []) m mid new v → TurnsMade (turn lane A ∷ turn lane B ∷ []) w old new v
+both_made lane w m v old mid new first second =
+    both_turned (turn lane A ∷ []) (turn lane B ∷ []) w m v old mid new first second
 
-pub client_alone : (k : ℕ) (w m v : DomainState) (old mid new : List Entry) → MakesStep DomainStep k A w old mid m → v ≡ m
-    → new ≡ mid → TurnsBegun (turn (DiskLane k) A ∷ turn (DiskLane k) B ∷ []) w old new v
-client_alone k w m v old mid new client same none =
-    begun_behind (turn (DiskLane k) A ∷ []) (turn (DiskLane k) B ∷ []) w m v old mid new (one_turned k A w m old mid client)
-    (none_begun (turn (DiskLane k) B ∷ []) m v mid new same none)
+pub first_alone : (lane : LaneName) (w m v : DomainState) (old mid new : List Entry) → TurnsMade (turn lane A ∷ []) w old mid m
+    → v ≡ m → new ≡ mid → TurnsBegun (turn lane A ∷ turn lane B ∷ []) w old new v
+first_alone lane w m v old mid new first same none =
+    begun_behind (turn lane A ∷ []) (turn lane B ∷ []) w m v old mid new first
+    (none_begun (turn lane B ∷ []) m v mid new same none)
 
--- A ROUND, disk by disk
-turns_join : (k n more : ℕ) → disk_turns k (n + more) ≡ disk_turns k n ++ disk_turns (k + n) more
-turns_join k zero more =
-    ap (λ (i : ℕ). disk_turns k i) (let is : 0 + more ≡ more = omega (arith) in is)
-    ∙ ap (λ (i : ℕ). disk_turns i more) (let is : k ≡ k + 0 = omega (arith) in is)
-turns_join k (suc n) more =
-    ap (λ (i : ℕ). disk_turns k i) (let is : suc n + more ≡ suc (n + more) = omega (arith) in is)
-    ∙ ap (λ (l : List EndTurn). turn (DiskLane k) A ∷ turn (DiskLane k) B ∷ l)
-    (turns_join (k + 1) n more
-    ∙ ap (λ (i : ℕ). disk_turns (k + 1) n ++ disk_turns i more)
+-- THE LANES OF A KIND in a round, one by one
+turns_join : (kind : LaneKind) (k n more : ℕ) → lane_turns kind k (n + more) ≡ lane_turns kind k n ++ lane_turns kind (k + n) more
+turns_join kind k zero more =
+    ap (λ (i : ℕ). lane_turns kind k i) (let is : 0 + more ≡ more = omega (arith) in is)
+    ∙ ap (λ (i : ℕ). lane_turns kind i more) (let is : k ≡ k + 0 = omega (arith) in is)
+turns_join kind k (suc n) more =
+    ap (λ (i : ℕ). lane_turns kind k i) (let is : suc n + more ≡ suc (n + more) = omega (arith) in is)
+    ∙ ap (λ (l : List EndTurn). turn (of_kind kind k) A ∷ turn (of_kind kind k) B ∷ l)
+    (turns_join kind (k + 1) n more
+    ∙ ap (λ (i : ℕ). lane_turns kind (k + 1) n ++ lane_turns kind i more)
     (let is : (k + 1) + n ≡ k + suc n = omega (arith) in is))
 
-one_more_disk : (k : ℕ) → disk_turns 0 k ++ turn (DiskLane k) A ∷ turn (DiskLane k) B ∷ [] ≡ disk_turns 0 (k + 1)
-one_more_disk k =
-    sym (turns_join 0 k 1
-    ∙ ap (λ (i : ℕ). disk_turns 0 k ++ disk_turns i 1) (let is : 0 + k ≡ k = omega (arith) in is))
+module _ (kind : LaneKind) (k : ℕ) where
+  abbrev two_turns : List EndTurn
+  two_turns = turn (of_kind kind k) A ∷ turn (of_kind kind k) B ∷ []
 
--- where there is no port, those of all disks are a round
-whole_round : (n : ℕ) (w : DomainState) → n ≡ length w.first.lanes → w.second ≡ [] → disk_turns 0 n ≡ round_turns (lanes_in w)
-whole_round n w all none =
-    ap (λ (i : ℕ). disk_turns 0 i) all ∙ sym (append-nil (disk_turns 0 (length w.first.lanes)))
-    ∙ ap (λ (l : List PortState). disk_turns 0 (length w.first.lanes) ++ both_ends (lanes_from PortLane 0 (length l))) (sym none)
+  one_more_lane : lane_turns kind 0 k ++ two_turns ≡ lane_turns kind 0 (k + 1)
+  one_more_lane =
+      sym (turns_join kind 0 k 1
+      ∙ ap (λ (i : ℕ). lane_turns kind 0 k ++ lane_turns kind i 1) (let is : 0 + k ≡ k = omega (arith) in is))
 
-module _ (k : ℕ) (w m v : DomainState) (first old new : List Entry) where
-  pub round_turned : TurnsMade (disk_turns 0 k) w first old m → TurnsMade (turn (DiskLane k) A ∷ turn (DiskLane k) B ∷ []) m old new v
-      → TurnsMade (disk_turns 0 (k + 1)) w first new v
-  round_turned before both =
-      as_turns (disk_turns 0 k ++ turn (DiskLane k) A ∷ turn (DiskLane k) B ∷ []) (disk_turns 0 (k + 1)) w v first new (one_more_disk k)
-      (both_turned (disk_turns 0 k) (turn (DiskLane k) A ∷ turn (DiskLane k) B ∷ []) w m v first old new before both)
+  module _ (w m v : DomainState) (first old new : List Entry) where
+    pub round_turned : TurnsMade (lane_turns kind 0 k) w first old m → TurnsMade two_turns m old new v
+        → TurnsMade (lane_turns kind 0 (k + 1)) w first new v
+    round_turned before both =
+        as_turns (lane_turns kind 0 k ++ two_turns) (lane_turns kind 0 (k + 1)) w v first new one_more_lane
+        (both_turned (lane_turns kind 0 k) two_turns w m v first old new before both)
 
-  pub round_wants : k < length w.first.lanes → w.second ≡ [] → TurnsMade (disk_turns 0 k) w first old m
-      → TurnsBegun (turn (DiskLane k) A ∷ turn (DiskLane k) B ∷ []) m old new v → TurnsBegun (round_turns (lanes_in w)) w first new v
-  round_wants less none before begun =
-      let many = length w.first.lanes in
-      let rest = many - (k + 1) in
-      let all : (k + 1) + rest ≡ many = omega (arith, less) in
-      as_begun (disk_turns 0 (k + 1) ++ disk_turns (0 + (k + 1)) rest) (round_turns (lanes_in w)) w v first new
-      (sym (turns_join 0 (k + 1) rest) ∙ whole_round ((k + 1) + rest) w all none)
-      (begun_before (disk_turns 0 (k + 1)) (disk_turns (0 + (k + 1)) rest) w v first new
-      (as_begun (disk_turns 0 k ++ turn (DiskLane k) A ∷ turn (DiskLane k) B ∷ []) (disk_turns 0 (k + 1)) w v first new (one_more_disk k)
-      (begun_behind (disk_turns 0 k) (turn (DiskLane k) A ∷ turn (DiskLane k) B ∷ []) w m v first old new before begun)))
+    pub round_wants : k < number_of_kind kind w → TurnsMade (lane_turns kind 0 k) w first old m
+        → TurnsBegun two_turns m old new v → TurnsBegun (kind_turns kind w) w first new v
+    round_wants less before begun =
+        let many = number_of_kind kind w in
+        let rest = many - (k + 1) in
+        let all : (k + 1) + rest ≡ many = omega (arith, less) in
+        as_begun (lane_turns kind 0 (k + 1) ++ lane_turns kind (0 + (k + 1)) rest) (kind_turns kind w) w v first new
+        (sym (turns_join kind 0 (k + 1) rest) ∙ ap (λ (i : ℕ). lane_turns kind 0 i) all)
+        (begun_before (lane_turns kind 0 (k + 1)) (lane_turns kind (0 + (k + 1)) rest) w v first new
+        (as_begun (lane_turns kind 0 k ++ two_turns) (lane_turns kind 0 (k + 1)) w v first new one_more_lane
+        (begun_behind (lane_turns kind 0 k) two_turns w m v first old new before begun)))
 
-pub round_of_all : (n : ℕ) (w v : DomainState) (old new : List Entry) → n ≡ length w.first.lanes → w.second ≡ []
-    → TurnsMade (disk_turns 0 n) w old new v → TurnsMade (round_turns (lanes_in w)) w old new v
-round_of_all n w v old new all none turned =
-    as_turns (disk_turns 0 n) (round_turns (lanes_in w)) w v old new (whole_round n w all none) turned
+pub round_of_all : (kind : LaneKind) (n : ℕ) (w v : DomainState) (old new : List Entry) → n ≡ number_of_kind kind w
+    → TurnsMade (lane_turns kind 0 n) w old new v → TurnsMade (kind_turns kind w) w old new v
+round_of_all kind n w v old new all turned =
+    as_turns (lane_turns kind 0 n) (kind_turns kind w) w v old new (ap (λ (i : ℕ). lane_turns kind 0 i) all) turned
+
+-- A ROUND: the disks, and behind them as many ports as there were before
+disk_lanes : (k n : ℕ) → lanes_from (of_kind kinds.Disk) k n ≡ lanes_from DiskLane k n
+disk_lanes k zero = refl
+disk_lanes k (suc n) = ap (λ (l : List LaneName). DiskLane k ∷ l) (disk_lanes (k + 1) n)
+
+port_lanes : (k n : ℕ) → lanes_from (of_kind kinds.Port) k n ≡ lanes_from PortLane k n
+port_lanes k zero = refl
+port_lanes k (suc n) = ap (λ (l : List LaneName). PortLane k ∷ l) (port_lanes (k + 1) n)
+
+round_is : (w m : DomainState) → SameNumbers w m
+    → kind_turns kinds.Disk w ++ kind_turns kinds.Port m ≡ round_turns (lanes_in w)
+round_is w m same =
+    ap₂ (λ (a b : List LaneName). both_ends a ++ both_ends b) (disk_lanes 0 (length w.first.lanes))
+    (port_lanes 0 (length m.second) ∙ ap (λ (n : ℕ). lanes_from PortLane 0 n) same.ports)
+
+module _ (w m v : DomainState) (old mid new : List Entry) (same : SameNumbers w m) where
+  pub kinds_turned : TurnsMade (kind_turns kinds.Disk w) w old mid m → TurnsMade (kind_turns kinds.Port m) m mid new v
+      → TurnsMade (round_turns (lanes_in w)) w old new v
+  kinds_turned disks ports =
+      as_turns (kind_turns kinds.Disk w ++ kind_turns kinds.Port m) (round_turns (lanes_in w)) w v old new (round_is w m same)
+      (both_turned (kind_turns kinds.Disk w) (kind_turns kinds.Port m) w m v old mid new disks ports)
+
+  pub ports_want : TurnsMade (kind_turns kinds.Disk w) w old mid m → TurnsBegun (kind_turns kinds.Port m) m mid new v
+      → TurnsBegun (round_turns (lanes_in w)) w old new v
+  ports_want disks begun =
+      as_begun (kind_turns kinds.Disk w ++ kind_turns kinds.Port m) (round_turns (lanes_in w)) w v old new (round_is w m same)
+      (begun_behind (kind_turns kinds.Disk w) (kind_turns kinds.Port m) w m v old mid new disks begun)
+
+pub disks_want : (w v : DomainState) (old new : List Entry) → TurnsBegun (kind_turns kinds.Disk w) w old new v
+    → TurnsBegun (round_turns (lanes_in w)) w old new v
+disks_want w v old new begun =
+    as_begun (kind_turns kinds.Disk w ++ kind_turns kinds.Port w) (round_turns (lanes_in w)) w v old new
+    (round_is w w (record { disks = refl; ports = refl }))
+    (begun_before (kind_turns kinds.Disk w) (kind_turns kinds.Port w) w v old new begun)
 
 -- ROUNDS, one after the other, over as many lanes
 same_turns : (w m : DomainState) (entries : List SettleEntry) → Run DomainStep w entries m → round_turns (lanes_in m) ≡ round_turns (lanes_in w)
@@ -222,43 +265,43 @@ same_both (suc n) more next =
     ap (λ (i : ℕ). replicate i next) (let is : suc n + more ≡ suc (n + more) = omega (arith) in is)
     ∙ ap (λ (l : List EndTurn). next ∷ l) (same_both n more next)
 
-module _ (k : ℕ) (e : End) (n : ℕ) (w m v : DomainState) (first old new : List Entry) where
-  pub one_more_step : TurnsMade (replicate n (turn (DiskLane k) e)) w first old m → MakesStep DomainStep k e m old new v
-      → TurnsMade (replicate (n + 1) (turn (DiskLane k) e)) w first new v
+module _ (lane : LaneName) (e : End) (n : ℕ) (w m v : DomainState) (first old new : List Entry) where
+  pub one_more_step : TurnsMade (replicate n (turn lane e)) w first old m → TurnsMade (turn lane e ∷ []) m old new v
+      → TurnsMade (replicate (n + 1) (turn lane e)) w first new v
   one_more_step before made =
-      as_turns (replicate n (turn (DiskLane k) e) ++ turn (DiskLane k) e ∷ []) (replicate (n + 1) (turn (DiskLane k) e)) w v first new
-      (sym (same_both n 1 (turn (DiskLane k) e)))
-      (both_turned (replicate n (turn (DiskLane k) e)) (turn (DiskLane k) e ∷ []) w m v first old new before
-      (one_turned k e m v old new made))
+      as_turns (replicate n (turn lane e) ++ turn lane e ∷ []) (replicate (n + 1) (turn lane e)) w v first new
+      (sym (same_both n 1 (turn lane e)))
+      (both_turned (replicate n (turn lane e)) (turn lane e ∷ []) w m v first old new before
+      made)
 
-  pub steps_want : (count : ℕ) → n < count → TurnsMade (replicate n (turn (DiskLane k) e)) w first old m → v ≡ m → new ≡ old
-      → FitsSoFar w (Steps (DiskLane k) e count) first new v
+  pub steps_want : (count : ℕ) → n < count → TurnsMade (replicate n (turn lane e)) w first old m → v ≡ m → new ≡ old
+      → FitsSoFar w (Steps lane e count) first new v
   steps_want count less before same none =
       let rest = count - n in
       let all : n + rest ≡ count = omega (arith, less) in
       let turned =
-      both_turned (replicate n (turn (DiskLane k) e)) [] w m v first old new before (none_turned m v old new same none) in
+      both_turned (replicate n (turn lane e)) [] w m v first old new before (none_turned m v old new same none) in
       record {
         entries = turned.entries;
-        adds = turned.adds (Steps (DiskLane k) e count);
+        adds = turned.adds (Steps lane e count);
         begins = record {
           begins = record {
-            made = replicate n (turn (DiskLane k) e) ++ [];
-            left = replicate rest (turn (DiskLane k) e);
-            turns_are = sym (ap (λ (i : ℕ). replicate i (turn (DiskLane k) e)) all) ∙ same_both n rest (turn (DiskLane k) e)
-                ∙ ap (λ (l : List EndTurn). l ++ replicate rest (turn (DiskLane k) e)) (sym (append-nil (replicate n (turn (DiskLane k) e))));
+            made = replicate n (turn lane e) ++ [];
+            left = replicate rest (turn lane e);
+            turns_are = sym (ap (λ (i : ℕ). replicate i (turn lane e)) all) ∙ same_both n rest (turn lane e)
+                ∙ ap (λ (l : List EndTurn). l ++ replicate rest (turn lane e)) (sym (append-nil (replicate n (turn lane e))));
             steps = turned.steps;
           };
           run = turned.run;
         };
       }
 
-pub steps_fit : (k : ℕ) (e : End) (n count : ℕ) (w v : DomainState) (old new : List Entry) → n ≡ count
-    → TurnsMade (replicate n (turn (DiskLane k) e)) w old new v → Fits w (Steps (DiskLane k) e count) old new v
-steps_fit k e n count w v old new all turned =
-    subst (λ (i : ℕ). Fits w (Steps (DiskLane k) e i) old new v) all (record {
+pub steps_fit : (lane : LaneName) (e : End) (n count : ℕ) (w v : DomainState) (old new : List Entry) → n ≡ count
+    → TurnsMade (replicate n (turn lane e)) w old new v → Fits w (Steps lane e count) old new v
+steps_fit lane e n count w v old new all turned =
+    subst (λ (i : ℕ). Fits w (Steps lane e i) old new v) all (record {
       entries = turned.entries;
-      adds = turned.adds (Steps (DiskLane k) e n);
+      adds = turned.adds (Steps lane e n);
       moves = record { part_of = turned.steps; run = turned.run };
     })
 

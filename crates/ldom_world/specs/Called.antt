@@ -2,7 +2,7 @@
 use Rattle.std.specs.Prelude.{ℕ}
 use Rattle.domain_script.specs.declared.event.EndName.{EndName}
 use Rattle.domain_script.specs.declared.event.Side.{Side}
-use Rattle.domain_script.specs.LaneKinds.{disk_lane}
+use Rattle.domain_script.specs.LaneKinds.{disk_lane, port_lane}
 use Rattle.domain_laws.specs.Lines.{Call}
 use Rattle.domain_laws.specs.Lines as script
 use Rattle.ldom_report.specs.LaneEvents.{end_of}
@@ -27,6 +27,10 @@ call_of (lane.Inject side packet) = script.Injects (end_of side) packet
 -- an end of the disk with this number
 abbrev pub disk_end : ℕ → Side → EndName
 disk_end k side = record { lane = disk_lane k; side = side }
+
+-- and of the port
+abbrev pub port_end : ℕ → Side → EndName
+port_end k side = record { lane = port_lane k; side = side }
 
 -- the entry of a request that was refused, or found no room
 abbrev pub refused_entry : ℕ → IssueFault → Entry

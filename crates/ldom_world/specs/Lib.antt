@@ -1,6 +1,7 @@
 pub mod CachedImage
 pub mod Fitting
 pub mod OneLane
+pub mod OnePort
 pub mod Called
 pub mod Resting
 pub mod Steps

@@ -5,15 +5,16 @@ use Rattle.world_laws.specs.Settle.{SettleEntry}
 use Rattle.domain_laws.specs.Domain.{DomainState}
 use Rattle.domain_laws.specs.Going.{GoneOn, most_rounds}
 use Rattle.domain_laws.specs.Lines as script
-use Rattle.domain_laws.specs.NamesMade.{AllNamed, DisksNamed, NamesBegun}
-use Rattle.domain_laws.specs.RoundMade.{DisksBegun, DisksUpTo, RoundBegun, RoundMade}
-use Rattle.domain_laws.specs.TicksMade.{DiskTicksBegun, DiskTicksUpTo, TicksBegun, TicksMade}
+use Rattle.domain_laws.specs.NamesMade.{AllNamed, DisksNamed, NamesBegun, PortsNamed}
+use Rattle.domain_laws.specs.RoundMade.{DisksBegun, DisksUpTo, PortsBegun, PortsUpTo, RoundBegun, RoundMade}
+use Rattle.domain_laws.specs.TicksMade.{DiskTicksBegun, DiskTicksUpTo, PortTicksBegun, PortTicksUpTo, TicksBegun, TicksMade}
 use Rattle.ldom_entries.specs.declared.entry.Entry.{Entry}
+use Rattle.ldom_world.specs.declared.settling.LaneMarks.{LaneMarks}
 use Rattle.world_parts.specs.Parts.{Adds, Fits, FitsSoFar}
 
--- the marks of the disks, where there is no port
-abbrev pub of_disks : List Bool → Marks
-of_disks marks = record { first = marks; second = [] }
+-- the marks of both kinds
+abbrev pub marks_of : LaneMarks → Marks
+marks_of marks = record { first = marks.disks; second = marks.ports }
 
 -- A JOURNAL GREW in a settle by entries of which this holds
 pub record Grew (Holds : List SettleEntry → Type 0) (old new : List Entry) : Type 0 where
@@ -107,3 +108,46 @@ TurnBreaks w had quiet old v new =
     (start : DomainState) (count : ℕ) (first : List Entry) → RoundsAdd start count had quiet w first old
     → count < most_rounds start
     → FitsSoFar start script.Settles first new v
+
+-- THE SAME OF PORTS, behind the disks: by a round over the first ports, a front of one, the ticks of the first ports and some of them
+abbrev pub PortsAdd : ℕ → DomainState → List Bool → DomainState → List Entry → List Entry → Type 0
+PortsAdd k start quiet now old new = Grew (λ entries. PortsUpTo k start entries quiet now) old new
+
+abbrev pub PortsAddFront : DomainState → DomainState → List Entry → List Entry → Type 0
+PortsAddFront start now old new = Grew (λ entries. PortsBegun start entries now) old new
+
+abbrev pub PortTicksAdd : ℕ → DomainState → List Bool → Bool → List Bool → DomainState → List Entry → List Entry → Type 0
+PortTicksAdd k start had some have now old new = Grew (λ entries. PortTicksUpTo k start had entries some have now) old new
+
+abbrev pub PortTicksAddFront : DomainState → List Bool → DomainState → List Entry → List Entry → Type 0
+PortTicksAddFront start had now old new = Grew (λ entries. PortTicksBegun start had entries now) old new
+
+-- the names of the first ports, and of some
+abbrev pub PortsNameAdd : ℕ → DomainState → List Bool → List Entry → List Entry → Type 0
+PortsNameAdd k w quiet old new = Grew (λ entries. PortsNamed k w quiet entries) old new
+
+pub record PortsNameAddFront (w : DomainState) (lanes : ℕ) (quiet : List Bool) (old new : List Entry) : Type 0 where
+  pub named : ℕ
+  pub within : named ≤ lanes
+  pub adds : PortsNameAdd named w quiet old new
+
+-- the round, the ticks and the names go on by this port, whatever came before
+abbrev pub PortRoundGoesOn : ℕ → DomainState → List Bool → List Entry → DomainState → List Bool → List Entry → Type 0
+PortRoundGoesOn k w quiet old v marks new =
+    (start : DomainState) (first : List Entry) → PortsAdd k start quiet w first old
+    → PortsAdd (k + 1) start marks v first new
+
+abbrev pub PortRoundBreaks : ℕ → DomainState → List Bool → List Entry → DomainState → List Entry → Type 0
+PortRoundBreaks k w quiet old v new =
+    (start : DomainState) (first : List Entry) → PortsAdd k start quiet w first old → PortsAddFront start v first new
+
+abbrev pub PortTicksGoOn : ℕ → DomainState → List Bool → List Entry → Bool → DomainState → List Bool → List Entry → Type 0
+PortTicksGoOn k w have old ticked v marks new =
+    (start : DomainState) (had : List Bool) (some : Bool) (first : List Entry)
+    → PortTicksAdd k start had some have w first old
+    → PortTicksAdd (k + 1) start had (some || ticked) marks v first new
+
+abbrev pub PortNamesGoOn : ℕ → DomainState → Bool → List Entry → List Entry → Type 0
+PortNamesGoOn k w calm old new =
+    (quiet : List Bool) (first : List Entry) → slice_get quiet k ≡ Some calm → PortsNameAdd k w quiet first old
+    → PortsNameAdd (k + 1) w quiet first new

@@ -1,10 +1,12 @@
 -- Steps of ends, turn by turn, and the part of the journal that they give.
-use Rattle.std.specs.Prelude.{◌≡◌, ℕ, List, ◌++◌}
+use Rattle.std.specs.Prelude.{◌≡◌, ℕ, List, ◌++◌, length}
 use Rattle.runs.specs.Run.{Run}
 use Rattle.ldom_entries.specs.declared.entry.Entry.{Entry}
 use Rattle.world_laws.specs.Settle.{SettleEntry}
 use Rattle.domain_laws.specs.Domain.{DomainState, DomainStep}
-use Rattle.domain_laws.specs.Lines.{AreSteps, DiskLane, EndTurn, Line, both_ends, lanes_from}
+use Rattle.domain_laws.specs.Lines.{AreSteps, EndTurn, Line, both_ends, lanes_from}
+use Rattle.domain_script.specs.declared.fields.LaneKind.{LaneKind}
+use Rattle.world_parts.specs.Lines.{number_of_kind, of_kind}
 use Rattle.world_parts.specs.Parts.{Adds}
 
 -- THESE TURNS were made, each with its entry, whatever line they are in
@@ -21,6 +23,14 @@ pub record TurnsBegun (turns : List EndTurn) (w : DomainState) (old new : List E
   pub turns_are : turns ≡ made ++ left
   pub turned : TurnsMade made w old new v
 
--- the turns of both ends of so many disks, from this number on
-abbrev pub disk_turns : ℕ → ℕ → List EndTurn
-disk_turns k many = both_ends (lanes_from DiskLane k many)
+-- the turns of both ends of so many lanes of a kind, from this number on; and of all of them
+abbrev pub lane_turns : LaneKind → ℕ → ℕ → List EndTurn
+lane_turns kind k many = both_ends (lanes_from (of_kind kind) k many)
+
+abbrev pub kind_turns : LaneKind → DomainState → List EndTurn
+kind_turns kind w = lane_turns kind 0 (number_of_kind kind w)
+
+-- as many disks and as many ports
+pub record SameNumbers (w v : DomainState) : Type 0 where
+  pub disks : length v.first.lanes ≡ length w.first.lanes
+  pub ports : length v.second ≡ length w.second

@@ -2,3 +2,8 @@ pub mod Fields
 pub mod Noted
 pub mod Events
 pub use Rattle.port_model.specs.NetLaneState
+pub use Rattle.vnet_port.specs.Calls
+pub use Rattle.vnet_port.specs.Stepping
+pub use Rattle.vnet_port.specs.declared.answers
+pub use Rattle.vnet_port.specs.declared.net_out
+pub use Rattle.vnet_msg.specs.Frames

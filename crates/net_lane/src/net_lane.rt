@@ -151,6 +151,13 @@ impl NetLane {
         let _ = &self.ends;
     }
 
+    /// The address of the port.
+    pub fn address(&self) -> [u8; 6]
+        ensures { result ≡ self.now.shape.address }
+    {
+        self.ends.address()
+    }
+
     /// The guest's end, to be looked at.
     pub fn guest(&self) -> &NetEnd
         ensures { result.now ≡ self.now.guest }

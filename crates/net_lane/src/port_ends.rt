@@ -208,6 +208,13 @@ impl PortEnds {
         self.guest.told_groups() && holds_none(&self.guest) && holds_none(&self.hub) && queued == 0
     }
 
+    /// The address of the port.
+    pub fn address(&self) -> [u8; 6]
+        ensures { result ≡ self.now.shape.address }
+    {
+        self.address
+    }
+
     /// The guest's end.
     pub fn guest(&self) -> &NetEnd
         ensures { result.now ≡ self.now.guest }

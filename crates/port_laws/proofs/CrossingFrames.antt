@@ -49,7 +49,7 @@ use Rattle.port_laws.specs.RingStands.{RingIn, taken_of}
 use Rattle.port_laws.proofs.EndMoves.{HeldCore, held_core}
 use Rattle.port_laws.proofs.MessageDoes.{Acks, Asks, Declines, MessageDoes, Names, TakeDoes, Told}
 use Rattle.port_laws.proofs.PortCounts.{Ready}
-use Rattle.port_laws.proofs.MemoryRoom.{HasRoom}
+use Rattle.port_laws.proofs.MemoryRoom.{MemoryHasRoom}
 use Rattle.port_laws.proofs.ReadyFrames.{ready_most}
 use Rattle.port_laws.proofs.PutCounts.{not_some}
 use Rattle.port_laws.proofs.RemainingEnds.{held_slots, kind_shut}
@@ -204,7 +204,7 @@ begins_kept u t new up guest memory =
     subst (λ (x : ChannelState). untaken x t.guest_memory t.guest ≤ lane_crossing u) (sym up)
     (subst (λ (x : NetEndState). own_untaken t.guest_memory x ≤ lane_crossing u) (sym guest) (joined_kept u.wire.wire.end_a u.guest_memory t.guest_memory u.guest))
 
-guest_crossing : (shape : NetShape) (u : PortState) (l : PortLog) (answer : NetAnswer) (t : NetLaneState) → Ready shape u l → HasRoom shape.slots u.lane → EndSteps A u.lane answer t
+guest_crossing : (shape : NetShape) (u : PortState) (l : PortLog) (answer : NetAnswer) (t : NetLaneState) → Ready shape u l → MemoryHasRoom shape.slots u.lane → EndSteps A u.lane answer t
     → lane_crossing t ≤ lane_crossing u.lane
 guest_crossing shape u l answer t ready room step = by_answer answer step
   where

@@ -40,7 +40,7 @@ use Rattle.port_model.specs.NetLaneStep.{NetLaneStep}
 use Rattle.port_model.specs.PortLog.{PortLog, after, no_events}
 use Rattle.port_model.specs.PortState.{OnLane, PortEvent, PortState, PortStep, Receives, before, fresh_port}
 use Rattle.port_laws.proofs.LogsStand.{LogsStand, fresh_logs, held_given, logs_event, logs_received}
-use Rattle.port_laws.proofs.MemoryRoom.{HasRoom, power_room}
+use Rattle.port_laws.proofs.MemoryRoom.{MemoryHasRoom, power_room}
 use Rattle.port_laws.proofs.MessageDoes.{Acks, Asks, Declines as DeclinesMessage, MessageDoes, Names, Told}
 use Rattle.port_laws.proofs.PortCounts.{PortCounts, Ready, counts_step, port_counts, ready_before}
 use Rattle.port_laws.proofs.RingFetches.{found_frame}
@@ -149,7 +149,7 @@ frames_at : (shape : NetShape) (e : End) (u : PortState) (l : PortLog) → Ready
 frames_at shape A u l ready logs n frame get = logs.guest.given (l.guest.gone + n) frame (held_given u.lane.guest.frames [] l.guest.given l.guest.gone n frame ready.guest.frames get)
 frames_at shape B u l ready logs n frame get = logs.hub.given (l.hub.gone + n) frame (held_given u.lane.hub.frames u.queue l.hub.given l.hub.gone n frame ready.hub.frames get)
 
-fits_of : (shape : NetShape) (e : End) (u : PortState) (l : PortLog) → Ready shape u l → HasRoom shape.slots u.lane → Fits (net_end e u.lane).slots (memory_of e u.lane)
+fits_of : (shape : NetShape) (e : End) (u : PortState) (l : PortLog) → Ready shape u l → MemoryHasRoom shape.slots u.lane → Fits (net_end e u.lane).slots (memory_of e u.lane)
 fits_of shape A u l ready room =
     subst (λ (n : ℕ). Fits n u.lane.guest_memory) (sym ready.guest.slots_is) (record { few = ready.sound.most_slots; room = room.guest })
 fits_of shape B u l ready room =
@@ -159,13 +159,13 @@ some_slots : (shape : NetShape) (e : End) (u : PortState) (l : PortLog) → Read
 some_slots shape A u l ready = let some = ready.sound.some_slots in let is = ready.guest.slots_is in omega (arith, some, is)
 some_slots shape B u l ready = let some = ready.sound.some_slots in let is = ready.hub.slots_is in omega (arith, some, is)
 
-owns_of : (shape : NetShape) (e : End) (u : PortState) (l : PortLog) → Ready shape u l → HasRoom shape.slots u.lane → LogsStand l → is_up (seen_at e u.lane).state ≡ true
+owns_of : (shape : NetShape) (e : End) (u : PortState) (l : PortLog) → Ready shape u l → MemoryHasRoom shape.slots u.lane → LogsStand l → is_up (seen_at e u.lane).state ≡ true
     → Owns (role_at e) (net_end e u.lane) (transcript_of e l.transcript) (memory_of e u.lane)
 owns_of shape e u l ready room logs up =
     let acting = end_acts shape e u l ready up in
     record { ends = acting.ends; stands = acting.stands; fits = fits_of shape e u l ready room; frames = frames_at shape e u l ready logs }
 
-event_long : (shape : NetShape) (u : PortState) (l : PortLog) (event : NetEvent) (t : NetLaneState) → Ready shape u l → HasRoom shape.slots u.lane → LogsStand l → NetLaneStep u.lane event t
+event_long : (shape : NetShape) (u : PortState) (l : PortLog) (event : NetEvent) (t : NetLaneState) → Ready shape u l → MemoryHasRoom shape.slots u.lane → LogsStand l → NetLaneStep u.lane event t
     → LongMemory shape.slots u.lane → LongMemory shape.slots t
 event_long shape u l (Steps A answer) t ready room logs step long_ =
     let same = step_long Initiator u.lane.guest l.transcript.client (seen_at A u.lane) u.lane.guest_memory (reach_of A u.lane) answer step.left (some_slots shape A u l ready) (fits_of shape A u l ready room)
@@ -197,7 +197,7 @@ pub record KeptLong (shape : NetShape) (s : PortState) (l : PortLog) : Type 0 wh
   pub memory : LongMemory shape.slots s.lane
 
 -- so there is room for the rings
-long_room : (shape : NetShape) (s : NetLaneState) → IsNetShape shape → LongMemory shape.slots s → HasRoom shape.slots s
+long_room : (shape : NetShape) (s : NetLaneState) → IsNetShape shape → LongMemory shape.slots s → MemoryHasRoom shape.slots s
 long_room shape s is memory =
     let enough = power_room is.slots.0 shape.slots is.slots.1 is.some_slots is.most_slots in
     record { guest = omega (arith, enough, memory.guest); hub = omega (arith, enough, memory.hub) }
@@ -226,5 +226,5 @@ port_long shape events s is run =
       memory = record { guest = length-replicate {A = ℕ} (8192 * memory_pages shape.slots) 0; hub = length-replicate {A = ℕ} (8192 * memory_pages shape.slots) 0 };
     }) run).1
 
-pub room_behind : (shape : NetShape) (events : List PortEvent) (s : PortState) → IsNetShape shape → Run PortStep (fresh_port shape) events s → HasRoom shape.slots s.lane
+pub room_behind : (shape : NetShape) (events : List PortEvent) (s : PortState) → IsNetShape shape → Run PortStep (fresh_port shape) events s → MemoryHasRoom shape.slots s.lane
 room_behind shape events s is run = long_room shape s.lane is (port_long shape events s is run).memory

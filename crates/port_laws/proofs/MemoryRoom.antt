@@ -21,12 +21,12 @@ put_longer at piece bytes =
     )
 
 -- BOTH MEMORIES have room for the ring and its buffers
-pub record HasRoom (slots : ℕ) (s : NetLaneState) : Type 0 where
+pub record MemoryHasRoom (slots : ℕ) (s : NetLaneState) : Type 0 where
   pub guest : 8192 + 2048 * slots ≤ length s.guest_memory
   pub hub : 8192 + 2048 * slots ≤ length s.hub_memory
 
-pub before_room : (slots : ℕ) (event : NetEvent) (s : PortState) → HasRoom slots s.lane → HasRoom slots (before event s).lane
-before_room slots event s room = before_keeps (λ (x : PortState). HasRoom slots x.lane) event s (λ frame frames. record { guest = room.guest; hub = room.hub }) room
+pub before_room : (slots : ℕ) (event : NetEvent) (s : PortState) → MemoryHasRoom slots s.lane → MemoryHasRoom slots (before event s).lane
+before_room slots event s room = before_keeps (λ (x : PortState). MemoryHasRoom slots x.lane) event s (λ frame frames. record { guest = room.guest; hub = room.hub }) room
 
 -- the pages of a ring of 2 to 64 slots
 power_some : (n : ℕ) → 1 ≤ 2 ^ n

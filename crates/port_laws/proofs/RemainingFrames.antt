@@ -32,7 +32,7 @@ use Rattle.port_model.specs.PortLog.{PortLog, after, no_events}
 use Rattle.port_model.specs.PortState.{OnLane, PortEvent, PortState, PortStep, before, fresh_port}
 use Rattle.port_laws.specs.NetCore.{more_in, more_of, net_core, one_if}
 use Rattle.port_laws.specs.Remaining.{answers_left, end_left, frames_left, groups_left, put_weight, ready_slots, ready_weight, remaining, remaining_of, session_left, took_some}
-use Rattle.port_laws.proofs.MemoryRoom.{HasRoom}
+use Rattle.port_laws.proofs.MemoryRoom.{MemoryHasRoom}
 use Rattle.port_laws.proofs.RemainingEnds.{groups_same}
 use Rattle.port_laws.proofs.RemainingReady.{below_same}
 use Rattle.port_laws.proofs.RemainingSteps.{left_at, more_at, steps_before}
@@ -127,7 +127,7 @@ own_more x role more memory s p activity frame up is active =
     (omega (arith, here, ap (λ (n : ℕ). put_weight role * n) (frame_packets role s p activity frame is active)))
 
 -- A STEP
-pub peer_room : (e : End) (slots : ℕ) (u : NetLaneState) → HasRoom slots u → 8192 + 2048 * slots ≤ length (memory_of (peer_of e) u)
+pub peer_room : (e : End) (slots : ℕ) (u : NetLaneState) → MemoryHasRoom slots u → 8192 + 2048 * slots ≤ length (memory_of (peer_of e) u)
 peer_room A slots u room = room.hub
 peer_room B slots u room = room.guest
 

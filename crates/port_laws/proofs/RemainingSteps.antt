@@ -37,7 +37,7 @@ use Rattle.port_laws.specs.NetCore.{is_begun, net_core, net_core_at}
 use Rattle.port_laws.specs.Remaining.{absent, end_left, first_left, put_weight, remaining, remaining_of, second_life, session_left}
 use Rattle.port_laws.specs.RemainingSteps.{IsCalm, TakesNothing}
 use Rattle.port_laws.proofs.MemoryLong.{room_behind}
-use Rattle.port_laws.proofs.MemoryRoom.{HasRoom, before_room}
+use Rattle.port_laws.proofs.MemoryRoom.{MemoryHasRoom, before_room}
 use Rattle.port_laws.proofs.PortCounts.{Ready, port_counts, queue_of, ready_before}
 use Rattle.port_laws.proofs.RemainingEnds.{Lowers, blocks_lower, publishes_lower, sends_lower, up_left}
 use Rattle.port_laws.proofs.RuleFrames.{end_acts}
@@ -180,7 +180,7 @@ not_up Up is = true_false is
 not_up Down is = λ up. false_true (ap is_up up)
 not_up Resetting is = λ up. false_true (ap is_up up)
 
-pub room_at : (e : End) (slots : ℕ) (u : NetLaneState) → HasRoom slots u → 8192 + 2048 * slots ≤ length (memory_of e u)
+pub room_at : (e : End) (slots : ℕ) (u : NetLaneState) → MemoryHasRoom slots u → 8192 + 2048 * slots ≤ length (memory_of e u)
 room_at A slots u room = room.guest
 room_at B slots u room = room.hub
 
@@ -197,7 +197,7 @@ on_wire : (e : End) (left : NetLeft) (u : NetLaneState) (queued : ℕ) → remai
 on_wire A left u queued = refl
 on_wire B left u queued = refl
 
-lane_falls : (shape : NetShape) (u : PortState) (l : PortLog) (e : End) (answer : NetAnswer) (t : NetLaneState) → Ready shape u l → HasRoom shape.slots u.lane → EndSteps e u.lane answer t
+lane_falls : (shape : NetShape) (u : PortState) (l : PortLog) (e : End) (answer : NetAnswer) (t : NetLaneState) → Ready shape u l → MemoryHasRoom shape.slots u.lane → EndSteps e u.lane answer t
     → TakesNothing answer → remaining_of t (length u.queue) + 1 ≤ remaining_of u.lane (length u.queue)
 lane_falls shape u l e (Joined lost) t ready room step takes =
     let away = not_seen e u.lane (says_of (role_at e) (net_end e u.lane) (seen_at e u.lane) Joins step.step.0) in

@@ -41,7 +41,7 @@ use Rattle.port_laws.specs.Remaining.{answers_left, end_left, frames_left, group
 use Rattle.port_laws.proofs.CoreLaws.{offers_match, sizes_fit}
 use Rattle.port_laws.proofs.FlightSums.{first_gone}
 use Rattle.port_laws.proofs.MemoryLong.{room_behind}
-use Rattle.port_laws.proofs.MemoryRoom.{HasRoom, before_room}
+use Rattle.port_laws.proofs.MemoryRoom.{MemoryHasRoom, before_room}
 use Rattle.port_laws.proofs.MessageDoes.{Acks, Asks, Declines, MessageDoes, Names, TakeDoes, Told}
 use Rattle.port_laws.proofs.PortCounts.{Ready}
 use Rattle.port_laws.proofs.PortRuns.{before_core, fresh_port_core, port_fits_behind, port_step_core}
@@ -210,7 +210,7 @@ state_took : (e : End) (left : NetLeft) (u : NetLaneState) (packet : List ℕ) (
 state_took A left u packet opens up = at_up u.wire.wire.end_a Initiator left.end up
 state_took B left u packet opens up = at_up u.wire.wire.end_b Responder left.end up
 
-lane_took : (shape : NetShape) (u : PortState) (l : PortLog) (e : End) (packet : List ℕ) (opens : Bool) (t : NetLaneState) → Ready shape u l → HasRoom shape.slots u.lane
+lane_took : (shape : NetShape) (u : PortState) (l : PortLog) (e : End) (packet : List ℕ) (opens : Bool) (t : NetLaneState) → Ready shape u l → MemoryHasRoom shape.slots u.lane
     → EndSteps e u.lane (Took packet opens) t → packets_left (end_of e (lane_core t)) ≤ packets_left (end_of e (lane_core u.lane))
     → remaining_of t (length u.queue) + 1 ≤ remaining_of u.lane (length u.queue)
 lane_took shape u l e packet opens t ready room step packets =

@@ -50,7 +50,7 @@ use Rattle.port_laws.specs.RingStands.{RingIn, RingStands, taken_by, taken_in, t
 use Rattle.port_laws.proofs.EndCounting.{open_counts, shut_counts}
 use Rattle.port_laws.proofs.EndMoves.{HeldCore, held_core}
 use Rattle.port_laws.proofs.LogsStand.{LogsStand, TablesStand, held_given}
-use Rattle.port_laws.proofs.MemoryRoom.{HasRoom}
+use Rattle.port_laws.proofs.MemoryRoom.{MemoryHasRoom}
 use Rattle.port_laws.proofs.PeerOpens.{row}
 use Rattle.port_laws.proofs.PortCounts.{PortCounts, Ready, queue_of}
 use Rattle.port_laws.proofs.PortTalks.{PortTalks, many_open, open_turns, shut_turns}
@@ -270,7 +270,7 @@ in_one shape u l queue talks guest hub guest_open hub_open =
 -- what an end that acts finds
 pub record Finds (shape : NetShape) (u : PortState) (l : PortLog) : Type 0 where
   pub ready : Ready shape u l
-  pub room : HasRoom shape.slots u.lane
+  pub room : MemoryHasRoom shape.slots u.lane
   pub logs : LogsStand l
   pub tables : TablesStand shape u.lane
   pub talks : PortTalks shape (lane_core u.lane) l

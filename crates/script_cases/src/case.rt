@@ -6,7 +6,7 @@ use std::alloc::{AllocError, Global};
 const TEXTS: [&str; 4] = ["<", "<.", ">", ">."];
 
 /// The keys of its other lines.
-const KEYS: [&str; 16] = [
+const KEYS: [&str; 17] = [
     "words",
     "no-words",
     "host",
@@ -17,6 +17,7 @@ const KEYS: [&str; 16] = [
     "sink-fails",
     "sink-room",
     "status",
+    "ran",
     "image",
     "faulty",
     "lanes",

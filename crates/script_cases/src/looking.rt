@@ -18,6 +18,8 @@ pub fn look_at(
     }
     let status = usize::from(outcome.status.number());
     look_at_number(alloc, case, "status", status)?;
+    let ran = usize::from(outcome.ran.number());
+    look_at_number(alloc, case, "ran", ran)?;
     look_at_number(alloc, case, "journal", outcome.journal.len())?;
     let lanes = if outcome.lanes.is_some() {
         "given"

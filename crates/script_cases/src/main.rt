@@ -10,6 +10,7 @@
 //! | `< TEXT` | a line of the input; `<. TEXT`: TEXT without a line feed |
 //! | `> TEXT` | a line of the report; `>. TEXT`: likewise. Without such a line the report is empty |
 //! | `status N` | the number of the status; each case has this line |
+//! | `ran N` | the number of how the run ended before its report, which a failing sink hides |
 //! | `image none`, `image given` | whether an image comes back |
 //! | `image LENGTH BYTE ..` | its length, and which byte fills each of its first blocks; 00 fills those after them |
 //! | `faulty` | a call of the image failed; without this line none did |

@@ -101,8 +101,8 @@ left_so seen None i left is same = absurd is
 left_so seen (Some d) i left is same = is.told ∙ same
 
 -- A QUIET SCRIPT, over an image that tells its bytes
-module _ {D : Type 0} (seen : D → ImageState) (size : D → ℕ) (script now : Option (List ℕ)) (gives : ℕ → Option (List ℕ)) (why : Status) (journal : List Entry) (image : Option D) (lanes : Option (List LaneState)) (old new : Option (List ℕ)) (before after : Counts)
-    (runs : RunsScript mode.Run (record { gives = gives; seen = seen; size = size }) (record { left = script; written = old; failed = before }) (record { left = now; written = new; failed = after }) (record { status = why; journal = journal; image = image; lanes = lanes })) (bytes : List ℕ) (events : List Event) (known : script ≡ Some bytes) (done : why ≡ status.Done) (disk : DiskDecl) (given : List ℕ) (quiet : IsQuietScript bytes disk events)
+module _ {D : Type 0} (seen : D → ImageState) (size : D → ℕ) (script now : Option (List ℕ)) (gives : ℕ → Option (List ℕ)) (why ended : Status) (journal : List Entry) (image : Option D) (lanes : Option (List LaneState)) (old new : Option (List ℕ)) (before after : Counts)
+    (runs : RunsScript mode.Run (record { gives = gives; seen = seen; size = size }) (record { left = script; written = old; failed = before }) (record { left = now; written = new; failed = after }) (record { status = why; ran = ended; journal = journal; image = image; lanes = lanes })) (bytes : List ℕ) (events : List Event) (known : script ≡ Some bytes) (done : why ≡ status.Done) (disk : DiskDecl) (given : List ℕ) (quiet : IsQuietScript bytes disk events)
     (gave : gives (512 * disk.blocks) ≡ Some given) where
   abbrev parts : ScriptParts
   parts = runs.replayed.parts
@@ -141,7 +141,7 @@ module _ {D : Type 0} (seen : D → ImageState) (size : D → ℕ) (script now :
   -- the image is as long as it needs
   sized : SizeIs size status.Done (bytes_needed (disk ∷ [])) (gives (bytes_needed (disk ∷ []))) image
   sized =
-      let ran = ran_done runs.ran why old new (report mode.Run (declared_by runs.names) runs.lines journal runs.ran) done runs.reports in
+      let ran = ran_done ended why old new (report mode.Run (declared_by runs.names) runs.lines journal ended) done runs.reports in
       subst (λ (l : List DiskDecl). SizeIs size status.Done (bytes_needed l) (gives (bytes_needed l)) image) declares
       (subst (λ (w : Status). SizeIs size w (bytes_needed runs.names.disks) (gives (bytes_needed runs.names.disks)) image) ran.0 runs.sized)
 

@@ -26,12 +26,14 @@ pub record HostTells (D : Type 0) : Type 0 where
 abbrev pub host_tells : {D : Type 0} → (ℕ → Option (List ℕ)) → Ghosts D → HostTells D
 host_tells gives store = record { gives = gives; seen = as_image store; size = store.size }
 
--- what a run leaves: its status, what happened in it, and the image and the lanes, where it had them
+-- what a run leaves: its status, how it ended before its report, what happened in it, and the image and the lanes, where
+-- it had them
 pub record RunLeaves (D : Type 0) : Type 0 where
   pub status : Status
+  pub ran : Status
   pub journal : List Entry
   pub image : Option D
   pub lanes : Option (List LaneState)
 
-abbrev pub run_leaves : {D : Type 0} → Status → List Entry → Option D → Option (List LaneState) → RunLeaves D
-run_leaves status journal image lanes = record { status = status; journal = journal; image = image; lanes = lanes }
+abbrev pub run_leaves : {D : Type 0} → Status → Status → List Entry → Option D → Option (List LaneState) → RunLeaves D
+run_leaves status ran journal image lanes = record { status = status; ran = ran; journal = journal; image = image; lanes = lanes }

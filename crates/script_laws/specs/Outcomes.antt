@@ -23,19 +23,18 @@ abbrev pub Reports : Status → Status → Option (List ℕ) → Option (List �
 Reports ran status old new text = ((status ≡ ran) × Appends old new text) ⊎ ((status ≡ SinkFault) × WroteFront old new text)
 
 -- the script was run, and the report of its journal written as this mode shows it, of what the source, the sink and the
--- host tell before the run and behind it. All speaks of the one list of lines with their parts that `replayed` has.
+-- host tell before the run and behind it. All speaks of the one list of lines with their parts that `replayed` has, and
+-- of the one end of the run that it leaves: also where the sink failed a run that was cut short says so.
 pub record RunsScript {D : Type 0} (mode : Mode) (host : HostTells D) (before now : Tells) (left : RunLeaves D) : Type 0 where
-  -- how the run ended before its report
-  pub ran : Status
-  pub told : RanTold ran before.failed now.failed
+  pub told : RanTold left.ran before.failed now.failed
   -- how many lines the report counts
   pub lines : ℕ
   pub names : NamesState
-  pub replayed : Replayed host.seen before.left now.left host.gives ran lines names left.journal left.image left.lanes
+  pub replayed : Replayed host.seen before.left now.left host.gives left.ran lines names left.journal left.image left.lanes
   pub admits : AdmitsAll names.disks (all_lines replayed.parts)
-  pub sized : SizeIs host.size ran (bytes_needed names.disks) (host.gives (bytes_needed names.disks)) left.image
+  pub sized : SizeIs host.size left.ran (bytes_needed names.disks) (host.gives (bytes_needed names.disks)) left.image
   pub headline : IfSome left.lanes (λ stand. Headline names.disks (nets_of names.ports) (start_of names host.gives).first.image replayed.parts replayed.final)
   pub whole : left.status ≡ Done
       → RunsWhole mode host.seen before.left names replayed.parts replayed.final left.journal left.image before.written now.written
   pub others : IfSome left.image (λ disk. KeepsTold (host.gives (bytes_needed names.disks)) (IsOutsideDisks names.disks left.journal) (host.seen disk).told)
-  pub reports : Reports ran left.status before.written now.written (report mode (declared_by names) lines left.journal ran)
+  pub reports : Reports left.ran left.status before.written now.written (report mode (declared_by names) lines left.journal left.ran)

@@ -1,9 +1,11 @@
 -- What a reader of lines holds, seen from its fields.
-use Rattle.std.proofs.Common.{◌≡◌, ◌≢◌, ℕ, Bool, true, false, cond, List, [], ◌∷◌, ◌++◌, Option, Some, None, IfSome, refl, sym, ap, ◌∙◌, subst}
+use Rattle.std.proofs.Common.{◌≡◌, ◌≢◌, ◌⊎◌, inl, inr, Ok, ℕ, Bool, true, false, cond, List, [], ◌∷◌, ◌++◌, Option, Some, None, IfSome, refl, sym, ap, ◌∙◌, subst}
+use Rattle.std.proofs.KnownBytes.{Keeps-refl}
 use Rattle.std.specs.Io.KnownBytes.{Keeps, IsAtEnd, prepend_known}
 use Rattle.script_reader.specs.declared.lines.Lines.TheInside.{Inside}
 use Rattle.script_reader.specs.declared.lines.LinesStop.{LinesStop}
-use Rattle.script_reader.specs.LinesState.{LinesState, to_come, GivesNone}
+use Rattle.script_reader.specs.declared.lines.LinesStop.TheVariants.{Ended, TooLong, TooMany}
+use Rattle.script_reader.specs.LinesState.{LinesState, to_come, GivesNone, GoesFrom, GoesOn, Reads}
 use Rattle.script_reader.specs.Reader.{reader_state}
 
 held_by : (given : Bool) (line piece : List ℕ) → (cond given line []) ≡ [] → line ++ piece ≡ (cond given [] line) ++ piece
@@ -49,3 +51,21 @@ gives_none reader s held left after why is forgotten told = record {
   count = ap (λ (t : LinesState). t.number) is;
   stop = refl;
 }
+
+-- a reader that ended answers the end, and gives what it held no more
+pub ended_reads : (s new : LinesState) (left : Option (List ℕ)) → s.stop ≡ Ended → new ≡ record s { line = [] } → GoesOn s left
+    → Reads (to_come s left) (to_come new left) s (Ok false) new
+ended_reads s new left is emptied goes = (
+  record {
+    told = subst (λ (held : List ℕ). Keeps (to_come s left) (prepend_known held left)) (sym (ap (λ (t : LinesState). t.held) emptied)) (Keeps-refl (to_come s left));
+    line = ap (λ (t : LinesState). t.line) emptied;
+    count = ap (λ (t : LinesState). t.number) emptied;
+    stop = ap (λ (t : LinesState). t.stop) emptied ∙ is;
+  },
+  subst (λ (stop : LinesStop). GoesFrom stop (to_come s left)) is goes,
+)
+
+-- one that stopped at a limit isn't asked further
+pub not_past_limits : (s : LinesState) (left : Option (List ℕ)) → (s.stop ≡ TooLong) ⊎ (s.stop ≡ TooMany) → GoesOn s left → ⊥
+not_past_limits s left (inl is) goes = subst (λ (stop : LinesStop). GoesFrom stop (to_come s left)) is goes
+not_past_limits s left (inr is) goes = subst (λ (stop : LinesStop). GoesFrom stop (to_come s left)) is goes

@@ -1,5 +1,5 @@
 -- What is still to come while a line is read.
-use Rattle.std.proofs.Common.{◌≡◌, ◌≢◌, inl, inr, ℕ, eqb, not, Bool, true, false, List, [], ◌∷◌, ◌++◌, length, Option, Some, None, Ok, Err, IfSome, refl, sym, ◌∙◌, ap, subst, append-nil, append_assoc}
+use Rattle.std.proofs.Common.{◌≡◌, ◌≢◌, inl, inr, ℕ, eqb, Bool, true, false, List, [], ◌∷◌, ◌++◌, length, Option, Some, None, Ok, Err, IfSome, refl, sym, ◌∙◌, ap, subst, append-nil, append_assoc}
 use Rattle.std.proofs.Math.Dec.{eqb-suc-zero}
 use Rattle.std.proofs.KnownBytes.{Keeps-trans}
 use Rattle.std.specs.Io.KnownBytes.{Keeps, IsAtEnd, prepend_known}
@@ -7,6 +7,7 @@ use Rattle.script_reader.specs.declared.lines.LinesFault.{LinesFault}
 use Rattle.script_reader.specs.declared.lines.LinesFault.TheVariants.{Source, Long, Many}
 use Rattle.domain_script.specs.ScriptLines.{script_lines, TakesLine, BeginsWithLonger}
 use Rattle.domain_script.specs.Pieces.{HasNoFeed, IsTooLong}
+use Rattle.script_reader.specs.LinesState.{HasFeed}
 use Rattle.script_reader.specs.Parts.{MovesPart, ReadsLine}
 use Rattle.domain_script.proofs.ScriptLemmas.{lines_feed, lines_last, begins_longer}
 
@@ -32,6 +33,14 @@ takes_line (Some bytes) (Some x) line piece line_after piece_after told is clean
       inl (all ∙ sym (append_assoc line_after (10 ∷ []) (piece_after ++ x))),
     )
 
+-- and its line feed with it
+pub has_feed : (rest left : Option (List ℕ)) (line piece line_after piece_after : List ℕ) → Keeps rest (prepend_known (line ++ piece) left)
+    → line ++ piece ≡ line_after ++ 10 ∷ piece_after → HasFeed rest (prepend_known piece_after left) line_after
+has_feed None left line piece line_after piece_after told is = tt
+has_feed (Some bytes) None line piece line_after piece_after told is = absurd told
+has_feed (Some bytes) (Some x) line piece line_after piece_after told is =
+    sym told ∙ ap (λ (l : List ℕ). l ++ x) is ∙ append_assoc line_after (10 ∷ piece_after) x
+
 -- a last line without a line feed was taken
 pub takes_last : (rest left : Option (List ℕ)) (line piece : List ℕ) → Keeps rest (prepend_known (line ++ piece) left) → piece ≡ [] → IsAtEnd left
     → HasNoFeed line → line ≢ [] → TakesLine rest (prepend_known piece left) line
@@ -44,18 +53,23 @@ takes_last (Some bytes) (Some x) line piece told none end clean some =
       inr (ap (λ (l : List ℕ). l ++ 10 ∷ []) all, behind),
     )
 
+-- known bytes are those of a line behind which nothing is left
+pub is_all : (rest left : Option (List ℕ)) (line piece : List ℕ) → Keeps rest (prepend_known (line ++ piece) left) → piece ≡ [] → IsAtEnd left
+    → IfSome rest (λ bytes. bytes ≡ line) × IsAtEnd (prepend_known piece left)
+is_all None None line piece told none end = (tt, tt)
+is_all None (Some x) line piece told none end = (tt, ap (λ (l : List ℕ). l ++ x) none ∙ end)
+is_all (Some bytes) None line piece told none end = absurd told
+is_all (Some bytes) (Some x) line piece told none end = (
+  sym told ∙ ap (λ (l : List ℕ). (line ++ l) ++ x) none ∙ ap (λ (l : List ℕ). (line ++ []) ++ l) end ∙ append-nil (line ++ []) ∙ append-nil line,
+  ap (λ (l : List ℕ). l ++ x) none ∙ end,
+)
+
 -- nothing is to come
 pub at_end : (rest left : Option (List ℕ)) (line piece : List ℕ) → Keeps rest (prepend_known (line ++ piece) left) → piece ≡ [] → IsAtEnd left → line ≡ [] → IsAtEnd rest
 at_end None left line piece told none end empty = tt
 at_end (Some bytes) None line piece told none end empty = absurd told
 at_end (Some bytes) (Some x) line piece told none end empty =
     sym told ∙ ap (λ (l : List ℕ). (line ++ l) ++ x) none ∙ ap (λ (l : List ℕ). (l ++ []) ++ x) empty ∙ end
-
--- the source ended: what was read is a last line, if there is something
-pub read_to_end : (rest left : Option (List ℕ)) (line piece : List ℕ) (more : Bool) → Keeps rest (prepend_known (line ++ piece) left) → piece ≡ [] → IsAtEnd left
-    → HasNoFeed line → (more ≡ true → line ≢ []) → (more ≡ false → line ≡ []) → ReadsLine rest (Ok more) line piece left
-read_to_end rest left line piece true told none end clean some empty = takes_last rest left line piece told none end clean (some refl)
-read_to_end rest left line piece false told none end clean some empty = (told, empty refl, at_end rest left line piece told none end (empty refl))
 
 -- too many bytes without a line feed are to come
 pub longer_to_come : (rest left : Option (List ℕ)) (bytes : List ℕ) → Keeps rest (prepend_known bytes left) → IsTooLong bytes → IfSome rest (BeginsWithLonger 3100)
@@ -86,9 +100,9 @@ none_there (x ∷ xs) more tells is =
     let both : true ≡ false = sym (tells (λ e. cc)) ∙ is in cc
 
 -- what the test for an empty line says
-pub empty_tells : (line : List ℕ) (n : ℕ) (empty : Bool) → n ≡ length line → empty ≡ eqb n 0 → (not empty ≡ true → line ≢ []) × (not empty ≡ false → line ≡ [])
+pub empty_tells : (line : List ℕ) (n : ℕ) (empty : Bool) → n ≡ length line → empty ≡ eqb n 0 → (empty ≡ true → line ≡ []) × (empty ≡ false → line ≢ [])
 empty_tells [] n empty long is =
-    let yes : empty ≡ true = is ∙ ap (λ (m : ℕ). eqb m 0) long in (λ no. let both : false ≡ true = ap not (sym yes) ∙ no in cc, λ _. refl)
+    let yes : empty ≡ true = is ∙ ap (λ (m : ℕ). eqb m 0) long in (λ _. refl, λ no. let both : true ≡ false = sym yes ∙ no in cc)
 empty_tells (x ∷ xs) n empty long is =
     let no : empty ≡ false = is ∙ ap (λ (m : ℕ). eqb m 0) long ∙ eqb-suc-zero (length xs) in
-    (λ _ e. cc, λ yes. let both : true ≡ false = ap not (sym no) ∙ yes in cc)
+    (λ yes. let both : false ≡ true = sym no ∙ yes in cc, λ _ e. cc)

@@ -1,5 +1,5 @@
 -- A reader of lines, and what each of its answers says.
-use Rattle.std.specs.Prelude.{◌≡◌, ◌≢◌, ℕ, ◌+◌, ◌<◌, ◌≤◌, Bool, true, false, List, [], length, Option, IfSome, Result, Ok, Err}
+use Rattle.std.specs.Prelude.{◌≡◌, ◌≢◌, ℕ, ◌+◌, ◌<◌, ◌≤◌, Bool, true, false, List, [], ◌∷◌, ◌++◌, length, Option, Some, None, IfSome, Result, Ok, Err, ⊤}
 use Rattle.std.specs.Io.KnownBytes.{Keeps, IsAtEnd, prepend_known}
 use Rattle.script_reader.specs.declared.lines.LinesFault.{LinesFault}
 use Rattle.script_reader.specs.declared.lines.LinesFault.TheVariants.{Source, Long, Many}
@@ -23,13 +23,27 @@ pub record LinesState : Type 0 where
 abbrev pub to_come : LinesState → Option (List ℕ) → Option (List ℕ)
 to_come lines left = prepend_known lines.held left
 
+-- known bytes begin with this line and its line feed
+abbrev pub HasFeed : Option (List ℕ) → Option (List ℕ) → List ℕ → Type 0
+HasFeed None left line = ⊤
+HasFeed (Some bytes) None line = ⊥
+HasFeed (Some bytes) (Some left) line = bytes ≡ line ++ 10 ∷ left
+
+-- How the line that was given ended. A reader that goes on gave its line feed with it. One that ended gave all that there
+-- was, without a line feed, and the source has nothing left.
+abbrev pub LineEnds : LinesStop → Option (List ℕ) → Option (List ℕ) → List ℕ → Type 0
+LineEnds Going rest left line = HasFeed rest left line
+LineEnds Ended rest left line = IfSome rest (λ bytes. bytes ≡ line) × IsAtEnd left
+LineEnds TooLong rest left line = ⊥
+LineEnds TooMany rest left line = ⊥
+
 -- the next line was given
 pub record GivesLine (rest left : Option (List ℕ)) (before after : LinesState) : Type 0 where
   pub told : TakesLine rest left after.line
   pub short : length after.line ≤ most_line_bytes
   pub count : after.number ≡ before.number + 1
   pub few : after.number ≤ most_lines
-  pub going : after.stop ≡ Going
+  pub ends : LineEnds after.stop rest left after.line
 
 -- no line was given, and all that was taken is kept
 pub record GivesNone (rest left : Option (List ℕ)) (before after : LinesState) (why : LinesStop) : Type 0 where
@@ -47,12 +61,22 @@ Reads rest left before (Err Source) after = GivesNone rest left before after Goi
 Reads rest left before (Err Long) after = GivesNone rest left before after TooLong × (before.number < most_lines) × IfSome rest (BeginsWithLonger most_line_bytes)
 Reads rest left before (Err Many) after = GivesNone rest left before after TooMany × (before.number ≡ most_lines) × IfSome rest (λ bytes. bytes ≢ [])
 
--- an answer of a reader: where it stopped before, the same again
+-- an answer of a reader: where it stopped before, the same again; behind a last line that is the end
 abbrev pub AdvancesFrom : LinesStop → Option (List ℕ) → Option (List ℕ) → LinesState → Result Bool LinesFault → LinesState → Type 0
 AdvancesFrom Going rest left before result after = Reads rest left before result after
-AdvancesFrom Ended rest left before result after = (result ≡ Ok false) × (after ≡ before)
+AdvancesFrom Ended rest left before result after = (result ≡ Ok false) × (after ≡ record before { line = [] })
 AdvancesFrom TooLong rest left before result after = (result ≡ Err Long) × (after ≡ before)
 AdvancesFrom TooMany rest left before result after = (result ≡ Err Many) × (after ≡ before)
 
 abbrev pub Advances : Option (List ℕ) → Option (List ℕ) → LinesState → Result Bool LinesFault → LinesState → Type 0
 Advances rest left before result after = AdvancesFrom before.stop rest left before result after
+
+-- A further line may be asked for: the reader goes on, or it ended and nothing is to come.
+abbrev pub GoesFrom : LinesStop → Option (List ℕ) → Type 0
+GoesFrom Going rest = ⊤
+GoesFrom Ended rest = IsAtEnd rest
+GoesFrom TooLong rest = ⊥
+GoesFrom TooMany rest = ⊥
+
+abbrev pub GoesOn : LinesState → Option (List ℕ) → Type 0
+GoesOn lines left = GoesFrom lines.stop (to_come lines left)

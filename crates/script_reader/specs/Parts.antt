@@ -6,6 +6,7 @@ use Rattle.domain_script.specs.Pieces.{HasNoFeed, IsTooLong}
 use Rattle.domain_script.specs.ScriptLines.{TakesLine, BeginsWithLonger}
 use Rattle.script_reader.specs.declared.lines.LinesFault.{LinesFault}
 use Rattle.script_reader.specs.declared.lines.LinesFault.TheVariants.{Source, Long, Many}
+use Rattle.script_reader.specs.LinesState.{HasFeed}
 
 -- bytes were added to a line, which has at most 3,100 of them
 abbrev pub Extends : List ℕ → List ℕ → Result (Unit {0}) LinesFault → List ℕ → Type 0
@@ -22,10 +23,11 @@ MovesPart piece line (Err Long) piece_after line_after = (piece_after ≡ piece)
 MovesPart piece line (Err Source) piece_after line_after = ⊥
 MovesPart piece line (Err Many) piece_after line_after = ⊥
 
--- a line was read: `rest` is to come before the call; after it a line, a piece, and what the source has left
+-- A line was read, or all that there was: `rest` is to come before the call; after it a line, a piece, and what the source
+-- has left.
 abbrev pub ReadsLine : Option (List ℕ) → Result Bool LinesFault → List ℕ → List ℕ → Option (List ℕ) → Type 0
-ReadsLine rest (Ok true) line piece left = TakesLine rest (prepend_known piece left) line
-ReadsLine rest (Ok false) line piece left = Keeps rest (prepend_known (line ++ piece) left) × (line ≡ []) × IsAtEnd rest
+ReadsLine rest (Ok true) line piece left = TakesLine rest (prepend_known piece left) line × HasFeed rest (prepend_known piece left) line
+ReadsLine rest (Ok false) line piece left = Keeps rest (prepend_known (line ++ piece) left) × (piece ≡ []) × IsAtEnd left
 ReadsLine rest (Err Source) line piece left = Keeps rest (prepend_known (line ++ piece) left) × HasNoFeed (line ++ piece) × (length (line ++ piece) ≤ most_line_bytes)
 ReadsLine rest (Err Long) line piece left = Keeps rest (prepend_known (line ++ piece) left) × IfSome rest (BeginsWithLonger most_line_bytes)
 ReadsLine rest (Err Many) line piece left = ⊥

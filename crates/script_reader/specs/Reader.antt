@@ -1,6 +1,6 @@
 -- What a reader of lines keeps, and how it is seen.
 use Rattle.std.specs.Prelude.{◌≡◌, ◌≤◌, true, false, [], ◌++◌, length, if◌then◌else◌, vec_capacity}
-use Rattle.script_reader.specs.declared.lines.LinesStop.TheVariants.{Going}
+use Rattle.script_reader.specs.declared.lines.LinesStop.TheVariants.{TooLong, TooMany}
 use Rattle.script_reader.specs.declared.lines.Lines.TheInside.{Inside}
 use Rattle.script_reader.specs.LinesState.{LinesState}
 use Rattle.domain_script.specs.Pieces.{HasNoFeed}
@@ -23,5 +23,6 @@ pub record IsReader (reader : Inside) : Type 0 where
   pub few : reader.number ≤ most_lines
   -- after the last line that there may be, no line is begun
   pub all : reader.number ≡ most_lines → reader.given ≡ false → reader.line.items ≡ []
-  -- a reader that stopped has given no line
-  pub stopped : reader.given ≡ true → reader.stop ≡ Going
+  -- a reader that stopped at a limit has given no line
+  pub too_long : reader.stop ≡ TooLong → reader.given ≡ false
+  pub too_many : reader.stop ≡ TooMany → reader.given ≡ false

@@ -49,8 +49,9 @@ enum LinesStop {
 }
 
 /// The lines of a script, one after another from a source that stays with the caller. Each read asks for at most
-/// 4,096 bytes; those after a line are kept for the next. After the end, a line that is too long or one too many
-/// nothing more is read.
+/// 4,096 bytes; those after a line are kept for the next. Once the source said that it is at its end, nothing more is
+/// read: also where a last line without a line feed was given there. Nor is it after a line that is too long or one
+/// too many.
 #[derive(Drop)]
 pub struct Lines {
     piece: Piece,
@@ -79,7 +80,7 @@ impl Model for Lines {
 impl Lines {
     ghost use Rattle.std.specs.Prelude.{◌≡◌, ◌≢◌, ℕ, ◌<◌, ◌≤◌, [], true, length, IfOk};
     ghost use Rattle.vio_io.specs.Causes.{Rose};
-    ghost use Rattle.script_reader.specs.LinesState.{Advances, Reads, to_come};
+    ghost use Rattle.script_reader.specs.LinesState.{Advances, GoesOn, Reads, to_come};
 
     /// Nothing was read. No other call takes memory: the room of a line of the most bytes is taken here.
     pub fn new(alloc: Global) -> Result<Self, NoMemory>
@@ -97,15 +98,21 @@ impl Lines {
     /// Reads the next line. False at the end, where no line is left.
     pub fn advance<S: Source>(&mut self, source: &mut S) -> Result<bool, LinesFault>
         ensures advances { Advances (to_come self.old (S.left source.old)) (to_come self.new (S.left source.new)) self.old result self.new }
+        // Where the reader may be asked further, that is one reading: also behind a last line at the source's end.
+        ensures reads { GoesOn self.old (S.left source.old)
+            → Reads (to_come self.old (S.left source.old)) (to_come self.new (S.left source.new)) self.old result self.new }
         ensures empty { result ≢ Ok true → self.new.line ≡ [] }
 
-        // After a stop the source isn't asked.
+        // Once the source was at its end, and after each other stop, it isn't asked.
         ensures stays { self.old.stop ≢ LinesStop.Going → source.new ≡ source.old }
         ensures faults { Fails (result ≡ Err LinesFault.Source) (S.faults source.old) (S.faults source.new) }
     {
         match self.stop {
             LinesStop::Going => self.go_on(source),
-            LinesStop::Ended => Ok(false),
+            LinesStop::Ended => {
+                self.forget_line();
+                Ok(false)
+            }
             LinesStop::TooLong => Err(LinesFault::Long),
             LinesStop::TooMany => Err(LinesFault::Many),
         }
@@ -166,7 +173,12 @@ impl Lines {
             }
             Ok(false) => {
                 self.stop = LinesStop::Ended;
-                Ok(false)
+                if self.line.is_empty() {
+                    return Ok(false);
+                }
+                self.given = true;
+                self.number += 1;
+                Ok(true)
             }
             Err(LinesFault::Long) => {
                 self.stop = LinesStop::TooLong;

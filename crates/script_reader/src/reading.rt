@@ -51,7 +51,8 @@ fn take_part(piece: &mut Piece, line: &mut Vec<u8>) -> Result<bool, LinesFault>
     }
 }
 
-/// Reads on until a line is whole. False at the source's end where nothing of a line is there.
+/// Reads on until a line is whole. False at the source's end, where what is there is a last line without a line feed,
+/// or nothing.
 pub fn read_line<S: Source>(
     piece: &mut Piece,
     line: &mut Vec<u8>,
@@ -71,5 +72,5 @@ pub fn read_line<S: Source>(
             return Ok(true);
         }
     }
-    Ok(!line.is_empty())
+    Ok(false)
 }

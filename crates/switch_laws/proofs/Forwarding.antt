@@ -10,7 +10,7 @@ use Rattle.lane_kinds.specs.Lanes.{AllStep, StepOf, own_or}
 use Rattle.vnet_switch.proofs.Bits.{set_from, set_means}
 use Rattle.vnet_switch.specs.Forward.{PortIs}
 use Rattle.vnet_switch.specs.PortView.{PortView}
-use Rattle.vnet_switch.specs.Queues.{HasRoom, IsFull}
+use Rattle.vnet_switch.specs.Queues.{QueueHasRoom, IsFull}
 use Rattle.port_laws.specs.PortState.{PortState}
 use Rattle.switch_laws.specs.Events.{OnPort, SwitchEvent, SwitchStep, Switched}
 use Rattle.switch_laws.specs.Forwards.{Forwards, GoesTo, views}
@@ -18,11 +18,11 @@ use Rattle.switch_laws.specs.Ports.{gets, gift, ports}
 use Rattle.switch_laws.specs.Run.{LeavesOthers, OnlyGets}
 
 -- THE SETS
-never_both : (o : Option (PortView (List ℕ))) → IsSomeAnd o HasRoom → IsSomeAnd o IsFull → ⊥
+never_both : (o : Option (PortView (List ℕ))) → IsSomeAnd o QueueHasRoom → IsSomeAnd o IsFull → ⊥
 never_both None room full = absurd room
 never_both (Some port) room full = absurd (omega (arith, room, full))
 
-room_or_full : (o : Option (PortView (List ℕ))) (P : PortView (List ℕ) → Type 0) → IsSomeAnd o P → IsSomeAnd o HasRoom ⊎ IsSomeAnd o IsFull
+room_or_full : (o : Option (PortView (List ℕ))) (P : PortView (List ℕ) → Type 0) → IsSomeAnd o P → IsSomeAnd o QueueHasRoom ⊎ IsSomeAnd o IsFull
 room_or_full None P holds = absurd holds
 room_or_full (Some port) P holds = cases_lt (length port.queue) port.room
 
@@ -30,7 +30,7 @@ pub sets_apart : (lanes : List PortState) (from : ℕ) (frame : List ℕ) (out f
 sets_apart lanes from frame out full k at one two = never_both (slice_get (views lanes) k) ((at.gets k).0 one).1 ((at.lacks k).0 two).1
 
 in_a_set : (lanes : List PortState) (from : ℕ) (frame : List ℕ) (out full k : ℕ) → Forwards lanes from frame out full → GoesTo lanes from frame k
-    → PortIs (views lanes) k HasRoom ⊎ PortIs (views lanes) k IsFull → IsBitSet out k ⊎ IsBitSet full k
+    → PortIs (views lanes) k QueueHasRoom ⊎ PortIs (views lanes) k IsFull → IsBitSet out k ⊎ IsBitSet full k
 in_a_set lanes from frame out full k at goes (inl room) = inl ((at.gets k).1 (goes, room))
 in_a_set lanes from frame out full k at goes (inr none) = inr ((at.lacks k).1 (goes, none))
 

@@ -3,7 +3,7 @@ use Rattle.std.specs.Prelude.{ℕ, List, map, take, Option, Some, None, ⊤}
 use Rattle.vnet_switch.specs.Forward.{GetsFrame, PortIs}
 use Rattle.vnet_switch.specs.PortSet.{IsSetOf}
 use Rattle.vnet_switch.specs.PortView.{PortView}
-use Rattle.vnet_switch.specs.Queues.{HasRoom, IsFull}
+use Rattle.vnet_switch.specs.Queues.{QueueHasRoom, IsFull}
 use Rattle.port_laws.specs.NetEndState.{NetSession}
 use Rattle.port_laws.specs.PortState.{PortState}
 use Rattle.switch_laws.specs.Events.{OnPort, SwitchEvent, Switched}
@@ -31,7 +31,7 @@ GoesTo ports from frame k = GetsFrame (views ports) (take 6 frame) from k
 
 -- ONE SET gets the frame, and the other lacks it: all whom it is for, whether their out queue has room or is full
 pub record Forwards (ports : List PortState) (from : ℕ) (frame : List ℕ) (out full : ℕ) : Type 0 where
-  pub gets : IsSetOf out (λ k. GoesTo ports from frame k × PortIs (views ports) k HasRoom)
+  pub gets : IsSetOf out (λ k. GoesTo ports from frame k × PortIs (views ports) k QueueHasRoom)
   pub lacks : IsSetOf full (λ k. GoesTo ports from frame k × PortIs (views ports) k IsFull)
 
 abbrev pub SeesSwitch : List PortState → ℕ → SwitchEvent → Type 0

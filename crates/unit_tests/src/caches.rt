@@ -1,9 +1,10 @@
-// A cache before a store in memory that fails at some of its calls: which reads reach the store.
+// A cache before a store in memory that fails at some of its calls, or before one that numbers its calls: which reads
+// reach the store.
 use cached_store::Cached;
 use flat_store::MemStore;
 use std::alloc::Global;
 use std::test::Fail;
-use vio_io::{NoMemory, Store};
+use vio_io::{Failed, NoMemory, Store};
 
 /// A cache of two blocks before a store of four that fails these calls.
 fn cache_of_two(alloc: Global, failing: &[u64]) -> Result<Cached<MemStore>, NoMemory> {
@@ -56,5 +57,98 @@ fn the_block_that_was_used_least_lately_goes_first(rt: HostRuntime) -> Result<()
         (1, false),
     ];
     assert!(rt; answers(&mut cached, &reads));
+    Ok(())
+}
+
+/// A store of four blocks that tells no bytes: a read gives the number of its call, in each byte. The first has 1.
+#[derive(Drop)]
+struct NumberedStore {
+    calls: u64,
+    flushes: u64,
+    writes: u64,
+}
+
+impl Store for NumberedStore {
+    ghost use Rattle.std.specs.Prelude.{None};
+
+    ghost content = { λ _. None };
+
+    ghost size = { λ _. 2048 };
+
+    ghost calls = { λ s. s.calls };
+
+    ghost flushes = { λ s. s.flushes };
+
+    ghost writes = { λ s. s.writes };
+
+    ghost faults = { λ _. 0 };
+
+    ghost told_size = { λ _. tt };
+
+    fn len(&self) -> u64 {
+        2048
+    }
+
+    fn read_at(&mut self, _: u64, buf: &mut [u8]) -> Result<(), Failed> {
+        self.calls = self.calls.saturating_add(1);
+        buf.fill((self.calls % 256) as u8);
+        Ok(())
+    }
+
+    fn write_at(&mut self, _: u64, _: &[u8]) -> Result<(), Failed> {
+        self.calls = self.calls.saturating_add(1);
+        self.writes = self.writes.saturating_add(1);
+        Ok(())
+    }
+
+    fn flush(&mut self) -> Result<(), Failed> {
+        self.calls = self.calls.saturating_add(1);
+        self.flushes = self.flushes.saturating_add(1);
+        Ok(())
+    }
+
+    fn faulty(&self) -> bool {
+        false
+    }
+}
+
+/// Whether a read of two blocks, from the first on, gives this number in each byte, where a store has them.
+fn gives<D: Store>(store: &mut D, first: u64, number: u8) -> Option<bool> {
+    let blocks = store.len() / 512;
+    if blocks < 2 || first > blocks - 2 {
+        return None;
+    }
+    let mut buf = [0; 1024];
+    let read = store.read_at(512 * first, &mut buf);
+    Some(read.is_ok() && buf.iter().all(|byte| *byte == number))
+}
+
+/// Whether reads of two blocks from each of these on, one after another, give these numbers.
+fn numbers<D: Store>(store: &mut D, reads: &[(u64, u8)]) -> bool {
+    for (first, number) in reads {
+        if gives(store, *first, *number) != Some(true) {
+            return false;
+        }
+    }
+    true
+}
+
+/// A cache of two blocks before a store that numbers its calls.
+fn numbered_cache(alloc: Global) -> Result<Cached<NumberedStore>, NoMemory> {
+    let store = NumberedStore {
+        calls: 0,
+        flushes: 0,
+        writes: 0,
+    };
+    match Cached::new(alloc, store, 2) {
+        Ok(cached) => Ok(cached),
+        Err((fault, _)) => Err(fault),
+    }
+}
+
+#[test]
+fn a_range_that_is_kept_in_part_is_asked_for_whole(rt: HostRuntime) -> Result<(), Fail> {
+    let mut cached = numbered_cache(rt.alloc())?;
+    assert!(rt; numbers(&mut cached, &[(1, 1), (0, 2), (1, 3), (1, 3)]));
     Ok(())
 }

@@ -12,7 +12,7 @@ use Rattle.vnet_switch.specs.Named.{names_by}
 use Rattle.vnet_switch.specs.Offering.{Declines, OffersBelow, OffersTo, Takes}
 use Rattle.vnet_switch.specs.PortSet.{IsSetOf}
 use Rattle.vnet_switch.specs.PortView.{PortView}
-use Rattle.vnet_switch.specs.Queues.{with_last, HasRoom, IsFull}
+use Rattle.vnet_switch.specs.Queues.{with_last, QueueHasRoom, IsFull}
 use Rattle.vnet_switch.specs.declared.forwarding.Offered.{Offered}
 
 abbrev pub room_of : PortView ℕ → ℕ
@@ -28,8 +28,8 @@ Wants Holds ports set k = IsBitSet set k × PortIs ports k Holds
 pub offers_none : (ports : List (PortView ℕ)) (set key : ℕ) (offered : Offered) → offered.names ≡ 0
     → offered.switched.out ≡ 0 → offered.switched.full ≡ 0 → OffersBelow 0 ports set key offered ports
 offers_none ports set key offered no_names no_out no_full = record {
-  out = subst (λ (n : ℕ). IsSetOf n (λ k. (k < 0) × Wants HasRoom ports set k)) (sym no_out)
-      (below_none (Wants HasRoom ports set));
+  out = subst (λ (n : ℕ). IsSetOf n (λ k. (k < 0) × Wants QueueHasRoom ports set k)) (sym no_out)
+      (below_none (Wants QueueHasRoom ports set));
   full = subst (λ (n : ℕ). IsSetOf n (λ k. (k < 0) × Wants IsFull ports set k)) (sym no_full)
       (below_none (Wants IsFull ports set));
   queues = record {
@@ -57,7 +57,7 @@ offers_nothing : (limit : ℕ) (first now : List (PortView ℕ)) (set key : ℕ)
     → ¬ (IsBitSet set limit) → OffersBelow limit first set key offered now
     → OffersBelow (limit + 1) first set key offered now
 offers_nothing limit first now set key offered outside so_far = record {
-  out = below_more (Wants HasRoom first set) limit offered.switched.out offered.switched.out false
+  out = below_more (Wants QueueHasRoom first set) limit offered.switched.out offered.switched.out false
       (λ is. absurd (false≢true is), λ wants. absurd (outside wants.0)) so_far.out refl;
   full = below_more (Wants IsFull first set) limit offered.switched.full offered.switched.full false
       (λ is. absurd (false≢true is), λ wants. absurd (outside wants.0)) so_far.full refl;
@@ -80,10 +80,10 @@ offers_in_vain limit first now set key offered new_offered port new_port is with
     let no_more : (new_offered.switched.out ≡ offered.switched.out) = declines.out in
     let same_names : new_offered.names ≡ offered.names = declines.names in
     record {
-      out = below_more (Wants HasRoom first set) limit offered.switched.out new_offered.switched.out false (
+      out = below_more (Wants QueueHasRoom first set) limit offered.switched.out new_offered.switched.out false (
         λ no_way. absurd (false≢true no_way),
         λ wants. absurd
-            (omega (arith, declines.no_room, port_holds first limit port HasRoom was wants.1)),
+            (omega (arith, declines.no_room, port_holds first limit port QueueHasRoom was wants.1)),
       ) so_far.out no_more;
       full = below_more (Wants IsFull first set) limit offered.switched.full new_offered.switched.full true
           (λ _. (within, port_is first limit port IsFull was declines.no_room), λ _. refl) so_far.full declines.full;
@@ -115,8 +115,8 @@ offers_one limit first now set key offered new_offered port is within so_far tak
     let new : List (PortView ℕ) = slice_set now limit (with_last key port) in
     let inside : limit < length now = slice_get_within now limit port is in
     record {
-      out = below_more (Wants HasRoom first set) limit offered.switched.out new_offered.switched.out true
-          (λ _. (within, port_is first limit port HasRoom was takes.room), λ _. refl) so_far.out takes.out;
+      out = below_more (Wants QueueHasRoom first set) limit offered.switched.out new_offered.switched.out true
+          (λ _. (within, port_is first limit port QueueHasRoom was takes.room), λ _. refl) so_far.out takes.out;
       full = below_more (Wants IsFull first set) limit offered.switched.full new_offered.switched.full false (
         λ no_way. absurd (false≢true no_way),
         λ wants. absurd

@@ -16,7 +16,7 @@ use Rattle.vnet_switch.specs.Named.{names_in, IsSound}
 use Rattle.vnet_switch.specs.Offering.{OffersBelow}
 use Rattle.vnet_switch.specs.PortSet.{IsSetOf}
 use Rattle.vnet_switch.specs.PortView.{PortView}
-use Rattle.vnet_switch.specs.Queues.{waiting_for, with_last, with_session, without_first, ChangesAt, HasRoom, IsFull}
+use Rattle.vnet_switch.specs.Queues.{waiting_for, with_last, with_session, without_first, ChangesAt, QueueHasRoom, IsFull}
 use Rattle.vnet_switch.specs.Shown.{port_shown}
 use Rattle.vnet_switch.specs.declared.forwarding.Offered.{Offered}
 use Rattle.vnet_switch.specs.declared.kept_frames.KeptFrame.{KeptFrame}
@@ -44,9 +44,9 @@ address_shown slots ports address k =
     (λ port. port.address ≡ Some address) (λ port. (λ x. x, λ x. x))
 
 room_shown : (slots : List (Option KeptFrame)) (ports : List (PortView ℕ)) (k : ℕ)
-    → PortIs ports k HasRoom ↔ PortIs (map (port_shown slots) ports) k HasRoom
+    → PortIs ports k QueueHasRoom ↔ PortIs (map (port_shown slots) ports) k QueueHasRoom
 room_shown slots ports k =
-    port_shown_is (port_shown slots) ports k HasRoom HasRoom (λ port. (
+    port_shown_is (port_shown slots) ports k QueueHasRoom QueueHasRoom (λ port. (
       λ room. omega (arith, room, length-map port.queue (bytes_at slots)),
       λ room. omega (arith, room, length-map port.queue (bytes_at slots)),
     ))
@@ -70,15 +70,15 @@ pub out_shown : (slots : List (Option KeptFrame)) (ports new_ports : List (PortV
     (offered : Offered) (destination : List ℕ) (from : ℕ) → IsSetOf set (GetsFrame ports destination from)
     → OffersBelow (length ports) ports set key offered new_ports
     → IsSetOf offered.switched.out (λ k. GetsFrame (map (port_shown slots) ports) destination from k × PortIs
-    (map (port_shown slots) ports) k HasRoom)
+    (map (port_shown slots) ports) k QueueHasRoom)
 out_shown slots ports new_ports set key offered destination from is_set offers = λ k. (
   λ in_out.
-      let was : (k < length ports) × (IsBitSet set k × PortIs ports k HasRoom) = (offers.out k).0 in_out in
+      let was : (k < length ports) × (IsBitSet set k × PortIs ports k QueueHasRoom) = (offers.out k).0 in_out in
       ((gets_shown slots ports destination from k).0 ((is_set k).0 was.1.0), (room_shown slots ports k).0 was.1.1),
   λ both.
-      let room : PortIs ports k HasRoom = (room_shown slots ports k).1 both.1 in
+      let room : PortIs ports k QueueHasRoom = (room_shown slots ports k).1 both.1 in
       (offers.out k).1 (
-        within_ports ports k HasRoom room,
+        within_ports ports k QueueHasRoom room,
         ((is_set k).1 ((gets_shown slots ports destination from k).1 both.0), room),
       ),
 )

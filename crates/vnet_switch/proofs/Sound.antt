@@ -15,7 +15,7 @@ use Rattle.vnet_switch.specs.Kept.{fresh_frames, kept_count, names_at, slot_at, 
 use Rattle.vnet_switch.specs.Named.{names_by, names_in, AllFit, IsSound, IsWhole}
 use Rattle.vnet_switch.specs.Offering.{OffersBelow}
 use Rattle.vnet_switch.specs.PortView.{PortView}
-use Rattle.vnet_switch.specs.Queues.{fresh_port, with_last, with_session, without_first, ChangesAt, HasRoom}
+use Rattle.vnet_switch.specs.Queues.{fresh_port, with_last, with_session, without_first, ChangesAt, QueueHasRoom}
 use Rattle.vnet_switch.specs.declared.forwarding.Offered.{Offered}
 use Rattle.vnet_switch.specs.declared.kept_frames.KeptFrame.{KeptFrame}
 
@@ -73,7 +73,7 @@ offers_fit ports new_ports set key offered fit offers k port is =
     k port is in
     elim from.is [
       | inl changed ↦
-          let room : HasRoom from.before = port_holds ports k from.before HasRoom from.was
+          let room : QueueHasRoom from.before = port_holds ports k from.before QueueHasRoom from.was
           ((offers.out k).0 changed.0).1.1 in
           subst (λ (p : PortView ℕ). length p.queue ≤ p.room) (sym changed.1)
           (omega (arith, room, length_push from.before.queue key))

@@ -4,12 +4,12 @@ use Rattle.vnet_switch.specs.Forward.{PortIs}
 use Rattle.vnet_switch.specs.Named.{names_in}
 use Rattle.vnet_switch.specs.PortSet.{IsSetOf, WithPort}
 use Rattle.vnet_switch.specs.PortView.{PortView}
-use Rattle.vnet_switch.specs.Queues.{waiting_in_all, with_last, ChangesAt, HasRoom, IsFull}
+use Rattle.vnet_switch.specs.Queues.{waiting_in_all, with_last, ChangesAt, QueueHasRoom, IsFull}
 use Rattle.vnet_switch.specs.declared.forwarding.Offered.{Offered}
 
 pub record Takes (k key : ℕ) (port : PortView ℕ) (offered : Offered) (new_port : PortView ℕ) (new_offered : Offered)
     : Type 0 where
-  pub room : HasRoom port
+  pub room : QueueHasRoom port
   pub is : new_port ≡ with_last key port
   pub out : WithPort offered.switched.out k new_offered.switched.out
   pub full : new_offered.switched.full ≡ offered.switched.full
@@ -33,7 +33,7 @@ OffersTo true k key port offered new_port new_offered =
 -- the first ports of the set, those below the limit, were offered the key
 pub record OffersBelow (limit : ℕ) (old : List (PortView ℕ)) (set key : ℕ) (offered : Offered)
     (new : List (PortView ℕ)) : Type 0 where
-  pub out : IsSetOf offered.switched.out (λ k. (k < limit) × (IsBitSet set k × PortIs old k HasRoom))
+  pub out : IsSetOf offered.switched.out (λ k. (k < limit) × (IsBitSet set k × PortIs old k QueueHasRoom))
   pub full : IsSetOf offered.switched.full (λ k. (k < limit) × (IsBitSet set k × PortIs old k IsFull))
   pub queues : ChangesAt (IsBitSet offered.switched.out) (with_last key) old new
   -- how many names the key has won, and that no other has

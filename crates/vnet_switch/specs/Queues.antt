@@ -9,8 +9,8 @@ module _ {Frame : Type 0} where
   fresh_port room = record { address = None; groups = []; room = room; queue = [] }
 
   -- the queue holds fewer frames than its room, or its room
-  abbrev pub HasRoom : PortView Frame → Type 0
-  HasRoom port = length port.queue < port.room
+  abbrev pub QueueHasRoom : PortView Frame → Type 0
+  QueueHasRoom port = length port.queue < port.room
 
   abbrev pub IsFull : PortView Frame → Type 0
   IsFull port = port.room ≤ length port.queue

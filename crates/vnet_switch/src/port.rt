@@ -3,7 +3,7 @@
 ghost use Rattle.std.specs.Prelude.{◌≡◌, ℕ, ◌<◌, ◌≤◌, ◌↔◌, length, slice_get, IfOk, IsTrue};
 ghost use Rattle.std.specs.Bool.{OnFalse, OnTrue};
 ghost use Rattle.vnet_switch.specs.Forward.{IsCast, IsFor};
-ghost use Rattle.vnet_switch.specs.Queues.{fresh_port, with_last, with_session, without_first, HasRoom, IsFull};
+ghost use Rattle.vnet_switch.specs.Queues.{fresh_port, with_last, with_session, without_first, QueueHasRoom, IsFull};
 
 use crate::cast::Cast;
 use arrayvec::ArrayVec;
@@ -86,7 +86,7 @@ impl Port {
 
     /// Puts a frame's key last, where there is room.
     pub(crate) fn offer(&mut self, key: usize) -> bool
-        ensures room { IsTrue result ↔ HasRoom self.old }
+        ensures room { IsTrue result ↔ QueueHasRoom self.old }
         ensures full { OnFalse result (IsFull self.old) }
         ensures put { OnTrue result (self.new ≡ with_last key self.old) }
         ensures refused { OnFalse result (self.new ≡ self.old) }

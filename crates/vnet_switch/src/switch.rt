@@ -4,7 +4,7 @@ ghost use Rattle.std.specs.Prelude.{◌≡◌, ℕ, ◌+◌, ◌<◌, ◌≤◌,
 ghost use Rattle.std.specs.Option.{option_map, ForSome};
 ghost use Rattle.vnet_switch.specs.Forward.{GetsFrame, HasAddress, IsGroup, PortIs};
 ghost use Rattle.vnet_switch.specs.PortSet.{IsSetOf};
-ghost use Rattle.vnet_switch.specs.Queues.{waiting_for, waiting_in_all, with_last, with_session, without_first, written_front, ChangesAt, HasRoom, IsFull};
+ghost use Rattle.vnet_switch.specs.Queues.{waiting_for, waiting_in_all, with_last, with_session, without_first, written_front, ChangesAt, QueueHasRoom, IsFull};
 ghost use Rattle.vnet_switch.specs.Shown.{fresh_switch};
 
 use crate::forwarding::{self, Switched};
@@ -98,7 +98,7 @@ impl Switch {
         requires short { length frame.now ≤ 1514 }
         // A queue has room or is full, so the two sets are apart, and together all that the frame is for.
         ensures out { IsSetOf result.out (λ k.
-            GetsFrame self.old.ports (take 6 frame.now) from k × PortIs self.old.ports k HasRoom) }
+            GetsFrame self.old.ports (take 6 frame.now) from k × PortIs self.old.ports k QueueHasRoom) }
         ensures full { IsSetOf result.full (λ k.
             GetsFrame self.old.ports (take 6 frame.now) from k × PortIs self.old.ports k IsFull) }
         ensures queues { ChangesAt (IsBitSet result.out) (with_last frame.now) self.old.ports self.new.ports }

@@ -1,5 +1,10 @@
+use Rattle.std.proofs.Common.{subst, sym}
+use Rattle.script_reader.specs.LinesState.{GoesOn, LinesState}
 use Rattle.ldom_dump.proofs.DumpLemmas.{lines_unread}
 use Rattle.ldom_dump.proofs.lines.dump_all.Goals as goal
 
 pub returns-in-Err-clause-dumps : goal.returns-in-Err-clause-dumps
 returns-in-Err-clause-dumps g c = lines_unread (g.S.Source.left c.args.source.now) (g.K.Sink.written c.args.out.now) c.args.text.now c.requires
+
+pub dump_lines-requires-clause-goes : goal.dump_lines-requires-clause-goes
+dump_lines-requires-clause-goes g c = subst (λ (l : LinesState). GoesOn l (g.S.Source.left c.args.source.now)) (sym c.in-Ok.ensures) tt

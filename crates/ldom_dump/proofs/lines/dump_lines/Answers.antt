@@ -9,7 +9,7 @@ loop-bytes-preserved-in-Ok-true g c =
     let rest = to_come c.loop-bytes.lines (g.S.Source.left c.loop-bytes.source) in
     let left = to_come c.read_bytes.new.lines (g.S.Source.left c.read_bytes.new.source) in
     record {
-      going = c.in-Ok.ensures.next.2;
+      goes = c.in-Ok.ensures.next.2;
       few = c.in-Ok.ensures.next.1;
       sum = omega (arith, c.loop-bytes.invariant.sum, c.in-Ok.ensures.next.0);
       so_far = so_far_packet start rest left (g.K.Sink.written c.args.out.now) (g.K.Sink.written c.loop-bytes.out) (g.K.Sink.written c.put_packet.new.out)
@@ -25,7 +25,7 @@ loop-bytes-preserved g c =
     let rest = to_come c.loop-bytes.lines (g.S.Source.left c.loop-bytes.source) in
     let left = to_come c.read_bytes.new.lines (g.S.Source.left c.read_bytes.new.source) in
     record {
-      going = c.in-Ok.ensures.next.2;
+      goes = c.in-Ok.ensures.next.2;
       few = c.in-Ok.ensures.next.1;
       sum = omega (arith, c.loop-bytes.invariant.sum, c.in-Ok.ensures.next.0);
       so_far = so_far_fault start rest left (g.K.Sink.written c.args.out.now) (g.K.Sink.written c.loop-bytes.out) (g.K.Sink.written c.put_packet.new.out)

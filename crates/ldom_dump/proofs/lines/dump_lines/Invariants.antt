@@ -1,12 +1,11 @@
 use Rattle.std.proofs.Common.{◌≡◌, ◌+◌, ◌-◌, ◌≤◌}
-use Rattle.script_reader.specs.declared.lines.LinesStop.TheVariants.{Going}
-use Rattle.script_reader.specs.LinesState.{to_come}
+use Rattle.script_reader.specs.LinesState.{GoesOn, to_come}
 use Rattle.ldom_dump.proofs.DumpLemmas.{LinesSoFar}
 use Rattle.ldom_dump.proofs.lines.dump_lines.Given as goal
 
 abbrev pub invariant-loop-bytes : goal.invariant-loop-bytes
 invariant-loop-bytes g l = record {
-  going : l.lines.stop ≡ Going;
+  goes : GoesOn l.lines (g.S.Source.left l.source);
   few : l.lines.number ≤ 20000;
   sum : l.packets + l.faults ≡ l.lines.number;
   so_far : LinesSoFar (to_come l.fn.lines (g.S.Source.left l.fn.source)) (to_come l.lines (g.S.Source.left l.source)) (g.K.Sink.written l.fn.out) (g.K.Sink.written l.out) l.text l.lines.number l.packets l.faults;

@@ -11,7 +11,7 @@ loop-event-preserved g c =
     let rest = to_come c.loop-event.reader.lines (g.S.Source.left c.loop-event.source) in
     let left = to_come c.read_event.new.self.lines (g.S.Source.left c.read_event.new.source) in
     record {
-      going = c.in_ok-read_event.ensures.next.2;
+      goes = c.in_ok-read_event.ensures.next.2;
       few = c.in_ok-read_event.ensures.next.1;
       so_far = opens_more start rest left c.read_event.new.event c.loop-event.reader.names c.read_event.new.self.names c.loop-event.reader.lines.number c.read_event.new.self.lines.number
           c.loop-event.invariant.so_far c.in_ok-read_event.ensures.event c.in_ok-read_event.ensures.next.0 c.in_ok-read_event.ensures.next.1 (c.if-not-is_opening.ensures.0 refl);

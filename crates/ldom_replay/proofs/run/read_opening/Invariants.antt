@@ -1,12 +1,11 @@
 use Rattle.std.proofs.Common.{◌≡◌, ◌-◌, ◌≤◌}
-use Rattle.script_reader.specs.declared.lines.LinesStop.TheVariants.{Going}
-use Rattle.script_reader.specs.LinesState.{to_come}
+use Rattle.script_reader.specs.LinesState.{GoesOn, to_come}
 use Rattle.script_laws.proofs.ReadLemmas.{OpensSoFar}
 use Rattle.ldom_replay.proofs.run.read_opening.Given as goal
 
 abbrev pub invariant-loop-event : goal.invariant-loop-event
 invariant-loop-event g l = record {
-  going : l.reader.lines.stop ≡ Going;
+  goes : GoesOn l.reader.lines (g.S.Source.left l.source);
   few : l.reader.lines.number ≤ 20000;
   so_far : OpensSoFar (to_come l.fn.reader.lines (g.S.Source.left l.fn.source)) (to_come l.reader.lines (g.S.Source.left l.source)) l.reader.names l.reader.lines.number;
   journal : l.reader.journal ≡ l.fn.reader.journal;

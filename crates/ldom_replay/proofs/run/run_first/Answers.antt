@@ -1,4 +1,4 @@
-use Rattle.std.proofs.Common.{◌∙◌, List, Option, IfSome, subst, sym}
+use Rattle.std.proofs.Common.{◌∙◌, List, Option, IfSome, IsSome, refl, subst, sym}
 use Rattle.script_reader.specs.LinesState.{to_come}
 use Rattle.domain_script.specs.declared.event.Event.{Event}
 use Rattle.ldom_entries.specs.declared.entry.Entry.{Entry}
@@ -37,6 +37,9 @@ returns-in-Err-clause-runs g c start opened =
     runs_first_cut start now c.args.reader.now.lines.held c.in-Some.event c.args.reader.now.names c.args.world.now c.apply.new.self c.apply.new.journal.entries c.args.reader.now.lines.number
     (subst (λ (first : Option Event). Opened start c.args.reader.now.lines.held now first c.args.reader.now.names c.args.reader.now.lines.number) c.in-Some.is opened)
     (subst (λ (l : List Entry). FitsSoFar c.args.world.now (line_of c.in-Some.event) l c.apply.new.journal.entries c.apply.new.self) c.requires.journal c.in-Err.ensures.so_far)
+
+pub run_lines-requires-clause-goes : goal.run_lines-requires-clause-goes
+run_lines-requires-clause-goes g c = (c.requires.goes (subst (λ (first : Option Event). IsSome first) (sym c.in-Some.is) refl)).0
 
 pub run_lines-requires-clause-many : goal.run_lines-requires-clause-many
 run_lines-requires-clause-many g c =

@@ -17,7 +17,7 @@ pub loop-stop-init : goal.loop-stop-init
 loop-stop-init g c =
     let start = to_come c.args.reader.now.lines (g.S.Source.left c.args.source.now) in
     record {
-      going = c.requires.going;
+      goes = c.requires.goes;
       few = c.requires.few;
       ended = c.requires.ended;
       many = c.requires.many;
@@ -32,7 +32,7 @@ loop-stop-preserved g c =
     let rest = to_come c.loop-stop.reader.lines (g.S.Source.left c.loop-stop.source) in
     let left = to_come c.read_event.new.self.lines (g.S.Source.left c.read_event.new.source) in
     record {
-      going = c.in-Ok.ensures.next.2;
+      goes = c.in-Ok.ensures.next.2;
       few = c.in-Ok.ensures.next.1;
       ended = still_ended rest left c.read_event.new.event c.loop-stop.reader.names c.read_event.new.self.names c.in-Ok.ensures.event c.loop-stop.invariant.ended;
       many = c.in-Ok-apply.ensures.many

@@ -1,6 +1,5 @@
 use Rattle.std.proofs.Common.{◌≡◌, ◌-◌, ◌≤◌, true, length}
-use Rattle.script_reader.specs.declared.lines.LinesStop.TheVariants.{Going}
-use Rattle.script_reader.specs.LinesState.{to_come}
+use Rattle.script_reader.specs.LinesState.{GoesOn, to_come}
 use Rattle.ldom_report.specs.Report.{accepted_count}
 use Rattle.world_laws.specs.Issued.{issued_on}
 use Rattle.script_laws.proofs.RunLemmas.{RunsSoFar}
@@ -8,7 +7,7 @@ use Rattle.ldom_replay.proofs.run.run_lines.Given as goal
 
 abbrev pub invariant-loop-stop : goal.invariant-loop-stop
 invariant-loop-stop g l = record {
-  going : l.reader.lines.stop ≡ Going;
+  goes : GoesOn l.reader.lines (g.S.Source.left l.source);
   few : l.reader.lines.number ≤ 20000;
   ended : l.reader.names.ended ≡ true;
   many : length l.world.lanes ≡ length l.reader.names.disks;

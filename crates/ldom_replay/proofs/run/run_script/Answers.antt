@@ -1,6 +1,6 @@
-use Rattle.std.proofs.Common.{List, [], ℕ, ◌*◌, ◌∙◌, Option, None, arith, refl, ap, rules, subst}
+use Rattle.std.proofs.Common.{List, [], ℕ, ◌*◌, ◌∙◌, Option, None, arith, refl, ap, rules, subst, sym}
 use Rattle.domain_script.specs.ScriptEvents.{no_names}
-use Rattle.script_reader.specs.LinesState.{LinesState, to_come}
+use Rattle.script_reader.specs.LinesState.{GoesOn, LinesState, to_come}
 use Rattle.ldom_entries.specs.JournalState.{JournalState}
 use Rattle.ldom_report.specs.declared.status.Status.{Status}
 use Rattle.ldom_report.specs.declared.status.Status.TheVariants as status
@@ -66,3 +66,6 @@ returns-in-End-clause-replayed g c =
     (subst (λ (stop : Stop). OpensAndStops left now (stop_status stop read.lines.number) read.names (stop_lines stop read.lines.number)) c.in-End.is
     (subst (λ (start : Option (List ℕ)). OpensAndStops start now (stop_status c.in-Err-read_opening.stop read.lines.number) read.names (stop_lines c.in-Err-read_opening.stop read.lines.number))
     (from_start c.in-Ok.reader.lines left (ap (λ (l : LinesState). l.held) c.in-Ok.ensures.lines)) c.in-Err-read_opening.ensures.stops))
+
+pub read_opening-requires-clause-goes : goal.read_opening-requires-clause-goes
+read_opening-requires-clause-goes g c = subst (λ (l : LinesState). GoesOn l (g.S.Source.left c.args.source.now)) (sym c.in-Ok.ensures.lines) tt

@@ -1,4 +1,4 @@
-use Rattle.std.proofs.Common.{◌≡◌, ℕ, ◌*◌, ◌^◌, ◌<◌, ◌≤◌, List, length, map, replicate, codes, Option, Some, IfSome, ap, subst, sym, ◌∙◌, refl}
+use Rattle.std.proofs.Common.{◌≡◌, ℕ, ◌*◌, ◌^◌, ◌<◌, ◌≤◌, List, [], length, map, replicate, codes, Option, Some, None, IfSome, inl, ap, subst, sym, ◌∙◌, refl}
 use Rattle.std.specs.String.{string_bytes}
 use Rattle.disk_law.specs.Issued.{CompletesOnceInOrder}
 use Rattle.ldom_entries.specs.JournalState.{JournalState}
@@ -19,6 +19,7 @@ use Rattle.script_laws.proofs.MoreFacts.{others_told}
 use Rattle.script_laws.proofs.RunFacts.{admits, calls, failures, flushes, headline, none_once, once, said_otherwise, statuses, worded, writes}
 use Rattle.script_laws.specs.Stored.{flush_count, stored_count, write_count}
 use Rattle.script_laws.proofs.WholeScript.{runs_plainly, runs_whole}
+use Rattle.ldom_report.specs.declared.status.Status.{Status}
 use Rattle.ldom_report.specs.declared.status.Mode.{Mode}
 use Rattle.ldom_report.specs.declared.status.Mode.TheVariants as mode
 use Rattle.ldom_replay.proofs.Sampled.{not_read, sample_clean}
@@ -44,12 +45,13 @@ returns-in-Some-Script-clause-runs g c shown image asks =
     let before = tells (g.S.Source.left c.args.script.now) (g.K.Sink.written c.args.out.now) (g.S.Source.faults c.args.script.now) (g.H.Host.faults c.args.host.now) (g.K.Sink.faults c.args.out.now) in
     let now = tells (g.S.Source.left c.run_script.new.source) (g.K.Sink.written c.report_run.new.out) (g.S.Source.faults c.run_script.new.source) (g.H.Host.faults c.run_script.new.host) (g.K.Sink.faults c.report_run.new.out) in
     as_asked (λ (m : Mode) (name : List ℕ). RunsScript m (host_tells (g.H.Host.gives c.args.host.now name) g.H.Disk.Store) before now
-    (run_leaves c.report_run.result.status c.report_run.result.journal.entries c.report_run.result.image c.report_run.result.lanes)) words c.in-Some-Script.mode shown c.in-Some-Script.image.now image own asks
+    (run_leaves c.report_run.result.status c.report_run.result.ran c.report_run.result.journal.entries c.report_run.result.image c.report_run.result.lanes)) words c.in-Some-Script.mode shown c.in-Some-Script.image.now image own asks
+    (subst (λ (ran : Status). RunsScript c.in-Some-Script.mode (host_tells (g.H.Host.gives c.args.host.now c.in-Some-Script.image.now) g.H.Disk.Store) before now
+    (run_leaves c.report_run.result.status ran c.report_run.result.journal.entries c.report_run.result.image c.report_run.result.lanes)) (sym c.report_run.ensures.ran)
     (all_otherwise (λ (j : JournalState) d l. RunsScript c.in-Some-Script.mode (host_tells (g.H.Host.gives c.args.host.now c.in-Some-Script.image.now) g.H.Disk.Store) before now
-    (run_leaves c.report_run.result.status j.entries d l)) c.run_script.result.journal c.report_run.result.journal c.run_script.result.image c.report_run.result.image c.run_script.result.lanes c.report_run.result.lanes
+    (run_leaves c.report_run.result.status c.run_script.result.status j.entries d l)) c.run_script.result.journal c.report_run.result.journal c.run_script.result.image c.report_run.result.image c.run_script.result.lanes c.report_run.result.lanes
     c.report_run.ensures.journal c.report_run.ensures.image c.report_run.ensures.lanes
     (record {
-      ran = c.run_script.result.status;
       told = record { source = c.run_script.ensures.source; host = c.run_script.ensures.host };
       lines = c.run_script.result.lines;
       names = c.run_script.result.names;
@@ -60,7 +62,7 @@ returns-in-Some-Script-clause-runs g c shown image asks =
       whole = λ done. runs_whole _ _ _ _ _ _ _ _ _ _ _ _ _ c.run_script.ensures.replayed _ c.report_run.ensures.reports done;
       others = others_told _ _ _ _ _ _ _ _ _ _ c.run_script.ensures.replayed g.H.Disk.Store.size c.run_script.ensures.sized;
       reports = c.report_run.ensures.reports;
-    }))
+    })))
 
 pub returns-in-Some-Script-clause-samples : goal.returns-in-Some-Script-clause-samples
 returns-in-Some-Script-clause-samples g c number asks =
@@ -84,13 +86,14 @@ returns-in-Some-Sample-clause-samples g c number asks =
     let before = tells (g.S.Source.left c.args.script.now) (g.K.Sink.written c.args.out.now) (g.S.Source.faults c.args.script.now) (g.H.Host.faults c.args.host.now) (g.K.Sink.faults c.args.out.now) in
     let now = tells (g.S.Source.left c.args.script.now) (g.K.Sink.written c.report_run-in-Some-Sample.new.out) (g.S.Source.faults c.args.script.now) (g.H.Host.faults c.run_sample.new.host) (g.K.Sink.faults c.report_run-in-Some-Sample.new.out) in
     subst (λ (n : ℕ). RunsSample n host before now
-    (run_leaves c.report_run-in-Some-Sample.result.status c.report_run-in-Some-Sample.result.journal.entries c.report_run-in-Some-Sample.result.image c.report_run-in-Some-Sample.result.lanes)) (sym same) (record {
+    (run_leaves c.report_run-in-Some-Sample.result.status c.report_run-in-Some-Sample.result.ran c.report_run-in-Some-Sample.result.journal.entries c.report_run-in-Some-Sample.result.image c.report_run-in-Some-Sample.result.lanes)) (sym same) (record {
       left = run.left;
-      runs = all_otherwise (λ (j : JournalState) d l. RunsScript mode.EndOnly host (record before { left = Some (sample_text c.in-Some-Sample.number) }) (record now { left = run.left })
-          (run_leaves c.report_run-in-Some-Sample.result.status j.entries d l)) c.run_sample.result.journal c.report_run-in-Some-Sample.result.journal c.run_sample.result.image c.report_run-in-Some-Sample.result.image c.run_sample.result.lanes c.report_run-in-Some-Sample.result.lanes
+      runs = subst (λ (ran : Status). RunsScript mode.EndOnly host (record before { left = Some (sample_text c.in-Some-Sample.number) }) (record now { left = run.left })
+          (run_leaves c.report_run-in-Some-Sample.result.status ran c.report_run-in-Some-Sample.result.journal.entries c.report_run-in-Some-Sample.result.image c.report_run-in-Some-Sample.result.lanes)) (sym c.report_run-in-Some-Sample.ensures.ran)
+          (all_otherwise (λ (j : JournalState) d l. RunsScript mode.EndOnly host (record before { left = Some (sample_text c.in-Some-Sample.number) }) (record now { left = run.left })
+          (run_leaves c.report_run-in-Some-Sample.result.status c.run_sample.result.status j.entries d l)) c.run_sample.result.journal c.report_run-in-Some-Sample.result.journal c.run_sample.result.image c.report_run-in-Some-Sample.result.image c.run_sample.result.lanes c.report_run-in-Some-Sample.result.lanes
           c.report_run-in-Some-Sample.ensures.journal c.report_run-in-Some-Sample.ensures.image c.report_run-in-Some-Sample.ensures.lanes
           (record {
-            ran = c.run_sample.result.status;
             told = record { source = not_read c.run_sample.result.status _ _ c.run_sample.ensures.source refl; host = c.run_sample.ensures.host };
             lines = c.run_sample.result.lines;
             names = c.run_sample.result.names;
@@ -101,7 +104,7 @@ returns-in-Some-Sample-clause-samples g c number asks =
             whole = λ done. runs_whole _ _ _ _ _ _ _ _ _ _ _ _ _ run.replayed _ c.report_run-in-Some-Sample.ensures.reports done;
             others = others_told _ _ _ _ _ _ _ _ _ _ run.replayed g.H.Disk.Store.size c.run_sample.ensures.sized;
             reports = c.report_run-in-Some-Sample.ensures.reports;
-          });
+          }));
     })
 
 pub returns-in-Some-Sample-clause-samples_whole : goal.returns-in-Some-Sample-clause-samples_whole
@@ -217,7 +220,7 @@ returns-in-Some-Sample-clause-writes g c =
 
 pub returns-in-Some-Script-clause-quiet : goal.returns-in-Some-Script-clause-quiet
 returns-in-Some-Script-clause-quiet g c image asks bytes content disk events known quiet gives done =
-    runs_plainly _ _ _ _ _ _ _ _ _ _ _ _ _ (returns-in-Some-Script-clause-runs g c mode.Run image asks) bytes events known done disk content quiet gives
+    runs_plainly _ _ _ _ _ _ _ _ _ _ _ _ _ _ (returns-in-Some-Script-clause-runs g c mode.Run image asks) bytes events known done disk content quiet gives
 
 pub returns-in-Some-Script-clause-complete : goal.returns-in-Some-Script-clause-complete
 returns-in-Some-Script-clause-complete g c shown image asks bytes known clean still_all store long =
@@ -230,6 +233,27 @@ returns-in-Some-Script-clause-complete g c shown image asks bytes known clean st
     (subst (λ (i : Option g.row.H-Disk.Denot). IfSome i (λ disk. g.H.Disk.Store.faults disk ≡ 0)) c.report_run.ensures.image store)
     g.H.Disk.Store.size c.run_script.ensures.sized c.in-Some-Script.image.now (λ is n. subst (λ (name : List ℕ). g.H.Host.gives c.args.host.now name n ≡ Some (replicate n 0)) (sym is) (g.met.H.Host.dash c.args.host.now n))
     (λ other. subst (λ (i : Option g.row.H-Disk.Denot). IfSome i (λ disk. 512 * blocks_of clean.names.disks ≤ g.H.Disk.Store.size disk)) c.report_run.ensures.image (long (λ same. other (sym named ∙ same)))))
+
+pub returns-in-Some-Script-clause-complete_run : goal.returns-in-Some-Script-clause-complete_run
+returns-in-Some-Script-clause-complete_run g c shown image asks bytes known clean source host store long =
+    let words : List (List ℕ) = map string_bytes c.args.words.now in
+    let own : AsksFor c.in-Some-Script.mode words c.in-Some-Script.image.now = subst (λ (x : Command). IsCommand words (Some x)) c.in-Some-Script.field-0-is c.in-Some-Script.ensures in
+    let named : image ≡ c.in-Some-Script.image.now = (one_asked words c.in-Some-Script.mode shown c.in-Some-Script.image.now image own asks).1 in
+    let ran : Status = c.run_script.result.status in
+    let ends : EndsClean ran c.run_script.result.journal.entries =
+    completes _ _ _ _ _ _ _ _ _ _ c.run_script.ensures.replayed ran None None [] bytes (inl (refl, tt)) known clean
+    (λ is. still _ _ source (c.run_script.ensures.source.cause is)) (λ is. still _ _ host (c.run_script.ensures.host.cause is)) (λ told other. other told)
+    (subst (λ (i : Option g.row.H-Disk.Denot). IfSome i (λ disk. g.H.Disk.Store.faults disk ≡ 0)) c.report_run.ensures.image store)
+    g.H.Disk.Store.size c.run_script.ensures.sized c.in-Some-Script.image.now (λ is n. subst (λ (name : List ℕ). g.H.Host.gives c.args.host.now name n ≡ Some (replicate n 0)) (sym is) (g.met.H.Host.dash c.args.host.now n))
+    (λ other. subst (λ (i : Option g.row.H-Disk.Denot). IfSome i (λ disk. 512 * blocks_of clean.names.disks ≤ g.H.Disk.Store.size disk)) c.report_run.ensures.image (long (λ same. other (sym named ∙ same)))) in
+    subst (λ (why : Status). EndsClean why c.report_run.result.journal.entries) (sym c.report_run.ensures.ran)
+    (subst (λ (j : JournalState). EndsClean ran j.entries) (sym c.report_run.ensures.journal) ends)
+
+pub returns-in-Some-Sample-clause-complete_run : goal.returns-in-Some-Sample-clause-complete_run
+returns-in-Some-Sample-clause-complete_run g c shown image asks bytes known clean source host store long =
+    let words : List (List ℕ) = map string_bytes c.args.words.now in
+    let own : AsksSample words c.in-Some-Sample.number = subst (λ (x : Command). IsCommand words (Some x)) c.in-Some-Sample.field-0-is c.in-Some-Sample.ensures in
+    absurd (no_sample_too words shown image c.in-Some-Sample.number asks own)
 
 pub returns-in-Some-Script-clause-infallible : goal.returns-in-Some-Script-clause-infallible
 returns-in-Some-Script-clause-infallible g c shown image asks bytes known clean source host disk long written =

@@ -1,17 +1,24 @@
 use Rattle.std.proofs.lemmas.Result.{on_err_weaker, on_ok_weaker}
-use Rattle.ldom_world.proofs.SettlingAdds.{whole_names, whole_names_front}
+use Rattle.ldom_world.proofs.SettlingAdds.{on_err, ports_names_front, whole_names, whole_names_front}
+use Rattle.ldom_world.specs.SettleParts.{marks_of}
 use Rattle.ldom_world.proofs.world.World.name_left.Goals as goal
+
+pub returns-in_err-name_disks-clause-begun : goal.returns-in_err-name_disks-clause-begun
+returns-in_err-name_disks-clause-begun g c =
+    on_err c.from_residual.result
+    (whole_names_front c.args.self.now c.args.journal.now.entries c.name_disks.new.journal.entries
+    (marks_of c.args.quiet.now) c.in_err-name_disks.ensures.begun)
 
 pub returns-clause-named : goal.returns-clause-named
 returns-clause-named g c =
-    let names = c.name_disks in
-    on_ok_weaker names.result
-    (λ named. whole_names c.args.self.now c.args.journal.now.entries names.new.journal.entries c.args.quiet.now
-    names.ensures.no_port named) names.ensures.named
+    on_ok_weaker c.name_ports.result
+    (λ named. whole_names c.args.self.now c.args.journal.now.entries c.name_disks.new.journal.entries
+    c.name_ports.new.journal.entries (marks_of c.args.quiet.now) c.in_ok-name_disks.ensures.named named)
+    c.name_ports.ensures.named
 
 pub returns-clause-begun : goal.returns-clause-begun
 returns-clause-begun g c =
-    let names = c.name_disks in
-    on_err_weaker names.result
-    (λ begun. whole_names_front c.args.self.now c.args.journal.now.entries names.new.journal.entries c.args.quiet.now
-    begun) names.ensures.begun
+    on_err_weaker c.name_ports.result
+    (λ begun. ports_names_front c.args.self.now c.args.journal.now.entries c.name_disks.new.journal.entries
+    c.name_ports.new.journal.entries (marks_of c.args.quiet.now) c.in_ok-name_disks.ensures.named begun)
+    c.name_ports.ensures.begun

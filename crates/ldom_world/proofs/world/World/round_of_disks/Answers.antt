@@ -1,4 +1,5 @@
 use Rattle.std.proofs.Common.{rules, ◌∙◌}
+use Rattle.ldom_world.proofs.Lifted.{both_numbers}
 use Rattle.ldom_world.proofs.SettlingLanes.{all_set}
 use Rattle.ldom_world.proofs.world.World.round_of_disks.Goals as goal
 
@@ -10,7 +11,7 @@ loop-disk-preserved g c =
       made = lane.made c.args.self.now c.args.journal.now.entries before.made;
       calm = all_set c.loop-disk.disk c.loop-disk.quiet _ c.loop-disk.all c.in_ok-calm.calm
           (search rules) lane.marked before.calm;
-      many = lane.many ∙ before.many;
+      many = both_numbers before.many lane.many;
       long = search rules;
       agrees = lane.agrees;
     }

@@ -1,25 +1,16 @@
-use Rattle.std.proofs.Common.{Bool, length}
-use Rattle.std.proofs.lemmas.Result.{IfOk-weaker, on_err_weaker}
-use Rattle.ldom_world.proofs.SettlingAdds.{whole_ticks, whole_ticks_front}
-use Rattle.ldom_world.specs.SettleParts.{DiskTicksAdd, TicksAdd, of_disks}
+use Rattle.ldom_world.proofs.SettlingAdds.{on_err, ports_ticks_front, whole_ticks, whole_ticks_front}
+use Rattle.ldom_world.specs.SettleParts.{marks_of}
 use Rattle.ldom_world.proofs.world.World.tick_lanes.Goals as goal
 
-pub returns-clause-ticked : goal.returns-clause-ticked
-returns-clause-ticked g c =
-    let ticks = c.tick_disks in
-    let w = c.args.self.now in
-    let old = c.args.journal.now.entries in
-    IfOk-weaker ticks.result
-    (λ (some : Bool). DiskTicksAdd (length w.first.lanes) w c.args.had.now some ticks.new.had ticks.new.self old
-    ticks.new.journal.entries)
-    (λ (some : Bool). TicksAdd w (of_disks c.args.had.now) some (of_disks ticks.new.had) ticks.new.self old
-    ticks.new.journal.entries)
-    (λ some at. whole_ticks w ticks.new.self old ticks.new.journal.entries c.args.had.now ticks.new.had some
-    ticks.ensures.no_port at) ticks.ensures.ticked
+pub returns-in_err-tick_disks-clause-begun : goal.returns-in_err-tick_disks-clause-begun
+returns-in_err-tick_disks-clause-begun g c =
+    on_err c.from_residual.result
+    (whole_ticks_front c.args.self.now c.tick_disks.new.self c.args.journal.now.entries c.tick_disks.new.journal.entries
+    (marks_of c.args.had.now) c.in_err-tick_disks.ensures.begun)
 
-pub returns-clause-begun : goal.returns-clause-begun
-returns-clause-begun g c =
-    let ticks = c.tick_disks in
-    on_err_weaker ticks.result
-    (λ begun. whole_ticks_front c.args.self.now ticks.new.self c.args.journal.now.entries ticks.new.journal.entries
-    c.args.had.now begun) ticks.ensures.begun
+pub returns-in_err-tick_ports-clause-begun : goal.returns-in_err-tick_ports-clause-begun
+returns-in_err-tick_ports-clause-begun g c =
+    on_err c.from_residual-in_err-tick_ports.result
+    (ports_ticks_front c.args.self.now c.tick_disks.new.self c.tick_ports.new.self c.args.journal.now.entries
+    c.tick_disks.new.journal.entries c.tick_ports.new.journal.entries (marks_of c.args.had.now) _ _
+    c.in_ok-tick_disks.ensures.ticked c.in_err-tick_ports.ensures.begun)

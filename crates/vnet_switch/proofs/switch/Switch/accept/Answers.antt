@@ -6,7 +6,7 @@ use Rattle.vnet_switch.specs.Forward.{GetsFrame, PortIs}
 use Rattle.vnet_switch.specs.Named.{IsSound}
 use Rattle.vnet_switch.specs.PortSet.{IsSetOf}
 use Rattle.vnet_switch.specs.PortView.{PortView, SwitchView}
-use Rattle.vnet_switch.specs.Queues.{with_last, ChangesAt, HasRoom, IsFull}
+use Rattle.vnet_switch.specs.Queues.{with_last, ChangesAt, QueueHasRoom, IsFull}
 use Rattle.vnet_switch.specs.Shown.{port_shown}
 use Rattle.vnet_switch.proofs.switch.Switch.accept.Goals as goal
 
@@ -30,7 +30,7 @@ invariant_of-self c =
 pub returns-clause-out : goal.returns-clause-out
 returns-clause-out c =
     subst (λ (s : SwitchView). IsSetOf c.offer-offered.result.switched.out
-    (λ k. GetsFrame s.ports (take 6 c.args.frame.now) c.args.from k × PortIs s.ports k HasRoom)) c.self.view_is
+    (λ k. GetsFrame s.ports (take 6 c.args.frame.now) c.args.from k × PortIs s.ports k QueueHasRoom)) c.self.view_is
     (out_shown c.self.inside.frames.slots c.self.inside.ports.items c.offer-offered.new.ports c.ports_for-set.result c.next_key-key.result c.offer-offered.result (take 6 c.args.frame.now) c.args.from
     (set_for c.self.inside.ports.items c.deref.result.now (take 6 c.args.frame.now) _ c.args.from c.ports_for-set.result c.deref.ensures.value c.destination_of.ensures c.ports_for-set.ensures)
     (offers_of c.self.inside.ports.items _ c.offer-offered.new.ports c.ports_for-set.result c.next_key-key.result c.offer-offered.result c.deref_mut.ensures.value c.offer-offered.ensures))

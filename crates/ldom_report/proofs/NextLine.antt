@@ -1,0 +1,33 @@
+-- What a reader's answer says to whoever takes up its lines.
+use Rattle.std.proofs.Common.{◌≡◌, ℕ, List, Option, Ok, Err, false}
+use Rattle.script_reader.specs.declared.lines.LinesFault.{LinesFault}
+use Rattle.script_reader.specs.declared.lines.LinesFault.TheVariants.{Source, Long, Many}
+use Rattle.script_reader.specs.declared.lines.LinesStop.{LinesStop}
+use Rattle.script_reader.specs.declared.lines.LinesStop.TheVariants.{Going, Ended, TooLong, TooMany}
+use Rattle.script_reader.specs.LinesState.{GoesFrom, LineEnds, LinesState, Reads}
+use Rattle.ldom_report.specs.Stops.{StopsReading, stop_of}
+use Rattle.ldom_report.specs.declared.stop.Stop.TheVariants.{End}
+
+-- a reader that gave a line may be asked further
+pub goes_behind : (stop : LinesStop) (rest left : Option (List ℕ)) (line : List ℕ) → LineEnds stop rest left line → GoesFrom stop left
+goes_behind Going rest left line ends = tt
+goes_behind Ended rest left line ends = ends.1
+goes_behind TooLong rest left line ends = absurd ends
+goes_behind TooMany rest left line ends = absurd ends
+
+-- a fault of the reader is why no line is taken up
+pub stops_at : (fault : LinesFault) (rest left : Option (List ℕ)) (before after : LinesState) → Reads rest left before (Err fault) after
+    → StopsReading (stop_of fault) rest left after.held before.number
+stops_at Source rest left before after reads = (reads.1, reads.0.told)
+stops_at Long rest left before after reads = ((reads.1, reads.2), reads.0.told)
+stops_at Many rest left before after reads = ((reads.1, reads.2), reads.0.told)
+
+-- and so is the end
+pub stops_at_end : (rest left : Option (List ℕ)) (before after : LinesState) → Reads rest left before (Ok false) after → StopsReading End rest left after.held before.number
+stops_at_end rest left before after reads = (reads.1, reads.0.told)
+
+-- neither counts a line
+pub same_number : (fault : LinesFault) (rest left : Option (List ℕ)) (before after : LinesState) → Reads rest left before (Err fault) after → after.number ≡ before.number
+same_number Source rest left before after reads = reads.0.count
+same_number Long rest left before after reads = reads.0.count
+same_number Many rest left before after reads = reads.0.count

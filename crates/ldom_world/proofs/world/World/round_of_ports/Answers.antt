@@ -1,0 +1,17 @@
+use Rattle.std.proofs.Common.{rules, ◌∙◌}
+use Rattle.ldom_world.proofs.Lifted.{both_numbers}
+use Rattle.ldom_world.proofs.SettlingLanes.{all_set}
+use Rattle.ldom_world.proofs.world.World.round_of_ports.Goals as goal
+
+pub loop-port-preserved : goal.loop-port-preserved
+loop-port-preserved g c =
+    let before = c.loop-port.invariant in
+    let lane = c.in_ok-calm.ensures in
+    record {
+      made = lane.made c.args.self.now c.args.journal.now.entries before.made;
+      calm = all_set c.loop-port.port c.loop-port.quiet _ c.loop-port.all c.in_ok-calm.calm
+          (search rules) lane.marked before.calm;
+      many = both_numbers before.many lane.many;
+      long = search rules;
+      agrees = lane.agrees;
+    }

@@ -1,0 +1,118 @@
+// Steps of the ends of ports.
+
+ghost use Rattle.std.specs.Prelude.{◌≡◌, ◌<◌, ◌+◌, ◌-◌, ◌^◌, length, IfOk, OnErr, OnOk};
+ghost use Rattle.domain_laws.specs.Domain.{PortsStep};
+ghost use Rattle.ldom_report.specs.LaneEvents.{end_of};
+ghost use Rattle.ldom_report.specs.Report.{accepted_count};
+ghost use Rattle.ldom_world.specs.OnePort.{PortEndSteps};
+ghost use Rattle.ldom_world.specs.Steps.{MakesPortStep, MakesQuietPortStep};
+ghost use Rattle.switched_ports.specs.Given.{GivenBelow};
+ghost use Rattle.switched_ports.specs.States.{last_at};
+
+use crate::entries::end_of;
+use crate::port_entries::{PortAnswer, leave_port};
+use crate::ports::PortLanes;
+use crate::stepping::make_room;
+use domain_script::Side;
+use ldom_report::Journal;
+use switched_ports::NetOut;
+use vio_bytes::NoMemory;
+
+/// The most bytes of a frame.
+const MOST_FRAME: usize = 1514;
+
+impl PortLanes {
+    /// One step of an end of the port with this number, once there is room for its entry.
+    pub(crate) fn step(
+        &mut self,
+        port: u32,
+        side: Side,
+        journal: &mut Journal,
+    ) -> Result<(), NoMemory>
+        requires port { port < length self.old }
+        requires agrees { GivenBelow (length journal.old.entries + 1) self.old }
+        ensures made { OnOk result (MakesPortStep PortsStep port (end_of side) self.old journal.old.entries
+            journal.new.entries self.new) }
+        ensures same { OnErr result ((self.new ≡ self.old) × (journal.new.entries ≡ journal.old.entries)) }
+        ensures many { length self.new ≡ length self.old }
+        ensures agrees { GivenBelow (length journal.new.entries + 1) self.new }
+        ensures accepted { accepted_count journal.new.entries ≡ accepted_count journal.old.entries }
+    {
+        journal.reserve(1)?;
+        // That there are fewer than 2^63 entries is known by this call alone. So the ids never run out.
+        let _len = journal.len();
+        self.step_end(port, side, false, journal)?;
+        Ok(())
+    }
+
+    /// The same in a settle, where a step that idles leaves no entry; and whether it was calm.
+    pub(crate) fn quiet_step(
+        &mut self,
+        port: u32,
+        side: Side,
+        journal: &mut Journal,
+    ) -> Result<bool, NoMemory>
+        requires port { port < length self.old }
+        requires agrees { GivenBelow (length journal.old.entries + 1) self.old }
+        ensures made { IfOk result (λ calm. MakesQuietPortStep PortsStep port (end_of side) self.old
+            journal.old.entries journal.new.entries calm self.new) }
+        ensures same { OnErr result ((self.new ≡ self.old) × (journal.new.entries ≡ journal.old.entries)) }
+        ensures many { length self.new ≡ length self.old }
+        ensures agrees { GivenBelow (length journal.new.entries + 1) self.new }
+        ensures accepted { accepted_count journal.new.entries ≡ accepted_count journal.old.entries }
+    {
+        journal.reserve(1)?;
+        // That there are fewer than 2^63 entries is known by this call alone. So the ids never run out.
+        let _len = journal.len();
+        let calm = self.step_end(port, side, true, journal)?;
+        Ok(calm)
+    }
+
+    /// One step of an end, in a settle or not, into room for its entry, once there is room for a frame that it takes.
+    /// Tells whether it was calm.
+    fn step_end(
+        &mut self,
+        port: u32,
+        side: Side,
+        in_settle: bool,
+        journal: &mut Journal,
+    ) -> Result<bool, NoMemory>
+        requires port { port < length self.old }
+        requires few { GivenBelow (2 ^ 64 - 1) self.old }
+        requires ready { 0 < journal.old.room }
+        ensures steps { IfOk result (λ calm. PortEndSteps in_settle port (end_of side) self.old journal.old calm
+            journal.new self.new) }
+        ensures same { OnErr result ((self.new ≡ self.old) × (journal.new ≡ journal.old)) }
+    {
+        make_room(&mut self.room, MOST_FRAME, self.alloc)?;
+        let mut out = NetOut::Idle;
+        let switched = self.lanes.step_into(port, end_of(side), &mut out);
+        let answer = PortAnswer {
+            out: &out,
+            switched,
+            frame: self.last_frame(port, side),
+        };
+        let calm = leave_port(
+            port,
+            side,
+            answer,
+            in_settle,
+            &mut self.room,
+            self.alloc,
+            journal,
+        );
+        Ok(calm)
+    }
+
+    /// The frame that an end of a port took last.
+    fn last_frame(&self, port: u32, side: Side) -> &[u8]
+        requires { port < length self.now }
+        ensures { result.now ≡ last_at (end_of side) port self.now }
+    {
+        let lane = self.lanes.lane(port);
+        match side {
+            Side::Client => lane.guest().frame(),
+            Side::Server => lane.hub().frame(),
+        }
+    }
+}

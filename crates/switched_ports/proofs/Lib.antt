@@ -1,0 +1,9 @@
+pub mod Places
+pub mod Became
+pub mod Entries
+pub mod Aside
+pub mod Asides
+pub mod Moving
+pub mod Switching
+pub mod HubEvents
+pub mod Fresh

@@ -1,0 +1,32 @@
+use Rattle.net_lane.specs.Events.{poked_event}
+use Rattle.switched_ports.specs.States.{queue_at}
+use Rattle.switched_ports.proofs.Aside.{poked_aside}
+use Rattle.switched_ports.proofs.Asides.{aside_entry, aside_none, aside_tied}
+use Rattle.switched_ports.proofs.ports.Ports.poke.Goals as goal
+
+pub invariant_of-self : goal.invariant_of-self
+invariant_of-self c =
+    aside_tied c.self.inside.lanes.items c.self.inside.switch.ports c.args.self.now c.args.port c.index_mut.result.now
+    c.poke.new.self
+    (poked_event c.args.end c.args.at c.args.bytes.now c.poke.result) c.self.view_is c.self.invariant c.requires
+    c.index_mut.ensures.value
+    (poked_aside (queue_at c.args.port c.args.self.now) c.args.end c.args.at c.args.bytes.now c.poke.result)
+    c.poke.ensures.step
+
+pub returns-clause-entry : goal.returns-clause-entry
+returns-clause-entry c =
+    aside_entry c.self.inside.lanes.items c.self.inside.switch.ports c.args.self.now c.args.port c.index_mut.result.now
+    c.poke.new.self
+    (poked_event c.args.end c.args.at c.args.bytes.now c.poke.result) c.self.view_is c.self.invariant c.requires
+    c.index_mut.ensures.value
+    (poked_aside (queue_at c.args.port c.args.self.now) c.args.end c.args.at c.args.bytes.now c.poke.result)
+    c.poke.ensures.step
+
+pub returns-clause-ids : goal.returns-clause-ids
+returns-clause-ids c =
+    aside_none c.self.inside.lanes.items c.self.inside.switch.ports c.args.self.now c.args.port c.index_mut.result.now
+    c.poke.new.self
+    (poked_event c.args.end c.args.at c.args.bytes.now c.poke.result) c.self.view_is c.self.invariant c.requires
+    c.index_mut.ensures.value
+    (poked_aside (queue_at c.args.port c.args.self.now) c.args.end c.args.at c.args.bytes.now c.poke.result)
+    c.poke.ensures.step c.poke.ensures.ids
