@@ -4,7 +4,8 @@ use Rattle.disk_law.specs.ListState.{ImageState}
 use Rattle.domain_script.specs.Declarations.{AreDisks}
 use Rattle.domain_script.specs.declared.event.DiskDecl.{DiskDecl}
 use Rattle.domain_script.specs.declared.event.Event.TheVariants.{Settle}
-use Rattle.world_laws.specs.Settle.{SettleEntry}
+use Rattle.world_laws.specs.Settle.{SettleEntry, Unsettled, UnsettledPort}
+use Rattle.script_laws.proofs.Untold.{real_unsettled, real_unsettled_port}
 use Rattle.world_laws.proofs.Along.{lanes_run}
 use Rattle.domain_laws.specs.Domain.{DomainState}
 use Rattle.lane_kinds.specs.Lanes.{EachOf}
@@ -62,8 +63,11 @@ headline_law disks nets image parts v disks_are few_disks nets_are few_nets long
         ends = settle_at disks nets image are parts.whole fits.middle fits.run;
         settled = settled_where disks nets image are parts.whole fits.middle fits.run;
         left = λ before part behind so_far x rest is place.
-            rounds_ran_out disks nets image are before (told_by (Settle, part)) so_far x rest (each before part behind is)
-            place;
+            rounds_ran_out disks nets image are before (told_by (Settle, part)) so_far (Unsettled x) rest tt (real_unsettled x)
+            (each before part behind is) place;
+        port_left = λ before part behind so_far k rest is place.
+            rounds_ran_out disks nets image are before (told_by (Settle, part)) so_far (UnsettledPort k) rest tt
+            (real_unsettled_port k) (each before part behind is) place;
         none_left = leads.none_left;
         no_port_left = leads.no_port_left;
       };

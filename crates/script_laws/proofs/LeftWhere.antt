@@ -37,7 +37,7 @@ use Rattle.domain_laws.specs.Domain.{Lanes, lanes, lanes_in, port_entries, switc
 use Rattle.domain_laws.specs.Lines.{fronts}
 use Rattle.ldom_entries.specs.declared.entry.Entry.{Entry}
 use Rattle.script_laws.proofs.DiskShapes.{are_shapes, many_shapes}
-use Rattle.script_laws.proofs.Entries.{IsOfLane}
+use Rattle.script_laws.proofs.Entries.{IsName, IsOfLane}
 use Rattle.script_laws.proofs.LedLanes.{led_run, told_run}
 use Rattle.script_laws.proofs.Places.{InEither, no_place, place_in}
 use Rattle.script_laws.proofs.ReachedLanes.{AreLanes}
@@ -53,7 +53,6 @@ use Rattle.world_parts.specs.WorldEvents.{told_of}
 
 -- AFTER SO MUCH OF A PART, where it names this disk
 pub record LeftAt (x : ℕ) (start : Lanes) (so_far : List SettleEntry) (behind : Lanes) : Type 0 where
-  pub moved : most_rounds lanes start ≤ moves_in so_far
   pub why : IsLeftOver x so_far behind.first
   pub leads : LanesMove 0 start.first so_far behind.first
 
@@ -111,12 +110,32 @@ as_left x rounds last w v behind goes (inr at) =
       waits = at.waits;
     })
 
+-- a name is no event of a lane
+no_name : (entry : SettleEntry) → IsName entry → IsOfLane entry → ⊥
+no_name (Unsettled k) name of = of
+no_name (UnsettledPort k) name of = of
+no_name _ name of = name
+
 -- ROUNDS that ran out, and then names
 module _ (start : Lanes) (rounds : List AllRound) (last : AllRound) (now : AllSettling)
     (run : Run (GoesOn lanes) (begin lanes start) (rounds ++ last ∷ []) now)
     (most : length (rounds ++ last ∷ []) ≡ most_rounds lanes start) where
   abbrev all : List SettleEntry
   all = entries_of_rounds (rounds ++ last ∷ [])
+
+  -- where a name stands, of any lane, so many rounds moved
+  moved_by : (entry : SettleEntry) → IsName entry → (names so_far rest : List SettleEntry)
+      → InEither all names so_far entry rest → most_rounds lanes start ≤ moves_in so_far
+  moved_by entry name names so_far rest (inl at) =
+      absurd
+      (no_name entry name
+      (each_in IsOfLane all so_far entry at.rest at.is
+      (rounds_each IsOfLane lane_steps lane_ticks (begin lanes start) (rounds ++ last ∷ []) now run)))
+  moved_by entry name names so_far rest (inr at) =
+      subst (λ (l : List SettleEntry). most_rounds lanes start ≤ moves_in l) (sym at.before_is)
+      (enough (most_rounds lanes start) (length (rounds ++ last ∷ [])) (moves_in all) (moves_in (all ++ at.later))
+      (moves_in at.later) most (made_move (begin lanes start) (rounds ++ last ∷ []) now run)
+      (sum_both moves all at.later))
 
   left_why : (x : ℕ) (later rest : List SettleEntry) → lanes.names last.steps now.lanes ≡ later ++ Unsettled x ∷ rest
       → IsLeftOver x all now.lanes.first
@@ -135,8 +154,6 @@ module _ (start : Lanes) (rounds : List AllRound) (last : AllRound) (now : AllSe
       let split : lanes.names last.steps now.lanes ≡ later ++ Unsettled x ∷ (rest ++ unnamed) =
       sym are ∙ ap (λ (l : List SettleEntry). l ++ unnamed) is ∙ append_assoc later (Unsettled x ∷ rest) unnamed in
       record {
-        moved = enough (most_rounds lanes start) (length (rounds ++ last ∷ [])) (moves_in all) (moves_in (all ++ later))
-            (moves_in later) most (made_move (begin lanes start) (rounds ++ last ∷ []) now run) (sum_both moves all later);
         why = further x all later now.lanes.first (left_why x later (rest ++ unnamed) split);
         leads = moves_on 0 start.first now.lanes.first now.lanes.first all later
             (rounds_move_disks (begin lanes start) (rounds ++ last ∷ []) now run)
@@ -187,25 +204,52 @@ begun_left start part behind at most front x so_far rest is =
     (sym (ap (λ (l : List AllRound). length l) front.is_last) ∙ most) x at.later front.unnamed so_far rest front.is
     (place_in (entries_of_rounds rounds) at.later so_far (Unsettled x) rest place))
 
-no_lane : (part so_far rest : List SettleEntry) (x : ℕ) → SettledLast part → part ≡ so_far ++ Unsettled x ∷ rest → ⊥
-no_lane part so_far rest x last is =
-    by_side (place_in last.front (Settled ∷ []) so_far (Unsettled x) rest (sym last.is ∙ is))
+no_lane : (part so_far rest : List SettleEntry) (entry : SettleEntry) → IsName entry → SettledLast part
+    → part ≡ so_far ++ entry ∷ rest → ⊥
+no_lane part so_far rest entry name last is =
+    by_side (place_in last.front (Settled ∷ []) so_far entry rest (sym last.is ∙ is))
   where
-    not_the_answer : (later : List SettleEntry) → Settled ∷ [] ≡ later ++ Unsettled x ∷ rest → ⊥
-    not_the_answer [] same = cc same
-    not_the_answer (entry ∷ later) same =
-        let none : [] ≡ later ++ Unsettled x ∷ rest = cc same in
-        no_place later (Unsettled x) rest none
+    not_the_answer : (later : List SettleEntry) → Settled ∷ [] ≡ later ++ entry ∷ rest → ⊥
+    not_the_answer [] same =
+        let answer : Settled ≡ entry = cc same in
+        subst IsName (sym answer) name
+    not_the_answer (other ∷ later) same =
+        let none : [] ≡ later ++ entry ∷ rest = cc same in
+        no_place later entry rest none
 
-    by_side : InEither last.front (Settled ∷ []) so_far (Unsettled x) rest → ⊥
-    by_side (inl at) = each_in IsOfLane last.front so_far (Unsettled x) at.rest at.is last.of_lanes
+    by_side : InEither last.front (Settled ∷ []) so_far entry rest → ⊥
+    by_side (inl at) = no_name entry name (each_in IsOfLane last.front so_far entry at.rest at.is last.of_lanes)
     by_side (inr at) = not_the_answer at.later at.is
+
+-- WHERE A PART NAMES A LANE, so many rounds moved
+pub name_at : (start : Lanes) (part : List SettleEntry) (behind : Lanes)
+    → SettlePart lanes start part behind ⊎ SettleFront lanes fronts start part behind → (entry : SettleEntry) → IsName entry
+    → (so_far rest : List SettleEntry) → part ≡ so_far ++ entry ∷ rest → most_rounds lanes start ≤ moves_in so_far
+name_at start part behind (inl (inl settles)) entry name so_far rest is =
+    absurd (no_lane part so_far rest entry name (settled_last start part behind settles) is)
+name_at start part behind (inl (inr out)) entry name so_far rest is =
+    moved_by start out.rounds out.last out.now out.run out.most entry name (lanes.names out.last.steps behind) so_far rest
+    (place_in (entries_of_rounds (out.rounds ++ out.last ∷ [])) (lanes.names out.last.steps behind) so_far entry rest
+    (sym out.is ∙ is))
+name_at start part behind (inr at) entry name so_far rest is = elim at.front [
+  | inl few ↦
+      absurd
+      (no_name entry name (each_in IsOfLane part so_far entry rest is (settle_front start part behind at few.0)))
+  | inr all ↦
+      let front = all.1 in
+      let rounds : List AllRound = front.before ++ front.last ∷ [] in
+      moved_by start front.before front.last at.now
+      (subst (λ (l : List AllRound). Run (GoesOn lanes) (begin lanes start) l at.now) front.is_last at.run)
+      (sym (ap (λ (l : List AllRound). length l) front.is_last) ∙ all.0) entry name at.later so_far rest
+      (place_in (entries_of_rounds rounds) at.later so_far entry rest
+      (sym (ap (λ (l : List AllRound). entries_of_rounds l ++ at.later) front.is_last) ∙ sym at.is ∙ is))
+]
 
 pub left_at : (start : Lanes) (part : List SettleEntry) (behind : Lanes)
     → SettlePart lanes start part behind ⊎ SettleFront lanes fronts start part behind → (x : ℕ)
     (so_far rest : List SettleEntry) → part ≡ so_far ++ Unsettled x ∷ rest → LeftAt x start so_far behind
 left_at start part behind (inl (inl settles)) x so_far rest is =
-    absurd (no_lane part so_far rest x (settled_last start part behind settles) is)
+    absurd (no_lane part so_far rest (Unsettled x) tt (settled_last start part behind settles) is)
 left_at start part behind (inl (inr out)) x so_far rest is = out_left start part behind out x so_far rest is
 left_at start part behind (inr at) x so_far rest is = elim at.front [
   | inl few ↦ absurd (each_in IsOfLane part so_far (Unsettled x) rest is (settle_front start part behind at few.0))
@@ -250,11 +294,14 @@ module _ (disks : List DiskDecl) (nets : List NetShape) (image : ImageState) (ar
         left = left_at (lanes_in of.at) of.real of.behind of.goes x at.past at.rest real;
       }
 
-  pub rounds_ran_out : (before : List (Event × List Entry)) (part so_far : List SettleEntry) (x : ℕ)
-      (rest : List SettleEntry) → SettlesBehind disks nets image before part → part ≡ so_far ++ Unsettled x ∷ rest
-      → RunsOutIn disks nets image before so_far
-  rounds_ran_out before part so_far x rest of is =
-      let at : LeftIn before part so_far x of = left_in before part so_far x rest of is in
+  -- of any lane that is named
+  pub rounds_ran_out : (before : List (Event × List Entry)) (part so_far : List SettleEntry) (entry : SettleEntry)
+      (rest : List SettleEntry) → IsName entry → ((x : SettleEntry) → entry ≡ told_of x → x ≡ entry)
+      → SettlesBehind disks nets image before part → part ≡ so_far ++ entry ∷ rest → RunsOutIn disks nets image before so_far
+  rounds_ran_out before part so_far entry rest name as_real of is =
+      let at : Untold of.real so_far entry rest = untold of.real so_far entry rest (sym of.told_is ∙ is) in
+      let real : of.real ≡ at.past ++ entry ∷ at.rest =
+      at.is ∙ ap (λ (e : SettleEntry). at.past ++ e ∷ at.rest) (as_real at.real at.real_is) in
       let requests : pending_on of.at.first.lanes ≡ pending_of 0 (length disks) (told before) =
       world_pending shapes image (told before) of.at.first (are_shapes 0 disks are.disks_are)
       (told_run disks nets image before of.at of.run)
@@ -264,7 +311,7 @@ module _ (disks : List DiskDecl) (nets : List NetShape) (image : ImageState) (ar
         run = of.run;
         requests = requests;
         most = most_is (pending_on of.at.first.lanes) (sum_of pending of.at.second) (pending_of 0 (length disks) (told before))
-            (moves_in at.past) (moves_in so_far) at.left.moved requests
+            (moves_in at.past) (moves_in so_far) (name_at (lanes_in of.at) of.real of.behind of.goes entry name at.past at.rest real) requests
             (ap (λ (l : List SettleEntry). moves_in l) at.past_is ∙ told_moves at.past);
       }
 

@@ -122,6 +122,10 @@ pub record SettlesEnd (disks : List DiskDecl) (nets : List NetShape) (image : Im
       (so_far : List SettleEntry) (x : ℕ) (rest : List SettleEntry)
       → all_lines parts ≡ before ++ (Settle, part) ∷ behind
       → told_by (Settle, part) ≡ so_far ++ Unsettled x ∷ rest → RunsOutIn disks nets image before so_far
+  pub port_left : (before : List (Event × List Entry)) (part : List Entry) (behind : List (Event × List Entry))
+      (so_far : List SettleEntry) (k : ℕ) (rest : List SettleEntry)
+      → all_lines parts ≡ before ++ (Settle, part) ∷ behind
+      → told_by (Settle, part) ≡ so_far ++ UnsettledPort k ∷ rest → RunsOutIn disks nets image before so_far
   pub none_left : (before : List SettleEntry) (x : ℕ) (behind : List SettleEntry)
       → told (all_lines parts) ≡ before ++ Unsettled x ∷ behind → NobodyForgesAll before → ⊥
   pub no_port_left : (before : List SettleEntry) (k : ℕ) (behind : List SettleEntry)

@@ -23,7 +23,9 @@ ghost use Rattle.world_parts.specs.Script.{FitsScript, ScriptParts};
 /// forge the disk and no call of the store fail for it, as where the image counts no fault. Then each completed read
 /// shows the last earlier write. Each block of the disk is that of its completed writes or of one that isn't
 /// completed. Where all are completed, the disk holds exactly the accepted ones applied once in order. Outside of all
-/// disks the image stays.
+/// disks the image stays. Each port is lawful too. Where nobody forged it its frames arrive in order, and it rests behind
+/// each settle that ends settled; and all arrive where the script ends so and none is said to be lost. A line that is for
+/// one lane leaves all others, but for frames in out queues.
 pub fn the_headline_holds()
     ensures { (disks : List DiskDecl) (nets : List NetShape) (image : ImageState) (parts : ScriptParts)
         (v : DomainState) → AreDisks disks → length disks ≤ 8 → EachOf IsNetShape nets → length nets ≤ 8
