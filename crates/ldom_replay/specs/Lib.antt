@@ -1,2 +1,3 @@
 pub mod Asking
+pub mod Declared
 pub mod Sampled
