@@ -5,11 +5,11 @@ use Rattle.vio_io.specs.declared.store.Store.{Ghosts}
 use Rattle.domain_script.specs.NamesState.{NamesState}
 use Rattle.domain_script.specs.declared.event.DiskDecl.{DiskDecl}
 use Rattle.domain_script.specs.declared.event.PortDecl.{PortDecl}
-use Rattle.domain_laws.specs.Domain.{DomainState, Lanes, lanes_in}
-use Rattle.domain_laws.specs.PortState.{PortState, fresh_port}
+use Rattle.world_parts.specs.domain_laws.Domain.{DomainState, Lanes, lanes_in}
+use Rattle.world_parts.specs.port_model.PortState.{PortState, fresh_port}
 use Rattle.script_laws.specs.Replayed.{start_of}
-use Rattle.world_laws.specs.LaneState.{LaneState, fresh}
-use Rattle.world_laws.specs.World.{WorldState}
+use Rattle.world_parts.specs.disk_model.LaneState.{LaneState, fresh}
+use Rattle.world_parts.specs.world_laws.World.{WorldState}
 use Rattle.world_parts.specs.Declared.{nets_of, shapes_of}
 use Rattle.ldom_replay.specs.Declared.{HasLanes}
 use Rattle.ldom_world.specs.Steps.{Counted}

@@ -1,6 +1,6 @@
 -- The lanes of a world, by what a script declared.
 use Rattle.std.specs.Prelude.{◌≡◌, length}
-use Rattle.domain_laws.specs.Domain.{DomainState}
+use Rattle.world_parts.specs.domain_laws.Domain.{DomainState}
 use Rattle.domain_script.specs.NamesState.{NamesState}
 
 -- as many disks and as many ports as were declared

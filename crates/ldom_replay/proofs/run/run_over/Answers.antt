@@ -2,7 +2,7 @@ use Rattle.std.proofs.Common.{◌≡◌, ◌*◌, ◌≤◌, [], ℕ, List, leng
 use Rattle.disk_law.specs.ListState.{ImageState}
 use Rattle.ldom_entries.specs.JournalState.{JournalState}
 use Rattle.ldom_report.specs.declared.status.Status.TheVariants as status
-use Rattle.domain_laws.specs.Domain.{Lanes}
+use Rattle.world_parts.specs.domain_laws.Domain.{Lanes}
 use Rattle.disk_law.specs.ListState.{as_image}
 use Rattle.world_parts.specs.Declared.{blocks_of}
 use Rattle.ldom_replay.proofs.Beginning.{begins_counted, has_all, same_world}
