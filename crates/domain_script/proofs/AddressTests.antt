@@ -30,6 +30,9 @@ own_from_word word address spells = own_from_test address spells.long (spelled_b
 pub own_test : (address : List ℕ) → IsAddress address → is_own address ≡ true
 own_test address is = eq-eqb (slice_index address 0 % 2) 0 is.even
 
+pub own_tells : (address : List ℕ) → length address ≡ 6 → IsBytes address → IsTrue (is_own address) ↔ IsAddress address
+own_tells address long small = (own_from_test address long small, own_test address)
+
 -- A GROUP'S
 from_not : (b : Bool) → not b ≡ true → b ≡ false
 from_not true is = cc is
