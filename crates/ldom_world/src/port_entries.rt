@@ -36,6 +36,7 @@ pub fn port_end(port: u32, side: Side) -> EndName
 }
 
 /// What an end of a port answered: its step, where the frame that it took went, and that frame.
+#[derive(Drop)]
 pub struct PortAnswer<'a> {
     pub out: &'a NetOut,
     pub switched: Option<Switched>,
@@ -88,7 +89,6 @@ fn port_blocked(out: &NetOut) -> bool
 }
 
 /// Puts the entry of the step of a port's end last. The bytes of a frame are put into the room that was made for them.
-
 fn record_port(
     port: u32,
     side: Side,
