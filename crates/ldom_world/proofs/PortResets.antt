@@ -1,29 +1,29 @@
 -- A step of a port's end: the frame that it takes has its length, and the cause for which it resets itself is its own.
 use Rattle.std.proofs.Common.{◌≡◌, ℕ, ◌<◌, ◌≤◌, List, length, Option, Some, slice_get, ap, arith}
-use Rattle.channel_model.specs.WireEvent.{ByStep, giver}
+use Rattle.world_parts.specs.channel_model.WireEvent.{ByStep, giver}
 use Rattle.lane_kinds.proofs.Moving.{each_there}
 use Rattle.lane_kinds.proofs.Places.{get_within}
 use Rattle.lane_kinds.specs.Lanes.{EachOf, EntryOf}
 use Rattle.ldc_queue.specs.declared.end.End.{End}
 use Rattle.ldc_queue.specs.declared.end.End.TheVariants.{A, B}
-use Rattle.net_lane.specs.Stepping.{net_answer}
-use Rattle.net_lane.specs.net_out.NetOut.{NetOut}
-use Rattle.net_lane.specs.net_out.NetOut.TheVariants as out
-use Rattle.port_model.proofs.OwnResets.{net_resets_own}
-use Rattle.port_model.specs.NetEndRule.{port_rule}
-use Rattle.port_model.specs.NetEndStep.{Frame, NetAnswer, Reset}
-use Rattle.port_model.specs.NetEvent.{Steps}
-use Rattle.port_model.specs.NetLaneState.{NetLaneState, memory_of, net_end, reach_of, role_at, seen_at}
-use Rattle.port_model.specs.PortState.{OnLane, PortState, PortStep, before}
-use Rattle.switch_laws.proofs.Forwarding.{leaves_others}
-use Rattle.switch_laws.specs.Events.{SwitchStep}
-use Rattle.switch_laws.specs.Ports.{ports as kind}
-use Rattle.switch_laws.specs.Reached.{IsReached}
+use Rattle.switched_ports.specs.net_lane.Stepping.{net_answer}
+use Rattle.switched_ports.specs.net_lane.net_out.NetOut.{NetOut}
+use Rattle.switched_ports.specs.net_lane.net_out.NetOut.TheVariants as out
+use Rattle.world_parts.proofs.port_model.OwnResets.{net_resets_own}
+use Rattle.world_parts.specs.port_model.NetEndRule.{port_rule}
+use Rattle.world_parts.specs.port_model.NetEndStep.{Frame, NetAnswer, Reset}
+use Rattle.world_parts.specs.port_model.NetEvent.{Steps}
+use Rattle.world_parts.specs.port_model.NetLaneState.{NetLaneState, memory_of, net_end, reach_of, role_at, seen_at}
+use Rattle.world_parts.specs.port_model.PortState.{OnLane, PortState, PortStep, before}
+use Rattle.world_parts.proofs.switch_laws.Forwarding.{leaves_others}
+use Rattle.world_parts.specs.switch_laws.Events.{SwitchStep}
+use Rattle.world_parts.specs.switch_laws.Ports.{ports as kind}
+use Rattle.world_parts.specs.switch_laws.Reached.{IsReached}
 use Rattle.switched_ports.proofs.Switching.{takes_frame}
 use Rattle.switched_ports.specs.Events.{step_event}
 use Rattle.switched_ports.specs.HubSteps.{TakesFrame}
 use Rattle.vio_tag.specs.declared.cause.Cause.{Cause}
-use Rattle.vnet_switch.specs.declared.forwarding.Switched.{Switched as Sets}
+use Rattle.switched_ports.specs.vnet_switch.declared.forwarding.Switched.{Switched as Sets}
 use Rattle.ldom_world.specs.OnePort.{HasRoomForFrame, IsOwnReset}
 
 -- WHAT A STEP IS for the port itself, whether its frame is switched or not

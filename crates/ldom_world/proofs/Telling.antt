@@ -1,16 +1,16 @@
 -- Whether an entry of one lane's event tells that a request was accepted: by what it means.
 use Rattle.std.proofs.Common.{◌≡◌, ℕ, ◌+◌, Bool, true, false, cond, Some, refl, sym, subst, arith}
 use Rattle.std.specs.Prelude.{⊤}
-use Rattle.disk_model.specs.DiskEvent.{Asks, DiskEvent}
-use Rattle.disk_model.specs.DiskEvent as disk
-use Rattle.world_laws.specs.Settle.{OfLane, SettleEntry}
-use Rattle.domain_laws.specs.Lines.{Line}
+use Rattle.world_parts.specs.disk_model.DiskEvent.{Asks, DiskEvent}
+use Rattle.world_parts.specs.disk_model.DiskEvent as disk
+use Rattle.world_parts.specs.world_laws.Settle.{OfLane, SettleEntry}
+use Rattle.world_parts.specs.domain_laws.Lines.{Line}
 use Rattle.ldom_report.specs.LaneEvents.{AtLane, AtPort, AtServer, AtWire, ChangesNothing, LeavesNothing, LeavesOver, Meaning, NoRoomFor, Publishes, Refuses, Switches, TakesFrame, meaning}
 use Rattle.world_parts.specs.WorldEvents.{world_event}
 use Rattle.ldom_report.specs.Report.{is_accepted}
 use Rattle.ldom_entries.specs.declared.entry.Entry.{Entry}
 use Rattle.ldom_entries.specs.declared.entry.Entry.TheVariants as entry
-use Rattle.world_laws.specs.Issued.{next_behind}
+use Rattle.world_parts.specs.world_laws.Issued.{next_behind}
 use Rattle.world_parts.proofs.Meanings.{AllOf, Holds, all_events, all_left, entry_has}
 
 -- WHETHER AN EVENT ACCEPTS a request, and what an entry means does; an entry of an accepted request is one of those

@@ -1,14 +1,14 @@
 // Steps of the ends of ports.
 
 ghost use Rattle.std.specs.Prelude.{◌≡◌, ◌<◌, ◌+◌, ◌-◌, ◌^◌, length, is_some, IfNone, IfOk, OnErr, OnOk};
-ghost use Rattle.domain_laws.specs.Domain.{PortsStep};
+ghost use Rattle.world_parts.specs.domain_laws.Domain.{PortsStep};
 ghost use Rattle.lane_kinds.specs.Lanes.{EntryOf};
 ghost use Rattle.ldom_report.specs.LaneEvents.{end_of};
 ghost use Rattle.ldom_report.specs.Report.{accepted_count};
 ghost use Rattle.ldom_world.specs.OnePort.{HasRoomForFrame, IsOwnReset, PortEndSteps};
 ghost use Rattle.ldom_world.specs.Steps.{MakesPortStep, MakesQuietPortStep};
-ghost use Rattle.net_lane.specs.Stepping.{net_answer};
-ghost use Rattle.switch_laws.specs.Ports.{ports};
+ghost use Rattle.switched_ports.specs.net_lane.Stepping.{net_answer};
+ghost use Rattle.world_parts.specs.switch_laws.Ports.{ports};
 ghost use Rattle.switched_ports.specs.Events.{is_switched, step_event};
 ghost use Rattle.switched_ports.specs.Given.{GivenBelow, GivesNoMore, GivesOneMore};
 ghost use Rattle.switched_ports.specs.States.{last_at};

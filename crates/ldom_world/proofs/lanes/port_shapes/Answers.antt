@@ -1,5 +1,5 @@
 use Rattle.std.proofs.Common.{◌≡◌, ℕ, ◌+◌, ◌≤◌, List, Some, None, length, slice_get, take, sym, ap, subst, ◌∙◌, arith}
-use Rattle.domain_laws.specs.NetLaneState.{IsNetShape, NetShape}
+use Rattle.world_parts.specs.port_model.NetLaneState.{IsNetShape, NetShape}
 use Rattle.domain_script.proofs.Disks.{is_port_at}
 use Rattle.lane_kinds.specs.Lanes.{EachOf}
 use Rattle.ldom_world.proofs.Declaring.{one_longer}

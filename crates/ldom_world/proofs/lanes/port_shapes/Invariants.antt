@@ -1,5 +1,5 @@
 use Rattle.std.proofs.Common.{◌≡◌, ◌≤◌, length, take}
-use Rattle.domain_laws.specs.NetLaneState.{IsNetShape}
+use Rattle.world_parts.specs.port_model.NetLaneState.{IsNetShape}
 use Rattle.domain_script.specs.Declarations.{AddressesDiffer}
 use Rattle.lane_kinds.specs.Lanes.{EachOf}
 use Rattle.switched_ports.specs.Shapes.{shapes_of}

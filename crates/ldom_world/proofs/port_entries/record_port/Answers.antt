@@ -1,6 +1,6 @@
 use Rattle.std.proofs.Common.{refl}
 use Rattle.ldom_entries.specs.declared.entry.Entry.TheVariants as entry
-use Rattle.net_lane.specs.net_out.NetOut.TheVariants as out
+use Rattle.switched_ports.specs.net_lane.net_out.NetOut.TheVariants as out
 use Rattle.ldom_world.proofs.PortLeaving.{frame_recorded, recorded}
 use Rattle.ldom_world.proofs.port_entries.record_port.Goals as goal
 
