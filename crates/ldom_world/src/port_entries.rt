@@ -61,8 +61,8 @@ pub fn leave_port(
     requires switched { is_some answer.switched ≡ is_switched (end_of side) answer.out.now }
     requires own { ResetsOwn answer.out.now }
     ensures leaves { PortLeaves in_settle port
-        (step_event (end_of side) (net_answer answer.entry.out.now answer.entry.frame.now) answer.entry.switched) journal.old result
-        journal.new }
+        (step_event (end_of side) (net_answer answer.entry.out.now answer.entry.frame.now) answer.entry.switched)
+        journal.old result journal.new }
     ensures empty { room.new.items ≡ [] }
 {
     let rests = port_rests(answer.out);
@@ -103,8 +103,8 @@ fn record_port(
     requires switched { is_some answer.switched ≡ is_switched (end_of side) answer.out.now }
     requires own { ResetsOwn answer.out.now }
     ensures records { PortRecords port
-        (step_event (end_of side) (net_answer answer.entry.out.now answer.entry.frame.now) answer.entry.switched) journal.old
-        journal.new }
+        (step_event (end_of side) (net_answer answer.entry.out.now answer.entry.frame.now) answer.entry.switched)
+        journal.old journal.new }
     ensures empty { room.new.items ≡ [] }
 {
     let end = port_end(port, side);
