@@ -3,17 +3,18 @@ use Rattle.std.proofs.Common.{◌≡◌, ℕ, Bool, true, false, Option, Some, N
 use Rattle.std.specs.Prelude.{◌==◌}
 use Rattle.runs.specs.Lawful.{lawful_split, log_append, log_of}
 use Rattle.runs.specs.Run.{Run, run_push}
+use Rattle.channel_model.specs.WireLog.{WireLog}
 use Rattle.ldc_queue.specs.declared.end.End.{End}
 use Rattle.ldc_queue.specs.declared.end.End.TheVariants.{A, B}
 use Rattle.lane_kinds.specs.Lanes.{EachOf, own_or}
 use Rattle.port_laws.proofs.EveryRun.{every_run}
-use Rattle.port_laws.proofs.PortCounts.{port_counts}
+use Rattle.port_laws.proofs.PortWire.{port_wire}
 use Rattle.port_model.specs.FrameLaws.{IsFinished}
 use Rattle.port_model.specs.NetEndState.{joined_net_end, unseen}
 use Rattle.port_model.specs.NetEndStep.{Blocked, Idle}
-use Rattle.port_model.specs.NetEvent.{CalmTick, NetEvent, Steps, Ticked}
+use Rattle.port_model.specs.NetEvent.{CalmTick, NetEvent, Steps, Ticked, on_wire}
 use Rattle.port_model.specs.NetLaneState.{IsNetShape, NetShape, role_at, with_net_end}
-use Rattle.port_model.specs.NetLaneStep.{is_finished, net_wire}
+use Rattle.port_model.specs.NetLaneStep.{is_finished, moved_on, net_wire}
 use Rattle.port_model.specs.PortLog.{PortLog, after, no_events}
 use Rattle.port_model.specs.PortMay.{PortMay}
 use Rattle.port_model.specs.PortState.{OnLane, PortEvent, PortState, PortStep, Receives, fresh_port}
@@ -58,14 +59,26 @@ told_log k (OfPort j (Switched frame out full) ∷ part) l =
     (port_happened k (all_told part)) (port_happened k part) (told_log k part) l
 told_log k (entry ∷ part) l = told_log k part l
 
--- A RUN of a port, and its log
+-- A RUN of a port, and its log: what is on the wire is the same
+step_wire : (s : PortState) (l : PortLog) (event : PortEvent) (t : PortState) → s.lane.wire ≡ l.wire → PortStep s event t
+    → t.lane.wire ≡ (after l event).wire
+step_wire s l (OnLane event) t same step =
+    port_wire s event t step ∙ ap (λ (w : WireLog). moved_on w (on_wire event)) same
+step_wire s l (Receives frame) t same step = ap (λ (x : PortState). x.lane.wire) step.2 ∙ same
+
+run_wire : (s : PortState) (l : PortLog) (events : List PortEvent) (t : PortState) → s.lane.wire ≡ l.wire → Run PortStep s events t
+    → t.lane.wire ≡ (log_of after l events).wire
+run_wire s l [] t same run = sym (ap (λ (x : PortState). x.lane.wire) run) ∙ same
+run_wire s l (event ∷ events) t same run =
+    run_wire run.0 (after l event) events t (step_wire s l event run.0 same run.1) run.2
+
 module _ (shape : NetShape) (sound : IsNetShape shape) (events : List PortEvent) (s : PortState)
     (run : Run PortStep (fresh_port shape) events s) where
   abbrev Log : PortLog
   Log = log_of after (no_events shape) events
 
   pub same_wire : s.lane.wire ≡ Log.wire
-  same_wire = (port_counts shape events s sound run).wire
+  same_wire = run_wire (fresh_port shape) (no_events shape) events s refl run
 
   -- what may happen next
   pub next_may : (event : PortEvent) (t : PortState) → PortStep s event t → PortMay Log event
@@ -85,7 +98,7 @@ module _ (shape : NetShape) (sound : IsNetShape shape) (events : List PortEvent)
         lane = record (with_net_end A (joined_net_end (role_at A) s.lane.guest) s.lane) { wire = net_wire event s.lane };
         queue = s.queue;
       } in
-      (next_may (OnLane event) t (refl, (is, refl, refl), refl)).tick
+      (next_may (OnLane event) t (refl, (is, (refl, refl)), refl)).tick
 
 -- CALM EVENTS leave all of a log but which end was idle last
 abbrev pub idle_last : Option End → PortLog → PortLog

@@ -347,8 +347,7 @@ answer_behind_quiet start part behind at so_far is k s there =
     let calm : CalmAt k m.state =
     calm_at now turns behind.second k m.state (round_calmly ports calm_gives now turns behind.second still at.last.made.of_second)
     m.there in
-    let split : (rounds ++ last) ++ Settled ∷ [] ≡ so_far ++ Settled ∷ [] =
-    append_assoc rounds last (Settled ∷ []) ∙ sym at.is ∙ is in
+    let split : (rounds ++ last) ++ Settled ∷ [] ≡ so_far ++ Settled ∷ [] = sym at.is ∙ is in
     record {
       quiet = record {
         past = rounds;

@@ -86,7 +86,7 @@ ticks_said k (OfPort j event ∷ part) each none =
     let one = tick_said k j event each.0 (first_none (port_ticks k (OfPort j event)) (port_ticks_in k part) none) in
     ap (λ (l : List SwitchEvent). l ++ port_happened k part) one
     ∙ ticks_said k part each.1 (later_none (port_ticks k (OfPort j event)) (port_ticks_in k part) none)
-ticks_said k (entry ∷ part) each none = ticks_said k part each.1 none
+ticks_said k (entry ∷ part) each none = ticks_said k part each.1 (later_none (port_ticks k entry) (port_ticks_in k part) none)
 
 -- AFTER SO MUCH OF A PART, the last round before which was quiet, and behind which others alone had ticks
 pub record QuietAt (k : ℕ) (so_far : List SettleEntry) (s : PortState) : Type 0 where
