@@ -1,20 +1,37 @@
 -- Tests of addresses: each holds exactly where its address is of the kind, or among others.
-use Rattle.std.proofs.Common.{◌≡◌, ℕ, ◌%◌, Bool, true, false, not, ◌&&◌, List, [], ◌∷◌, length, slice_index, IsTrue, ◌↔◌, refl, sym, ◌∙◌, ap}
+use Rattle.std.proofs.Common.{◌≡◌, ℕ, suc, ◌%◌, ◌<◌, Bool, true, false, not, ◌&&◌, List, [], ◌∷◌, length, slice_index, IsTrue, ◌↔◌, refl, sym, ◌∙◌, ap}
+use Rattle.std.specs.List.{AllByRecursion}
 use Rattle.std.specs.Str.{bytes_eq}
 use Rattle.std.proofs.lemmas.Bool.{and_from, and_left, and_parts, eq-eqb, eqb-true, false_from_ne_true, or_from, or_parts}
 use Rattle.std.proofs.lemmas.Slice.Eq.{bytes_eq-Decides}
+use Rattle.hex.specs.Hex.{IsBytes}
+use Rattle.hex.proofs.HexLemmas.{decode_of-ok}
 use Rattle.domain_script.specs.Addresses.{IsAddress, IsGroup, broadcast, is_among, is_group, is_own}
 use Rattle.domain_script.specs.Firsts.{IsNoneOf}
 use Rattle.domain_script.specs.Words.{SpellsExactly, bytes_of, is_exactly}
 use Rattle.domain_script.proofs.HexWords.{one_exactly}
 use Rattle.domain_script.proofs.WordTests.{exactly_spelled, is_exactly_from}
 
+-- BYTES are below 256, and so are those that a word spells
+pub all_bytes : (bytes : List ℕ) → IsBytes bytes → AllByRecursion (λ (byte : ℕ). byte < 256) bytes
+all_bytes [] small = tt
+all_bytes (byte ∷ bytes) small = (small 0, all_bytes bytes (λ k. small (suc k)))
+
+spelled_bytes : (size : ℕ) (word bytes : List ℕ) → SpellsExactly size word bytes → IsBytes bytes
+spelled_bytes size word bytes spells = (decode_of-ok word bytes spells.reads).3
+
 -- A PORT'S OWN
-pub own_from_test : (address : List ℕ) → length address ≡ 6 → is_own address ≡ true → IsAddress address
-own_from_test address long is = record { long = long; even = eqb-true (slice_index address 0 % 2) 0 is }
+pub own_from_test : (address : List ℕ) → length address ≡ 6 → IsBytes address → is_own address ≡ true → IsAddress address
+own_from_test address long small is = record { long = long; bytes = all_bytes address small; even = eqb-true (slice_index address 0 % 2) 0 is }
+
+pub own_from_word : (word address : List ℕ) → SpellsExactly 6 word address → is_own address ≡ true → IsAddress address
+own_from_word word address spells = own_from_test address spells.long (spelled_bytes 6 word address spells)
 
 pub own_test : (address : List ℕ) → IsAddress address → is_own address ≡ true
 own_test address is = eq-eqb (slice_index address 0 % 2) 0 is.even
+
+pub own_tells : (address : List ℕ) → length address ≡ 6 → IsBytes address → IsTrue (is_own address) ↔ IsAddress address
+own_tells address long small = (own_from_test address long small, own_test address)
 
 -- A GROUP'S
 from_not : (b : Bool) → not b ≡ true → b ≡ false
@@ -60,8 +77,8 @@ same_test false false P tells from_test to_test = refl
 same_test true false P tells from_test to_test = sym (to_test (tells.0 refl))
 same_test false true P tells from_test to_test = tells.1 (from_test refl)
 
-pub own_told : (address : List ℕ) → length address ≡ 6 → (said : Bool) → IsTrue said ↔ IsAddress address → not said ≡ not (is_own address)
-own_told address long said tells = ap not (same_test said (is_own address) (IsAddress address) tells (own_from_test address long) (own_test address))
+pub own_told : (word address : List ℕ) → SpellsExactly 6 word address → (said : Bool) → IsTrue said ↔ IsAddress address → not said ≡ not (is_own address)
+own_told word address spells said tells = ap not (same_test said (is_own address) (IsAddress address) tells (own_from_word word address spells) (own_test address))
 
 pub group_told : (address : List ℕ) → length address ≡ 6 → (said : Bool) → IsTrue said ↔ IsGroup address → not said ≡ not (is_group address)
 group_told address long said tells = ap not (same_test said (is_group address) (IsGroup address) tells (group_from_test address long) (group_test address))

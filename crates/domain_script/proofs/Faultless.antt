@@ -21,7 +21,7 @@ use Rattle.domain_script.specs.NamesState.{NamesState, count_of}
 use Rattle.domain_script.specs.Rows.{row_named, row_of}
 use Rattle.domain_script.specs.Spells.{IsBlank, IsOfKind, NamesEnd, NamesLane, Spells, SpellsField, SpellsFields, SpellsFound, SpellsWords}
 use Rattle.domain_script.specs.Words.{bytes_of, is_exactly, is_front, is_name, is_number, is_within, name_of, number_of, words}
-use Rattle.domain_script.proofs.AddressTests.{free_from_test, group_from_test, own_from_test}
+use Rattle.domain_script.proofs.AddressTests.{free_from_test, group_from_test, own_from_word}
 use Rattle.domain_script.proofs.NamingTests.{end_found, kind_found, kind_from_test, lane_found, lane_of_name, none_free}
 use Rattle.domain_script.proofs.WordTests.{exactly_spelled, front_spelled, name_spelled, number_spelled, within_from_test}
 use Rattle.domain_script.specs.LaneKinds.{disk_lane, lane_at}
@@ -57,7 +57,7 @@ spells_value names NewAddress word right =
     let is : is_exactly 6 word ≡ true = not-false (is_exactly 6 word) (right line_fault.Hex) in
     let spells = exactly_spelled 6 word is in (
       spells,
-      own_from_test (bytes_of word) spells.long (not-false (is_own (bytes_of word)) (second_false (is_exactly 6 word) (not (is_own (bytes_of word))) is (right line_fault.Range))),
+      own_from_word word (bytes_of word) spells (not-false (is_own (bytes_of word)) (second_false (is_exactly 6 word) (not (is_own (bytes_of word))) is (right line_fault.Range))),
       free_from_test (bytes_of word) (addresses names.ports) (second_false (is_exactly 6 word) (is_among (bytes_of word) (addresses names.ports)) is (right line_fault.Taken)),
     )
 spells_value names (Named kind) word right =

@@ -1,6 +1,6 @@
 -- Addresses on a network: six bytes. The first byte is even in a port's own address, and odd in that of a group.
-use Rattle.std.specs.Prelude.{◌≡◌, ◌≢◌, ℕ, ◌%◌, ◌==◌, ◌&&◌, not, Bool, List, [], ◌∷◌, length, slice_index}
-use Rattle.std.specs.List.{list_any}
+use Rattle.std.specs.Prelude.{◌≡◌, ◌≢◌, ℕ, ◌%◌, ◌<◌, ◌==◌, ◌&&◌, not, Bool, List, [], ◌∷◌, length, slice_index}
+use Rattle.std.specs.List.{AllByRecursion, list_any}
 use Rattle.std.specs.Str.{bytes_eq}
 
 -- the address of all ports
@@ -10,6 +10,7 @@ broadcast = 255 ∷ 255 ∷ 255 ∷ 255 ∷ 255 ∷ 255 ∷ []
 -- a port's own
 pub record IsAddress (address : List ℕ) : Type 0 where
   pub long : length address ≡ 6
+  pub bytes : AllByRecursion (λ (byte : ℕ). byte < 256) address
   pub even : slice_index address 0 % 2 ≡ 0
 
 -- a group's, which isn't that of all ports

@@ -2,7 +2,7 @@
 use Rattle.std.proofs.Common.{◌≡◌, ℕ, ◌+◌, ◌<◌, Some, List, [], ◌∷◌, ◌++◌, length, map, take, slice_get, option_map, refl, sym, ap, ◌∙◌}
 use Rattle.std.specs.List.{AllByRecursion}
 use Rattle.std.proofs.lemmas.Option.{slice_get-map}
-use Rattle.domain_laws.specs.NetLaneState.{IsNetShape, NetShape}
+use Rattle.world_parts.specs.port_model.NetLaneState.{IsNetShape, NetShape}
 use Rattle.domain_script.specs.Declarations.{AddressesDiffer, IsPort, addresses}
 use Rattle.domain_script.specs.declared.event.PortDecl.{PortDecl}
 use Rattle.lane_kinds.proofs.Places.{after_one, map_both, take_one}

@@ -17,4 +17,5 @@ pub mod SettlingLanes
 pub mod PortsAdding
 pub mod SettlingPorts
 pub mod Calling
+pub mod Beginning
 pub mod DeclaringPorts

@@ -5,14 +5,14 @@ use Rattle.std.specs.Prelude.{◌==◌, ◌&&◌}
 use Rattle.domain_script.specs.LaneKinds.{port_lane}
 use Rattle.domain_script.specs.declared.event.Side.{Side}
 use Rattle.domain_script.specs.declared.event.Side.TheVariants.{Client, Server}
-use Rattle.domain_laws.specs.Domain.{IsOwn, PortMoves, PortsStep}
-use Rattle.domain_laws.specs.Lines.{AnswersFrame, AnswersGroup, AnswersPortCall, Call, Calls, Injects, Joins, Line, Loses, PortLane, Pokes, Resets, Sends, Ticks}
-use Rattle.domain_laws.specs.NetEndStep.{Already, BadLength, GroupsFull, Member, Queued}
-use Rattle.domain_laws.specs.NetEndStep as port
-use Rattle.domain_laws.specs.NetEvent.{Asked, CalmTick, Declines, Gives, NetEvent, Ticked}
-use Rattle.domain_laws.specs.NetEvent as net
-use Rattle.domain_laws.specs.PortState.{OnLane, PortState}
-use Rattle.channel_model.specs.WireEvent.{InjectedFull, NothingLost, NotInjected, PokeRefused}
+use Rattle.world_parts.specs.domain_laws.Domain.{IsOwn, PortMoves, PortsStep}
+use Rattle.world_parts.specs.domain_laws.Lines.{AnswersFrame, AnswersGroup, AnswersPortCall, Call, Calls, Injects, Joins, Line, Loses, PortLane, Pokes, Resets, Sends, Ticks}
+use Rattle.world_parts.specs.port_model.NetEndStep.{Already, BadLength, GroupsFull, Member, Queued}
+use Rattle.world_parts.specs.port_model.NetEndStep as port
+use Rattle.world_parts.specs.port_model.NetEvent.{Asked, CalmTick, Declines, Gives, NetEvent, Ticked}
+use Rattle.world_parts.specs.port_model.NetEvent as net
+use Rattle.world_parts.specs.port_model.PortState.{OnLane, PortState}
+use Rattle.world_parts.specs.channel_model.WireEvent.{InjectedFull, NothingLost, NotInjected, PokeRefused}
 use Rattle.kept_requests.specs.Bytes.{filled}
 use Rattle.lane_kinds.specs.Lanes.{EntryOf}
 use Rattle.ldc_queue.specs.declared.end.End.{End}
@@ -25,17 +25,17 @@ use Rattle.ldom_entries.specs.declared.entry.Who.TheVariants.{Lane as OfWhole, E
 use Rattle.ldom_entries.specs.declared.entry.Why.TheVariants.{Groups, Length, Range}
 use Rattle.ldom_report.specs.LaneEvents.{end_of}
 use Rattle.ldom_report.specs.Report.{is_accepted}
-use Rattle.net_lane.specs.Calls.{given, joining}
-use Rattle.net_lane.specs.Events.{injected_event, lost_event, poked_event, ticked_event}
-use Rattle.net_lane.specs.declared.answers.GroupsFull.{GroupsFull as Refusal}
-use Rattle.net_lane.specs.declared.answers.SendFault.{SendFault}
-use Rattle.net_lane.specs.declared.answers.SendFault.TheVariants as fault
-use Rattle.switch_laws.specs.Events.{OnPort, SwitchEvent}
-use Rattle.switch_laws.specs.Ports.{ports as kind}
+use Rattle.switched_ports.specs.net_lane.Calls.{given, joining}
+use Rattle.switched_ports.specs.net_lane.Events.{injected_event, lost_event, poked_event, ticked_event}
+use Rattle.switched_ports.specs.net_lane.declared.answers.GroupsFull.{GroupsFull as Refusal}
+use Rattle.switched_ports.specs.net_lane.declared.answers.SendFault.{SendFault}
+use Rattle.switched_ports.specs.net_lane.declared.answers.SendFault.TheVariants as fault
+use Rattle.world_parts.specs.switch_laws.Events.{OnPort, SwitchEvent}
+use Rattle.world_parts.specs.switch_laws.Ports.{ports as kind}
 use Rattle.switched_ports.specs.Given.{GivesNoMore, GivesOneMore}
 use Rattle.switched_ports.proofs.Entries.{one_more}
 use Rattle.vio_tag.specs.declared.cause.Cause.TheVariants as the_cause
-use Rattle.world_laws.specs.Settle.{OfPort, SettleEntry}
+use Rattle.world_parts.specs.world_laws.Settle.{OfPort, SettleEntry}
 use Rattle.world_parts.specs.WorldEvents.{if_so, is_end, is_lane, is_same, of_net, told_of, world_event}
 use Rattle.ldom_world.specs.Called.{port_end}
 use Rattle.ldom_world.specs.OnePort.{PortAnswers, TellsPort}

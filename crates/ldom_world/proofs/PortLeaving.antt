@@ -3,9 +3,9 @@ use Rattle.std.proofs.Common.{◌≡◌, ℕ, Bool, true, false, ◌||◌, Optio
 use Rattle.std.specs.Prelude.{◌&&◌}
 use Rattle.domain_script.specs.declared.event.Side.{Side}
 use Rattle.domain_script.specs.declared.event.Side.TheVariants.{Client, Server}
-use Rattle.domain_laws.specs.Lines.{Line}
-use Rattle.domain_laws.specs.NetEndStep.{Frame}
-use Rattle.domain_laws.specs.NetEvent.{Steps}
+use Rattle.world_parts.specs.domain_laws.Lines.{Line}
+use Rattle.world_parts.specs.port_model.NetEndStep.{Frame}
+use Rattle.world_parts.specs.port_model.NetEvent.{Steps}
 use Rattle.kept_requests.specs.Bytes.{BytesState}
 use Rattle.ldc_queue.specs.declared.end.End.{End}
 use Rattle.ldc_queue.specs.declared.end.End.TheVariants.{A, B}
@@ -14,15 +14,15 @@ use Rattle.ldom_entries.specs.declared.entry.Entry.{Entry}
 use Rattle.ldom_entries.specs.declared.entry.Entry.TheVariants as entry
 use Rattle.ldom_report.specs.LaneEvents.{end_of}
 use Rattle.ldom_report.specs.Report.{is_accepted}
-use Rattle.net_lane.specs.Stepping.{net_answer}
-use Rattle.net_lane.specs.net_out.NetOut.{NetOut}
-use Rattle.net_lane.specs.net_out.NetOut.TheVariants as out
-use Rattle.switch_laws.specs.Events.{OnPort, SwitchEvent, Switched}
-use Rattle.switch_laws.specs.Ports.{is_calm, is_silent}
+use Rattle.switched_ports.specs.net_lane.Stepping.{net_answer}
+use Rattle.switched_ports.specs.net_lane.net_out.NetOut.{NetOut}
+use Rattle.switched_ports.specs.net_lane.net_out.NetOut.TheVariants as out
+use Rattle.world_parts.specs.switch_laws.Events.{OnPort, SwitchEvent, Switched}
+use Rattle.world_parts.specs.switch_laws.Ports.{is_calm, is_silent}
 use Rattle.switched_ports.specs.Events.{is_switched, step_event}
 use Rattle.vio_tag.specs.declared.cause.Cause.TheVariants as the_cause
-use Rattle.vnet_switch.specs.declared.forwarding.Switched.{Switched as Sets}
-use Rattle.world_laws.specs.Settle.{OfPort, SettleEntry}
+use Rattle.switched_ports.specs.vnet_switch.declared.forwarding.Switched.{Switched as Sets}
+use Rattle.world_parts.specs.world_laws.Settle.{OfPort, SettleEntry}
 use Rattle.world_parts.specs.WorldEvents.{of_net, told_of, world_event}
 use Rattle.ldom_world.specs.Called.{port_end}
 use Rattle.ldom_world.specs.OnePort.{IsOwnReset, PortLeaves, PortRecordedBut, PortRecords, TellsPort, frame_entry, port_blocked, port_rests}

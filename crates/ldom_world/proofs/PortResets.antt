@@ -8,22 +8,22 @@ use Rattle.lane_kinds.specs.Lanes.{AllStep, EntryOf, own_or}
 use Rattle.ldc_link.specs.declared.phase.Role.{Role}
 use Rattle.ldc_queue.specs.declared.end.End.{End}
 use Rattle.ldc_queue.specs.declared.end.End.TheVariants.{A, B}
-use Rattle.net_lane.specs.Stepping.{net_answer}
-use Rattle.net_lane.specs.net_out.NetOut.{NetOut}
-use Rattle.net_lane.specs.net_out.NetOut.TheVariants as out
-use Rattle.port_model.specs.Fetching.{Fetched, IsFrame, NotReady, Refuses, copied, described, fetched, frame_fault, mark_fault, marked, read, slot_read}
-use Rattle.port_model.specs.NetEndRule.{Fetches, NetRule, Takes}
-use Rattle.port_model.specs.NetEndState.{Activity, NetEndState}
-use Rattle.port_model.specs.NetEndStep.{FetchFails, NetFails}
-use Rattle.port_model.specs.PortState.{PortState}
+use Rattle.switched_ports.specs.net_lane.Stepping.{net_answer}
+use Rattle.switched_ports.specs.net_lane.net_out.NetOut.{NetOut}
+use Rattle.switched_ports.specs.net_lane.net_out.NetOut.TheVariants as out
+use Rattle.world_parts.specs.port_model.Fetching.{Fetched, IsFrame, NotReady, Refuses, copied, described, fetched, frame_fault, mark_fault, marked, read, slot_read}
+use Rattle.world_parts.specs.port_model.NetEndRule.{Fetches, NetRule, Takes}
+use Rattle.world_parts.specs.port_model.NetEndState.{Activity, NetEndState}
+use Rattle.world_parts.specs.port_model.NetEndStep.{FetchFails, NetFails}
+use Rattle.world_parts.specs.port_model.PortState.{PortState}
 use Rattle.runs.specs.Run.{Run}
-use Rattle.switch_laws.specs.Events.{SwitchEvent, SwitchStep}
-use Rattle.switch_laws.specs.Ports.{ports as kind}
+use Rattle.world_parts.specs.switch_laws.Events.{SwitchEvent, SwitchStep}
+use Rattle.world_parts.specs.switch_laws.Ports.{ports as kind}
 use Rattle.switched_ports.specs.Events.{step_event}
 use Rattle.vio_tag.specs.declared.cause.Cause.{Cause}
 use Rattle.vio_tag.specs.declared.cause.Cause.TheVariants as the_cause
 use Rattle.vnet_msg.specs.Descriptor.{NetDesc}
-use Rattle.vnet_switch.specs.declared.forwarding.Switched.{Switched as Sets}
+use Rattle.switched_ports.specs.vnet_switch.declared.forwarding.Switched.{Switched as Sets}
 use Rattle.ldom_world.specs.OnePort.{IsOwnReset}
 
 -- no script asked for it, and no tick

@@ -3,14 +3,14 @@ use Rattle.std.proofs.Common.{◌≡◌, ℕ, ◌+◌, ◌<◌, ◌≤◌, Bool,
 use Rattle.std.specs.Prelude.{◌&&◌, ◌||◌}
 use Rattle.ldc_queue.specs.declared.end.End.{End}
 use Rattle.ldc_queue.specs.declared.end.End.TheVariants.{A, B}
-use Rattle.domain_laws.specs.PortState.{PortState}
-use Rattle.world_laws.specs.Settle.{SettleEntry}
-use Rattle.domain_laws.proofs.Loops.{port_names_begin, port_names_go_on, port_round_begins, port_round_goes_on, port_round_wants, port_ticks_begin, port_ticks_go_on, port_ticks_want, port_turn_wants}
-use Rattle.domain_laws.specs.Domain.{DomainState, DomainStep}
-use Rattle.domain_laws.specs.Lines as script
-use Rattle.domain_laws.specs.NamesMade.{PortsNamed, port_name}
-use Rattle.domain_laws.specs.RoundMade.{PortMade, PortsBegun, PortsUpTo}
-use Rattle.domain_laws.specs.TicksMade.{PortTicked, PortTicksBegun, PortTicksUpTo}
+use Rattle.world_parts.specs.port_model.PortState.{PortState}
+use Rattle.world_parts.specs.world_laws.Settle.{SettleEntry}
+use Rattle.world_parts.proofs.domain_laws.Loops.{port_names_begin, port_names_go_on, port_round_begins, port_round_goes_on, port_round_wants, port_ticks_begin, port_ticks_go_on, port_ticks_want, port_turn_wants}
+use Rattle.world_parts.specs.domain_laws.Domain.{DomainState, DomainStep}
+use Rattle.world_parts.specs.domain_laws.Lines as script
+use Rattle.world_parts.specs.domain_laws.NamesMade.{PortsNamed, port_name}
+use Rattle.world_parts.specs.domain_laws.RoundMade.{PortMade, PortsBegun, PortsUpTo}
+use Rattle.world_parts.specs.domain_laws.TicksMade.{PortTicked, PortTicksBegun, PortTicksUpTo}
 use Rattle.ldom_entries.specs.declared.entry.Entry.{Entry}
 use Rattle.ldom_world.proofs.Adding.{both_add}
 use Rattle.ldom_world.proofs.SettlingAdds.{also_grew, both_grew, none_grew}

@@ -4,17 +4,17 @@ use Rattle.std.specs.Prelude.{◌&&◌, ◌||◌, OnErr}
 use Rattle.lane_kinds.specs.LanesMade.{Marks, all_true, first_marks}
 use Rattle.ldc_queue.specs.declared.end.End.{End}
 use Rattle.ldc_queue.specs.declared.end.End.TheVariants.{A, B}
-use Rattle.disk_model.specs.LaneState.{LaneState}
-use Rattle.world_laws.specs.Settle.{SettleEntry, Settled, entry_of}
-use Rattle.domain_laws.proofs.Looping as going
-use Rattle.domain_laws.proofs.Loops.{disk_names_begin, disk_names_go_on, disk_round_begins, disk_round_goes_on, disk_round_wants, disk_ticks_begin, disk_ticks_go_on, disk_ticks_want, disk_turn_wants}
-use Rattle.domain_laws.specs.Domain.{DomainState, DomainStep, lanes_in}
-use Rattle.domain_laws.specs.Going.{GoneOn, fresh_marks, most_rounds}
-use Rattle.domain_laws.specs.Lines.{LineBegins, LineMoves}
-use Rattle.domain_laws.specs.Lines as script
-use Rattle.domain_laws.specs.NamesMade.{AllNamed, DisksNamed, NamesBegun, PortsNamed, disk_name}
-use Rattle.domain_laws.specs.RoundMade.{DiskMade, DisksBegun, DisksUpTo, PortsBegun, PortsUpTo, RoundBegun, RoundMade, all_quiet}
-use Rattle.domain_laws.specs.TicksMade.{DiskTicked, DiskTicksBegun, DiskTicksUpTo, PortTicksBegun, PortTicksUpTo, TicksBegun, TicksMade}
+use Rattle.world_parts.specs.disk_model.LaneState.{LaneState}
+use Rattle.world_parts.specs.world_laws.Settle.{SettleEntry, Settled, entry_of}
+use Rattle.world_parts.proofs.domain_laws.Looping as going
+use Rattle.world_parts.proofs.domain_laws.Loops.{disk_names_begin, disk_names_go_on, disk_round_begins, disk_round_goes_on, disk_round_wants, disk_ticks_begin, disk_ticks_go_on, disk_ticks_want, disk_turn_wants}
+use Rattle.world_parts.specs.domain_laws.Domain.{DomainState, DomainStep, lanes_in}
+use Rattle.world_parts.specs.domain_laws.Going.{GoneOn, fresh_marks, most_rounds}
+use Rattle.world_parts.specs.domain_laws.Lines.{LineBegins, LineMoves}
+use Rattle.world_parts.specs.domain_laws.Lines as script
+use Rattle.world_parts.specs.domain_laws.NamesMade.{AllNamed, DisksNamed, NamesBegun, PortsNamed, disk_name}
+use Rattle.world_parts.specs.domain_laws.RoundMade.{DiskMade, DisksBegun, DisksUpTo, PortsBegun, PortsUpTo, RoundBegun, RoundMade, all_quiet}
+use Rattle.world_parts.specs.domain_laws.TicksMade.{DiskTicked, DiskTicksBegun, DiskTicksUpTo, PortTicksBegun, PortTicksUpTo, TicksBegun, TicksMade}
 use Rattle.ldom_entries.specs.declared.entry.Entry.{Entry}
 use Rattle.ldom_entries.specs.declared.entry.Entry.TheVariants as entry
 use Rattle.ldom_world.proofs.Adding.{both_add, none_adds, one_adds}

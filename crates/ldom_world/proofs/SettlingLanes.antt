@@ -2,13 +2,13 @@
 use Rattle.std.proofs.Common.{◌≡◌, ℕ, ◌+◌, ◌<◌, Bool, true, false, Option, Some, None, List, [], ◌∷◌, ◌++◌, length, map, take, slice_get, slice_set, refl, sym, ap, ◌∙◌, subst, arith, append-nil}
 use Rattle.std.specs.Prelude.{◌&&◌, ◌||◌, ◌==◌, cond, if◌then◌else◌, not}
 use Rattle.runs.specs.Run.{Run}
-use Rattle.disk_model.specs.DiskEvent.{CalmTick, Calms}
-use Rattle.disk_model.specs.LaneState.{LaneState}
+use Rattle.world_parts.specs.disk_model.DiskEvent.{CalmTick, Calms}
+use Rattle.world_parts.specs.disk_model.LaneState.{LaneState}
 use Rattle.domain_script.specs.LaneKinds.{disk_lane, disk_of}
-use Rattle.world_laws.specs.Settle.{OfLane, SettleEntry, Unsettled}
-use Rattle.world_laws.specs.DiskKind.{tick, waits_on}
-use Rattle.world_laws.specs.Ticks.{gets_tick}
-use Rattle.domain_laws.specs.Lines.{AnswersCall, Calls, Line, OneEntry, Settles, Ticks, DiskLane}
+use Rattle.world_parts.specs.world_laws.Settle.{OfLane, SettleEntry, Unsettled}
+use Rattle.world_parts.specs.world_laws.DiskKind.{tick, waits_on}
+use Rattle.world_parts.specs.world_laws.Ticks.{gets_tick}
+use Rattle.world_parts.specs.domain_laws.Lines.{AnswersCall, Calls, Line, OneEntry, Settles, Ticks, DiskLane}
 use Rattle.ldom_report.specs.LaneEvents.{ChangesNothing, Meaning, NoRoomFor, Refuses, meaning}
 use Rattle.world_parts.specs.WorldEvents.{at_disk, calm_event, if_so, meant, told_of, world_event}
 use Rattle.ldom_report.specs.Report.{accepted_count, is_accepted}
@@ -17,11 +17,11 @@ use Rattle.ldom_entries.specs.declared.entry.Entry.TheVariants as entry
 use Rattle.ldom_entries.specs.declared.entry.Who.{Who}
 use Rattle.ldom_entries.specs.declared.entry.Who.TheVariants.{Lane as OfWhole, End as OfEnd}
 use Rattle.lane_kinds.proofs.Places.{after_one, set_same, take_set_one}
-use Rattle.domain_laws.proofs.LoopKinds.{disk_gets}
-use Rattle.domain_laws.proofs.Loops.{disk_gets_none}
-use Rattle.domain_laws.specs.Domain.{DomainState, DomainStep}
-use Rattle.domain_laws.specs.NamesMade.{disk_name}
-use Rattle.domain_laws.specs.TicksMade.{DiskTicked}
+use Rattle.world_parts.proofs.domain_laws.LoopKinds.{disk_gets}
+use Rattle.world_parts.proofs.domain_laws.Loops.{disk_gets_none}
+use Rattle.world_parts.specs.domain_laws.Domain.{DomainState, DomainStep}
+use Rattle.world_parts.specs.domain_laws.NamesMade.{disk_name}
+use Rattle.world_parts.specs.domain_laws.TicksMade.{DiskTicked}
 use Rattle.lane_kinds.specs.LanesMade.{all_true}
 use Rattle.world_parts.specs.Parts.{Adds, Fits, FitsSoFar, PartSays}
 use Rattle.ldom_world.proofs.Adding.{none_adds, one_adds}

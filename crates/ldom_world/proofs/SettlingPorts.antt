@@ -3,12 +3,12 @@ use Rattle.std.proofs.Common.{◌≡◌, ℕ, ◌+◌, ◌<◌, Bool, true, fals
 use Rattle.std.specs.Prelude.{◌&&◌, ◌||◌, ◌==◌, if◌then◌else◌, not}
 use Rattle.runs.specs.Run.{Run}
 use Rattle.domain_script.specs.LaneKinds.{port_lane, port_of}
-use Rattle.world_laws.specs.Settle.{OfPort, SettleEntry, UnsettledPort}
-use Rattle.switch_laws.specs.Ports.{tick, waits_on}
-use Rattle.domain_laws.specs.Lines.{AnswersPortCall, Calls, OnePortEntry, PortLane, Settles, Ticks}
-use Rattle.domain_laws.specs.NetEvent.{CalmTick, Ticked}
-use Rattle.domain_laws.specs.PortState.{PortState}
-use Rattle.port_laws.specs.NetEndState.{unseen}
+use Rattle.world_parts.specs.world_laws.Settle.{OfPort, SettleEntry, UnsettledPort}
+use Rattle.world_parts.specs.switch_laws.Ports.{tick, waits_on}
+use Rattle.world_parts.specs.domain_laws.Lines.{AnswersPortCall, Calls, OnePortEntry, PortLane, Settles, Ticks}
+use Rattle.world_parts.specs.port_model.NetEvent.{CalmTick, Ticked}
+use Rattle.world_parts.specs.port_model.PortState.{PortState}
+use Rattle.world_parts.specs.port_laws.NetEndState.{unseen}
 use Rattle.ldom_report.specs.LaneEvents.{ChangesNothing, Meaning, NoRoomFor, Refuses, meaning}
 use Rattle.world_parts.specs.WorldEvents.{at_port, calm_event, if_so, meant, of_net, told_of, world_event}
 use Rattle.ldom_entries.specs.declared.entry.Entry.{Entry}
@@ -16,11 +16,11 @@ use Rattle.ldom_entries.specs.declared.entry.Entry.TheVariants as entry
 use Rattle.ldom_entries.specs.declared.entry.Who.{Who}
 use Rattle.ldom_entries.specs.declared.entry.Who.TheVariants.{Lane as OfWhole, End as OfEnd}
 use Rattle.lane_kinds.proofs.Places.{set_same}
-use Rattle.domain_laws.proofs.LoopKinds.{port_gets}
-use Rattle.domain_laws.proofs.Loops.{port_gets_none}
-use Rattle.domain_laws.specs.Domain.{DomainState, DomainStep}
-use Rattle.domain_laws.specs.NamesMade.{port_name}
-use Rattle.domain_laws.specs.TicksMade.{PortTicked, port_gets_tick}
+use Rattle.world_parts.proofs.domain_laws.LoopKinds.{port_gets}
+use Rattle.world_parts.proofs.domain_laws.Loops.{port_gets_none}
+use Rattle.world_parts.specs.domain_laws.Domain.{DomainState, DomainStep}
+use Rattle.world_parts.specs.domain_laws.NamesMade.{port_name}
+use Rattle.world_parts.specs.domain_laws.TicksMade.{PortTicked, port_gets_tick}
 use Rattle.world_parts.specs.Parts.{Adds, Fits, FitsSoFar, PartSays}
 use Rattle.ldom_world.proofs.Adding.{none_adds, one_adds}
 use Rattle.ldom_world.proofs.PortsAdding.{names_go_by, ticks_go_by}

@@ -1,15 +1,15 @@
 -- Whether an entry of one lane's event tells that a request was accepted: by what it means.
 use Rattle.std.proofs.Common.{◌≡◌, ℕ, ◌+◌, Bool, true, false, cond, List, Some, option_map, refl, sym, subst, arith}
 use Rattle.std.specs.Prelude.{⊤}
-use Rattle.channel_model.specs.WireEvent.{Declines, WireEvent}
-use Rattle.disk_model.specs.DiskEvent.{Asks, Calms, DiskEvent, OnWire}
-use Rattle.disk_model.specs.DiskEvent as disk
-use Rattle.world_laws.specs.Settle.{OfLane, OfPort, SettleEntry}
-use Rattle.domain_laws.specs.Events.{SwitchEvent, Switched}
-use Rattle.domain_laws.specs.Lines.{Line}
-use Rattle.domain_laws.specs.NetEndStep.{Already, BadLength, Frame, GroupsFull}
-use Rattle.domain_laws.specs.NetEndStep as port
-use Rattle.domain_laws.specs.NetEvent.{CalmTick, Gives, Joins, NetEvent, Steps}
+use Rattle.world_parts.specs.channel_model.WireEvent.{Declines, WireEvent}
+use Rattle.world_parts.specs.disk_model.DiskEvent.{Asks, Calms, DiskEvent, OnWire}
+use Rattle.world_parts.specs.disk_model.DiskEvent as disk
+use Rattle.world_parts.specs.world_laws.Settle.{OfLane, OfPort, SettleEntry}
+use Rattle.world_parts.specs.switch_laws.Events.{SwitchEvent, Switched}
+use Rattle.world_parts.specs.domain_laws.Lines.{Line}
+use Rattle.world_parts.specs.port_model.NetEndStep.{Already, BadLength, Frame, GroupsFull}
+use Rattle.world_parts.specs.port_model.NetEndStep as port
+use Rattle.world_parts.specs.port_model.NetEvent.{CalmTick, Gives, Joins, NetEvent, Steps}
 use Rattle.domain_script.specs.LaneKinds.{port_of}
 use Rattle.domain_script.specs.declared.event.Side.{Side}
 use Rattle.domain_script.specs.declared.event.Side.TheVariants.{Client, Server}
@@ -23,7 +23,7 @@ use Rattle.ldom_entries.specs.declared.entry.Entry.{Entry}
 use Rattle.ldom_entries.specs.declared.entry.Entry.TheVariants as entry
 use Rattle.ldom_entries.specs.declared.entry.Who.{Who}
 use Rattle.ldom_entries.specs.declared.entry.Who.TheVariants.{Lane as OfWhole, End as OfEnd}
-use Rattle.world_laws.specs.Issued.{next_behind}
+use Rattle.world_parts.specs.world_laws.Issued.{next_behind}
 use Rattle.world_parts.proofs.Meanings.{DeclinedHas, DiskHas, Has, Holds, NetHas, entry_has, lane_of}
 
 -- WHETHER AN EVENT ACCEPTS a request, and what an entry means does; an entry of an accepted request is one of those

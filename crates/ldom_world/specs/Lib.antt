@@ -7,3 +7,4 @@ pub mod Resting
 pub mod Steps
 pub mod TurnsMade
 pub mod SettleParts
+pub use Rattle.world_parts.specs as world_parts

@@ -1,15 +1,15 @@
 -- One event of one port, and what it leaves in the journal.
 use Rattle.std.specs.Prelude.{◌≡◌, ℕ, ◌≤◌, Bool, true, false, ◌&&◌, List, length, Option, Some, None, ⊤}
 use Rattle.ldc_queue.specs.declared.end.End.{End}
-use Rattle.net_lane.specs.net_out.NetOut.{NetOut}
-use Rattle.net_lane.specs.net_out.NetOut.TheVariants as out
-use Rattle.domain_laws.specs.Domain.{PortsStep}
-use Rattle.domain_laws.specs.PortState.{PortState}
-use Rattle.domain_laws.specs.Lines.{Line}
-use Rattle.switch_laws.specs.Events.{SwitchEvent}
-use Rattle.switch_laws.specs.Ports.{IsStepOf, is_calm, is_silent}
+use Rattle.switched_ports.specs.net_lane.net_out.NetOut.{NetOut}
+use Rattle.switched_ports.specs.net_lane.net_out.NetOut.TheVariants as out
+use Rattle.world_parts.specs.domain_laws.Domain.{PortsStep}
+use Rattle.world_parts.specs.port_model.PortState.{PortState}
+use Rattle.world_parts.specs.domain_laws.Lines.{Line}
+use Rattle.world_parts.specs.switch_laws.Events.{SwitchEvent}
+use Rattle.world_parts.specs.switch_laws.Ports.{IsStepOf, is_calm, is_silent}
 use Rattle.switched_ports.specs.Given.{GivesNoMore, GivesOneMore}
-use Rattle.world_laws.specs.Settle.{OfPort, SettleEntry}
+use Rattle.world_parts.specs.world_laws.Settle.{OfPort, SettleEntry}
 use Rattle.ldom_entries.specs.JournalState.{JournalState, PutsEntry}
 use Rattle.domain_script.specs.declared.event.EndName.{EndName}
 use Rattle.domain_script.specs.declared.fields.LaneKind.{LaneKind}
@@ -18,7 +18,7 @@ use Rattle.kept_requests.specs.Bytes.{BytesState}
 use Rattle.ldom_entries.specs.declared.entry.Entry.{Entry}
 use Rattle.ldom_entries.specs.declared.entry.Entry.TheVariants as entry
 use Rattle.vio_tag.specs.declared.cause.Cause.TheVariants as the_cause
-use Rattle.vnet_switch.specs.declared.forwarding.Switched.{Switched as Sets}
+use Rattle.switched_ports.specs.vnet_switch.declared.forwarding.Switched.{Switched as Sets}
 use Rattle.ldom_report.specs.Report.{is_accepted}
 use Rattle.ldom_world.specs.declared.calls.LaneCall.{LaneCall}
 use Rattle.ldom_world.specs.declared.calls.LaneCall.TheVariants as lane

@@ -1,13 +1,13 @@
 -- What a settle added to a journal as far as it has come, and how each turn of it goes on.
 use Rattle.std.specs.Prelude.{◌≡◌, ℕ, ◌+◌, ◌<◌, ◌≤◌, Bool, true, false, ◌||◌, List, [], Some, slice_get}
 use Rattle.lane_kinds.specs.LanesMade.{Marks}
-use Rattle.world_laws.specs.Settle.{SettleEntry}
-use Rattle.domain_laws.specs.Domain.{DomainState}
-use Rattle.domain_laws.specs.Going.{GoneOn, most_rounds}
-use Rattle.domain_laws.specs.Lines as script
-use Rattle.domain_laws.specs.NamesMade.{AllNamed, DisksNamed, NamesBegun, PortsNamed}
-use Rattle.domain_laws.specs.RoundMade.{DisksBegun, DisksUpTo, PortsBegun, PortsUpTo, RoundBegun, RoundMade}
-use Rattle.domain_laws.specs.TicksMade.{DiskTicksBegun, DiskTicksUpTo, PortTicksBegun, PortTicksUpTo, TicksBegun, TicksMade}
+use Rattle.world_parts.specs.world_laws.Settle.{SettleEntry}
+use Rattle.world_parts.specs.domain_laws.Domain.{DomainState}
+use Rattle.world_parts.specs.domain_laws.Going.{GoneOn, most_rounds}
+use Rattle.world_parts.specs.domain_laws.Lines as script
+use Rattle.world_parts.specs.domain_laws.NamesMade.{AllNamed, DisksNamed, NamesBegun, PortsNamed}
+use Rattle.world_parts.specs.domain_laws.RoundMade.{DisksBegun, DisksUpTo, PortsBegun, PortsUpTo, RoundBegun, RoundMade}
+use Rattle.world_parts.specs.domain_laws.TicksMade.{DiskTicksBegun, DiskTicksUpTo, PortTicksBegun, PortTicksUpTo, TicksBegun, TicksMade}
 use Rattle.ldom_entries.specs.declared.entry.Entry.{Entry}
 use Rattle.ldom_world.specs.declared.settling.LaneMarks.{LaneMarks}
 use Rattle.world_parts.specs.Parts.{Adds, Fits, FitsSoFar}

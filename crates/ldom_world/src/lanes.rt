@@ -1,11 +1,11 @@
 ghost use Rattle.std.specs.Prelude.{◌≡◌, ◌≤◌, ◌<◌, IfOk, length, map, Some, slice_get};
-ghost use Rattle.disk_model.specs.LaneState.{fresh};
-ghost use Rattle.disk_model.specs.Reached.{IsReached};
-ghost use Rattle.domain_laws.specs.PortState.{fresh_port};
+ghost use Rattle.world_parts.specs.disk_model.LaneState.{fresh};
+ghost use Rattle.world_parts.specs.disk_model.Reached.{IsReached};
+ghost use Rattle.world_parts.specs.port_model.PortState.{fresh_port};
 ghost use Rattle.domain_script.specs.Declarations.{AreDisks, ArePorts, IsDisk, IsPort};
 ghost use Rattle.lane_kinds.specs.Lanes.{EachOf};
-ghost use Rattle.switch_laws.specs.Forwards.{views};
-ghost use Rattle.switch_laws.specs.Reached as port;
+ghost use Rattle.world_parts.specs.switch_laws.Forwards.{views};
+ghost use Rattle.world_parts.specs.switch_laws.Reached as port;
 ghost use Rattle.switched_ports.specs.States.{PortAt};
 ghost use Rattle.world_parts.specs.Declared.{nets_of, shape_of, shapes_of};
 
@@ -25,7 +25,7 @@ pub struct Lanes {
 }
 
 impl Model for Lanes {
-    ghost use Rattle.domain_laws.specs.Domain.{Lanes};
+    ghost use Rattle.world_parts.specs.domain_laws.Domain.{Lanes};
 
     ghost Value = { Lanes };
 

@@ -1,7 +1,7 @@
 // Steps of the ends of ports.
 
 ghost use Rattle.std.specs.Prelude.{◌≡◌, ◌<◌, ◌+◌, ◌-◌, ◌^◌, length, IfOk, OnErr, OnOk};
-ghost use Rattle.domain_laws.specs.Domain.{PortsStep};
+ghost use Rattle.world_parts.specs.domain_laws.Domain.{PortsStep};
 ghost use Rattle.ldom_report.specs.LaneEvents.{end_of};
 ghost use Rattle.ldom_report.specs.Report.{accepted_count};
 ghost use Rattle.ldom_world.specs.OnePort.{PortEndSteps};

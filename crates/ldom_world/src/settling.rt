@@ -1,13 +1,13 @@
 // A settle: rounds, until one in which all lanes are quiet and after which none gets a tick.
 
 ghost use Rattle.std.specs.Prelude.{◌≡◌, ◌&&◌, ◌<◌, ◌≤◌, length, not, replicate, slice_get, slice_set, take, Some, IfOk, OnErr, OnOk};
-ghost use Rattle.disk_model.specs.LaneState.{LaneState};
-ghost use Rattle.domain_laws.specs.Going.{most_rounds};
-ghost use Rattle.domain_laws.specs.Lines.{Settles};
-ghost use Rattle.domain_laws.specs.PortState.{PortState};
-ghost use Rattle.domain_laws.specs.TicksMade.{port_gets_tick};
-ghost use Rattle.switch_laws.specs.Ports.{waits_on as port_waits_on};
-ghost use Rattle.domain_laws.specs.RoundMade.{all_quiet};
+ghost use Rattle.world_parts.specs.disk_model.LaneState.{LaneState};
+ghost use Rattle.world_parts.specs.domain_laws.Going.{most_rounds};
+ghost use Rattle.world_parts.specs.domain_laws.Lines.{Settles};
+ghost use Rattle.world_parts.specs.port_model.PortState.{PortState};
+ghost use Rattle.world_parts.specs.domain_laws.TicksMade.{port_gets_tick};
+ghost use Rattle.world_parts.specs.switch_laws.Ports.{waits_on as port_waits_on};
+ghost use Rattle.world_parts.specs.domain_laws.RoundMade.{all_quiet};
 ghost use Rattle.lane_kinds.specs.LanesMade.{all_true};
 ghost use Rattle.ldom_report.specs.Report.{accepted_count};
 ghost use Rattle.ldom_world.specs.SettleParts.{DisksAdd, DisksAddFront, DisksNameAdd, DisksNameAddFront};
@@ -19,8 +19,8 @@ ghost use Rattle.ldom_world.specs.SettleParts.{PortsNameAdd, PortsNameAddFront, 
 ghost use Rattle.ldom_world.specs.SettleParts.{PortTicksGoOn};
 ghost use Rattle.ldom_world.specs.Steps.{Counted};
 ghost use Rattle.ldom_world.specs.TurnsMade.{SameNumbers};
-ghost use Rattle.world_laws.specs.DiskKind.{waits_on};
-ghost use Rattle.world_laws.specs.Ticks.{gets_tick};
+ghost use Rattle.world_parts.specs.world_laws.DiskKind.{waits_on};
+ghost use Rattle.world_parts.specs.world_laws.Ticks.{gets_tick};
 ghost use Rattle.world_parts.specs.Parts.{Fits, FitsSoFar};
 
 use crate::calls::LaneCall;

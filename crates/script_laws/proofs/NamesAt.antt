@@ -4,12 +4,12 @@ use Rattle.runs.specs.Run.{Run, run_split}
 use Rattle.lane_kinds.specs.Both.{Two}
 use Rattle.lane_kinds.specs.Fronts.{NamesFront, SettleFront}
 use Rattle.lane_kinds.specs.Settles.{GoesOn, RunsOut, SettlePart, TicksBehind, begin, entries_of_rounds, most_rounds}
-use Rattle.switch_laws.specs.Events.{SwitchEvent}
-use Rattle.world_laws.specs.Rounds.{LaneRound}
-use Rattle.world_laws.specs.Settle.{SettleEntry, Settled, Unsettled, UnsettledPort}
-use Rattle.domain_laws.proofs.LineEntries.{AllRound, AllSettling, each_in, rounds_each}
-use Rattle.domain_laws.specs.Domain.{Lanes, lanes}
-use Rattle.domain_laws.specs.Lines.{fronts}
+use Rattle.world_parts.specs.switch_laws.Events.{SwitchEvent}
+use Rattle.world_parts.specs.world_laws.Rounds.{LaneRound}
+use Rattle.world_parts.specs.world_laws.Settle.{SettleEntry, Settled, Unsettled, UnsettledPort}
+use Rattle.world_parts.proofs.domain_laws.LineEntries.{AllRound, AllSettling, each_in, rounds_each}
+use Rattle.world_parts.specs.domain_laws.Domain.{Lanes, lanes}
+use Rattle.world_parts.specs.domain_laws.Lines.{fronts}
 use Rattle.script_laws.proofs.Entries.{IsName, IsOfLane}
 use Rattle.script_laws.proofs.Places.{InEither, no_place, place_in}
 use Rattle.script_laws.proofs.SettleEntries.{SettledLast, lane_steps, lane_ticks, settle_front, settled_last}

@@ -3,26 +3,26 @@ use Rattle.std.proofs.Common.{◌≡◌, ℕ, Bool, true, false, Option, Some, N
 use Rattle.std.specs.Prelude.{◌==◌}
 use Rattle.runs.specs.Lawful.{lawful_split, log_append, log_of}
 use Rattle.runs.specs.Run.{Run, run_push}
-use Rattle.channel_model.specs.WireLog.{WireLog}
+use Rattle.world_parts.specs.channel_model.WireLog.{WireLog}
 use Rattle.ldc_queue.specs.declared.end.End.{End}
 use Rattle.ldc_queue.specs.declared.end.End.TheVariants.{A, B}
 use Rattle.lane_kinds.specs.Lanes.{EachOf, own_or}
-use Rattle.port_laws.proofs.EveryRun.{every_run}
-use Rattle.port_laws.proofs.PortWire.{port_wire}
-use Rattle.port_model.specs.FrameLaws.{IsFinished}
-use Rattle.port_model.specs.NetEndState.{joined_net_end, unseen}
-use Rattle.port_model.specs.NetEndStep.{Blocked, Idle}
-use Rattle.port_model.specs.NetEvent.{CalmTick, NetEvent, Steps, Ticked, on_wire}
-use Rattle.port_model.specs.NetLaneState.{IsNetShape, NetShape, role_at, with_net_end}
-use Rattle.port_model.specs.NetLaneStep.{is_finished, moved_on, net_wire}
-use Rattle.port_model.specs.PortLog.{PortLog, after, no_events}
-use Rattle.port_model.specs.PortMay.{PortMay}
-use Rattle.port_model.specs.PortState.{OnLane, PortEvent, PortState, PortStep, Receives, fresh_port}
-use Rattle.switch_laws.specs.Events.{OnPort, SwitchEvent, Switched, at_port}
-use Rattle.switch_laws.specs.Ports.{gets, is_calm}
-use Rattle.world_laws.specs.Settle.{OfPort, SettleEntry}
-use Rattle.domain_laws.specs.Along.{port_happened}
-use Rattle.domain_laws.specs.Frames.{port_events}
+use Rattle.world_parts.proofs.port_laws.EveryRun.{every_run}
+use Rattle.world_parts.proofs.port_laws.PortWire.{port_wire}
+use Rattle.world_parts.specs.port_model.FrameLaws.{IsFinished}
+use Rattle.world_parts.specs.port_model.NetEndState.{joined_net_end, unseen}
+use Rattle.world_parts.specs.port_model.NetEndStep.{Blocked, Idle}
+use Rattle.world_parts.specs.port_model.NetEvent.{CalmTick, NetEvent, Steps, Ticked, on_wire}
+use Rattle.world_parts.specs.port_model.NetLaneState.{IsNetShape, NetShape, role_at, with_net_end}
+use Rattle.world_parts.specs.port_model.NetLaneStep.{is_finished, moved_on, net_wire}
+use Rattle.world_parts.specs.port_model.PortLog.{PortLog, after, no_events}
+use Rattle.world_parts.specs.port_model.PortMay.{PortMay}
+use Rattle.world_parts.specs.port_model.PortState.{OnLane, PortEvent, PortState, PortStep, Receives, fresh_port}
+use Rattle.world_parts.specs.switch_laws.Events.{OnPort, SwitchEvent, Switched, at_port}
+use Rattle.world_parts.specs.switch_laws.Ports.{gets, is_calm}
+use Rattle.world_parts.specs.world_laws.Settle.{OfPort, SettleEntry}
+use Rattle.world_parts.specs.domain_laws.Along.{port_happened}
+use Rattle.world_parts.specs.domain_laws.Frames.{port_events}
 use Rattle.world_parts.specs.WorldEvents.{told_net}
 use Rattle.script_laws.proofs.Untold.{all_told}
 

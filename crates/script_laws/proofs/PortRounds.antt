@@ -4,7 +4,7 @@ use Rattle.std.proofs.lemmas.Option.{slice_get_within}
 use Rattle.std.specs.Prelude.{⊤}
 use Rattle.runs.specs.Run.{Run, run_append}
 use Rattle.ldc_queue.specs.declared.end.End.{End}
-use Rattle.disk_model.specs.DiskEvent.{DiskEvent}
+use Rattle.world_parts.specs.disk_model.DiskEvent.{DiskEvent}
 use Rattle.lane_kinds.proofs.Both.{second_ends, second_leads}
 use Rattle.lane_kinds.proofs.BothFronts.{lanes_skip_fronts, second_fronts_lead}
 use Rattle.lane_kinds.proofs.EntriesEach.{first_each}
@@ -21,22 +21,22 @@ use Rattle.lane_kinds.specs.LaneFronts.{RoundFront, TickFront, fronts_of}
 use Rattle.lane_kinds.specs.Lanes.{AllMove, CalmTurn, Calmly, are_still}
 use Rattle.lane_kinds.specs.Laws.{Ends, FrontsLead, FrontsLeadWhere, Keeps, Leads, LeadsWhere}
 use Rattle.lane_kinds.specs.Settles.{GoesOn, SettlePart, Settles, begin, entries_of_rounds}
-use Rattle.lane_laws.specs.CalmEnds.{IsStep}
-use Rattle.port_model.specs.NetEvent.{Ticked}
-use Rattle.port_model.specs.PortState.{OnLane, PortState}
-use Rattle.switch_laws.proofs.Turns.{calm_gives, silence}
-use Rattle.switch_laws.specs.Events.{OnPort, SwitchEvent, SwitchStep}
-use Rattle.switch_laws.specs.Ports.{IsStepOf, ports, tick as port_tick}
-use Rattle.world_laws.proofs.DiskLaws as disk_laws
-use Rattle.world_laws.specs.Begun.{fronts as disk_fronts}
-use Rattle.world_laws.specs.DiskKind.{disk_kind}
-use Rattle.world_laws.specs.Rounds.{LaneRound}
-use Rattle.world_laws.specs.Settle.{OfLane, OfPort, SettleEntry, Settled, disk_entries, disks}
-use Rattle.domain_laws.proofs.LineEntries.{AllRound, AllSettling, EachEntry, StepsHave, disks_begun, disks_each, each_in, ports_begun, ports_each}
-use Rattle.domain_laws.proofs.Running.{port_reads}
-use Rattle.domain_laws.specs.Along.{port_happened, port_said}
-use Rattle.domain_laws.specs.Domain.{Lanes, lanes, port_entries, switch}
-use Rattle.domain_laws.specs.Lines.{fronts}
+use Rattle.world_parts.specs.lane_laws.CalmEnds.{IsStep}
+use Rattle.world_parts.specs.port_model.NetEvent.{Ticked}
+use Rattle.world_parts.specs.port_model.PortState.{OnLane, PortState}
+use Rattle.world_parts.proofs.switch_laws.Turns.{calm_gives, silence}
+use Rattle.world_parts.specs.switch_laws.Events.{OnPort, SwitchEvent, SwitchStep}
+use Rattle.world_parts.specs.switch_laws.Ports.{IsStepOf, ports, tick as port_tick}
+use Rattle.world_parts.proofs.world_laws.DiskLaws as disk_laws
+use Rattle.world_parts.specs.world_laws.Begun.{fronts as disk_fronts}
+use Rattle.world_parts.specs.world_laws.DiskKind.{disk_kind}
+use Rattle.world_parts.specs.world_laws.Rounds.{LaneRound}
+use Rattle.world_parts.specs.world_laws.Settle.{OfLane, OfPort, SettleEntry, Settled, disk_entries, disks}
+use Rattle.world_parts.proofs.domain_laws.LineEntries.{AllRound, AllSettling, EachEntry, StepsHave, disks_begun, disks_each, each_in, ports_begun, ports_each}
+use Rattle.world_parts.proofs.domain_laws.Running.{port_reads}
+use Rattle.world_parts.specs.domain_laws.Along.{port_happened, port_said}
+use Rattle.world_parts.specs.domain_laws.Domain.{Lanes, lanes, port_entries, switch}
+use Rattle.world_parts.specs.domain_laws.Lines.{fronts}
 use Rattle.script_laws.proofs.CalmRounds.{calm_entries}
 use Rattle.script_laws.proofs.Places.{InEither, no_place, place_in}
 use Rattle.script_laws.proofs.PortStill.{IsCalmOfPorts, IsTickOfPorts, QuietAt}

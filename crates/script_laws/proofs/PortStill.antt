@@ -5,7 +5,7 @@ use Rattle.std.specs.Prelude.{◌==◌, not, ⊤}
 use Rattle.std.proofs.lemmas.Bool.{eq-eqb, eqb-true}
 use Rattle.runs.specs.Lawful.{log_append, log_of}
 use Rattle.runs.specs.Run.{Run, run_append, run_push}
-use Rattle.channel_model.specs.WireLog.{WireLog}
+use Rattle.world_parts.specs.channel_model.WireLog.{WireLog}
 use Rattle.ldc_queue.specs.declared.end.End.{End}
 use Rattle.ldc_queue.specs.declared.end.End.TheVariants.{A, B}
 use Rattle.ldc_queue.specs.Wire.{peer_of, waiting_for}
@@ -17,27 +17,27 @@ use Rattle.lane_kinds.proofs.Stuck.{sum_both}
 use Rattle.lane_kinds.proofs.Sums.{and_left, and_right}
 use Rattle.lane_kinds.specs.LaneCounts.{once}
 use Rattle.lane_kinds.specs.Lanes.{CalmTurn, EachOf, all_calm, own_or}
-use Rattle.port_laws.specs.RemainingSteps.{IsCalm as IsCalmAnswer}
-use Rattle.port_model.specs.EndLog.{SessionLog}
-use Rattle.port_model.specs.FrameLaws.{IfSession, IsFinished}
-use Rattle.port_model.specs.NetEndStep.{Blocked, Idle, NetAnswer}
-use Rattle.port_model.specs.NetEvent.{Steps, Ticked}
-use Rattle.port_model.specs.NetLaneState.{IsNetShape, NetShape}
-use Rattle.port_model.specs.NetLaneStep.{is_finished}
-use Rattle.port_model.specs.PortLog.{PortLog, after, log_of_end, no_events}
-use Rattle.port_model.specs.PortMay.{PortMay}
-use Rattle.port_model.specs.PortState.{OnLane, PortEvent, PortState, PortStep, fresh_port}
-use Rattle.port_model.specs.RestLaws.{IsIdle}
-use Rattle.switch_laws.proofs.Resting.{TwoCalm, finishes, two_calm}
-use Rattle.switch_laws.proofs.Steps.{run_on_port}
-use Rattle.switch_laws.proofs.Turns.{calm_gives}
-use Rattle.switch_laws.specs.Events.{OnPort, SwitchEvent, SwitchStep, at_port}
-use Rattle.switch_laws.specs.Ports.{gets, is_calm, ports, waits_on}
-use Rattle.world_laws.specs.Settle.{OfPort, SettleEntry}
-use Rattle.domain_laws.proofs.LineEntries.{EachEntry}
-use Rattle.domain_laws.specs.Along.{port_happened, port_said}
-use Rattle.domain_laws.specs.Frames.{port_events}
-use Rattle.domain_laws.specs.Settling.{port_ticks, port_ticks_in}
+use Rattle.world_parts.specs.port_laws.RemainingSteps.{IsCalm as IsCalmAnswer}
+use Rattle.world_parts.specs.port_model.EndLog.{SessionLog}
+use Rattle.world_parts.specs.port_model.FrameLaws.{IfSession, IsFinished}
+use Rattle.world_parts.specs.port_model.NetEndStep.{Blocked, Idle, NetAnswer}
+use Rattle.world_parts.specs.port_model.NetEvent.{Steps, Ticked}
+use Rattle.world_parts.specs.port_model.NetLaneState.{IsNetShape, NetShape}
+use Rattle.world_parts.specs.port_model.NetLaneStep.{is_finished}
+use Rattle.world_parts.specs.port_model.PortLog.{PortLog, after, log_of_end, no_events}
+use Rattle.world_parts.specs.port_model.PortMay.{PortMay}
+use Rattle.world_parts.specs.port_model.PortState.{OnLane, PortEvent, PortState, PortStep, fresh_port}
+use Rattle.world_parts.specs.port_model.RestLaws.{IsIdle}
+use Rattle.world_parts.proofs.switch_laws.Resting.{TwoCalm, finishes, two_calm}
+use Rattle.world_parts.proofs.switch_laws.Steps.{run_on_port}
+use Rattle.world_parts.proofs.switch_laws.Turns.{calm_gives}
+use Rattle.world_parts.specs.switch_laws.Events.{OnPort, SwitchEvent, SwitchStep, at_port}
+use Rattle.world_parts.specs.switch_laws.Ports.{gets, is_calm, ports, waits_on}
+use Rattle.world_parts.specs.world_laws.Settle.{OfPort, SettleEntry}
+use Rattle.world_parts.proofs.domain_laws.LineEntries.{EachEntry}
+use Rattle.world_parts.specs.domain_laws.Along.{port_happened, port_said}
+use Rattle.world_parts.specs.domain_laws.Frames.{port_events}
+use Rattle.world_parts.specs.domain_laws.Settling.{port_ticks, port_ticks_in}
 use Rattle.script_laws.proofs.PortLogs.{IsCalm, LastIdle, calm_log, finished_as, finished_by, idle_last, next_may, same_wire}
 use Rattle.script_laws.specs.PortSettles.{is_port_tick}
 use Rattle.script_laws.specs.Still.{IsPortStill, IsPortStillBy}

@@ -5,7 +5,7 @@ use Rattle.std.proofs.lemmas.Option.{slice_get_within}
 use Rattle.std.specs.Prelude.{not, ⊤}
 use Rattle.runs.specs.Lawful.{log_of}
 use Rattle.runs.specs.Run.{Run, run_append, run_split}
-use Rattle.channel_model.specs.WireLog.{WireLog}
+use Rattle.world_parts.specs.channel_model.WireLog.{WireLog}
 use Rattle.disk_law.specs.ListState.{ImageState}
 use Rattle.domain_script.specs.declared.event.DiskDecl.{DiskDecl}
 use Rattle.domain_script.specs.declared.event.Event.{Event}
@@ -18,29 +18,29 @@ use Rattle.lane_kinds.specs.Both.{Two}
 use Rattle.lane_kinds.specs.Fronts.{SettleFront}
 use Rattle.lane_kinds.specs.LaneCounts.{once}
 use Rattle.lane_kinds.specs.Settles.{SettlePart, Settles, begin, entries_of_rounds}
-use Rattle.port_model.specs.FrameLaws.{IsFinished}
-use Rattle.port_model.specs.NetEvent.{CalmTick, NetEvent, Ticked}
-use Rattle.port_model.specs.NetLaneState.{IsNetShape, NetShape}
-use Rattle.port_model.specs.NetLaneStep.{is_finished}
-use Rattle.port_model.specs.PortLog.{PortLog, after, no_events}
-use Rattle.port_model.specs.PortState.{OnLane, PortEvent, PortState, PortStep, Receives, fresh_port}
-use Rattle.switch_laws.proofs.Steps.{run_on_port}
-use Rattle.switch_laws.proofs.Turns.{silent_calm}
-use Rattle.switch_laws.specs.Events.{OnPort, SwitchEvent, SwitchStep, Switched, at_port}
-use Rattle.switch_laws.specs.Ports.{is_calm, ports, waits_on}
-use Rattle.disk_model.specs.LaneState.{LaneState}
-use Rattle.world_laws.specs.DiskKind.{disk_kind}
-use Rattle.world_laws.specs.Rounds.{LaneRound}
-use Rattle.world_laws.specs.Settle.{OfLane, OfPort, SettleEntry, Settled, Unsettled, UnsettledPort, disk_entries, disks}
-use Rattle.domain_laws.proofs.Arriving.{at_there, sound_at}
-use Rattle.domain_laws.proofs.LineEntries.{AllRound, EachEntry, each_in}
-use Rattle.domain_laws.proofs.Resting.{port_ticks_begun, port_ticks_once, ports_end}
-use Rattle.domain_laws.proofs.Running.{fresh_many, port_runs, ports_run}
-use Rattle.domain_laws.specs.Along.{port_happened, port_said}
-use Rattle.domain_laws.specs.Domain.{DomainState, DomainStep, Lanes, PortsStep, lanes, lanes_in, port_entries, switch}
-use Rattle.domain_laws.specs.Frames.{port_events}
-use Rattle.domain_laws.specs.Lines.{entries_of_lines, fronts}
-use Rattle.domain_laws.specs.Settling.{PortEndsIn, PortsEnd, port_ticks, port_ticks_in}
+use Rattle.world_parts.specs.port_model.FrameLaws.{IsFinished}
+use Rattle.world_parts.specs.port_model.NetEvent.{CalmTick, NetEvent, Ticked}
+use Rattle.world_parts.specs.port_model.NetLaneState.{IsNetShape, NetShape}
+use Rattle.world_parts.specs.port_model.NetLaneStep.{is_finished}
+use Rattle.world_parts.specs.port_model.PortLog.{PortLog, after, no_events}
+use Rattle.world_parts.specs.port_model.PortState.{OnLane, PortEvent, PortState, PortStep, Receives, fresh_port}
+use Rattle.world_parts.proofs.switch_laws.Steps.{run_on_port}
+use Rattle.world_parts.proofs.switch_laws.Turns.{silent_calm}
+use Rattle.world_parts.specs.switch_laws.Events.{OnPort, SwitchEvent, SwitchStep, Switched, at_port}
+use Rattle.world_parts.specs.switch_laws.Ports.{is_calm, ports, waits_on}
+use Rattle.world_parts.specs.disk_model.LaneState.{LaneState}
+use Rattle.world_parts.specs.world_laws.DiskKind.{disk_kind}
+use Rattle.world_parts.specs.world_laws.Rounds.{LaneRound}
+use Rattle.world_parts.specs.world_laws.Settle.{OfLane, OfPort, SettleEntry, Settled, Unsettled, UnsettledPort, disk_entries, disks}
+use Rattle.world_parts.proofs.domain_laws.Arriving.{at_there, sound_at}
+use Rattle.world_parts.proofs.domain_laws.LineEntries.{AllRound, EachEntry, each_in}
+use Rattle.world_parts.proofs.domain_laws.Resting.{port_ticks_begun, port_ticks_once, ports_end}
+use Rattle.world_parts.proofs.domain_laws.Running.{fresh_many, port_runs, ports_run}
+use Rattle.world_parts.specs.domain_laws.Along.{port_happened, port_said}
+use Rattle.world_parts.specs.domain_laws.Domain.{DomainState, DomainStep, Lanes, PortsStep, lanes, lanes_in, port_entries, switch}
+use Rattle.world_parts.specs.domain_laws.Frames.{port_events}
+use Rattle.world_parts.specs.domain_laws.Lines.{entries_of_lines, fronts}
+use Rattle.world_parts.specs.domain_laws.Settling.{PortEndsIn, PortsEnd, port_ticks, port_ticks_in}
 use Rattle.ldom_entries.specs.declared.entry.Entry.{Entry}
 use Rattle.script_laws.proofs.DeclaredWorlds.{as_lines}
 use Rattle.script_laws.proofs.LedLanes.{real_run}

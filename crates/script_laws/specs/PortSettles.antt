@@ -3,15 +3,15 @@ use Rattle.std.specs.Prelude.{◌≡◌, ◌⊎◌, ℕ, Bool, true, false, List
 use Rattle.domain_script.specs.declared.event.Event.{Event}
 use Rattle.domain_script.specs.declared.event.Event.TheVariants.{Settle}
 use Rattle.ldom_entries.specs.declared.entry.Entry.{Entry}
-use Rattle.port_model.specs.FrameLaws.{IsFinished}
-use Rattle.port_model.specs.NetEvent.{Ticked}
-use Rattle.port_model.specs.NetLaneState.{NetShape}
-use Rattle.port_model.specs.PortLog.{PortLog}
-use Rattle.port_model.specs.PortState.{OnLane}
-use Rattle.switch_laws.specs.Events.{OnPort, SwitchEvent}
-use Rattle.switch_laws.specs.Ports.{is_calm}
-use Rattle.world_laws.specs.Settle.{OfPort, SettleEntry, Settled, UnsettledPort}
-use Rattle.domain_laws.specs.Settling.{port_ticks_in}
+use Rattle.world_parts.specs.port_model.FrameLaws.{IsFinished}
+use Rattle.world_parts.specs.port_model.NetEvent.{Ticked}
+use Rattle.world_parts.specs.port_model.NetLaneState.{NetShape}
+use Rattle.world_parts.specs.port_model.PortLog.{PortLog}
+use Rattle.world_parts.specs.port_model.PortState.{OnLane}
+use Rattle.world_parts.specs.switch_laws.Events.{OnPort, SwitchEvent}
+use Rattle.world_parts.specs.switch_laws.Ports.{is_calm}
+use Rattle.world_parts.specs.world_laws.Settle.{OfPort, SettleEntry, Settled, UnsettledPort}
+use Rattle.world_parts.specs.domain_laws.Settling.{port_ticks_in}
 use Rattle.script_laws.specs.Still.{IsPortStill}
 use Rattle.script_laws.specs.Told.{port_log_at, told, told_by}
 

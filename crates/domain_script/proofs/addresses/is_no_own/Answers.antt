@@ -6,7 +6,7 @@ use Rattle.domain_script.proofs.addresses.is_no_own.Goals as goal
 
 pub returns-in-Some : goal.returns-in-Some
 returns-in-Some c =
-    own_told c.in-Some.address c.in-Some.ensures.some.long c.is_own.result c.is_own.ensures
+    own_told c.args.word.now c.in-Some.address c.in-Some.ensures.some c.is_own.result c.is_own.ensures
     ∙ sym (tested 6 c.args.word.now c.in-Some.address (λ (bytes : List ℕ). not (is_own bytes)) c.in-Some.ensures.some)
 
 pub returns-in-None : goal.returns-in-None
