@@ -41,7 +41,7 @@ use Rattle.script_laws.specs.Told.{log_at, told, told_by}
 use Rattle.world_parts.specs.Declared.{shapes_of}
 
 -- A PART WITH THE ANSWER is one that ends settled
-settles_if : (w : Lanes) (part so_far rest : List SettleEntry) (behind : Lanes)
+pub settles_if : (w : Lanes) (part so_far rest : List SettleEntry) (behind : Lanes)
     → part ≡ so_far ++ Settled ∷ rest → SettlePart lanes w part behind ⊎ SettleFront lanes fronts w part behind
     → Settles lanes w part behind
 settles_if w part so_far rest behind is (inl (inl settles)) = settles
