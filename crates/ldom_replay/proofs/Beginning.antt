@@ -5,12 +5,12 @@ use Rattle.vio_io.specs.declared.store.Store.{Ghosts}
 use Rattle.domain_script.specs.NamesState.{NamesState}
 use Rattle.domain_script.specs.declared.event.DiskDecl.{DiskDecl}
 use Rattle.domain_script.specs.declared.event.PortDecl.{PortDecl}
-use Rattle.world_parts.specs.domain_laws.Domain.{DomainState, Lanes, lanes_in}
-use Rattle.world_parts.specs.port_model.PortState.{PortState, fresh_port}
+use Rattle.ldom_world.specs.world_parts.domain_laws.Domain.{DomainState, Lanes, lanes_in}
+use Rattle.ldom_world.specs.world_parts.port_model.PortState.{PortState, fresh_port}
 use Rattle.script_laws.specs.Replayed.{start_of}
-use Rattle.world_parts.specs.disk_model.LaneState.{LaneState, fresh}
-use Rattle.world_parts.specs.world_laws.World.{WorldState}
-use Rattle.world_parts.specs.Declared.{nets_of, shapes_of}
+use Rattle.ldom_world.specs.world_parts.disk_model.LaneState.{LaneState, fresh}
+use Rattle.ldom_world.specs.world_parts.world_laws.World.{WorldState}
+use Rattle.ldom_world.specs.world_parts.Declared.{nets_of, shapes_of}
 use Rattle.ldom_replay.specs.Declared.{HasLanes}
 use Rattle.ldom_world.specs.Steps.{Counted}
 use Rattle.ldom_world.specs.TurnsMade.{SameNumbers}

@@ -1,6 +1,6 @@
 -- The lanes of a world, by what a script declared.
 use Rattle.std.specs.Prelude.{◌≡◌, length}
-use Rattle.world_parts.specs.domain_laws.Domain.{DomainState}
+use Rattle.ldom_world.specs.world_parts.domain_laws.Domain.{DomainState}
 use Rattle.domain_script.specs.NamesState.{NamesState}
 
 -- as many disks and as many ports as were declared

@@ -1,7 +1,7 @@
 -- The run of a sample script.
 use Rattle.std.specs.Prelude.{ℕ, List, Option, Some}
 use Rattle.disk_law.specs.ListState.{ImageState}
-use Rattle.world_parts.specs.domain_laws.Domain.{Lanes}
+use Rattle.ldom_world.specs.world_parts.domain_laws.Domain.{Lanes}
 use Rattle.domain_script.specs.NamesState.{NamesState}
 use Rattle.ldom_sample.specs.Sample.{sample_text}
 use Rattle.ldom_entries.specs.declared.entry.Entry.{Entry}

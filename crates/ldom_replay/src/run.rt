@@ -2,7 +2,7 @@
 ghost use Rattle.std.specs.Prelude.{◌≡◌, ◌≢◌, ℕ, ◌*◌, ◌≤◌, ◌↔◌, List, [], ◌∷◌, true, length, map, Option, None, IfErr};
 ghost use Rattle.std.specs.Prelude.{IfOk, IfSome, IsSome, IsTrue, OnOk};
 ghost use Rattle.vio_io.specs.Given.{Gave};
-ghost use Rattle.world_parts.specs.port_model.PortState.{fresh_port};
+ghost use Rattle.ldom_world.specs.world_parts.port_model.PortState.{fresh_port};
 ghost use Rattle.domain_script.specs.Declarations.{AreDeclared};
 ghost use Rattle.domain_script.specs.NamesState.{declared_by};
 ghost use Rattle.script_reader.specs.LinesState.{GoesOn, to_come};
@@ -16,9 +16,9 @@ ghost use Rattle.script_laws.specs.Opening.{Opened, Opens, OpensAndStops};
 ghost use Rattle.script_laws.specs.Replayed.{Replayed, attach_status, ended_status, start_of};
 ghost use Rattle.script_laws.specs.Sized.{SizeIs};
 ghost use Rattle.ldom_world.specs.Steps.{Counted};
-ghost use Rattle.world_parts.specs.disk_model.LaneState.{fresh};
+ghost use Rattle.ldom_world.specs.world_parts.disk_model.LaneState.{fresh};
 ghost use Rattle.disk_law.specs.ListState.{as_image};
-ghost use Rattle.world_parts.specs.Declared.{bytes_needed, nets_of, shapes_of};
+ghost use Rattle.ldom_world.specs.world_parts.Declared.{bytes_needed, nets_of, shapes_of};
 ghost use Rattle.domain_script.specs.ScriptEvents.{no_names};
 ghost use Rattle.domain_script.specs.Limits.{most_lines};
 

@@ -22,7 +22,7 @@ ghost use Rattle.script_laws.specs.Outcomes.{Reports, RunsScript};
 ghost use Rattle.script_laws.specs.Quiet.{IsQuietScript};
 ghost use Rattle.script_laws.specs.Stored.{flush_count, stored_count, write_count};
 ghost use Rattle.script_laws.specs.Whole.{RunsPlainly};
-ghost use Rattle.world_parts.specs.Declared.{bytes_needed};
+ghost use Rattle.ldom_world.specs.world_parts.Declared.{bytes_needed};
 ghost use Rattle.ldom_words.specs.Words.{AsksDump, AsksRun, AsksSample};
 ghost use Rattle.ldom_replay.specs.Asking.{AsksFor, AsksNoRun, AsksNoScript};
 ghost use Rattle.ldom_replay.specs.Sampled.{RunsSample};

@@ -35,14 +35,14 @@ use Rattle.vdisk_msg.specs.declared.request.Request.{Request}
 use Rattle.vio_tag.specs.declared.cause.Cause.TheVariants as the_cause
 
 -- the line names the end, or the lane, that the entry is about
-same_end : (side : Side) → is_same (end_of side) (end_of side) ≡ true
+pub same_end : (side : Side) → is_same (end_of side) (end_of side) ≡ true
 same_end Client = refl
 same_end Server = refl
 
 own_end : (k : ℕ) (side : Side) → is_end (DiskLane k) (end_of side) (disk_end k side) ≡ true
 own_end k side = ap (λ (b : Bool). b && is_same (end_of side) (end_of side)) (eq-eqb k k refl) ∙ same_end side
 
-own_said : (b : Bool) (x : SettleEntry) → b ≡ true → if_so b x ≡ Some x
+pub own_said : (b : Bool) (x : SettleEntry) → b ≡ true → if_so b x ≡ Some x
 own_said b x is = ap (λ (c : Bool). if_so c x) is
 
 -- a request that wasn't taken up

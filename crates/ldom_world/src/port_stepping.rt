@@ -15,7 +15,7 @@ use crate::ports::PortLanes;
 use crate::stepping::make_room;
 use domain_script::Side;
 use ldom_report::Journal;
-use switched_ports::NetOut;
+use switched_ports::{NetOut, Ports};
 use vio_bytes::NoMemory;
 
 /// The most bytes of a frame.
@@ -90,7 +90,7 @@ impl PortLanes {
         let answer = PortAnswer {
             out: &out,
             switched,
-            frame: self.last_frame(port, side),
+            frame: last_frame(&self.lanes, port, side),
         };
         let calm = leave_port(
             port,
@@ -103,16 +103,16 @@ impl PortLanes {
         );
         Ok(calm)
     }
+}
 
-    /// The frame that an end of a port took last.
-    fn last_frame(&self, port: u32, side: Side) -> &[u8]
-        requires { port < length self.now }
-        ensures { result.now ≡ last_at (end_of side) port self.now }
-    {
-        let lane = self.lanes.lane(port);
-        match side {
-            Side::Client => lane.guest().frame(),
-            Side::Server => lane.hub().frame(),
-        }
+/// The frame that an end of a port took last.
+fn last_frame(lanes: &Ports, port: u32, side: Side) -> &[u8]
+    requires { port < length lanes.now }
+    ensures { result.now ≡ last_at (end_of side) port lanes.now }
+{
+    let lane = lanes.lane(port);
+    match side {
+        Side::Client => lane.guest().frame(),
+        Side::Server => lane.hub().frame(),
     }
 }

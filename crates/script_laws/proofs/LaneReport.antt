@@ -14,7 +14,6 @@ use Rattle.disk_law.proofs.Counted.{completed-append}
 use Rattle.disk_law.specs.Issued.{completed}
 use Rattle.disk_law.specs.ListStep as plain
 use Rattle.world_parts.specs.disk_model.DiskEvent.{Asks, Done, Full, OnWire, Refused, Works}
-use Rattle.domain_script.specs.Declarations.{Declared}
 use Rattle.domain_script.specs.declared.event.DiskDecl.{DiskDecl}
 use Rattle.domain_script.specs.LaneKinds.{disk_lane}
 use Rattle.domain_script.specs.declared.event.Side.{Side}
@@ -31,6 +30,7 @@ use Rattle.ldom_entries.specs.declared.entry.Why.{Why}
 use Rattle.ldom_entries.specs.declared.entry.Why.TheVariants.{Count, Range}
 use Rattle.ldom_report.specs.declared.status.Mode.TheVariants as mode
 use Rattle.script_laws.specs.Completed.{completed_ids}
+use Rattle.script_laws.specs.PlainRun.{one_disk}
 use Rattle.world_parts.specs.world_laws.Accepted.{accepted_in}
 
 -- THE LINE of an entry of a lane in the report of a run
@@ -41,10 +41,6 @@ side_of B = Server
 abbrev pub why_of : Defect → Why
 why_of BadCount = Count
 why_of BadRange = Range
-
--- one disk, and no port
-abbrev pub one_disk : DiskDecl → Declared
-one_disk disk = record { disks = disk ∷ []; ports = [] }
 
 abbrev pub run_line : DiskDecl → Entry → List ℕ
 run_line disk e = line_text mode.Run (one_disk disk) e

@@ -1,7 +1,7 @@
 -- Where a settle of a script's lines leaves a disk over: the rounds ran out, and the disk moved in them or waits.
-use Rattle.std.proofs.Common.{◌≡◌, ◌⊎◌, inl, inr, ℕ, ◌+◌, ◌*◌, ◌≤◌, Bool, true, false, List, [], ◌∷◌, ◌++◌, length, slice_get, Some, refl, sym, ap, ◌∙◌, subst, arith, append_assoc}
+use Rattle.std.proofs.Common.{◌≡◌, ◌⊎◌, inl, inr, ℕ, ◌+◌, ◌*◌, ◌≤◌, true, List, [], ◌∷◌, ◌++◌, length, slice_get, Some, refl, sym, ap, ◌∙◌, subst, arith}
 use Rattle.std.specs.Prelude.{⊤}
-use Rattle.runs.specs.Run.{Run, run_split}
+use Rattle.runs.specs.Run.{Run}
 use Rattle.disk_law.specs.ListState.{ImageState}
 use Rattle.world_parts.specs.disk_model.DiskEvent.{DiskEvent}
 use Rattle.world_parts.specs.disk_model.LaneState.{LaneState, Shape}
@@ -13,9 +13,9 @@ use Rattle.lane_kinds.proofs.EntryRuns.{names_each}
 use Rattle.lane_kinds.proofs.Places.{map_both}
 use Rattle.lane_kinds.proofs.Stuck.{sum_both}
 use Rattle.lane_kinds.specs.Both.{Two}
-use Rattle.lane_kinds.specs.Fronts.{NamesFront, SettleFront}
+use Rattle.lane_kinds.specs.Fronts.{SettleFront}
 use Rattle.lane_kinds.specs.Lanes.{sum_of}
-use Rattle.lane_kinds.specs.Settles.{GoesOn, RunsOut, SettlePart, TicksBehind, begin, entries_of_rounds, most_rounds}
+use Rattle.lane_kinds.specs.Settles.{SettlePart, begin, entries_of_rounds, most_rounds}
 use Rattle.world_parts.specs.port_model.NetLaneState.{NetShape}
 use Rattle.world_parts.specs.switch_laws.Events.{SwitchEvent}
 use Rattle.world_parts.specs.switch_laws.Ports.{pending, ports}
@@ -28,20 +28,20 @@ use Rattle.world_parts.specs.world_laws.DiskKind.{waits_on}
 use Rattle.world_parts.specs.world_laws.Moves.{IsLeftOver, MovedIn}
 use Rattle.world_parts.specs.world_laws.Requests.{pending_of}
 use Rattle.world_parts.specs.world_laws.Rounds.{LaneRound}
-use Rattle.world_parts.specs.world_laws.Settle.{OfLane, SettleEntry, Settled, Unsettled, UnsettledPort, disks, pending_on, round_entries}
+use Rattle.world_parts.specs.world_laws.Settle.{OfLane, SettleEntry, Unsettled, UnsettledPort, disks, pending_on, round_entries}
 use Rattle.world_parts.proofs.domain_laws.Counting.{made_move}
 use Rattle.world_parts.proofs.domain_laws.DiskParts.{disks_end as names_move, rounds_move_disks}
-use Rattle.world_parts.proofs.domain_laws.LineEntries.{AllRound, AllSettling, EachEntry, each_in, rounds_each}
+use Rattle.world_parts.proofs.domain_laws.LineEntries.{AllRound, EachEntry, each_in}
 use Rattle.world_parts.specs.domain_laws.Counts.{moves, moves_in}
 use Rattle.world_parts.specs.domain_laws.Domain.{Lanes, lanes, lanes_in, port_entries, switch}
 use Rattle.world_parts.specs.domain_laws.Lines.{fronts}
 use Rattle.ldom_entries.specs.declared.entry.Entry.{Entry}
 use Rattle.script_laws.proofs.DiskShapes.{are_shapes, many_shapes}
-use Rattle.script_laws.proofs.Entries.{IsName, IsOfLane}
+use Rattle.script_laws.proofs.Entries.{IsName}
 use Rattle.script_laws.proofs.LedLanes.{led_run, told_run}
-use Rattle.script_laws.proofs.Places.{InEither, no_place, place_in}
+use Rattle.script_laws.proofs.Places.{InEither, place_in}
 use Rattle.script_laws.proofs.ReachedLanes.{AreLanes}
-use Rattle.script_laws.proofs.SettleEntries.{SettledLast, lane_steps, lane_ticks, settle_front, settled_last}
+use Rattle.script_laws.proofs.NamesAt.{LastRound, NamesAt, last_round, names_at}
 use Rattle.script_laws.proofs.SettleLines.{EachSettles, SettlesBehind}
 use Rattle.script_laws.proofs.TicksNeeded.{waits_by}
 use Rattle.script_laws.proofs.TicksStand.{MovedTo, moved_to}
@@ -59,11 +59,6 @@ pub record LeftAt (x : ℕ) (start : Lanes) (so_far : List SettleEntry) (behind 
 enough : (most made rounds all later : ℕ) → made ≡ most → made ≤ rounds → all ≡ rounds + later → most ≤ all
 enough most made rounds all later is less sum = omega (arith, is, less, sum)
 
-further : (x : ℕ) (one later : List SettleEntry) (behind : List LaneState) → IsLeftOver x one behind
-    → IsLeftOver x (one ++ later) behind
-further x one later behind (inl moved) = inl (moved_left x one later moved)
-further x one later behind (inr waits) = inr waits
-
 -- A NAME of a disk is among those of disks
 abbrev IsPortName : SettleEntry → Type 0
 IsPortName (UnsettledPort k) = ⊤
@@ -79,30 +74,28 @@ of_disks_alone x r w later rest (inl at) = (at.rest, at.is)
 of_disks_alone x r w later rest (inr at) =
     absurd (each_in IsPortName (switch.names r.second w.second) at.later (Unsettled x) rest at.is (port_names r.second w))
 
--- THE LAST ROUND that goes on
-goes_moved : (x : ℕ) (quiet : Bool) (w : AllSettling) (steps : Two (List LaneRound) (List (List SwitchEvent))) (between : Lanes)
-    (entries : List SettleEntry) (v : AllSettling) → TicksBehind lanes quiet w steps between entries v
-    → MovedIn x (round_entries 0 steps.first) → MovedIn x entries
-goes_moved x false w steps between entries v behind moved =
-    subst (MovedIn x) (sym behind.1) (moved_left x (round_entries 0 steps.first) (switch.leaves steps.second) moved)
-goes_moved x true w steps between entries v behind moved =
-    subst (MovedIn x) (sym behind.3)
-    (moved_left x (lanes.leaves steps) (lanes.ticks_leave between w.marks)
-    (moved_left x (round_entries 0 steps.first) (switch.leaves steps.second) moved))
+-- WHERE A PART NAMES A LANE, so many rounds moved
+pub name_at : (start : Lanes) (part : List SettleEntry) (behind : Lanes)
+    → SettlePart lanes start part behind ⊎ SettleFront lanes fronts start part behind → (entry : SettleEntry) → IsName entry
+    → (so_far rest : List SettleEntry) → part ≡ so_far ++ entry ∷ rest → most_rounds lanes start ≤ moves_in so_far
+name_at start part behind goes entry name so_far rest is =
+    let at : NamesAt start so_far entry behind = names_at start part behind goes entry name so_far rest is in
+    let rounds : List AllRound = at.rounds ++ at.last ∷ [] in
+    let all : List SettleEntry = entries_of_rounds rounds in
+    subst (λ (l : List SettleEntry). most_rounds lanes start ≤ moves_in l) (sym at.so_far_is)
+    (enough (most_rounds lanes start) (length rounds) (moves_in all) (moves_in (all ++ at.later)) (moves_in at.later) at.most
+    (made_move (begin lanes start) rounds at.now at.run) (sum_both moves all at.later))
 
-rounds_moved : (x : ℕ) (rounds : List AllRound) (last : AllRound) → MovedIn x last.entries
-    → MovedIn x (entries_of_rounds (rounds ++ last ∷ []))
-rounds_moved x [] last moved = moved_left x last.entries [] moved
-rounds_moved x (round ∷ rounds) last moved =
-    moved_right x round.entries (entries_of_rounds (rounds ++ last ∷ [])) (rounds_moved x rounds last moved)
-
-as_left : (x : ℕ) (rounds : List AllRound) (last : AllRound) (w v : AllSettling) (behind : List LaneState) → GoesOn lanes w last v
-    → Named 0 x last.steps.first behind → IsLeftOver x (entries_of_rounds (rounds ++ last ∷ [])) behind
-as_left x rounds last w v behind goes (inl moved) =
+-- and the disk moved in the last of them, or waits
+left_why : (x : ℕ) (steps : Two (List LaneRound) (List (List SwitchEvent))) (so_far : List SettleEntry) (behind : List LaneState)
+    → LastRound steps so_far → Named 0 x steps.first behind → IsLeftOver x so_far behind
+left_why x steps so_far behind last (inl moved) =
     inl
-    (rounds_moved x rounds last
-    (goes_moved x (lanes.quiet last.steps) w last.steps goes.between last.entries v goes.behind moved))
-as_left x rounds last w v behind goes (inr at) =
+    (subst (MovedIn x) (sym last.is)
+    (moved_right x last.earlier (lanes.leaves steps ++ last.later)
+    (moved_left x (lanes.leaves steps) last.later
+    (moved_left x (round_entries 0 steps.first) (switch.leaves steps.second) moved))))
+left_why x steps so_far behind last (inr at) =
     let number : at.index ≡ x = omega (arith, at.is) in
     inr (record {
       lane = at.lane;
@@ -110,151 +103,25 @@ as_left x rounds last w v behind goes (inr at) =
       waits = at.waits;
     })
 
--- a name is no event of a lane
-no_name : (entry : SettleEntry) → IsName entry → IsOfLane entry → ⊥
-no_name (Unsettled k) name of = of
-no_name (UnsettledPort k) name of = of
-no_name _ name of = name
-
--- ROUNDS that ran out, and then names
-module _ (start : Lanes) (rounds : List AllRound) (last : AllRound) (now : AllSettling)
-    (run : Run (GoesOn lanes) (begin lanes start) (rounds ++ last ∷ []) now)
-    (most : length (rounds ++ last ∷ []) ≡ most_rounds lanes start) where
-  abbrev all : List SettleEntry
-  all = entries_of_rounds (rounds ++ last ∷ [])
-
-  -- where a name stands, of any lane, so many rounds moved
-  moved_by : (entry : SettleEntry) → IsName entry → (names so_far rest : List SettleEntry)
-      → InEither all names so_far entry rest → most_rounds lanes start ≤ moves_in so_far
-  moved_by entry name names so_far rest (inl at) =
-      absurd
-      (no_name entry name
-      (each_in IsOfLane all so_far entry at.rest at.is
-      (rounds_each IsOfLane lane_steps lane_ticks (begin lanes start) (rounds ++ last ∷ []) now run)))
-  moved_by entry name names so_far rest (inr at) =
-      subst (λ (l : List SettleEntry). most_rounds lanes start ≤ moves_in l) (sym at.before_is)
-      (enough (most_rounds lanes start) (length (rounds ++ last ∷ [])) (moves_in all) (moves_in (all ++ at.later))
-      (moves_in at.later) most (made_move (begin lanes start) (rounds ++ last ∷ []) now run)
-      (sum_both moves all at.later))
-
-  left_why : (x : ℕ) (later rest : List SettleEntry) → lanes.names last.steps now.lanes ≡ later ++ Unsettled x ∷ rest
-      → IsLeftOver x all now.lanes.first
-  left_why x later rest is =
-      let split = run_split (GoesOn lanes) (begin lanes start) now rounds (last ∷ []) run in
-      let own = of_disks_alone x last.steps now.lanes later rest
-      (place_in (disks.names last.steps.first now.lanes.first) (switch.names last.steps.second now.lanes.second) later
-      (Unsettled x) rest is) in
-      as_left x rounds last split.0 split.2.0 now.lanes.first split.2.1
-      (named 0 x last.steps.first now.lanes.first later own.0 own.1)
-
-  in_names : (x : ℕ) (names unnamed later rest : List SettleEntry)
-      → names ++ unnamed ≡ lanes.names last.steps now.lanes → names ≡ later ++ Unsettled x ∷ rest
-      → LeftAt x start (all ++ later) now.lanes
-  in_names x names unnamed later rest are is =
-      let split : lanes.names last.steps now.lanes ≡ later ++ Unsettled x ∷ (rest ++ unnamed) =
-      sym are ∙ ap (λ (l : List SettleEntry). l ++ unnamed) is ∙ append_assoc later (Unsettled x ∷ rest) unnamed in
-      record {
-        why = further x all later now.lanes.first (left_why x later (rest ++ unnamed) split);
-        leads = moves_on 0 start.first now.lanes.first now.lanes.first all later
-            (rounds_move_disks (begin lanes start) (rounds ++ last ∷ []) now run)
-            (names_move.names last.steps now.lanes later (Unsettled x ∷ (rest ++ unnamed)) (sym split));
-      }
-
-  by_place : (x : ℕ) (names unnamed so_far rest : List SettleEntry)
-      → names ++ unnamed ≡ lanes.names last.steps now.lanes → InEither all names so_far (Unsettled x) rest
-      → LeftAt x start so_far now.lanes
-  by_place x names unnamed so_far rest are (inl at) =
-      absurd
-      (each_in IsOfLane all so_far (Unsettled x) at.rest at.is
-      (rounds_each IsOfLane lane_steps lane_ticks (begin lanes start) (rounds ++ last ∷ []) now run))
-  by_place x names unnamed so_far rest are (inr at) =
-      subst (λ (l : List SettleEntry). LeftAt x start l now.lanes) (sym at.before_is)
-      (in_names x names unnamed at.later rest are at.is)
-
--- A WHOLE SETTLE, and a front of one
-nothing_more : (names : List SettleEntry) → names ++ [] ≡ names
-nothing_more [] = refl
-nothing_more (name ∷ names) = ap (λ (l : List SettleEntry). name ∷ l) (nothing_more names)
-
-out_left : (start : Lanes) (part : List SettleEntry) (behind : Lanes)
-    (out : RunsOut lanes start part behind) (x : ℕ) (so_far rest : List SettleEntry) → part ≡ so_far ++ Unsettled x ∷ rest
-    → LeftAt x start so_far behind
-out_left start part behind out x so_far rest is =
-    let all : List SettleEntry = entries_of_rounds (out.rounds ++ out.last ∷ []) in
-    let names : List SettleEntry = lanes.names out.last.steps behind in
-    let over : lanes.names out.last.steps out.now.lanes ≡ names =
-    ap (λ (l : Lanes). lanes.names out.last.steps l) (sym out.lanes) in
-    subst (λ (l : Lanes). LeftAt x start so_far l) (sym out.lanes)
-    (by_place start out.rounds out.last out.now out.run out.most x names [] so_far rest (nothing_more names ∙ sym over)
-    (place_in all names so_far (Unsettled x) rest (sym out.is ∙ is)))
-
-begun_left : (start : Lanes) (part : List SettleEntry) (behind : Lanes)
-    (at : SettleFront lanes fronts start part behind) → length at.rounds ≡ most_rounds lanes start
-    → NamesFront lanes at.rounds at.now at.later behind → (x : ℕ) (so_far rest : List SettleEntry)
-    → part ≡ so_far ++ Unsettled x ∷ rest → LeftAt x start so_far behind
-begun_left start part behind at most front x so_far rest is =
-    let rounds : List AllRound = front.before ++ front.last ∷ [] in
-    let same : entries_of_rounds at.rounds ≡ entries_of_rounds rounds =
-    ap (λ (l : List AllRound). entries_of_rounds l) front.is_last in
-    let place : entries_of_rounds rounds ++ at.later ≡ so_far ++ Unsettled x ∷ rest =
-    sym (ap (λ (l : List SettleEntry). l ++ at.later) same) ∙ sym at.is ∙ is in
-    subst (λ (l : Lanes). LeftAt x start so_far l) (sym front.lanes)
-    (by_place start front.before front.last at.now
-    (subst (λ (l : List AllRound). Run (GoesOn lanes) (begin lanes start) l at.now) front.is_last at.run)
-    (sym (ap (λ (l : List AllRound). length l) front.is_last) ∙ most) x at.later front.unnamed so_far rest front.is
-    (place_in (entries_of_rounds rounds) at.later so_far (Unsettled x) rest place))
-
-no_lane : (part so_far rest : List SettleEntry) (entry : SettleEntry) → IsName entry → SettledLast part
-    → part ≡ so_far ++ entry ∷ rest → ⊥
-no_lane part so_far rest entry name last is =
-    by_side (place_in last.front (Settled ∷ []) so_far entry rest (sym last.is ∙ is))
-  where
-    not_the_answer : (later : List SettleEntry) → Settled ∷ [] ≡ later ++ entry ∷ rest → ⊥
-    not_the_answer [] same =
-        let answer : Settled ≡ entry = cc same in
-        subst IsName (sym answer) name
-    not_the_answer (other ∷ later) same =
-        let none : [] ≡ later ++ entry ∷ rest = cc same in
-        no_place later entry rest none
-
-    by_side : InEither last.front (Settled ∷ []) so_far entry rest → ⊥
-    by_side (inl at) = no_name entry name (each_in IsOfLane last.front so_far entry at.rest at.is last.of_lanes)
-    by_side (inr at) = not_the_answer at.later at.is
-
--- WHERE A PART NAMES A LANE, so many rounds moved
-pub name_at : (start : Lanes) (part : List SettleEntry) (behind : Lanes)
-    → SettlePart lanes start part behind ⊎ SettleFront lanes fronts start part behind → (entry : SettleEntry) → IsName entry
-    → (so_far rest : List SettleEntry) → part ≡ so_far ++ entry ∷ rest → most_rounds lanes start ≤ moves_in so_far
-name_at start part behind (inl (inl settles)) entry name so_far rest is =
-    absurd (no_lane part so_far rest entry name (settled_last start part behind settles) is)
-name_at start part behind (inl (inr out)) entry name so_far rest is =
-    moved_by start out.rounds out.last out.now out.run out.most entry name (lanes.names out.last.steps behind) so_far rest
-    (place_in (entries_of_rounds (out.rounds ++ out.last ∷ [])) (lanes.names out.last.steps behind) so_far entry rest
-    (sym out.is ∙ is))
-name_at start part behind (inr at) entry name so_far rest is = elim at.front [
-  | inl few ↦
-      absurd
-      (no_name entry name (each_in IsOfLane part so_far entry rest is (settle_front start part behind at few.0)))
-  | inr all ↦
-      let front = all.1 in
-      let rounds : List AllRound = front.before ++ front.last ∷ [] in
-      moved_by start front.before front.last at.now
-      (subst (λ (l : List AllRound). Run (GoesOn lanes) (begin lanes start) l at.now) front.is_last at.run)
-      (sym (ap (λ (l : List AllRound). length l) front.is_last) ∙ all.0) entry name at.later so_far rest
-      (place_in (entries_of_rounds rounds) at.later so_far entry rest
-      (sym (ap (λ (l : List AllRound). entries_of_rounds l ++ at.later) front.is_last) ∙ sym at.is ∙ is))
-]
-
 pub left_at : (start : Lanes) (part : List SettleEntry) (behind : Lanes)
     → SettlePart lanes start part behind ⊎ SettleFront lanes fronts start part behind → (x : ℕ)
     (so_far rest : List SettleEntry) → part ≡ so_far ++ Unsettled x ∷ rest → LeftAt x start so_far behind
-left_at start part behind (inl (inl settles)) x so_far rest is =
-    absurd (no_lane part so_far rest (Unsettled x) tt (settled_last start part behind settles) is)
-left_at start part behind (inl (inr out)) x so_far rest is = out_left start part behind out x so_far rest is
-left_at start part behind (inr at) x so_far rest is = elim at.front [
-  | inl few ↦ absurd (each_in IsOfLane part so_far (Unsettled x) rest is (settle_front start part behind at few.0))
-  | inr all ↦ begun_left start part behind at all.0 all.1 x so_far rest is
-]
+left_at start part behind goes x so_far rest is =
+    let at : NamesAt start so_far (Unsettled x) behind = names_at start part behind goes (Unsettled x) tt so_far rest is in
+    let steps = at.last.steps in
+    let now : Lanes = at.now.lanes in
+    let rounds : List AllRound = at.rounds ++ at.last ∷ [] in
+    let own = of_disks_alone x steps now at.later at.more
+    (place_in (disks.names steps.first now.first) (switch.names steps.second now.second) at.later (Unsettled x) at.more
+    at.names) in
+    subst (λ (l : Lanes). LeftAt x start so_far l) (sym at.lanes_are) (record {
+      why = left_why x steps so_far now.first (last_round start so_far (Unsettled x) behind at)
+          (named 0 x steps.first now.first at.later own.0 own.1);
+      leads = subst (λ (l : List SettleEntry). LanesMove 0 start.first l now.first) (sym at.so_far_is)
+          (moves_on 0 start.first now.first now.first (entries_of_rounds rounds) at.later
+          (rounds_move_disks (begin lanes start) rounds at.now at.run)
+          (names_move.names steps now at.later (Unsettled x ∷ at.more) (sym at.names)));
+    })
 
 -- AS IT IS TOLD
 told_moved : (x : ℕ) (part : List SettleEntry) → MovedIn x part → MovedIn x (all_told part)

@@ -61,3 +61,10 @@ pub mod Stillness
 pub mod SettledStill
 pub mod AnswerEntries
 pub mod OneCut
+pub mod CalmRounds
+pub mod PortLogs
+pub mod PortStill
+pub mod PortRounds
+pub mod LeftNames
+pub mod NamesAt
+pub mod PortsSettle

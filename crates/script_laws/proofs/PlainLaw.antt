@@ -18,12 +18,12 @@ use Rattle.ldom_entries.specs.declared.entry.Entry.{Entry}
 use Rattle.ldom_report.specs.declared.status.Mode.TheVariants as mode
 use Rattle.ldom_report.specs.declared.status.Status.TheVariants as status
 use Rattle.script_laws.proofs.EndLine.{ends_agree}
-use Rattle.script_laws.proofs.LaneReport.{SaysSame, Told, ids_in, one_disk, told_lanes, told_part}
+use Rattle.script_laws.proofs.LaneReport.{SaysSame, Told, ids_in, told_lanes, told_part}
 use Rattle.script_laws.proofs.PlainGrows.{Grows, ids_below, listed, run_grows, run_same}
 use Rattle.script_laws.proofs.LineLists.{RanWhole, ran_whole}
 use Rattle.script_laws.proofs.QuietLanes.{disk_front, disk_shape, quiet_events}
 use Rattle.script_laws.proofs.ThroughLanes.{ThroughLanes, all_shown, of_disks, through_lanes}
-use Rattle.script_laws.specs.PlainRun.{Plain, plain_content, plain_ids, plain_run, plain_text, untouched}
+use Rattle.script_laws.specs.PlainRun.{Plain, one_disk, plain_content, plain_ids, plain_run, plain_text, untouched}
 use Rattle.script_laws.specs.Quiet.{IsQuiet}
 use Rattle.script_laws.specs.Completed.{completed_ids}
 use Rattle.world_parts.specs.Declared.{shape_of, world_of}

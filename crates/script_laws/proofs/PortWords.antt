@@ -1,5 +1,5 @@
 -- Each entry of a run that is of a port, forged or not, is of one of them, and its cause has its words.
-use Rattle.std.proofs.Common.{◌≡◌, ℕ, zero, suc, ◌<◌, ◌==◌, Bool, Option, Some, None, List, [], ◌∷◌, ◌++◌, length, map, slice_get, refl, ◌∙◌, subst, arith}
+use Rattle.std.proofs.Common.{◌≡◌, ℕ, ◌<◌, ◌==◌, Bool, Option, Some, None, List, [], ◌∷◌, ◌++◌, length, map, slice_get, refl, ◌∙◌, subst, arith}
 use Rattle.std.proofs.lemmas.Bool.{eq-eqb}
 use Rattle.std.specs.Prelude.{⊤}
 use Rattle.runs.specs.Lawful.{lawful_split, log_of}
@@ -10,6 +10,7 @@ use Rattle.vio_tag.specs.declared.cause.Cause.{Cause}
 use Rattle.vio_tag.specs.declared.cause.Cause.TheVariants as the_cause
 use Rattle.world_parts.specs.channel_model.ResetSays.{ResetSays}
 use Rattle.world_parts.specs.channel_model.TranscriptLog.{transcript_of}
+use Rattle.lane_kinds.proofs.Moving.{each_there}
 use Rattle.lane_kinds.proofs.Places.{get_within}
 use Rattle.lane_kinds.specs.Lanes.{EachOf, own_or}
 use Rattle.world_parts.proofs.port_laws.EveryRun.{every_run}
@@ -70,26 +71,33 @@ event_words s (OnPort (OnLane (Steps e (Reset cause packet lost)))) t at step = 
 event_words s _ t at step = tt
 
 -- A RUN of all ports
-each_there : (lanes : List PortState) (k : ℕ) (s : PortState) → EachOf IsReached lanes → slice_get lanes k ≡ Some s → IsReached s
-each_there [] k s all there = absurd (cc there)
-each_there (x ∷ lanes) zero s all there = let same : x ≡ s = cc there in subst IsReached same all.0
-each_there (x ∷ lanes) (suc k) s all there = each_there lanes k s all.1 there
+pub record OwnStep (lanes : List PortState) (k : ℕ) (event : SwitchEvent) : Type 0 where
+  pub state : PortState
+  pub there : slice_get lanes k ≡ Some state
+  pub after : PortState
+  pub step : SwitchStep state event after
 
-step_told : (lanes : List PortState) (k : ℕ) (event : SwitchEvent) (behind : List PortState) → EachOf IsReached lanes
-    → PortsStep lanes (OfPort k event) behind → HasPortWords event
-step_told lanes k event behind all step =
+pub own_step : (lanes : List PortState) (k : ℕ) (event : SwitchEvent) (behind : List PortState)
+    → PortsStep lanes (OfPort k event) behind → OwnStep lanes k event
+own_step lanes k event behind step =
     let one = get_within lanes k step.entry.within in
     let run : Run PortsStep lanes (OfPort k event ∷ []) behind = (behind, step, refl) in
     let many = ports_many lanes (OfPort k event ∷ []) behind run in
     let other = get_within behind k (within k (length lanes) (length behind) step.entry.within many) in
     let moved : Run SwitchStep one.0 (own_or (k == k) event (gets k event) ++ []) other.0 =
-        port_moved lanes (OfPort k event ∷ []) behind k one.0 other.0 run one.1 other.1 in
+    port_moved lanes (OfPort k event ∷ []) behind k one.0 other.0 run one.1 other.1 in
     let own : Run SwitchStep one.0 (event ∷ []) other.0 =
-        subst (λ (b : Bool). Run SwitchStep one.0 (own_or b event (gets k event) ++ []) other.0) (eq-eqb k k refl) moved in
-    event_words one.0 event own.0 (each_there lanes k one.0 all one.1) own.1
+    subst (λ (b : Bool). Run SwitchStep one.0 (own_or b event (gets k event) ++ []) other.0) (eq-eqb k k refl) moved in
+    record { state = one.0; there = one.1; after = own.0; step = own.1 }
   where
     within : (k n m : ℕ) → k < n → m ≡ n → k < m
     within k n m less is = omega (arith, less, is)
+
+step_told : (lanes : List PortState) (k : ℕ) (event : SwitchEvent) (behind : List PortState) → EachOf IsReached lanes
+    → PortsStep lanes (OfPort k event) behind → HasPortWords event
+step_told lanes k event behind all step =
+    let own = own_step lanes k event behind step in
+    event_words own.state event own.after (each_there IsReached lanes k own.state all own.there) own.step
 
 pub ports_told : (disks many : ℕ) (lanes : List PortState) (entries : List SettleEntry) (behind : List PortState) → length lanes ≡ many
     → EachOf IsReached lanes → Run PortsStep lanes entries behind → NamesBelow disks many entries → EachEntry (IsPortTold many) entries

@@ -4,9 +4,9 @@ use Rattle.domain_script.specs.declared.event.DiskDecl.{DiskDecl}
 use Rattle.domain_script.specs.declared.event.Event.{Event}
 use Rattle.domain_script.specs.declared.event.Event.TheVariants as line
 use Rattle.domain_script.specs.NamesState.{NamesState, declared_by, noted}
+use Rattle.script_laws.specs.PlainRun.{one_disk}
 use Rattle.script_laws.specs.Quiet.{AreQuiet, IsQuiet, IsQuietLine}
 use Rattle.domain_script.specs.ScriptEvents.{AllSpell, no_names}
-use Rattle.script_laws.proofs.LaneReport.{one_disk}
 
 quiet_keeps : (names : NamesState) (e : Event) → IsQuietLine e → declared_by (noted names e) ≡ declared_by names
 quiet_keeps names line.Blank quiet = refl

@@ -9,7 +9,7 @@ use Rattle.lane_kinds.specs.Fronts.{SettleFront}
 use Rattle.lane_kinds.specs.Settles.{SettlePart}
 use Rattle.world_parts.specs.port_model.NetLaneState.{NetShape}
 use Rattle.world_parts.specs.world_laws.Settle.{SettleEntry}
-use Rattle.world_parts.specs.domain_laws.Domain.{DomainState, Lanes, lanes, lanes_in}
+use Rattle.world_parts.specs.domain_laws.Domain.{DomainState, DomainStep, Lanes, lanes, lanes_in}
 use Rattle.world_parts.specs.domain_laws.Lines.{fronts}
 use Rattle.ldom_entries.specs.declared.entry.Entry.{Entry}
 use Rattle.script_laws.proofs.LineEntries.{settle_rules}
@@ -31,6 +31,10 @@ pub record SettlesBehind (disks : List DiskDecl) (nets : List NetShape) (image :
   pub real : List SettleEntry
   pub told_is : part ≡ all_told real
   pub goes : SettlePart lanes (lanes_in at) real behind ⊎ SettleFront lanes fronts (lanes_in at) real behind
+  -- where it led
+  pub next : DomainState
+  pub on : Run DomainStep at real next
+  pub behind_is : behind ≡ lanes_in next
 
 -- so each of these lines that settles
 abbrev pub EachSettles : List DiskDecl → List NetShape → ImageState → List (Event × List Entry) → Type 0
@@ -53,6 +57,9 @@ whole_settles disks nets image lines v run before part behind is =
       real = step.entries;
       told_is = says_told (Settle, part) step.entries step.says;
       goes = inl step.moves.part_of;
+      next = split.2.0;
+      on = step.moves.run;
+      behind_is = refl;
     }
 
 -- THE LAST OF THEM, cut off
@@ -83,6 +90,9 @@ module _ (disks : List DiskDecl) (nets : List NetShape) (image : ImageState) (wh
           real = settle.entries;
           told_is = says_told (Settle, part) settle.entries settle.says;
           goes = inr settle.begins.begins;
+          next = v;
+          on = settle.begins.run;
+          behind_is = refl;
         }
 
   settles_on : (cut : Option (Event × List Entry)) (v : DomainState) → LastStarts m cut v

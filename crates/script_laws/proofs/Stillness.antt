@@ -18,15 +18,15 @@ use Rattle.world_parts.proofs.lane_laws.AgreementRuns.{run_agrees}
 use Rattle.world_parts.specs.lane_laws.CalmEnds.{AreStill, HasNoRoom, IsStill}
 use Rattle.lane_kinds.proofs.Sums.{and_left, and_right}
 use Rattle.world_parts.proofs.world_laws.LaneRounds.{quiet_still}
-use Rattle.world_parts.proofs.domain_laws.LineEntries.{EachEntry, each_both, entry_each}
+use Rattle.world_parts.proofs.domain_laws.LineEntries.{EachEntry}
 use Rattle.world_parts.specs.world_laws.Along.{event_at, happened}
-use Rattle.lane_kinds.specs.Lanes.{turn_entries}
 use Rattle.world_parts.specs.world_laws.DiskKind.{disk_kind, is_calm}
 use Rattle.world_parts.specs.world_laws.Rounds.{LaneRound, MakesRound, are_quiet, is_quiet}
-use Rattle.world_parts.specs.world_laws.Settle.{OfLane, SettleEntry, disk_entries, entry_of, round_entries}
+use Rattle.world_parts.specs.world_laws.Settle.{OfLane, SettleEntry, disk_entries, round_entries}
 use Rattle.ldc_queue.specs.Wire.{peer_of, waiting_for}
 use Rattle.ldc_queue.specs.declared.end.End.{End}
 use Rattle.ldc_queue.specs.declared.end.End.TheVariants.{A, B}
+use Rattle.script_laws.proofs.CalmRounds.{calm_entries}
 use Rattle.script_laws.specs.Still.{AreStillBy, IsStillBy}
 
 -- BY THE LOG of a lane, where another log has the same work
@@ -86,24 +86,9 @@ abbrev pub IsCalmEntry : SettleEntry → Type 0
 IsCalmEntry (OfLane k event) = is_calm event ≡ true
 IsCalmEntry _ = ⊤
 
-calm_entry : (k : ℕ) (event : DiskEvent) → is_calm event ≡ true → EachEntry IsCalmEntry (entry_of k event)
-calm_entry k event calm = entry_each IsCalmEntry k event calm
-
-calm_turn : (k : ℕ) (events : LaneRound) → is_quiet events ≡ true
-    → EachEntry IsCalmEntry (turn_entries disk_kind disk_entries k events)
-calm_turn k [] quiet = tt
-calm_turn k (event ∷ events) quiet =
-    each_both IsCalmEntry (entry_of k event) (turn_entries disk_kind disk_entries k events)
-    (calm_entry k event (and_left (is_calm event) (is_quiet events) quiet))
-    (calm_turn k events (and_right (is_calm event) (is_quiet events) quiet))
-
 pub calm_round : (k : ℕ) (rounds : List LaneRound) → are_quiet rounds ≡ true
     → EachEntry IsCalmEntry (round_entries k rounds)
-calm_round k [] quiet = tt
-calm_round k (r ∷ rounds) quiet =
-    each_both IsCalmEntry (turn_entries disk_kind disk_entries k r) (round_entries (k + 1) rounds)
-    (calm_turn k r (and_left (is_quiet r) (are_quiet rounds) quiet))
-    (calm_round (k + 1) rounds (and_right (is_quiet r) (are_quiet rounds) quiet))
+calm_round k rounds quiet = calm_entries disk_kind disk_entries IsCalmEntry (λ j event calm. calm) k rounds quiet
 
 calm_events : (l : DiskLog) (events : LaneRound) → is_quiet events ≡ true → (log_of after l events).work ≡ l.work
 calm_events l [] quiet = refl

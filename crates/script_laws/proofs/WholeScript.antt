@@ -19,7 +19,7 @@ use Rattle.ldom_report.specs.declared.status.Status.{Status}
 use Rattle.ldom_report.specs.declared.status.Status.TheVariants as status
 use Rattle.script_laws.specs.Behind.{StandsBehind}
 use Rattle.script_laws.specs.Completed.{completed_ids}
-use Rattle.script_laws.specs.PlainRun.{plain_content, plain_ids, plain_text}
+use Rattle.script_laws.specs.PlainRun.{one_disk, plain_content, plain_ids, plain_text}
 use Rattle.script_laws.specs.Quiet.{IsQuiet, IsQuietScript}
 use Rattle.script_laws.proofs.PlainLaw.{PlainLaw, plain_law}
 use Rattle.script_laws.proofs.QuietNames.{quiet_names}
@@ -37,7 +37,6 @@ use Rattle.world_parts.specs.Script.{FitsScript, ScriptParts, events_of, journal
 use Rattle.ldom_report.specs.LinesEnd.{counted_lines}
 use Rattle.script_laws.proofs.OneReading.{all_read, as_many, one_reading}
 use Rattle.script_laws.proofs.ReadLemmas.{are_declared, none_declared}
-use Rattle.script_laws.proofs.LaneReport.{one_disk}
 
 ran_done : (ran why : Status) (old new : Option (List ℕ)) (text : List ℕ) → why ≡ status.Done → Reports ran why old new text → (ran ≡ status.Done) × Appends old new text
 ran_done ran why old new text done (inl told) = (sym told.0 ∙ done, told.1)

@@ -28,3 +28,4 @@ pub mod Script
 pub mod Sized
 pub mod Whole
 pub mod Still
+pub mod PortSettles

@@ -8,7 +8,7 @@ ghost use Rattle.world_parts.specs.domain_laws.Domain.{DomainState};
 ghost use Rattle.ldom_report.specs.Report.{report};
 ghost use Rattle.ldom_report.specs.declared.status.Mode.TheVariants as mode;
 ghost use Rattle.ldom_report.specs.declared.status.Status.TheVariants as status;
-ghost use Rattle.script_laws.specs.PlainRun.{plain_text, plain_content, plain_ids};
+ghost use Rattle.script_laws.specs.PlainRun.{one_disk, plain_text, plain_content, plain_ids};
 ghost use Rattle.script_laws.specs.Quiet.{IsQuiet};
 ghost use Rattle.script_laws.specs.Completed.{completed_ids};
 ghost use Rattle.world_parts.specs.Declared.{world_of};
@@ -21,7 +21,7 @@ pub fn a_quiet_script_runs_plainly()
         → IsDisk disk → image.told ≡ Some content → 512 * disk.blocks ≤ length content
         → IsQuiet disk (events_of parts) → parts.cut ≡ None → FitsScript 0 (world_of (disk ∷ []) [] image) parts v
         → v.first.image.faults ≡ 0
-        → report mode.Run (disk ∷ []) (length (events_of parts)) (journal_of parts) status.Done
+        → report mode.Run (one_disk disk) (length (events_of parts)) (journal_of parts) status.Done
         ≡ plain_text disk content (events_of parts) }
     ensures content { (disk : DiskDecl) (image : ImageState) (content : List ℕ) (parts : ScriptParts) (v : DomainState)
         → IsDisk disk → image.told ≡ Some content → 512 * disk.blocks ≤ length content

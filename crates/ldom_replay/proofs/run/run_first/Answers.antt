@@ -6,8 +6,8 @@ use Rattle.ldom_report.specs.declared.status.Status.TheVariants as status
 use Rattle.ldom_report.specs.Stops.{stop_lines, stop_status}
 use Rattle.script_laws.specs.Going.{RunsAll}
 use Rattle.script_laws.specs.Opening.{Opened}
-use Rattle.world_parts.specs.Lines.{line_of}
-use Rattle.world_parts.specs.Parts.{Fits, FitsSoFar}
+use Rattle.ldom_world.specs.world_parts.Lines.{line_of}
+use Rattle.ldom_world.specs.world_parts.Parts.{Fits, FitsSoFar}
 use Rattle.domain_script.specs.Spells.{IsDeclared}
 use Rattle.script_laws.proofs.LineCases.{for_declared}
 use Rattle.script_laws.proofs.Assembly.{runs_all, runs_first_cut, runs_none_more}

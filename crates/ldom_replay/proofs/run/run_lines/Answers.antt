@@ -6,8 +6,8 @@ use Rattle.script_reader.specs.LinesState.{to_come}
 use Rattle.ldom_report.specs.Stops.{stop_lines, stop_status}
 use Rattle.script_laws.proofs.ReadLemmas.{same_disks, same_ports, still_ended}
 use Rattle.script_laws.proofs.LineCases.{for_declared}
-use Rattle.world_parts.specs.Lines.{line_of}
-use Rattle.world_parts.specs.Parts.{Fits, FitsSoFar}
+use Rattle.ldom_world.specs.world_parts.Lines.{line_of}
+use Rattle.ldom_world.specs.world_parts.Parts.{Fits, FitsSoFar}
 use Rattle.ldom_replay.specs.Declared.{HasLanes}
 use Rattle.ldom_replay.proofs.Beginning.{has_still}
 use Rattle.script_laws.proofs.RunLemmas.{runs_cut, runs_more, runs_none, runs_stop}

@@ -2,9 +2,9 @@ use Rattle.std.proofs.Common.{◌≡◌, ◌*◌, ◌≤◌, [], ℕ, List, leng
 use Rattle.disk_law.specs.ListState.{ImageState}
 use Rattle.ldom_entries.specs.JournalState.{JournalState}
 use Rattle.ldom_report.specs.declared.status.Status.TheVariants as status
-use Rattle.world_parts.specs.domain_laws.Domain.{Lanes}
+use Rattle.ldom_world.specs.world_parts.domain_laws.Domain.{Lanes}
 use Rattle.disk_law.specs.ListState.{as_image}
-use Rattle.world_parts.specs.Declared.{blocks_of}
+use Rattle.ldom_world.specs.world_parts.Declared.{blocks_of}
 use Rattle.ldom_replay.proofs.Beginning.{begins_counted, has_all, same_world}
 use Rattle.ldom_world.proofs.Declaring.{all_within}
 use Rattle.script_laws.proofs.Assembly.{replayed_as, replayed_short}
