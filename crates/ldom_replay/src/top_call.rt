@@ -165,6 +165,11 @@ pub fn replay<H: Host, S: Source, K: Sink>(
     // The status is how the run ended, unless the sink failed.
     ensures ran { result.status ≢ Status.SinkFault → result.ran ≡ result.status }
 
+    // So it is of a dump, whatever the sink did; and of other words it is that they are no command.
+    ensures ran_dump { AsksDump (map string_bytes words.now) → result.ran ≡ result.status }
+    ensures ran_usage { AsksNoRun (map string_bytes words.now) → (AsksDump (map string_bytes words.now) → ⊥)
+        → result.ran ≡ Status.Usage }
+
     // A fault of the source, the host or the sink is answered only where its count rose, and each other status where it
     // didn't, but that a fault of the sink comes last. At status 0 the image never failed either.
     ensures faults { FaultsTold result.status
