@@ -59,10 +59,9 @@ use Rattle.script_laws.proofs.SettleRests.{settles_if}
 use Rattle.script_laws.proofs.Settling.{reached_events}
 use Rattle.script_laws.proofs.Untold.{Untold, all_told, real_settled, real_unsettled, real_unsettled_port, told_port_ticks, untold}
 use Rattle.script_laws.specs.Settled.{EndsUnsettled}
-use Rattle.script_laws.specs.PortSettles.{NamesPort, PortEndsSo, PortLeftWhereBusy, PortMovedIn, PortNeedsTick, PortRestsOrTicked, PortSettles, PortTicksAreNeeded, is_port_tick}
+use Rattle.script_laws.specs.PortSettles.{NamesPort, PortEndsSo, PortMovedIn, PortNeedsTick, PortSettles, is_port_tick}
 use Rattle.script_laws.specs.Told.{port_log_at, told, told_by}
 use Rattle.world_parts.specs.Declared.{world_of}
-use Rattle.world_parts.specs.Lines.{EventStep}
 use Rattle.world_parts.specs.Script.{ScriptParts, all_lines}
 use Rattle.world_parts.specs.WorldEvents.{told_net, told_of}
 
