@@ -1,5 +1,5 @@
 -- The entries of a round in which all lanes of a kind were quiet are of calm events.
-use Rattle.std.proofs.Common.{◌≡◌, ℕ, ◌+◌, Bool, true, false, List, [], ◌∷◌, ◌++◌}
+use Rattle.std.proofs.Common.{◌≡◌, ℕ, ◌+◌, true, List, [], ◌∷◌}
 use Rattle.std.specs.Prelude.{if◌then◌else◌}
 use Rattle.lane_kinds.proofs.EntriesEach.{entry_has}
 use Rattle.lane_kinds.proofs.LaneFronts.{of_both}

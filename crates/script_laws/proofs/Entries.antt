@@ -1,5 +1,5 @@
 -- Conditions on entries: those of lanes; and those that aren't the answer of a settle, or name no lane that is left over.
-use Rattle.std.proofs.Common.{ℕ, List, [], ◌∷◌}
+use Rattle.std.proofs.Common.{List, [], ◌∷◌}
 use Rattle.std.specs.Prelude.{⊤}
 use Rattle.world_parts.specs.world_laws.Settle.{OfLane, OfPort, SettleEntry, Settled, Unsettled, UnsettledPort}
 use Rattle.world_parts.proofs.domain_laws.LineEntries.{EachEntry}

@@ -16,7 +16,7 @@ use Rattle.script_laws.proofs.PortsSettle.{port_settles}
 use Rattle.script_laws.proofs.Disks.{of_disk}
 use Rattle.script_laws.proofs.Isolated.{stand_apart}
 use Rattle.script_laws.proofs.Leading.{Leads, script_leads}
-use Rattle.script_laws.proofs.SettleLines.{EachSettles, rules_at, script_settles}
+use Rattle.script_laws.proofs.SettleLines.{EachSettles, each_whole, rules_at, script_settles}
 use Rattle.script_laws.proofs.LeftWhere.{left_where_busy, rounds_ran_out}
 use Rattle.script_laws.proofs.SettleRests.{rests_or_ticked}
 use Rattle.script_laws.proofs.Settling.{settle_at, settled_where}
@@ -78,6 +78,7 @@ headline_law disks nets image parts v disks_are few_disks nets_are few_nets long
       outside = outside disks nets image disks_are long entries v leads;
       ports_many = many_ports disks nets image nets_are entries v leads;
       ports = ports_stand disks nets image nets_are entries v leads;
-      ports_settle = λ k shape of_shape. port_settles disks nets image are k shape of_shape (all_lines parts) each;
+      ports_settle = λ k shape of_shape. port_settles disks nets image are k shape of_shape parts each
+          (each_whole disks nets image parts.whole fits.middle fits.run);
       apart = stand_apart disks nets image parts v disks_are fits;
     }

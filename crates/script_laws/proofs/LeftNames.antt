@@ -1,5 +1,6 @@
--- Where the rounds of a settle ran out, a lane of a kind is named only where it moved in the last of them, or waits.
-use Rattle.std.proofs.Common.{◌≡◌, ◌⊎◌, inl, inr, ℕ, suc, ◌+◌, Bool, true, false, List, [], ◌∷◌, ◌++◌, slice_get, Some, refl, sym, ap, ◌∙◌, subst, arith, append_assoc}
+-- Where the rounds of a settle ran out, a lane of a kind is named only where it moved in the last of them, or waits; and
+-- one that waits is.
+use Rattle.std.proofs.Common.{◌≡◌, ◌⊎◌, inl, inr, ℕ, zero, suc, ◌+◌, Bool, true, false, List, [], ◌∷◌, ◌++◌, length, slice_get, Some, refl, sym, ap, ◌∙◌, subst, arith, append_assoc}
 use Rattle.std.specs.Prelude.{◌&&◌, if◌then◌else◌}
 use Rattle.lane_kinds.specs.Lanes.{Entries, LaneKind, all_calm, left_names, round_entries, turn_entries}
 use Rattle.script_laws.proofs.Places.{no_place}
@@ -111,3 +112,38 @@ module _ {S V E : Type 0} (K : LaneKind S V) (N : Entries V E) where
     named k x (r ∷ turns) (s ∷ w) before later is =
         by_name k x r turns s w before later (all_calm K r && (if K.waits_on s then false else true)) refl is
         (λ (past : List E) (at : left_names K N (k + 1) turns w ≡ past ++ N.left_over x ∷ later). named (k + 1) x turns w past later at)
+
+-- A LANE THAT WAITS is named
+pub record NamedIn {S V E : Type 0} (K : LaneKind S V) (N : Entries V E) (x : ℕ) (names : List E) : Type 0 where
+  pub front : List E
+  pub later : List E
+  pub is : names ≡ front ++ N.left_over x ∷ later
+
+module _ {S V E : Type 0} (K : LaneKind S V) (N : Entries V E) where
+  named_here : (k : ℕ) (calm waits : Bool) (later : List E) → waits ≡ true
+      → NamedIn K N k ((if calm && (if waits then false else true) then [] else N.left_over k ∷ []) ++ later)
+  named_here k true true later is = record { front = []; later = later; is = refl }
+  named_here k false true later is = record { front = []; later = later; is = refl }
+  named_here k calm false later is = absurd (cc is)
+
+  named_further : (x : ℕ) (one names : List E) → NamedIn K N x names → NamedIn K N x (one ++ names)
+  named_further x one names at = record {
+    front = one ++ at.front;
+    later = at.later;
+    is = ap (λ (l : List E). one ++ l) at.is ∙ sym (append_assoc one at.front (N.left_over x ∷ at.later));
+  }
+
+  pub waits_named : (k x i : ℕ) (turns : List (List V)) (w : List S) (s : S) → x ≡ k + i → length turns ≡ length w
+      → slice_get w i ≡ Some s → K.waits_on s ≡ true → NamedIn K N x (left_names K N k turns w)
+  waits_named k x i turns [] s place many there waits = absurd (cc there)
+  waits_named k x i [] (y ∷ w) s place many there waits = absurd (omega (arith, many))
+  waits_named k x zero (r ∷ turns) (y ∷ w) s place many there waits =
+      let same : y ≡ s = cc there in
+      let number : k ≡ x = omega (arith, place) in
+      subst (λ (n : ℕ). NamedIn K N n (left_names K N k (r ∷ turns) (y ∷ w))) number
+      (named_here k (all_calm K r) (K.waits_on y) (left_names K N (k + 1) turns w)
+      (subst (λ (z : S). K.waits_on z ≡ true) (sym same) waits))
+  waits_named k x (suc i) (r ∷ turns) (y ∷ w) s place many there waits =
+      named_further x (if all_calm K r && (if K.waits_on y then false else true) then [] else N.left_over k ∷ [])
+      (left_names K N (k + 1) turns w)
+      (waits_named (k + 1) x i turns w s (omega (arith, place)) (omega (arith, many)) there waits)

@@ -1,10 +1,8 @@
 -- The part of a line: where it isn't a settle's, events of lanes alone; and a settle ends with its answer or with names.
-use Rattle.std.proofs.Common.{◌≡◌, ◌⊎◌, inl, inr, ℕ, ◌≤◌, List, [], ◌∷◌, ◌++◌, length, replicate, subst, sym}
-use Rattle.ldc_queue.specs.declared.end.End.{End}
+use Rattle.std.proofs.Common.{◌≡◌, ◌⊎◌, inl, inr, ℕ, ◌≤◌, List, [], ◌∷◌, ◌++◌, replicate, subst, sym}
 use Rattle.lane_kinds.specs.Fronts.{SettleFront}
 use Rattle.lane_kinds.specs.Settles.{SettlePart, Settles}
-use Rattle.lane_kinds.specs.Stuck.{NeverThree}
-use Rattle.world_parts.specs.world_laws.Settle.{SettleEntry, Settled, Unsettled}
+use Rattle.world_parts.specs.world_laws.Settle.{SettleEntry, Settled}
 use Rattle.world_parts.proofs.domain_laws.Counting.{disk_never, disk_never_begun, port_never, port_never_begun}
 use Rattle.world_parts.proofs.domain_laws.LineEntries.{EachEntry, by_answer, each_as, each_both, each_in, one_each, one_port_each, steps_each}
 use Rattle.world_parts.proofs.domain_laws.Resting.{disk_ticks_begun, disk_ticks_once, port_ticks_begun, port_ticks_once}

@@ -157,3 +157,10 @@ last_round start so_far entry behind at =
           ∙ ap (λ (l : List SettleEntry). earlier ++ (l ++ at.later)) first.is
           ∙ ap (λ (l : List SettleEntry). earlier ++ l) (append_assoc leaves first.ticks at.later);
     }
+
+-- A WHOLE PART with a name ran out of rounds
+pub ran_out : (start : Lanes) (part : List SettleEntry) (behind : Lanes) → SettlePart lanes start part behind → (entry : SettleEntry)
+    → IsName entry → (so_far rest : List SettleEntry) → part ≡ so_far ++ entry ∷ rest → RunsOut lanes start part behind
+ran_out start part behind (inl settles) entry name so_far rest is =
+    absurd (no_lane part so_far rest entry name (settled_last start part behind settles) is)
+ran_out start part behind (inr out) entry name so_far rest is = out

@@ -1,7 +1,7 @@
 -- What a port's log says of it: whether it is finished, as its state is; and what calm steps leave of it.
-use Rattle.std.proofs.Common.{◌≡◌, ℕ, Bool, true, false, Option, Some, None, List, [], ◌∷◌, ◌++◌, length, map, refl, sym, ap, ◌∙◌, subst}
+use Rattle.std.proofs.Common.{◌≡◌, ℕ, Bool, true, false, Option, Some, None, List, [], ◌∷◌, ◌++◌, length, map, refl, sym, ap, ◌∙◌}
 use Rattle.std.specs.Prelude.{◌==◌}
-use Rattle.runs.specs.Lawful.{lawful_split, log_append, log_of}
+use Rattle.runs.specs.Lawful.{lawful_split, log_of}
 use Rattle.runs.specs.Run.{Run, run_push}
 use Rattle.world_parts.specs.channel_model.WireLog.{WireLog}
 use Rattle.ldc_queue.specs.declared.end.End.{End}

@@ -1,10 +1,9 @@
 -- Each tick of a port in the part of a settle comes behind a round in which all were quiet, and so does its answer.
-use Rattle.std.proofs.Common.{◌≡◌, ◌⊎◌, inl, inr, ℕ, zero, suc, ◌+◌, ◌<◌, Bool, true, false, List, [], ◌∷◌, ◌++◌, length, slice_get, Some, refl, sym, ap, ◌∙◌, subst, arith, append_assoc, append-nil}
+use Rattle.std.proofs.Common.{◌≡◌, ◌⊎◌, inl, inr, ℕ, zero, suc, ◌+◌, Bool, true, false, List, [], ◌∷◌, ◌++◌, slice_get, Some, refl, sym, ap, ◌∙◌, subst, arith, append_assoc, append-nil}
 use Rattle.std.proofs.lemmas.Option.{slice_get_within}
 use Rattle.std.specs.Prelude.{⊤}
 use Rattle.runs.specs.Run.{Run, run_append}
 use Rattle.ldc_queue.specs.declared.end.End.{End}
-use Rattle.world_parts.specs.disk_model.DiskEvent.{DiskEvent}
 use Rattle.lane_kinds.proofs.Both.{second_ends, second_leads}
 use Rattle.lane_kinds.proofs.BothFronts.{lanes_skip_fronts, second_fronts_lead}
 use Rattle.lane_kinds.proofs.EntriesEach.{first_each}
@@ -14,24 +13,23 @@ use Rattle.lane_kinds.proofs.Lanes.{round_calmly}
 use Rattle.lane_kinds.proofs.Leading as kind
 use Rattle.lane_kinds.proofs.Moving.{happened_both, lane_moved, lanes_end, lanes_lead, lanes_skip, many_moved}
 use Rattle.lane_kinds.proofs.Places.{get_within}
-use Rattle.lane_kinds.proofs.Sums.{and_left, and_right}
+use Rattle.lane_kinds.proofs.Sums.{and_right}
 use Rattle.lane_kinds.specs.Both.{AllRound as OneRound, AllTicks, FrontBehind, FrontOfFirst, OnSecond, Skips, Two}
 use Rattle.lane_kinds.specs.Fronts.{SettleFront}
 use Rattle.lane_kinds.specs.LaneFronts.{RoundFront, TickFront, fronts_of}
 use Rattle.lane_kinds.specs.Lanes.{AllMove, CalmTurn, Calmly, are_still}
 use Rattle.lane_kinds.specs.Laws.{Ends, FrontsLead, FrontsLeadWhere, Keeps, Leads, LeadsWhere}
 use Rattle.lane_kinds.specs.Settles.{GoesOn, SettlePart, Settles, begin, entries_of_rounds}
-use Rattle.world_parts.specs.lane_laws.CalmEnds.{IsStep}
 use Rattle.world_parts.specs.port_model.NetEvent.{Ticked}
 use Rattle.world_parts.specs.port_model.PortState.{OnLane, PortState}
 use Rattle.world_parts.proofs.switch_laws.Turns.{calm_gives, silence}
 use Rattle.world_parts.specs.switch_laws.Events.{OnPort, SwitchEvent, SwitchStep}
-use Rattle.world_parts.specs.switch_laws.Ports.{IsStepOf, ports, tick as port_tick}
+use Rattle.world_parts.specs.switch_laws.Ports.{IsStepOf, ports}
 use Rattle.world_parts.proofs.world_laws.DiskLaws as disk_laws
 use Rattle.world_parts.specs.world_laws.Begun.{fronts as disk_fronts}
 use Rattle.world_parts.specs.world_laws.DiskKind.{disk_kind}
 use Rattle.world_parts.specs.world_laws.Rounds.{LaneRound}
-use Rattle.world_parts.specs.world_laws.Settle.{OfLane, OfPort, SettleEntry, Settled, disk_entries, disks}
+use Rattle.world_parts.specs.world_laws.Settle.{OfPort, SettleEntry, Settled, disk_entries, disks}
 use Rattle.world_parts.proofs.domain_laws.LineEntries.{AllRound, AllSettling, EachEntry, StepsHave, disks_begun, disks_each, each_in, ports_begun, ports_each}
 use Rattle.world_parts.proofs.domain_laws.Running.{port_reads}
 use Rattle.world_parts.specs.domain_laws.Along.{port_happened, port_said}

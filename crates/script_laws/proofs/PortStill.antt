@@ -13,7 +13,6 @@ use Rattle.lane_kinds.proofs.EntriesEach.{said_each}
 use Rattle.lane_kinds.proofs.LaneFronts.{of_both}
 use Rattle.lane_kinds.proofs.Moving.{happened_both}
 use Rattle.lane_kinds.proofs.Places.{map_both}
-use Rattle.lane_kinds.proofs.Stuck.{sum_both}
 use Rattle.lane_kinds.proofs.Sums.{and_left, and_right}
 use Rattle.lane_kinds.specs.LaneCounts.{once}
 use Rattle.lane_kinds.specs.Lanes.{CalmTurn, EachOf, all_calm, own_or}
@@ -32,7 +31,7 @@ use Rattle.world_parts.proofs.switch_laws.Resting.{TwoCalm, finishes, two_calm}
 use Rattle.world_parts.proofs.switch_laws.Steps.{run_on_port}
 use Rattle.world_parts.proofs.switch_laws.Turns.{calm_gives}
 use Rattle.world_parts.specs.switch_laws.Events.{OnPort, SwitchEvent, SwitchStep, at_port}
-use Rattle.world_parts.specs.switch_laws.Ports.{gets, is_calm, ports, waits_on}
+use Rattle.world_parts.specs.switch_laws.Ports.{gets, is_calm, ports}
 use Rattle.world_parts.specs.world_laws.Settle.{OfPort, SettleEntry}
 use Rattle.world_parts.proofs.domain_laws.LineEntries.{EachEntry}
 use Rattle.world_parts.specs.domain_laws.Along.{port_happened, port_said}

@@ -62,7 +62,7 @@ reset_words s at e cause packet lost t step =
     let run = run_push PortStep (fresh_port at.shape) s t at.events event at.run step in
     let l : PortLog = log_of after (no_events at.shape) at.events in
     let lawful = lawful_split PortMay after (no_events at.shape) at.events (event ∷ [])
-        (every_run at.shape (at.events ++ event ∷ []) t at.sound run) in
+    (every_run at.shape (at.events ++ event ∷ []) t at.sound run) in
     let may : PortMay l event = lawful.1.0 in
     cause_named l.shape.slots (log_of_end e l) (transcript_of e l.transcript) cause packet may.own_resets may.reset_says
 
@@ -103,8 +103,7 @@ pub ports_told : (disks many : ℕ) (lanes : List PortState) (entries : List Set
     → EachOf IsReached lanes → Run PortsStep lanes entries behind → NamesBelow disks many entries → EachEntry (IsPortTold many) entries
 ports_told disks many lanes [] behind long all run below = tt
 ports_told disks many lanes (entry ∷ entries) behind long all run below =
-    let first : Run PortsStep lanes (entry ∷ []) run.0 = (run.0, run.1, refl) in
-    (
+    let first : Run PortsStep lanes (entry ∷ []) run.0 = (run.0, run.1, refl) in (
       one_told entry run.1 below.0,
       ports_told disks many run.0 entries behind (ports_many lanes (entry ∷ []) run.0 first ∙ long)
           (stay_reached lanes (entry ∷ []) run.0 all first) run.2 below.1,

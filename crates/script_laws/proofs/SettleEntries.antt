@@ -5,14 +5,12 @@ use Rattle.std.specs.Prelude.{◌&&◌, if◌then◌else◌}
 use Rattle.runs.specs.Run.{Run}
 use Rattle.world_parts.specs.channel_model.WireEvent.{Blocked}
 use Rattle.world_parts.specs.disk_model.DiskEvent.{OnWire}
-use Rattle.world_parts.specs.disk_model.LaneState.{LaneState}
 use Rattle.lane_kinds.proofs.EntriesEach.{first_each}
 use Rattle.lane_kinds.proofs.EntryRuns.{names_each}
 use Rattle.lane_kinds.specs.Both.{Two}
 use Rattle.lane_kinds.specs.Fronts.{NamesFront, SettleFront}
 use Rattle.lane_kinds.specs.Lanes.{Entries, LaneKind, all_calm, left_names}
 use Rattle.lane_kinds.specs.Settles.{GoesOn, RunsOut, Settles, begin, entries_of_rounds, most_rounds}
-use Rattle.world_parts.specs.port_model.PortState.{PortState}
 use Rattle.world_parts.specs.switch_laws.Events.{SwitchEvent}
 use Rattle.world_parts.specs.switch_laws.Ports.{ports}
 use Rattle.world_parts.specs.world_laws.DiskKind.{disk_kind}

@@ -34,7 +34,6 @@ pub record SettlesBehind (disks : List DiskDecl) (nets : List NetShape) (image :
   -- where it led
   pub next : DomainState
   pub on : Run DomainStep at real next
-  pub behind_is : behind ≡ lanes_in next
 
 -- so each of these lines that settles
 abbrev pub EachSettles : List DiskDecl → List NetShape → ImageState → List (Event × List Entry) → Type 0
@@ -42,25 +41,43 @@ EachSettles disks nets image lines =
     (before : List (Event × List Entry)) (part : List Entry) (behind : List (Event × List Entry))
     → lines ≡ before ++ (Settle, part) ∷ behind → SettlesBehind disks nets image before (told_by (Settle, part))
 
-pub whole_settles : (disks : List DiskDecl) (nets : List NetShape) (image : ImageState) (lines : List (Event × List Entry))
-    (v : DomainState) → Run EventStep (world_of disks nets image) lines v → EachSettles disks nets image lines
-whole_settles disks nets image lines v run before part behind is =
+-- and of whole parts each is one
+pub record WholeSettle (disks : List DiskDecl) (nets : List NetShape) (image : ImageState) (before : List (Event × List Entry))
+    (part : List SettleEntry) : Type 0 where
+  pub settles : SettlesBehind disks nets image before part
+  pub whole : SettlePart lanes (lanes_in settles.at) settles.real settles.behind
+
+abbrev pub EachWhole : List DiskDecl → List NetShape → ImageState → List (Event × List Entry) → Type 0
+EachWhole disks nets image lines =
+    (before : List (Event × List Entry)) (part : List Entry) (behind : List (Event × List Entry))
+    → lines ≡ before ++ (Settle, part) ∷ behind → WholeSettle disks nets image before (told_by (Settle, part))
+
+pub each_whole : (disks : List DiskDecl) (nets : List NetShape) (image : ImageState) (lines : List (Event × List Entry))
+    (v : DomainState) → Run EventStep (world_of disks nets image) lines v → EachWhole disks nets image lines
+each_whole disks nets image lines v run before part behind is =
     let start : DomainState = world_of disks nets image in
     let whole : Run EventStep start (before ++ (Settle, part) ∷ behind) v =
     subst (λ (l : List (Event × List Entry)). Run EventStep start l v) is run in
     let split = run_split EventStep start v before ((Settle, part) ∷ behind) whole in
     let step = split.2.1 in
     record {
-      at = split.0;
-      run = split.1;
-      behind = lanes_in split.2.0;
-      real = step.entries;
-      told_is = says_told (Settle, part) step.entries step.says;
-      goes = inl step.moves.part_of;
-      next = split.2.0;
-      on = step.moves.run;
-      behind_is = refl;
+      settles = record {
+        at = split.0;
+        run = split.1;
+        behind = lanes_in split.2.0;
+        real = step.entries;
+        told_is = says_told (Settle, part) step.entries step.says;
+        goes = inl step.moves.part_of;
+        next = split.2.0;
+        on = step.moves.run;
+      };
+      whole = step.moves.part_of;
     }
+
+pub whole_settles : (disks : List DiskDecl) (nets : List NetShape) (image : ImageState) (lines : List (Event × List Entry))
+    (v : DomainState) → Run EventStep (world_of disks nets image) lines v → EachSettles disks nets image lines
+whole_settles disks nets image lines v run before part behind is =
+    (each_whole disks nets image lines v run before part behind is).settles
 
 -- THE LAST OF THEM, cut off
 only_one : {X : Type 0} (x : X) (later : List X) (y : X) (behind : List X) → x ∷ [] ≡ later ++ y ∷ behind
@@ -92,7 +109,6 @@ module _ (disks : List DiskDecl) (nets : List NetShape) (image : ImageState) (wh
           goes = inr settle.begins.begins;
           next = v;
           on = settle.begins.run;
-          behind_is = refl;
         }
 
   settles_on : (cut : Option (Event × List Entry)) (v : DomainState) → LastStarts m cut v

@@ -50,5 +50,5 @@ pub record Headline (disks : List DiskDecl) (nets : List NetShape) (start : Imag
   pub outside : IfSome start.told (λ first. StaysBehind (shapes_of 0 disks) first v.first.image.told)
   pub ports_many : length v.second ≡ length nets
   pub ports : PortsStand nets (told (all_lines parts)) v.second
-  pub ports_settle : (k : ℕ) (shape : NetShape) → slice_get nets k ≡ Some shape → PortSettles shape k (all_lines parts)
+  pub ports_settle : (k : ℕ) (shape : NetShape) → slice_get nets k ≡ Some shape → PortSettles shape k parts
   pub apart : StandApart disks nets start parts v
