@@ -1,7 +1,7 @@
 -- What holds of each port where a script's journal led: it is lawful, its frames arrive, and it rests behind each settle.
 use Rattle.std.proofs.Common.{◌≡◌, ◌↔◌, ℕ, ◌<◌, List, [], ◌∷◌, ◌++◌, length, map, slice_get, Some, refl, sym, ap, ◌∙◌, subst, arith}
 use Rattle.std.proofs.lemmas.Option.{slice_get_within}
-use Rattle.runs.specs.Run.{Run}
+use Rattle.runs.specs.Run.{Run, run_split}
 use Rattle.disk_law.specs.ListState.{ImageState}
 use Rattle.domain_script.specs.declared.event.DiskDecl.{DiskDecl}
 use Rattle.lane_kinds.proofs.Places.{get_within}
@@ -12,8 +12,9 @@ use Rattle.world_parts.specs.port_laws.InOrder.{InOrder}
 use Rattle.world_parts.specs.port_laws.Lost.{frames_lost}
 use Rattle.world_parts.specs.port_model.NetLaneState.{IsNetShape, NetShape}
 use Rattle.world_parts.specs.port_model.PortState.{PortState, PortStep, fresh_port}
+use Rattle.world_parts.specs.switch_laws.Events.{Switched}
 use Rattle.world_parts.specs.switch_laws.Reached.{IsUnforged}
-use Rattle.world_parts.specs.world_laws.Settle.{SettleEntry, Settled}
+use Rattle.world_parts.specs.world_laws.Settle.{OfPort as PortEntry, SettleEntry, Settled}
 use Rattle.world_parts.proofs.domain_laws.Arriving.{own_run, rested_to_guest, rested_to_switch, sound_at, to_guest, to_switch}
 use Rattle.world_parts.proofs.domain_laws.ForgedPorts.{port_told}
 use Rattle.world_parts.proofs.domain_laws.Running.{fresh_many, port_runs, ports_run}
@@ -24,8 +25,8 @@ use Rattle.world_parts.specs.domain_laws.Frames.{frames_arrived, frames_put, fra
 use Rattle.world_parts.specs.domain_laws.Settling.{HoldsNoFrame}
 use Rattle.script_laws.proofs.Leading.{Leads}
 use Rattle.script_laws.proofs.Settling.{PortsRestAt}
-use Rattle.script_laws.proofs.Untold.{Untold, all_told, real_forged, real_settled, told_arrived, told_forged, told_put, told_queued, told_switched, untold}
-use Rattle.script_laws.specs.Ports.{OfPort, PortsStand, RestsBehind}
+use Rattle.script_laws.proofs.Untold.{Untold, all_told, real_forged, real_settled, real_switched, told_arrived, told_forged, told_put, told_queued, told_switched, untold}
+use Rattle.script_laws.specs.Ports.{GoesByStates, OfPort, PortsStand, RestsBehind}
 use Rattle.world_parts.specs.Declared.{shapes_of, world_of}
 
 within : (k n m : ℕ) → k < n → n ≡ m → k < m
@@ -141,5 +142,25 @@ module _ (disks : List DiskDecl) (nets : List NetShape) (image : ImageState) (ar
       rests = rests_behind;
     }
 
+  -- a frame that was switched went by the states before it
+  goes_by : (before : List SettleEntry) (k : ℕ) (frame : List ℕ) (out full : ℕ) (behind : List SettleEntry)
+      → entries ≡ before ++ PortEntry k (Switched frame out full) ∷ behind → GoesByStates nets before k frame out full
+  goes_by before k frame out full behind is =
+      let entry : SettleEntry = PortEntry k (Switched frame out full) in
+      let at : Untold leads.real before entry behind = untold leads.real before entry behind (sym leads.told_is ∙ is) in
+      let real : leads.real ≡ at.past ++ entry ∷ at.rest =
+      at.is ∙ ap (λ (e : SettleEntry). at.past ++ e ∷ at.rest) (real_switched k frame out full at.real at.real_is) in
+      let run : Run PortsStep (map fresh_port nets) (at.past ++ entry ∷ at.rest) v.second =
+      subst (λ (l : List SettleEntry). Run PortsStep (map fresh_port nets) l v.second) real
+      (ports_run Start leads.real v leads.led) in
+      let split = run_split PortsStep (map fresh_port nets) v.second at.past (entry ∷ at.rest) run in
+      record {
+        real = at.past;
+        told_is = at.past_is;
+        at = split.0;
+        run = split.1;
+        forwards = split.2.1.entry.step.sees;
+      }
+
   pub ports_stand : PortsStand nets entries v.second
-  ports_stand = record { real = leads.real; told_is = leads.told_is; each = of_port }
+  ports_stand = record { real = leads.real; told_is = leads.told_is; each = of_port; forwards = goes_by }

@@ -335,3 +335,13 @@ real_of_lane k event (OfLane j other) is = sym is
 real_of_lane k event Settled is = absurd (cc is)
 real_of_lane k event (Unsettled j) is = absurd (cc is)
 real_of_lane k event (UnsettledPort j) is = absurd (cc is)
+
+pub real_switched : (k : ℕ) (frame : List ℕ) (out full : ℕ) (x : SettleEntry) → OfPort k (Switched frame out full) ≡ told_of x
+    → x ≡ OfPort k (Switched frame out full)
+real_switched k frame out full (OfPort j (OnPort (OnLane event))) is = absurd (cc is)
+real_switched k frame out full (OfPort j (OnPort (Receives other))) is = absurd (cc is)
+real_switched k frame out full (OfPort j (Switched other one two)) is = sym is
+real_switched k frame out full (OfLane j event) is = absurd (cc is)
+real_switched k frame out full Settled is = absurd (cc is)
+real_switched k frame out full (Unsettled j) is = absurd (cc is)
+real_switched k frame out full (UnsettledPort j) is = absurd (cc is)

@@ -7,9 +7,12 @@ use Rattle.world_parts.specs.port_laws.Lost.{frames_lost}
 use Rattle.world_parts.specs.port_model.NetLaneState.{NetShape}
 use Rattle.world_parts.specs.port_model.PortMay.{IsLawfulPort}
 use Rattle.world_parts.specs.port_model.PortState.{PortState, PortStep, fresh_port}
+use Rattle.world_parts.specs.switch_laws.Events.{Switched}
+use Rattle.world_parts.specs.switch_laws.Forwards.{Forwards}
 use Rattle.world_parts.specs.switch_laws.Reached.{IsUnforged}
-use Rattle.world_parts.specs.world_laws.Settle.{SettleEntry, Settled}
+use Rattle.world_parts.specs.world_laws.Settle.{OfPort as PortEntry, SettleEntry, Settled}
 use Rattle.world_parts.specs.domain_laws.Along.{port_happened}
+use Rattle.world_parts.specs.domain_laws.Domain.{PortsStep}
 use Rattle.world_parts.specs.domain_laws.Forged.{NobodyForgesPort}
 use Rattle.world_parts.specs.domain_laws.Frames.{frames_arrived, frames_put, frames_queued, frames_switched, port_events}
 use Rattle.world_parts.specs.domain_laws.Settling.{HoldsNoFrame}
@@ -39,9 +42,21 @@ pub record OfPort (shape : NetShape) (k : ℕ) (entries real : List SettleEntry)
       → frames_lost B (port_events k real) ≡ 0 → frames_arrived k entries ≡ frames_put k entries
   pub rests : (before behind : List SettleEntry) → entries ≡ before ++ Settled ∷ behind → RestsBehind shape k before
 
+-- A FRAME THAT WAS SWITCHED went to one set of ports and missed another, whose out queues were full: together they are
+-- the other ports in session that its destination names. So it was by the states of all ports, to which the entries before
+-- it led; the entries are those of which these are told.
+pub record GoesByStates (nets : List NetShape) (before : List SettleEntry) (k : ℕ) (frame : List ℕ) (out full : ℕ) : Type 0 where
+  pub real : List SettleEntry
+  pub told_is : before ≡ map told_of real
+  pub at : List PortState
+  pub run : Run PortsStep (map fresh_port nets) real at
+  pub forwards : Forwards at k frame out full
+
 -- OF ALL PORTS, by the entries of which these are told
 pub record PortsStand (nets : List NetShape) (entries : List SettleEntry) (ports : List PortState) : Type 0 where
   pub real : List SettleEntry
   pub told_is : entries ≡ map told_of real
   pub each : (k : ℕ) (shape : NetShape) (s : PortState) → slice_get nets k ≡ Some shape → slice_get ports k ≡ Some s
       → OfPort shape k entries real s
+  pub forwards : (before : List SettleEntry) (k : ℕ) (frame : List ℕ) (out full : ℕ) (behind : List SettleEntry)
+      → entries ≡ before ++ PortEntry k (Switched frame out full) ∷ behind → GoesByStates nets before k frame out full

@@ -27,7 +27,9 @@ ghost use Rattle.world_parts.specs.Script.{FitsScript, ScriptParts};
 /// Each port is lawful too. Where nobody forged it its frames arrive in order, and it rests behind each settle that
 /// ends settled; and all arrive where the script ends so and none is said to be lost. What is said of a disk's ticks,
 /// of its ends behind a settle and of its being left over holds of a port, which has no server that stops. It is
-/// finished where its guest is in session and told all its groups, and no frame is held. A line that is for one lane
+/// finished where its guest is in session and told all its groups, and no frame is held. Where a whole settle leaves a
+/// lane over, each port that isn't finished is named. Each frame that is switched goes to one set of ports and misses
+/// another, whose out queues are full: together they are those that its destination names. A line that is for one lane
 /// leaves all others, but for frames in out queues.
 pub fn the_headline_holds()
     ensures { (disks : List DiskDecl) (nets : List NetShape) (image : ImageState) (parts : ScriptParts)
