@@ -36,6 +36,7 @@ pub fn port_end(port: u32, side: Side) -> EndName
 }
 
 /// What an end of a port answered: its step, where the frame that it took went, and that frame.
+#[derive(Drop)]
 pub struct PortAnswer<'a> {
     pub out: &'a NetOut,
     pub switched: Option<Switched>,
