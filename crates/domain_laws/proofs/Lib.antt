@@ -18,3 +18,7 @@ pub mod Loops
 pub mod Looping
 pub mod QuietLines
 pub mod DiskParts
+pub use Rattle.world_laws.proofs as world_laws
+pub use Rattle.port_laws.proofs as port_laws
+pub use Rattle.lane_laws.proofs as lane_laws
+pub use Rattle.disk_model.proofs as disk_model

@@ -13,9 +13,10 @@ pub mod NamesMade
 pub mod Going
 pub mod PlainLines
 pub mod Quiet
-pub use Rattle.port_model.specs.NetEvent
-pub use Rattle.port_model.specs.NetEndStep
-pub use Rattle.port_model.specs.NetLaneState
-pub use Rattle.port_model.specs.PortState
-pub use Rattle.switch_laws.specs.Events
-pub use Rattle.vio_tag.specs.declared.cause
+pub use Rattle.world_laws.specs as world_laws
+pub use Rattle.switch_laws.specs as switch_laws
+pub use Rattle.port_laws.specs as port_laws
+pub use Rattle.port_model.specs as port_model
+pub use Rattle.lane_laws.specs as lane_laws
+pub use Rattle.disk_model.specs as disk_model
+pub use Rattle.channel_model.specs as channel_model

@@ -6,6 +6,7 @@ ghost use Rattle.vio_io.specs.Causes.{Rose};
 ghost use Rattle.vio_io.specs.Given.{Gave};
 ghost use Rattle.domain_script.specs.declared.event.DiskDecl.{DiskDecl};
 ghost use Rattle.domain_script.specs.declared.event.Event.{Event};
+ghost use Rattle.domain_script.specs.NamesState.{declared_by};
 ghost use Rattle.disk_law.specs.Issued.{CompletesOnceInOrder};
 ghost use Rattle.gathered_text.specs.Gathered.{WroteFront};
 ghost use Rattle.ldom_report.specs.HasWords.{HasWords};
@@ -47,8 +48,8 @@ pub struct Outcome<D: Store> {
     pub journal: Journal,
     pub image: Option<D>,
 
-    /// The lanes of the script's disks as they stand after its last step, by their numbers in the order of
-    /// declaration, where it was run over an image.
+    /// The lanes of the script's disks and ports as they stand after its last step, each kind by its numbers in the
+    /// order of declaration, where it was run over an image.
     pub lanes: Option<Lanes>,
 }
 
@@ -218,10 +219,10 @@ fn report_dump<D: Store, S: Source, K: Sink>(
 
 // Writes the report of a run as the mode shows it.
 fn report_run<D: Store, K: Sink>(mode: Mode, run: Run<D>, out: &mut K) -> Outcome<D>
-    requires words { All (HasWords run.names.disks) run.journal.entries }
+    requires words { All (HasWords (declared_by run.names)) run.journal.entries }
     requires ran { run.status ≢ Status.Usage }
     ensures reports { Reports run.status result.status (K.written out.old) (K.written out.new)
-        (report mode run.names.disks run.lines run.journal.entries run.status) }
+        (report mode (declared_by run.names) run.lines run.journal.entries run.status) }
     ensures ran { result.ran ≡ run.status }
     ensures journal { result.journal ≡ run.journal }
     ensures small { length result.journal.entries < 2 ^ 63 }
@@ -264,12 +265,12 @@ fn write_report<K: Sink>(
     status: &Status,
     out: &mut K,
 ) -> Result<(), Failed>
-    requires words { All (HasWords names.now.disks) journal.now.entries }
+    requires words { All (HasWords (declared_by names.now)) journal.now.entries }
     requires ran { status.now ≢ Status.Usage }
     ensures ok { OnOk result (Appends (K.written out.old) (K.written out.new)
-        (report mode names.now.disks lines journal.now.entries status.now)) }
+        (report mode (declared_by names.now) lines journal.now.entries status.now)) }
     ensures err { OnErr result (WroteFront (K.written out.old) (K.written out.new)
-        (report mode names.now.disks lines journal.now.entries status.now)) }
+        (report mode (declared_by names.now) lines journal.now.entries status.now)) }
     ensures unfailed { OnOk result (K.faults out.new ≡ K.faults out.old) }
     ensures count { K.faults out.old ≤ K.faults out.new }
     ensures cause { OnErr result (Rose (K.faults out.old) (K.faults out.new)) }

@@ -1,7 +1,7 @@
 -- A journal with the entries that were added to it: none, one, and some after others.
 use Rattle.std.proofs.Common.{◌≡◌, Option, Some, List, [], ◌∷◌, ◌++◌, refl, sym, ap, ap₂, ◌∙◌, append_assoc, append-nil}
-use Rattle.world_laws.specs.Settle.{SettleEntry}
-use Rattle.domain_laws.specs.Lines.{Line}
+use Rattle.world_parts.specs.world_laws.Settle.{SettleEntry}
+use Rattle.world_parts.specs.domain_laws.Lines.{Line}
 use Rattle.world_parts.specs.WorldEvents.{told_of, world_event}
 use Rattle.ldom_entries.specs.declared.entry.Entry.{Entry}
 use Rattle.lane_kinds.proofs.Places.{map_both}

@@ -4,17 +4,17 @@ use Rattle.std.proofs.lemmas.Bool.{eq-eqb}
 use Rattle.std.specs.Prelude.{◌==◌, ◌&&◌}
 use Rattle.disk_lane.specs.Events.{injected_event, lost_event, poked_event, reset_event, restart_event, start_event, stop_event, tick_event}
 use Rattle.disk_law.specs.ListState.{ImageState}
-use Rattle.disk_model.specs.DiskEvent.{Asks, CalmReset, CalmRestart, CalmStart, CalmStop, CalmTick, OnWire, Calms}
-use Rattle.disk_model.specs.DiskEvent as disk
-use Rattle.disk_model.specs.LaneState.{LaneState}
-use Rattle.disk_model.specs.LaneStep.{LaneStep}
+use Rattle.world_parts.specs.disk_model.DiskEvent.{Asks, CalmReset, CalmRestart, CalmStart, CalmStop, CalmTick, OnWire, Calms}
+use Rattle.world_parts.specs.disk_model.DiskEvent as disk
+use Rattle.world_parts.specs.disk_model.LaneState.{LaneState}
+use Rattle.world_parts.specs.disk_model.LaneStep.{LaneStep}
 use Rattle.domain_script.specs.LaneKinds.{disk_lane}
 use Rattle.domain_script.specs.declared.event.Side.{Side}
 use Rattle.domain_script.specs.declared.event.Side.TheVariants.{Client, Server}
-use Rattle.channel_model.specs.WireEvent.{Declines, InjectedFull, NothingLost, NotInjected, PokeRefused}
-use Rattle.channel_model.specs.WireEvent as wire
-use Rattle.world_laws.specs.Settle.{OfLane, SettleEntry}
-use Rattle.domain_laws.specs.Lines.{AnswersCall, AnswersRequest, Asked, Calls, Injects, Loses, Pokes, Resets, Restarts, Starts, Stops, Ticks, DiskLane}
+use Rattle.world_parts.specs.channel_model.WireEvent.{Declines, InjectedFull, NothingLost, NotInjected, PokeRefused}
+use Rattle.world_parts.specs.channel_model.WireEvent as wire
+use Rattle.world_parts.specs.world_laws.Settle.{OfLane, SettleEntry}
+use Rattle.world_parts.specs.domain_laws.Lines.{AnswersCall, AnswersRequest, Asked, Calls, Injects, Loses, Pokes, Resets, Restarts, Starts, Stops, Ticks, DiskLane}
 use Rattle.ldc_queue.specs.declared.end.End.TheVariants.{A, B}
 use Rattle.ldc_queue.specs.declared.end.PutFault.{PutFault}
 use Rattle.ldc_queue.specs.declared.end.PutFault.TheVariants as put_fault
@@ -28,21 +28,21 @@ use Rattle.kept_requests.specs.Bytes.{filled}
 use Rattle.ldom_world.specs.Called.{disk_end, refused_entry}
 use Rattle.ldom_entries.specs.JournalState.{JournalState, PutsEntry}
 use Rattle.ldom_world.specs.OneLane.{LaneAnswers, RecordsAnswer}
-use Rattle.vdisk_client.specs.Calls.{admitted}
-use Rattle.vdisk_client.specs.declared.answers.IssueFault.{IssueFault}
-use Rattle.vdisk_client.specs.declared.answers.IssueFault.TheVariants as fault
+use Rattle.disk_lane.specs.vdisk_client.Calls.{admitted}
+use Rattle.disk_lane.specs.vdisk_client.declared.answers.IssueFault.{IssueFault}
+use Rattle.disk_lane.specs.vdisk_client.declared.answers.IssueFault.TheVariants as fault
 use Rattle.vdisk_msg.specs.declared.request.Request.{Request}
 use Rattle.vio_tag.specs.declared.cause.Cause.TheVariants as the_cause
 
 -- the line names the end, or the lane, that the entry is about
-same_end : (side : Side) → is_same (end_of side) (end_of side) ≡ true
+pub same_end : (side : Side) → is_same (end_of side) (end_of side) ≡ true
 same_end Client = refl
 same_end Server = refl
 
 own_end : (k : ℕ) (side : Side) → is_end (DiskLane k) (end_of side) (disk_end k side) ≡ true
 own_end k side = ap (λ (b : Bool). b && is_same (end_of side) (end_of side)) (eq-eqb k k refl) ∙ same_end side
 
-own_said : (b : Bool) (x : SettleEntry) → b ≡ true → if_so b x ≡ Some x
+pub own_said : (b : Bool) (x : SettleEntry) → b ≡ true → if_so b x ≡ Some x
 own_said b x is = ap (λ (c : Bool). if_so c x) is
 
 -- a request that wasn't taken up

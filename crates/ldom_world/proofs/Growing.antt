@@ -1,9 +1,9 @@
 -- A journal that grew in a settle: by nothing, by more after others, and by what else it may be taken for.
 use Rattle.std.proofs.Common.{List, [], ◌++◌, refl}
-use Rattle.world_laws.specs.Settle.{SettleEntry}
-use Rattle.domain_laws.specs.Domain.{DomainState}
-use Rattle.domain_laws.specs.Lines.{LineBegins, LineMoves}
-use Rattle.domain_laws.specs.Lines as script
+use Rattle.world_parts.specs.world_laws.Settle.{SettleEntry}
+use Rattle.world_parts.specs.domain_laws.Domain.{DomainState}
+use Rattle.world_parts.specs.domain_laws.Lines.{LineBegins, LineMoves}
+use Rattle.world_parts.specs.domain_laws.Lines as script
 use Rattle.ldom_entries.specs.declared.entry.Entry.{Entry}
 use Rattle.ldom_world.proofs.Adding.{both_add, none_adds}
 use Rattle.ldom_world.specs.SettleParts.{Grew}

@@ -1,9 +1,9 @@
 -- The lanes of a kind in a settle: each adds its own entries to the journal after those of the lanes before.
 use Rattle.std.proofs.Common.{◌≡◌, ℕ, ◌+◌, ◌<◌, ◌≤◌, Bool, true, false, Some, List, [], ◌∷◌, ◌++◌, length, slice_get, slice_set, refl, sym, subst}
 use Rattle.std.specs.Prelude.{◌&&◌, ◌||◌}
-use Rattle.domain_laws.proofs.LoopKinds.{disk_begins, disk_runs, disk_turn, port_begins, port_runs, port_turn}
-use Rattle.domain_laws.specs.Domain.{DomainState, DomainStep}
-use Rattle.domain_laws.specs.Lines as script
+use Rattle.world_parts.proofs.domain_laws.LoopKinds.{disk_begins, disk_runs, disk_turn, port_begins, port_runs, port_turn}
+use Rattle.world_parts.specs.domain_laws.Domain.{DomainState, DomainStep}
+use Rattle.world_parts.specs.domain_laws.Lines as script
 use Rattle.domain_script.specs.declared.fields.LaneKind.{LaneKind}
 use Rattle.domain_script.specs.declared.fields.LaneKind.TheVariants as kinds
 use Rattle.lane_kinds.proofs.WorldMade as made
@@ -19,7 +19,7 @@ use Rattle.ldom_world.proofs.Adding.{both_add}
 use Rattle.ldom_world.proofs.Growing.{also_grew, both_grew, none_grew}
 use Rattle.ldom_world.specs.SettleParts.{Grew, LaneNamesAdd, LaneTicksAdd, LaneTicksAddFront, LaneTicksBegun, LanesAdd, LanesAddFront, LanesBegun, LanesMade, LanesNamed, LanesTicked, MakesQuiet, NamesGoOn, OneTicked, RoundBreaks, RoundGoesOn, TicksGoOn}
 use Rattle.ldom_world.specs.WorldKinds.{in_world, left_by}
-use Rattle.world_laws.specs.Settle.{SettleEntry}
+use Rattle.world_parts.specs.world_laws.Settle.{SettleEntry}
 use Rattle.world_parts.specs.Parts.{Adds}
 
 -- WHAT ROUNDS GO BY: an entry of the kind runs its lanes, and two steps are a turn

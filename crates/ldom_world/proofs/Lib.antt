@@ -17,4 +17,5 @@ pub mod KindAdding
 pub mod SettlingAdds
 pub mod SettlingLanes
 pub mod Calling
+pub mod Beginning
 pub mod DeclaringPorts

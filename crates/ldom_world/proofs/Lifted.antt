@@ -3,14 +3,14 @@ use Rattle.std.proofs.Common.{◌≡◌, ℕ, ◌+◌, ◌≤◌, ◌<◌, Bool,
 use Rattle.std.specs.Prelude.{IfOk, OnErr, OnOk}
 use Rattle.std.proofs.lemmas.Result.{IfOk-weaker, on_err_weaker, on_ok_weaker}
 use Rattle.lane_kinds.specs.Both.{BothStep}
-use Rattle.disk_model.specs.DiskEvent.{DiskEvent}
-use Rattle.switch_laws.specs.Events.{SwitchEvent}
-use Rattle.world_laws.specs.Settle.{OfLane, OfPort, SettleEntry}
-use Rattle.world_laws.specs.World.{WorldState, WorldStep}
-use Rattle.world_laws.specs.Issued.{issued_on}
-use Rattle.domain_laws.specs.Domain.{DomainState, DomainStep, PortsStep, lanes_in}
-use Rattle.domain_laws.specs.Lines.{BeginsPart, Line, Nothing, PartOf}
-use Rattle.domain_laws.specs.PortState.{PortState}
+use Rattle.world_parts.specs.disk_model.DiskEvent.{DiskEvent}
+use Rattle.world_parts.specs.switch_laws.Events.{SwitchEvent}
+use Rattle.world_parts.specs.world_laws.Settle.{OfLane, OfPort, SettleEntry}
+use Rattle.world_parts.specs.world_laws.World.{WorldState, WorldStep}
+use Rattle.world_parts.specs.world_laws.Issued.{issued_on}
+use Rattle.world_parts.specs.domain_laws.Domain.{DomainState, DomainStep, PortsStep, lanes_in}
+use Rattle.world_parts.specs.domain_laws.Lines.{BeginsPart, Line, Nothing, PartOf}
+use Rattle.world_parts.specs.port_model.PortState.{PortState}
 use Rattle.ldom_entries.specs.declared.entry.Entry.{Entry}
 use Rattle.ldom_report.specs.Report.{accepted_count}
 use Rattle.switched_ports.proofs.Entries.{below_later}

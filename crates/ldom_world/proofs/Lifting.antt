@@ -5,13 +5,13 @@ use Rattle.std.specs.Prelude.{OnErr, OnOk}
 use Rattle.std.proofs.lemmas.List.Sums.{count_by-le-length, sum_by_push}
 use Rattle.runs.specs.Run.{Run}
 use Rattle.disk_law.specs.ListState.{ImageState}
-use Rattle.disk_model.specs.DiskEvent.{DiskEvent}
-use Rattle.disk_model.specs.LaneState.{LaneState}
+use Rattle.world_parts.specs.disk_model.DiskEvent.{DiskEvent}
+use Rattle.world_parts.specs.disk_model.LaneState.{LaneState}
 use Rattle.ldc_queue.specs.declared.end.End.{End}
-use Rattle.world_laws.specs.Settle.{OfLane, SettleEntry}
-use Rattle.world_laws.proofs.Along.{lane_step}
-use Rattle.domain_laws.specs.Lines.{Line, Nothing}
-use Rattle.world_laws.specs.World.{LaneMoves, OneMoves, WorldState, WorldStep}
+use Rattle.world_parts.specs.world_laws.Settle.{OfLane, SettleEntry}
+use Rattle.world_parts.proofs.world_laws.Along.{lane_step}
+use Rattle.world_parts.specs.domain_laws.Lines.{Line, Nothing}
+use Rattle.world_parts.specs.world_laws.World.{LaneMoves, OneMoves, WorldState, WorldStep}
 use Rattle.ldom_entries.specs.JournalState.{JournalState}
 use Rattle.world_parts.specs.WorldEvents.{world_event}
 use Rattle.ldom_report.specs.Report.{accepted_count, is_accepted}
@@ -21,13 +21,13 @@ use Rattle.ldom_world.proofs.Leaving.{entry_left, left_of, none_accepted}
 use Rattle.ldom_world.proofs.Telling.{entry_tells, none_more}
 use Rattle.ldom_world.specs.OneLane.{EndSteps, LaneSteps, RecordedBut, Records}
 use Rattle.ldom_world.specs.Resting.{left_out}
-use Rattle.world_laws.proofs.LoopKeeping.{issued_set, next_is}
-use Rattle.world_laws.specs.Issued.{issued_on, next_behind}
+use Rattle.world_parts.proofs.world_laws.LoopKeeping.{issued_set, next_is}
+use Rattle.world_parts.specs.world_laws.Issued.{issued_on, next_behind}
 use Rattle.ldom_world.specs.Steps.{MakesQuietStep, MakesStep}
 use Rattle.ldom_world.specs.TurnsMade.{SameNumbers}
 use Rattle.world_parts.specs.Parts.{Adds, Fits, FitsSoFar}
-use Rattle.domain_laws.specs.Domain.{DomainState, DomainStep}
-use Rattle.domain_laws.proofs.Running.{disks_run, ports_many, ports_run}
+use Rattle.world_parts.specs.domain_laws.Domain.{DomainState, DomainStep}
+use Rattle.world_parts.proofs.domain_laws.Running.{disks_run, ports_many, ports_run}
 
 -- A LANE BY ITS NUMBER
 pub there_at : (lanes : List LaneState) (k : ℕ) (s : LaneState) → k < length lanes → s ≡ get_or lanes k s

@@ -1,17 +1,17 @@
 -- A world by its parts: lanes over an image, and one lane of them set; and what a line asked of that lane.
 use Rattle.std.proofs.Common.{◌≡◌, ℕ, ◌<◌, List, [], ◌∷◌, ◌++◌, length, slice_get, slice_set, get_or, Some, refl, sym, ap, subst, ◌∙◌}
 use Rattle.disk_law.specs.ListState.{ImageState}
-use Rattle.disk_model.specs.DiskEvent.{DiskEvent}
-use Rattle.disk_model.specs.LaneState.{LaneState}
-use Rattle.world_laws.specs.Settle.{OfLane}
-use Rattle.domain_laws.specs.Lines.{Line}
-use Rattle.world_laws.specs.World.{OneMoves, WorldState, WorldStep}
+use Rattle.world_parts.specs.disk_model.DiskEvent.{DiskEvent}
+use Rattle.world_parts.specs.disk_model.LaneState.{LaneState}
+use Rattle.world_parts.specs.world_laws.Settle.{OfLane}
+use Rattle.world_parts.specs.domain_laws.Lines.{Line}
+use Rattle.world_parts.specs.world_laws.World.{OneMoves, WorldState, WorldStep}
 use Rattle.ldom_entries.specs.declared.entry.Entry.{Entry}
 use Rattle.ldom_report.specs.Report.{accepted_count}
 use Rattle.ldom_world.proofs.Adding.{one_adds}
 use Rattle.ldom_world.proofs.Lifting.{agrees_after, many_same, one_moves, there_at}
 use Rattle.ldom_world.specs.OneLane.{LaneAnswers}
-use Rattle.world_laws.specs.Issued.{issued_on}
+use Rattle.world_parts.specs.world_laws.Issued.{issued_on}
 use Rattle.ldom_world.specs.Steps.{MakesAnswer}
 
 abbrev pub over : List LaneState → ImageState → WorldState

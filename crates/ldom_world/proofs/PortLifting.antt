@@ -1,27 +1,28 @@
 -- One event of one port: what it does to the ports, which part of the journal it gives, and how many frames were given.
 use Rattle.std.proofs.Common.{◌≡◌, ℕ, ◌+◌, ◌-◌, ◌^◌, ◌<◌, ◌≤◌, Bool, true, false, cond, Option, Some, None, List, [], ◌∷◌, ◌++◌, length, is_some, IfNone, refl, sym, ap, subst, ◌∙◌, arith, length-append}
+use Rattle.std.proofs.lemmas.Bool.{and_parts}
 use Rattle.std.specs.Prelude.{◌&&◌, if◌then◌else◌}
-use Rattle.domain_laws.proofs.Running.{ports_many}
-use Rattle.domain_laws.specs.Domain.{IsOwn, PortsStep}
-use Rattle.domain_laws.specs.Lines.{Line, Nothing}
-use Rattle.domain_laws.specs.PortState.{PortState}
+use Rattle.world_parts.proofs.domain_laws.Running.{ports_many}
+use Rattle.world_parts.specs.domain_laws.Domain.{IsOwn, PortsStep}
+use Rattle.world_parts.specs.domain_laws.Lines.{Line, Nothing}
+use Rattle.world_parts.specs.port_model.PortState.{PortState}
 use Rattle.ldc_queue.specs.declared.end.End.{End}
 use Rattle.ldc_queue.specs.declared.end.End.TheVariants.{A, B}
 use Rattle.ldom_entries.specs.JournalState.{JournalState}
 use Rattle.ldom_entries.specs.declared.entry.Entry.{Entry}
 use Rattle.ldom_report.specs.Report.{accepted_count, is_accepted}
 use Rattle.lane_kinds.specs.Lanes.{EntryOf}
-use Rattle.net_lane.specs.Stepping.{net_answer}
-use Rattle.net_lane.specs.net_out.NetOut.{NetOut}
-use Rattle.net_lane.specs.net_out.NetOut.TheVariants as out
-use Rattle.port_model.specs.NetEndStep.{Frame, NetAnswer}
-use Rattle.switch_laws.specs.Events.{SwitchEvent}
-use Rattle.switch_laws.specs.Ports.{IsStepOf, is_silent, ports as kind}
+use Rattle.switched_ports.specs.net_lane.Stepping.{net_answer}
+use Rattle.switched_ports.specs.net_lane.net_out.NetOut.{NetOut}
+use Rattle.switched_ports.specs.net_lane.net_out.NetOut.TheVariants as out
+use Rattle.world_parts.specs.port_model.NetEndStep.{Frame, NetAnswer}
+use Rattle.world_parts.specs.switch_laws.Events.{SwitchEvent}
+use Rattle.world_parts.specs.switch_laws.Ports.{IsStepOf, is_silent, ports as kind}
 use Rattle.switched_ports.proofs.Entries.{below_later, one_more}
 use Rattle.switched_ports.specs.Events.{is_switched, step_event}
 use Rattle.switched_ports.specs.Given.{GivenBelow, GivesNoMore, GivesOneMore}
-use Rattle.vnet_switch.specs.declared.forwarding.Switched.{Switched as Sets}
-use Rattle.world_laws.specs.Settle.{OfPort, SettleEntry}
+use Rattle.switched_ports.specs.vnet_switch.declared.forwarding.Switched.{Switched as Sets}
+use Rattle.world_parts.specs.world_laws.Settle.{OfPort, SettleEntry}
 use Rattle.ldom_world.proofs.Adding.{none_adds, one_adds}
 use Rattle.ldom_world.proofs.Lifting.{count_push}
 use Rattle.ldom_world.specs.OnePort.{GivesBut, PortAnswers, PortEndSteps, PortLeaves, PortRecordedBut, PortRecords, TellsPort}
@@ -162,22 +163,20 @@ gives_by : (left : Bool) (w v : List PortState) → (left ≡ true → GivesNoMo
 gives_by true w v none one = none refl
 gives_by false w v none one = one
 
-second_of : (a b : Bool) → (a && b) ≡ true → b ≡ true
-second_of true b both = both
-second_of false b both = absurd (cc both)
-
-pub end_stepped : (in_settle : Bool) (k : ℕ) (e : End) (w v : List PortState) (answer : NetOut) (last : List ℕ)
-    (sets : Option Sets) (old new : JournalState) (calm : Bool)
+pub end_stepped : (in_settle : Bool) (k : ℕ) (e : End) (w v : List PortState) (answer : NetOut) (last frame : List ℕ)
+    (sets : Option Sets) (old new : JournalState) (calm : Bool) → frame ≡ last
     → EntryOf kind k w (step_event e (net_answer answer last) sets) v → is_some sets ≡ is_switched e answer
     → GivesOneMore w v → IfNone sets (GivesNoMore w v)
-    → PortLeaves in_settle k (step_event e (net_answer answer last) sets) old calm new
+    → PortLeaves in_settle k (step_event e (net_answer answer frame) sets) old calm new
     → PortEndSteps in_settle k e w old calm new v
-end_stepped in_settle k e w v answer last sets old new calm entry switched one none leaves = record {
-  event = step_event e (net_answer answer last) sets;
-  of_end = step_of_end e (net_answer answer last) sets;
-  moves = step_moves k w e (net_answer answer last) sets v entry;
+end_stepped in_settle k e w v answer last frame sets old new calm same entry switched one none leaves = record {
+  event = step_event e (net_answer answer frame) sets;
+  of_end = step_of_end e (net_answer answer frame) sets;
+  moves =
+      step_moves k w e (net_answer answer frame) sets v
+      (subst (λ (l : List ℕ). EntryOf kind k w (step_event e (net_answer answer l) sets) v) (sym same) entry);
   leaves = leaves;
-  gives = gives_by (in_settle && is_silent (step_event e (net_answer answer last) sets)) w v
-      (λ left. none_given e answer last sets (GivesNoMore w v)
-      (second_of in_settle (is_silent (step_event e (net_answer answer last) sets)) left) switched none) one;
+  gives = gives_by (in_settle && is_silent (step_event e (net_answer answer frame) sets)) w v
+      (λ left. none_given e answer frame sets (GivesNoMore w v)
+      (and_parts in_settle (is_silent (step_event e (net_answer answer frame) sets)) left).1 switched none) one;
 }

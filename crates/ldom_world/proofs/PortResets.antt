@@ -1,113 +1,92 @@
--- A step of a port's end that resets it without a packet does so for what it read in the peer's memory.
-use Rattle.std.proofs.Common.{◌≡◌, ℕ, zero, suc, ◌+◌, ◌<◌, ◌==◌, Bool, true, false, Option, Some, None, List, [], ◌∷◌, length, refl, sym, ap, subst, ◌∙◌, arith}
-use Rattle.std.proofs.lemmas.Bool.{eq-eqb}
-use Rattle.std.specs.Prelude.{if◌then◌else◌, ⊤}
-use Rattle.cookie_copy.specs.Reach.{Reach}
-use Rattle.cookie_copy.specs.declared.fault.CopyFault.{CopyFault}
-use Rattle.lane_kinds.specs.Lanes.{AllStep, EntryOf, own_or}
-use Rattle.ldc_link.specs.declared.phase.Role.{Role}
+-- A step of a port's end: the frame that it takes has its length, and the cause for which it resets itself is its own.
+use Rattle.std.proofs.Common.{◌≡◌, ℕ, ◌<◌, ◌≤◌, List, length, Option, Some, slice_get, ap, arith}
+use Rattle.world_parts.specs.channel_model.WireEvent.{ByStep, giver}
+use Rattle.lane_kinds.proofs.Moving.{each_there}
+use Rattle.lane_kinds.proofs.Places.{get_within}
+use Rattle.lane_kinds.specs.Lanes.{EachOf, EntryOf}
 use Rattle.ldc_queue.specs.declared.end.End.{End}
 use Rattle.ldc_queue.specs.declared.end.End.TheVariants.{A, B}
-use Rattle.net_lane.specs.Stepping.{net_answer}
-use Rattle.net_lane.specs.net_out.NetOut.{NetOut}
-use Rattle.net_lane.specs.net_out.NetOut.TheVariants as out
-use Rattle.port_model.specs.Fetching.{Fetched, IsFrame, NotReady, Refuses, copied, described, fetched, frame_fault, mark_fault, marked, read, slot_read}
-use Rattle.port_model.specs.NetEndRule.{Fetches, NetRule, Takes}
-use Rattle.port_model.specs.NetEndState.{Activity, NetEndState}
-use Rattle.port_model.specs.NetEndStep.{FetchFails, NetFails}
-use Rattle.port_model.specs.PortState.{PortState}
-use Rattle.runs.specs.Run.{Run}
-use Rattle.switch_laws.specs.Events.{SwitchEvent, SwitchStep}
-use Rattle.switch_laws.specs.Ports.{ports as kind}
+use Rattle.switched_ports.specs.net_lane.Stepping.{net_answer}
+use Rattle.switched_ports.specs.net_lane.net_out.NetOut.{NetOut}
+use Rattle.switched_ports.specs.net_lane.net_out.NetOut.TheVariants as out
+use Rattle.world_parts.proofs.port_model.OwnResets.{net_resets_own}
+use Rattle.world_parts.specs.port_model.NetEndRule.{port_rule}
+use Rattle.world_parts.specs.port_model.NetEndStep.{Frame, NetAnswer, Reset}
+use Rattle.world_parts.specs.port_model.NetEvent.{Steps}
+use Rattle.world_parts.specs.port_model.NetLaneState.{NetLaneState, memory_of, net_end, reach_of, role_at, seen_at}
+use Rattle.world_parts.specs.port_model.PortState.{OnLane, PortState, PortStep, before}
+use Rattle.world_parts.proofs.switch_laws.Forwarding.{leaves_others}
+use Rattle.world_parts.specs.switch_laws.Events.{SwitchStep}
+use Rattle.world_parts.specs.switch_laws.Ports.{ports as kind}
+use Rattle.world_parts.specs.switch_laws.Reached.{IsReached}
+use Rattle.switched_ports.proofs.Switching.{takes_frame}
 use Rattle.switched_ports.specs.Events.{step_event}
+use Rattle.switched_ports.specs.HubSteps.{TakesFrame}
 use Rattle.vio_tag.specs.declared.cause.Cause.{Cause}
-use Rattle.vio_tag.specs.declared.cause.Cause.TheVariants as the_cause
-use Rattle.vnet_msg.specs.Descriptor.{NetDesc}
-use Rattle.vnet_switch.specs.declared.forwarding.Switched.{Switched as Sets}
-use Rattle.ldom_world.specs.OnePort.{IsOwnReset}
+use Rattle.switched_ports.specs.vnet_switch.declared.forwarding.Switched.{Switched as Sets}
+use Rattle.ldom_world.specs.OnePort.{HasRoomForFrame, IsOwnReset}
 
--- no script asked for it, and no tick
-abbrev IsFound : Cause → Type 0
-IsFound the_cause.Asked = ⊥
-IsFound the_cause.Tick = ⊥
-IsFound _ = ⊤
+-- WHAT A STEP IS for the port itself, whether its frame is switched or not
+own_step : (e : End) (s : PortState) (answer : NetAnswer) (sets : Option Sets) (t : PortState)
+    → SwitchStep s (step_event e answer sets) t → PortStep s (OnLane (Steps e answer)) t
+own_step B s (Frame frame) (Some sets) t step = step
+own_step A s answer sets t step = step.1
+own_step B s answer sets t step = step.1
 
-abbrev RefusesFound : Fetched → Type 0
-RefusesFound (Refuses why) = IsFound why
-RefusesFound _ = ⊤
+-- and that of the port with this number, in an entry of all
+record StepAt (k : ℕ) (w : List PortState) (e : End) (answer : NetAnswer) : Type 0 where
+  from : PortState
+  behind : PortState
+  there : slice_get w k ≡ Some from
+  step : PortStep from (OnLane (Steps e answer)) behind
 
-marked_found : (s : NetEndState) (reach : Reach) (slot : ℕ) (desc : NetDesc) (frame : List ℕ) (fault : Option CopyFault)
-    → RefusesFound (marked s reach slot desc frame fault)
-marked_found s reach slot desc frame (Some why) = tt
-marked_found s reach slot desc frame None = tt
+step_at : (k : ℕ) (w : List PortState) (e : End) (answer : NetAnswer) (sets : Option Sets) (v : List PortState)
+    → EntryOf kind k w (step_event e answer sets) v → StepAt k w e answer
+step_at k w e answer sets v entry =
+    let others = leaves_others k w (step_event e answer sets) v entry.step in
+    let one = get_within w k entry.within in
+    let two = get_within v k (omega (arith, entry.within, others.many)) in
+    record {
+      from = one.0;
+      behind = two.0;
+      there = one.1;
+      step = own_step e one.0 answer sets two.0 (others.own one.0 two.0 one.1 two.1);
+    }
 
-copied_found : (s : NetEndState) (reach : Reach) (slot : ℕ) (desc : NetDesc) (fault : Option CopyFault)
-    → RefusesFound (copied s reach slot desc fault)
-copied_found s reach slot desc (Some why) = tt
-copied_found s reach slot desc None = marked_found s reach slot desc _ (mark_fault s reach slot)
+-- ITS RESETS are for causes of its own
+own_cause : (e : End) (s : PortState) (cause : Cause) (packet : Option (List ℕ)) (lost : ℕ) (t : PortState)
+    → PortStep s (OnLane (Steps e (Reset cause packet lost))) t → giver cause ≡ ByStep
+own_cause e s cause packet lost t step =
+    let lane : NetLaneState = (before (Steps e (Reset cause packet lost)) s).lane in
+    net_resets_own (role_at e) (port_rule (role_at e) (net_end e lane) (seen_at e lane)) (net_end e lane)
+    (memory_of e lane) (reach_of e lane) cause packet step.1.step.0
 
-if_found : (b : Bool) (one two : Fetched) → RefusesFound one → RefusesFound two → RefusesFound (if b then one else two)
-if_found true one two first second = first
-if_found false one two first second = second
+own_reset : (e : End) (s : PortState) (answer : NetOut) (last : List ℕ) (t : PortState)
+    → PortStep s (OnLane (Steps e (net_answer answer last))) t → IsOwnReset answer
+own_reset e s (out.Reset cause packet lost) last t step = own_cause e s cause packet lost t step
+own_reset e s answer last t step = tt
 
-read_found : (s : NetEndState) (reach : Reach) (slot : ℕ) (bytes : List ℕ) → RefusesFound (read s reach slot bytes)
-read_found s reach slot bytes =
-    if_found _ (described s reach slot _) (NotReady _)
-    (if_found _ (copied s reach slot _ (frame_fault reach _)) (Refuses _) (copied_found s reach slot _ (frame_fault reach _))
-    tt) tt
+-- ITS FRAMES fit into the room that was made for the longest
+fits_in : (answer : NetOut) (last : List ℕ) → TakesFrame answer last → HasRoomForFrame answer last 1514
+fits_in (out.Frame len) last is = is.most
+fits_in answer last is = tt
 
-slot_found : (s : NetEndState) (reach : Reach) (slot : ℕ) (fault : Option CopyFault)
-    → RefusesFound (slot_read s reach slot fault)
-slot_found s reach slot (Some why) = tt
-slot_found s reach slot None = read_found s reach slot _
+pub in_more_room : (answer : NetOut) (last frame : List ℕ) (least room : ℕ) → HasRoomForFrame answer last least
+    → frame ≡ last → least ≤ room → HasRoomForFrame answer frame room
+in_more_room (out.Frame len) last frame least room fits same more =
+    omega (arith, fits, ap (λ (l : List ℕ). length l) same, more)
+in_more_room answer last frame least room fits same more = tt
 
-fails_found : (found : Fetched) (activity : Activity) (slot : ℕ) (cause : Cause) → RefusesFound found
-    → FetchFails found activity slot cause → IsFound cause
-fails_found (IsFrame frame new) activity slot cause is fails = absurd fails
-fails_found (NotReady state) activity slot cause is fails = subst IsFound (sym fails.1) tt
-fails_found (Refuses why) activity slot cause is fails = subst IsFound (sym fails) is
+module _ (k : ℕ) (w : List PortState) (e : End) (answer : NetOut) (last : List ℕ) (sets : Option Sets)
+    (v : List PortState) (entry : EntryOf kind k w (step_event e (net_answer answer last) sets) v) where
+  step_there : StepAt k w e (net_answer answer last)
+  step_there = step_at k w e (net_answer answer last) sets v entry
 
-step_found : (role : Role) (rule : NetRule) (s : NetEndState) (memory : List ℕ) (reach : Reach) (cause : Cause)
-    → NetFails role rule s memory reach cause None → IsFound cause
-step_found role (Takes bytes) s memory reach cause fails = absurd (cc fails.0)
-step_found role (Fetches session activity) s memory reach cause fails =
-    fails_found (fetched s reach session.place) activity session.place cause (slot_found s reach session.place _) fails.1
-step_found role rule s memory reach cause fails = absurd fails
+  pub entry_resets : IsOwnReset answer
+  entry_resets = own_reset e step_there.from answer last step_there.behind step_there.step
 
-own_reset : (e : End) (s : PortState) (answer : NetOut) (last : List ℕ) (sets : Option Sets) (t : PortState)
-    → SwitchStep s (step_event e (net_answer answer last) sets) t → IsOwnReset answer
-own_reset A s (out.Reset the_cause.Asked None lost) last sets t step = step_found _ _ _ _ _ the_cause.Asked step.1.1.step.0
-own_reset A s (out.Reset the_cause.Tick None lost) last sets t step = step_found _ _ _ _ _ the_cause.Tick step.1.1.step.0
-own_reset B s (out.Reset the_cause.Asked None lost) last sets t step = step_found _ _ _ _ _ the_cause.Asked step.1.1.step.0
-own_reset B s (out.Reset the_cause.Tick None lost) last sets t step = step_found _ _ _ _ _ the_cause.Tick step.1.1.step.0
-own_reset e s answer last sets t step = tt
-
--- THE PORT'S OWN STEP in an entry of all
-record OwnStep (event : SwitchEvent) : Type 0 where
-  before : PortState
-  after : PortState
-  step : SwitchStep before event after
-
-one_step : (j n : ℕ) (s : PortState) (event : SwitchEvent) (t : PortState) → j ≡ n
-    → Run SwitchStep s (own_or (j == n) event (kind.gets j event)) t → OwnStep event
-one_step j n s event t same run =
-    let one : Run SwitchStep s (event ∷ []) t =
-    subst (λ (c : Bool). Run SwitchStep s (own_or c event (kind.gets j event)) t) (eq-eqb j n same) run in
-    record { before = s; after = one.0; step = one.1 }
-
-own_step : (j k n : ℕ) (lanes : List PortState) (event : SwitchEvent) (behind : List PortState) → n ≡ j + k
-    → k < length lanes → AllStep kind j lanes n event behind → OwnStep event
-own_step j k n [] event behind place less step = absurd (omega (arith, less))
-own_step j zero n (s ∷ lanes) event (t ∷ behind) place less step = one_step j n s event t (omega (arith, place)) step.0
-own_step j (suc k) n (s ∷ lanes) event (t ∷ behind) place less step =
-    own_step (j + 1) k n lanes event behind (omega (arith, place)) (omega (arith, less)) step.1
-own_step j zero n (s ∷ lanes) event [] place less step = absurd step
-own_step j (suc k) n (s ∷ lanes) event [] place less step = absurd step
-
-pub entry_resets : (k : ℕ) (w : List PortState) (e : End) (answer : NetOut) (last : List ℕ) (sets : Option Sets)
-    (v : List PortState) → EntryOf kind k w (step_event e (net_answer answer last) sets) v → IsOwnReset answer
-entry_resets k w e answer last sets v entry =
-    let place : k ≡ 0 + k = omega (arith) in
-    let own : OwnStep (step_event e (net_answer answer last) sets) =
-    own_step 0 k k w (step_event e (net_answer answer last) sets) v place entry.within entry.step.step in
-    own_reset e own.before answer last sets own.after own.step
+  pub entry_fits : EachOf IsReached w → HasRoomForFrame answer last 1514
+  entry_fits reached =
+      fits_in answer last
+      (takes_frame e step_there.from step_there.behind answer last
+      (each_there IsReached w k step_there.from reached step_there.there) step_there.step)

@@ -2,15 +2,15 @@
 use Rattle.std.proofs.Common.{◌≡◌, ℕ, ◌+◌, ◌<◌, ◌≤◌, Bool, true, false, Result, Ok, Err, List, [], ◌∷◌, ◌++◌, length, take, refl, sym, ap, subst, ◌∙◌, arith}
 use Rattle.std.specs.Prelude.{◌&&◌, ◌||◌, OnErr}
 use Rattle.lane_kinds.specs.LanesMade.{Marks, all_true, first_marks}
-use Rattle.world_laws.specs.Settle.{SettleEntry, Settled}
-use Rattle.domain_laws.proofs.Looping as going
-use Rattle.domain_laws.specs.Domain.{DomainState, lanes_in}
-use Rattle.domain_laws.specs.Going.{GoneOn, fresh_marks, most_rounds}
-use Rattle.domain_laws.specs.Lines.{LineBegins, LineMoves}
-use Rattle.domain_laws.specs.Lines as script
-use Rattle.domain_laws.specs.NamesMade.{AllNamed, NamesBegun}
-use Rattle.domain_laws.specs.RoundMade.{RoundBegun, RoundMade, all_quiet}
-use Rattle.domain_laws.specs.TicksMade.{TicksBegun, TicksMade}
+use Rattle.world_parts.specs.world_laws.Settle.{SettleEntry, Settled}
+use Rattle.world_parts.proofs.domain_laws.Looping as going
+use Rattle.world_parts.specs.domain_laws.Domain.{DomainState, lanes_in}
+use Rattle.world_parts.specs.domain_laws.Going.{GoneOn, fresh_marks, most_rounds}
+use Rattle.world_parts.specs.domain_laws.Lines.{LineBegins, LineMoves}
+use Rattle.world_parts.specs.domain_laws.Lines as script
+use Rattle.world_parts.specs.domain_laws.NamesMade.{AllNamed, NamesBegun}
+use Rattle.world_parts.specs.domain_laws.RoundMade.{RoundBegun, RoundMade, all_quiet}
+use Rattle.world_parts.specs.domain_laws.TicksMade.{TicksBegun, TicksMade}
 use Rattle.domain_script.specs.declared.fields.LaneKind.TheVariants as kinds
 use Rattle.ldom_entries.specs.declared.entry.Entry.{Entry}
 use Rattle.ldom_entries.specs.declared.entry.Entry.TheVariants as entry

@@ -2,13 +2,13 @@
 use Rattle.std.proofs.Common.{◌≡◌, ℕ, ◌+◌, ◌<◌, ◌≤◌, Bool, true, false, Option, Some, None, List, [], ◌∷◌, ◌++◌, length, map, take, slice_get, slice_set, refl, sym, ap, ◌∙◌, subst, arith, append-nil, length-append}
 use Rattle.std.specs.Prelude.{◌&&◌, ◌||◌, cond, if◌then◌else◌, not, IsSomeAnd}
 use Rattle.runs.specs.Run.{Run}
-use Rattle.disk_model.specs.DiskEvent.{CalmTick, Calms}
-use Rattle.disk_model.specs.LaneState.{LaneState}
-use Rattle.domain_laws.proofs.LoopKinds.{disk_gets, port_gets}
-use Rattle.domain_laws.specs.Domain.{DomainState, DomainStep}
-use Rattle.domain_laws.specs.Lines.{AnswersCall, AnswersOn, AnswersPortCall, Calls, Line, LaneName, OneEntry, OnePortEntry, Settles, Ticks}
-use Rattle.domain_laws.specs.NetEvent.{CalmTick as CalmPortTick, Ticked}
-use Rattle.domain_laws.specs.PortState.{PortState}
+use Rattle.world_parts.specs.disk_model.DiskEvent.{CalmTick, Calms}
+use Rattle.world_parts.specs.disk_model.LaneState.{LaneState}
+use Rattle.world_parts.proofs.domain_laws.LoopKinds.{disk_gets, port_gets}
+use Rattle.world_parts.specs.domain_laws.Domain.{DomainState, DomainStep}
+use Rattle.world_parts.specs.domain_laws.Lines.{AnswersCall, AnswersOn, AnswersPortCall, Calls, Line, LaneName, OneEntry, OnePortEntry, Settles, Ticks}
+use Rattle.world_parts.specs.port_model.NetEvent.{CalmTick as CalmPortTick, Ticked}
+use Rattle.world_parts.specs.port_model.PortState.{PortState}
 use Rattle.domain_script.specs.LaneKinds.{disk_of, lane_at, port_of}
 use Rattle.domain_script.specs.declared.event.Lane.{Lane}
 use Rattle.domain_script.specs.declared.fields.LaneKind.{LaneKind}
@@ -29,13 +29,13 @@ use Rattle.ldom_world.proofs.Lifting.{count_push}
 use Rattle.ldom_world.specs.SettleParts.{Grew, NamesGoOn, OneTicked, TicksGoOn}
 use Rattle.ldom_world.specs.Steps.{Counted}
 use Rattle.ldom_world.specs.WorldKinds.{in_world}
-use Rattle.switch_laws.specs.Ports.{waits_on as port_waits_on}
+use Rattle.world_parts.specs.switch_laws.Ports.{waits_on as port_waits_on}
 use Rattle.switched_ports.proofs.Entries.{below_later}
 use Rattle.switched_ports.specs.States.{PortAt}
-use Rattle.port_laws.specs.NetEndState.{unseen}
-use Rattle.world_laws.specs.DiskKind.{tick, waits_on}
-use Rattle.world_laws.specs.Settle.{OfLane, OfPort, SettleEntry}
-use Rattle.world_laws.specs.World.{WorldState}
+use Rattle.world_parts.specs.port_laws.NetEndState.{unseen}
+use Rattle.world_parts.specs.world_laws.DiskKind.{tick, waits_on}
+use Rattle.world_parts.specs.world_laws.Settle.{OfLane, OfPort, SettleEntry}
+use Rattle.world_parts.specs.world_laws.World.{WorldState}
 use Rattle.world_parts.specs.Lines.{IsLaneOf, number_of_kind, of_kind}
 use Rattle.world_parts.specs.Parts.{Adds, Fits, FitsSoFar, PartSays}
 use Rattle.world_parts.specs.WorldEvents.{calm_event, if_so, is_lane, left_over, meant, of_net, told_of, world_event}

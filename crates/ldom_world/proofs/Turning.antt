@@ -3,10 +3,10 @@
 use Rattle.std.proofs.Common.{◌≡◌, ℕ, zero, suc, ◌+◌, ◌-◌, ◌<◌, Result, Ok, Err, List, [], ◌∷◌, ◌++◌, length, replicate, refl, sym, ap, ap₂, subst, ◌∙◌, arith, append_assoc, append-nil}
 use Rattle.std.specs.Prelude.{OnErr}
 use Rattle.runs.specs.Run.{Run, run_append}
-use Rattle.world_laws.specs.Settle.{OfLane, OfPort, SettleEntry}
-use Rattle.domain_laws.proofs.Running.{disks_run, ports_many, ports_run}
-use Rattle.domain_laws.specs.Domain.{DomainState, DomainStep, Lanes, lanes_in}
-use Rattle.domain_laws.specs.Lines.{AreSteps, DiskLane, EndTurn, LaneName, PortLane, Rounds, Steps, both_ends, lanes_from, round_turns, turn, turns_of}
+use Rattle.world_parts.specs.world_laws.Settle.{OfLane, OfPort, SettleEntry}
+use Rattle.world_parts.proofs.domain_laws.Running.{disks_run, ports_many, ports_run}
+use Rattle.world_parts.specs.domain_laws.Domain.{DomainState, DomainStep, Lanes, lanes_in}
+use Rattle.world_parts.specs.domain_laws.Lines.{AreSteps, DiskLane, EndTurn, LaneName, PortLane, Rounds, Steps, both_ends, lanes_from, round_turns, turn, turns_of}
 use Rattle.domain_script.specs.declared.fields.LaneKind.{LaneKind}
 use Rattle.domain_script.specs.declared.fields.LaneKind.TheVariants as kinds
 use Rattle.ldc_queue.specs.declared.end.End.{End}

@@ -3,15 +3,15 @@ use Rattle.std.specs.Prelude.{ℕ}
 use Rattle.domain_script.specs.declared.event.EndName.{EndName}
 use Rattle.domain_script.specs.declared.event.Side.{Side}
 use Rattle.domain_script.specs.LaneKinds.{disk_lane, port_lane}
-use Rattle.domain_laws.specs.Lines.{Call}
-use Rattle.domain_laws.specs.Lines as script
+use Rattle.world_parts.specs.domain_laws.Lines.{Call}
+use Rattle.world_parts.specs.domain_laws.Lines as script
 use Rattle.ldom_report.specs.LaneEvents.{end_of}
 use Rattle.ldom_entries.specs.declared.entry.Entry.{Entry}
 use Rattle.ldom_entries.specs.declared.entry.Entry.TheVariants as entry
 use Rattle.ldom_entries.specs.declared.entry.Who.TheVariants as who
 use Rattle.ldom_entries.specs.declared.entry.Why.TheVariants.{Count, Range}
-use Rattle.vdisk_client.specs.declared.answers.IssueFault.{IssueFault}
-use Rattle.vdisk_client.specs.declared.answers.IssueFault.TheVariants as fault
+use Rattle.disk_lane.specs.vdisk_client.declared.answers.IssueFault.{IssueFault}
+use Rattle.disk_lane.specs.vdisk_client.declared.answers.IssueFault.TheVariants as fault
 use Rattle.ldom_world.specs.declared.calls.LaneCall.{LaneCall}
 use Rattle.ldom_world.specs.declared.calls.LaneCall.TheVariants as lane
 

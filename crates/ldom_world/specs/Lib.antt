@@ -8,3 +8,4 @@ pub mod WorldKinds
 pub mod Steps
 pub mod TurnsMade
 pub mod SettleParts
+pub use Rattle.world_parts.specs as world_parts

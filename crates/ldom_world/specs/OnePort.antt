@@ -1,24 +1,24 @@
 -- One event of one port, and what it leaves in the journal.
 use Rattle.std.specs.Prelude.{◌≡◌, ℕ, ◌≤◌, Bool, true, false, ◌&&◌, List, length, Option, Some, None, ⊤}
+use Rattle.world_parts.specs.channel_model.WireEvent.{ByStep, giver}
 use Rattle.ldc_queue.specs.declared.end.End.{End}
-use Rattle.net_lane.specs.net_out.NetOut.{NetOut}
-use Rattle.net_lane.specs.net_out.NetOut.TheVariants as out
-use Rattle.domain_laws.specs.Domain.{PortsStep}
-use Rattle.domain_laws.specs.PortState.{PortState}
-use Rattle.domain_laws.specs.Lines.{Line}
-use Rattle.switch_laws.specs.Events.{SwitchEvent}
-use Rattle.switch_laws.specs.Ports.{IsStepOf, is_calm, is_silent}
+use Rattle.switched_ports.specs.net_lane.net_out.NetOut.{NetOut}
+use Rattle.switched_ports.specs.net_lane.net_out.NetOut.TheVariants as out
+use Rattle.world_parts.specs.domain_laws.Domain.{PortsStep}
+use Rattle.world_parts.specs.port_model.PortState.{PortState}
+use Rattle.world_parts.specs.domain_laws.Lines.{Line}
+use Rattle.world_parts.specs.switch_laws.Events.{SwitchEvent}
+use Rattle.world_parts.specs.switch_laws.Ports.{IsStepOf, is_calm, is_silent}
 use Rattle.switched_ports.specs.Given.{GivesNoMore, GivesOneMore}
-use Rattle.world_laws.specs.Settle.{OfPort, SettleEntry}
+use Rattle.world_parts.specs.world_laws.Settle.{OfPort, SettleEntry}
 use Rattle.ldom_entries.specs.JournalState.{JournalState, PutsEntry}
 use Rattle.domain_script.specs.declared.event.EndName.{EndName}
 use Rattle.domain_script.specs.declared.fields.LaneKind.{LaneKind}
 use Rattle.domain_script.specs.declared.fields.LaneKind.TheVariants as kinds
 use Rattle.kept_requests.specs.Bytes.{BytesState}
 use Rattle.ldom_entries.specs.declared.entry.Entry.{Entry}
-use Rattle.ldom_entries.specs.declared.entry.Entry.TheVariants as entry
-use Rattle.vio_tag.specs.declared.cause.Cause.TheVariants as the_cause
-use Rattle.vnet_switch.specs.declared.forwarding.Switched.{Switched as Sets}
+use Rattle.ldom_entries.specs.declared.entry.Entry.TheVariants as the_entry
+use Rattle.switched_ports.specs.vnet_switch.declared.forwarding.Switched.{Switched as Sets}
 use Rattle.ldom_report.specs.Report.{is_accepted}
 use Rattle.ldom_world.specs.declared.calls.LaneCall.{LaneCall}
 use Rattle.ldom_world.specs.declared.calls.LaneCall.TheVariants as lane
@@ -41,7 +41,8 @@ PortRecordedBut true k event s t = t ≡ s
 PortRecordedBut false k event s t = PortRecords k event s t
 
 -- WHAT A STEP LEAVES in the journal, in a settle or not: there one that idles is left out; and whether it was calm
-pub record PortLeaves (in_settle : Bool) (k : ℕ) (event : SwitchEvent) (s : JournalState) (calm : Bool) (t : JournalState) : Type 0 where
+pub record PortLeaves (in_settle : Bool) (k : ℕ) (event : SwitchEvent) (s : JournalState) (calm : Bool)
+    (t : JournalState) : Type 0 where
   pub calm_is : calm ≡ is_calm event
   pub recorded : PortRecordedBut (in_settle && is_silent event) k event s t
 
@@ -51,7 +52,8 @@ GivesBut true w v = GivesNoMore w v
 GivesBut false w v = GivesOneMore w v
 
 -- A STEP OF AN END of a port, with what it leaves in the journal
-pub record PortEndSteps (in_settle : Bool) (k : ℕ) (e : End) (w : List PortState) (old : JournalState) (calm : Bool) (new : JournalState) (v : List PortState) : Type 0 where
+pub record PortEndSteps (in_settle : Bool) (k : ℕ) (e : End) (w : List PortState) (old : JournalState) (calm : Bool)
+    (new : JournalState) (v : List PortState) : Type 0 where
   pub event : SwitchEvent
   pub of_end : IsStepOf e event
   pub moves : PortsStep w (OfPort k event) v
@@ -59,7 +61,8 @@ pub record PortEndSteps (in_settle : Bool) (k : ℕ) (e : End) (w : List PortSta
   pub gives : GivesBut (in_settle && is_silent event) w v
 
 -- WHAT A LINE ASKED of a port came to, and the entry of it
-pub record PortAnswers (line : Line) (k : ℕ) (Answers : SwitchEvent → Type 0) (w : List PortState) (entry : Entry) (v : List PortState) : Type 0 where
+pub record PortAnswers (line : Line) (k : ℕ) (Answers : SwitchEvent → Type 0) (w : List PortState) (entry : Entry)
+    (v : List PortState) : Type 0 where
   pub event : SwitchEvent
   pub answers : Answers event
   pub moves : PortsStep w (OfPort k event) v
@@ -87,16 +90,15 @@ abbrev pub IsCallOf : LaneKind → LaneCall → Type 0
 IsCallOf kinds.Disk call = ⊤
 IsCallOf kinds.Port call = IsPortCall call
 
--- a step resets its end without a packet for what it read in the peer's memory: neither because a script asked, nor for a tick
+-- a step resets its end for a cause that a step gives: neither because a script asked, nor for a tick
 abbrev pub IsOwnReset : NetOut → Type 0
-IsOwnReset (out.Reset the_cause.Asked None lost) = ⊥
-IsOwnReset (out.Reset the_cause.Tick None lost) = ⊥
+IsOwnReset (out.Reset cause packet lost) = giver cause ≡ ByStep
 IsOwnReset _ = ⊤
 
 -- the entry of a frame that an end took: a guest, or the switch, with the ports that it is for
 abbrev pub frame_entry : EndName → Option Sets → BytesState → Entry
-frame_entry e (Some sets) bytes = entry.Switched e sets.out sets.full bytes
-frame_entry e None bytes = entry.Frame e bytes
+frame_entry e (Some sets) bytes = the_entry.Switched e sets.out sets.full bytes
+frame_entry e None bytes = the_entry.Frame e bytes
 
 -- what a step needs to put a frame that it takes; no other answer carries any bytes
 abbrev pub HasRoomForFrame : NetOut → List ℕ → ℕ → Type 0

@@ -4,13 +4,13 @@ use Rattle.lane_kinds.specs.LaneFronts.{RoundFront, TickFront}
 use Rattle.lane_kinds.specs.LanesMade.{Marks, RoundUpTo, TicksUpTo}
 use Rattle.lane_kinds.specs.WorldMade.{LaneTicked, NamesUpTo}
 use Rattle.ldc_queue.specs.declared.end.End.{End}
-use Rattle.world_laws.specs.Settle.{SettleEntry}
-use Rattle.domain_laws.specs.Domain.{DomainState, DomainStep}
-use Rattle.domain_laws.specs.Going.{GoneOn, most_rounds}
-use Rattle.domain_laws.specs.Lines as script
-use Rattle.domain_laws.specs.NamesMade.{AllNamed, NamesBegun}
-use Rattle.domain_laws.specs.RoundMade.{RoundBegun, RoundMade}
-use Rattle.domain_laws.specs.TicksMade.{TicksBegun, TicksMade}
+use Rattle.world_parts.specs.world_laws.Settle.{SettleEntry}
+use Rattle.world_parts.specs.domain_laws.Domain.{DomainState, DomainStep}
+use Rattle.world_parts.specs.domain_laws.Going.{GoneOn, most_rounds}
+use Rattle.world_parts.specs.domain_laws.Lines as script
+use Rattle.world_parts.specs.domain_laws.NamesMade.{AllNamed, NamesBegun}
+use Rattle.world_parts.specs.domain_laws.RoundMade.{RoundBegun, RoundMade}
+use Rattle.world_parts.specs.domain_laws.TicksMade.{TicksBegun, TicksMade}
 use Rattle.domain_script.specs.declared.fields.LaneKind.{LaneKind}
 use Rattle.ldom_entries.specs.declared.entry.Entry.{Entry}
 use Rattle.ldom_world.specs.declared.settling.LaneMarks.{LaneMarks}

@@ -2,17 +2,17 @@
 -- or of both.
 use Rattle.std.specs.Prelude.{◌≡◌, ℕ, ◌+◌, Bool, if◌then◌else◌, List, [], ◌∷◌, length}
 use Rattle.ldc_queue.specs.declared.end.End.{End}
-use Rattle.disk_model.specs.DiskEvent.{DiskEvent}
-use Rattle.switch_laws.specs.Events.{SwitchEvent}
-use Rattle.switch_laws.specs.Ports.{is_silent}
-use Rattle.switch_laws.specs.Ports as port
+use Rattle.world_parts.specs.disk_model.DiskEvent.{DiskEvent}
+use Rattle.world_parts.specs.switch_laws.Events.{SwitchEvent}
+use Rattle.world_parts.specs.switch_laws.Ports.{is_silent}
+use Rattle.world_parts.specs.switch_laws.Ports as port
 use Rattle.switched_ports.specs.Given.{GivenBelow}
-use Rattle.world_laws.specs.CalmEnds.{IsStep}
-use Rattle.world_laws.specs.DiskKind.{is_calm}
-use Rattle.world_laws.specs.Issued.{issued_on}
-use Rattle.world_laws.specs.Settle.{OfLane, OfPort, SettleEntry, entry_of}
-use Rattle.domain_laws.specs.Domain.{DomainState}
-use Rattle.domain_laws.specs.Lines.{Line}
+use Rattle.world_parts.specs.lane_laws.CalmEnds.{IsStep}
+use Rattle.world_parts.specs.world_laws.DiskKind.{is_calm}
+use Rattle.world_parts.specs.world_laws.Issued.{issued_on}
+use Rattle.world_parts.specs.world_laws.Settle.{OfLane, OfPort, SettleEntry, entry_of}
+use Rattle.world_parts.specs.domain_laws.Domain.{DomainState}
+use Rattle.world_parts.specs.domain_laws.Lines.{Line}
 use Rattle.ldom_entries.specs.declared.entry.Entry.{Entry}
 use Rattle.ldom_report.specs.Report.{accepted_count}
 use Rattle.world_parts.specs.Parts.{Adds}

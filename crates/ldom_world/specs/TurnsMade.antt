@@ -2,9 +2,9 @@
 use Rattle.std.specs.Prelude.{◌≡◌, ℕ, List, ◌++◌, length}
 use Rattle.runs.specs.Run.{Run}
 use Rattle.ldom_entries.specs.declared.entry.Entry.{Entry}
-use Rattle.world_laws.specs.Settle.{SettleEntry}
-use Rattle.domain_laws.specs.Domain.{DomainState, DomainStep}
-use Rattle.domain_laws.specs.Lines.{AreSteps, EndTurn, Line, both_ends, lanes_from}
+use Rattle.world_parts.specs.world_laws.Settle.{SettleEntry}
+use Rattle.world_parts.specs.domain_laws.Domain.{DomainState, DomainStep}
+use Rattle.world_parts.specs.domain_laws.Lines.{AreSteps, EndTurn, Line, both_ends, lanes_from}
 use Rattle.domain_script.specs.declared.fields.LaneKind.{LaneKind}
 use Rattle.world_parts.specs.Lines.{number_of_kind, of_kind}
 use Rattle.world_parts.specs.Parts.{Adds}

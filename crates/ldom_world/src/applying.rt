@@ -1,8 +1,8 @@
 // What a line of a script says, done to a world.
 
 ghost use Rattle.std.specs.Prelude.{◌≡◌, ◌<◌, length, take, OnErr, OnOk};
-ghost use Rattle.domain_laws.specs.Lines as script;
-ghost use Rattle.domain_laws.specs.Lines.{Asked, Calls, Joins, Pokes, Sends};
+ghost use Rattle.world_parts.specs.domain_laws.Lines as script;
+ghost use Rattle.world_parts.specs.domain_laws.Lines.{Asked, Calls, Joins, Pokes, Sends};
 ghost use Rattle.domain_script.specs.Fills.{IsPiece};
 ghost use Rattle.ldc_queue.specs.declared.end.End.TheVariants.{A};
 ghost use Rattle.ldom_report.specs.LaneEvents.{end_of};

@@ -9,11 +9,11 @@ ghost use Rattle.ldom_entries.specs.declared.entry.Entry.TheVariants as the_entr
 ghost use Rattle.ldom_entries.specs.declared.entry.Who.TheVariants as the_who;
 ghost use Rattle.ldom_world.specs.Called.{call_of};
 ghost use Rattle.ldom_world.specs.OneLane.{LaneAnswers};
-ghost use Rattle.domain_laws.specs.Lines as script;
-ghost use Rattle.domain_laws.specs.Lines.{AnswersCall, Calls, Injects, Loses, Resets, Restarts, Starts, Stops, Ticks};
+ghost use Rattle.world_parts.specs.domain_laws.Lines as script;
+ghost use Rattle.world_parts.specs.domain_laws.Lines.{AnswersCall, Calls, Injects, Loses, Resets, Restarts, Starts, Stops, Ticks};
 ghost use Rattle.ldom_world.specs.Steps.{MakesAnswer};
-ghost use Rattle.world_laws.specs.World.{WorldStep};
-ghost use Rattle.world_laws.specs.Issued.{issued_on};
+ghost use Rattle.world_parts.specs.world_laws.World.{WorldStep};
+ghost use Rattle.world_parts.specs.world_laws.Issued.{issued_on};
 
 use crate::disks::Disks;
 use crate::entries::{client_of, disk_end, end_of, server_of};

@@ -1,6 +1,6 @@
 ghost use Rattle.std.specs.Prelude.{◌≡◌, ◌≤◌, ◌<◌, ◌↔◌, [], IsTrue, length};
 ghost use Rattle.vio_io.specs.Causes.{last_count};
-ghost use Rattle.world_laws.specs.Rounds.{Each};
+ghost use Rattle.world_parts.specs.world_laws.Rounds.{Each};
 ghost use Rattle.disk_law.specs.ListState.{as_image};
 ghost use Rattle.world_parts.specs.Declared.{LiesWithin};
 
@@ -25,8 +25,8 @@ pub struct Disks<D: Store> {
 
 impl<D: Store> Model for Disks<D> {
     ghost use Rattle.std.specs.Prelude.{[], ◌≡◌, ◌≤◌, length};
-    ghost use Rattle.world_laws.specs.Rounds.{Each};
-    ghost use Rattle.world_laws.specs.World.{WorldState};
+    ghost use Rattle.world_parts.specs.world_laws.Rounds.{Each};
+    ghost use Rattle.world_parts.specs.world_laws.World.{WorldState};
     ghost use Rattle.ldom_world.specs.CachedImage.{cached_image};
     ghost use Rattle.world_parts.specs.Declared.{LiesWithin};
 

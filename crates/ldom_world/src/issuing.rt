@@ -1,14 +1,14 @@
 // Requests of guests.
 
 ghost use Rattle.std.specs.Prelude.{◌≡◌, ◌<◌, ◌-◌, ◌^◌, length, OnErr, OnOk};
-ghost use Rattle.domain_laws.specs.Lines.{AnswersRequest, Asked};
+ghost use Rattle.world_parts.specs.domain_laws.Lines.{AnswersRequest, Asked};
 ghost use Rattle.ldom_report.specs.Report.{accepted_count};
 ghost use Rattle.ldom_world.specs.Called.{refused_entry};
 ghost use Rattle.ldom_world.specs.OneLane.{RecordsAnswer};
-ghost use Rattle.world_laws.specs.Issued.{issued_on};
+ghost use Rattle.world_parts.specs.world_laws.Issued.{issued_on};
 ghost use Rattle.vdisk_msg.specs.Fills.{IsRequest};
 ghost use Rattle.ldom_world.specs.Steps.{MakesAnswer};
-ghost use Rattle.world_laws.specs.World.{WorldStep};
+ghost use Rattle.world_parts.specs.world_laws.World.{WorldStep};
 
 use crate::disks::Disks;
 use disk_lane::{DiskLane, IssueFault};

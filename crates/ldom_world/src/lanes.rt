@@ -1,13 +1,15 @@
 ghost use Rattle.std.specs.Prelude.{◌≡◌, ◌≤◌, ◌<◌, IfOk, length, map, Some, slice_get};
-ghost use Rattle.disk_model.specs.LaneState.{fresh};
-ghost use Rattle.disk_model.specs.Reached.{IsReached};
-ghost use Rattle.domain_laws.specs.PortState.{fresh_port};
+ghost use Rattle.world_parts.specs.disk_model.LaneState.{fresh};
+ghost use Rattle.world_parts.specs.disk_model.Reached.{IsReached};
+ghost use Rattle.world_parts.specs.port_model.NetLaneState.{IsNetShape};
+ghost use Rattle.world_parts.specs.port_model.PortState.{fresh_port};
 ghost use Rattle.domain_script.specs.Declarations.{AreDisks, ArePorts, IsDisk, IsPort};
 ghost use Rattle.lane_kinds.specs.Lanes.{EachOf};
-ghost use Rattle.switch_laws.specs.Forwards.{views};
-ghost use Rattle.switch_laws.specs.Reached as port;
+ghost use Rattle.world_parts.specs.switch_laws.Forwards.{views};
+ghost use Rattle.world_parts.specs.switch_laws.Reached as port;
+ghost use Rattle.switched_ports.specs.Shapes as the_shapes;
 ghost use Rattle.switched_ports.specs.States.{PortAt};
-ghost use Rattle.world_parts.specs.Declared.{nets_of, shape_of, shapes_of};
+ghost use Rattle.world_parts.specs.Declared.{net_of, nets_of, shape_of, shapes_of};
 
 use disk_lane::{DiskLane, Region};
 use domain_script::{DiskDecl, MOST_DISKS, MOST_PORTS, Names, PortDecl};
@@ -25,7 +27,7 @@ pub struct Lanes {
 }
 
 impl Model for Lanes {
-    ghost use Rattle.domain_laws.specs.Domain.{Lanes};
+    ghost use Rattle.world_parts.specs.domain_laws.Domain.{Lanes};
 
     ghost Value = { Lanes };
 
@@ -86,23 +88,38 @@ fn ports_of(alloc: Global, names: &Names) -> Result<Ports, NoMemory>
     requires { ArePorts names.now.ports }
     ensures { IfOk result (λ ports. ports ≡ map fresh_port (nets_of names.now.ports)) }
 {
+    let shapes = port_shapes(alloc, names)?;
+    Ports::new(alloc, &shapes)
+}
+
+/// What the declared ports are made with.
+fn port_shapes(alloc: Global, names: &Names) -> Result<Vec<PortShape>, NoMemory>
+    requires { ArePorts names.now.ports }
+    ensures shapes { IfOk result (λ shapes. the_shapes.shapes_of shapes.items ≡ nets_of names.now.ports) }
+    ensures sound { IfOk result (λ shapes. EachOf IsNetShape (nets_of names.now.ports)) }
+    ensures few { IfOk result (λ shapes. length shapes.items ≤ 8) }
+    ensures differ { IfOk result (λ shapes. the_shapes.AddressesDiffer (nets_of names.now.ports)) }
+{
     let mut shapes = Vec::with_capacity(alloc, MOST_PORTS)?;
     for k in 0..MOST_PORTS as u32 {
         let port = match names.port(k) {
             Some(port) => port,
-            None => break,
+            None => return Ok(shapes),
         };
         shapes.push(port_shape(&port))?;
     }
-    Ports::new(alloc, &shapes)
+    Ok(shapes)
 }
 
-/// What a declared port is made with.
+/// What a declared port is made with. Each byte of its address is read, so that it is known to be one.
 fn port_shape(port: &PortDecl) -> PortShape
-    ensures { result ≡ record { address = port.now.address; slots = port.now.ring; entries = port.now.queue } }
+    requires { IsPort port.now }
+    ensures made { the_shapes.shape_of result ≡ net_of port.now }
+    ensures sound { IsNetShape (net_of port.now) }
 {
+    let [a, b, c, d, e, f] = port.address;
     PortShape {
-        address: port.address,
+        address: [a, b, c, d, e, f],
         slots: port.ring,
         entries: port.queue,
     }

@@ -5,11 +5,11 @@ ghost use Rattle.kept_requests.specs.Bytes.{filled};
 ghost use Rattle.ldc_queue.specs.declared.end.End.TheVariants.{A};
 ghost use Rattle.ldom_report.specs.Report.{accepted_count};
 ghost use Rattle.ldom_world.specs.OneLane.{LaneAnswers};
-ghost use Rattle.world_laws.specs.Issued.{issued_on};
-ghost use Rattle.domain_laws.specs.Lines as script;
-ghost use Rattle.domain_laws.specs.Lines.{AnswersCall, Calls, Pokes};
+ghost use Rattle.world_parts.specs.world_laws.Issued.{issued_on};
+ghost use Rattle.world_parts.specs.domain_laws.Lines as script;
+ghost use Rattle.world_parts.specs.domain_laws.Lines.{AnswersCall, Calls, Pokes};
 ghost use Rattle.ldom_world.specs.Steps.{MakesAnswer};
-ghost use Rattle.world_laws.specs.World.{WorldStep};
+ghost use Rattle.world_parts.specs.world_laws.World.{WorldStep};
 
 use crate::disks::Disks;
 use crate::entries::client_of;

@@ -2,9 +2,9 @@
 // bytes that it forges.
 
 ghost use Rattle.std.specs.Prelude.{◌≡◌, ◌<◌, ◌+◌, ◌-◌, ◌^◌, length, OnErr, OnOk};
-ghost use Rattle.domain_laws.specs.Domain.{PortsStep};
-ghost use Rattle.domain_laws.specs.Lines as script;
-ghost use Rattle.domain_laws.specs.Lines.{AnswersFrame, AnswersGroup, AnswersPortCall, Calls, Joins, Pokes, Sends};
+ghost use Rattle.world_parts.specs.domain_laws.Domain.{PortsStep};
+ghost use Rattle.world_parts.specs.domain_laws.Lines as script;
+ghost use Rattle.world_parts.specs.domain_laws.Lines.{AnswersFrame, AnswersGroup, AnswersPortCall, Calls, Joins, Pokes, Sends};
 ghost use Rattle.ldom_report.specs.LaneEvents.{end_of};
 ghost use Rattle.ldom_report.specs.Report.{accepted_count};
 ghost use Rattle.ldom_world.specs.Called.{call_of};

@@ -6,7 +6,7 @@ ghost use Rattle.ldom_report.specs.LaneEvents.{end_of};
 ghost use Rattle.ldom_world.specs.Called.{port_end};
 ghost use Rattle.ldom_entries.specs.JournalState.{PutsEntry};
 ghost use Rattle.ldom_world.specs.OnePort.{frame_entry, HasRoomForFrame, IsOwnReset, port_blocked, port_rests, PortLeaves, PortRecords};
-ghost use Rattle.net_lane.specs.Stepping.{net_answer};
+ghost use Rattle.switched_ports.specs.net_lane.Stepping.{net_answer};
 ghost use Rattle.switched_ports.specs.Events.{is_switched, step_event};
 
 use crate::entries::filled;
@@ -89,7 +89,6 @@ fn port_blocked(out: &NetOut) -> bool
 }
 
 /// Puts the entry of the step of a port's end last. The bytes of a frame are put into the room that was made for them.
-
 fn record_port(
     port: u32,
     side: Side,

@@ -1,6 +1,6 @@
 ghost use Rattle.std.specs.Prelude.{◌≡◌, ◌*◌, ◌≤◌, ◌<◌, length};
 ghost use Rattle.lane_kinds.specs.Lanes.{sum_of};
-ghost use Rattle.switch_laws.specs.Ports.{pending, waits_on};
+ghost use Rattle.world_parts.specs.switch_laws.Ports.{pending, waits_on};
 ghost use Rattle.switched_ports.specs.States.{PortAt};
 
 use ldom_report::Bytes;
@@ -20,7 +20,7 @@ pub struct PortLanes {
 
 impl Model for PortLanes {
     ghost use Rattle.std.specs.Prelude.{[], ◌≡◌, List};
-    ghost use Rattle.domain_laws.specs.PortState.{PortState};
+    ghost use Rattle.world_parts.specs.port_model.PortState.{PortState};
 
     ghost Value = { List PortState };
 

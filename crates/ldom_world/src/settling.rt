@@ -1,9 +1,9 @@
 // A settle: rounds, until one in which all lanes are quiet and after which none gets a tick.
 
 ghost use Rattle.std.specs.Prelude.{◌≡◌, ◌&&◌, ◌<◌, ◌≤◌, length, not, replicate, slice_get, slice_set, take, Some, IfOk, OnErr, OnOk};
-ghost use Rattle.domain_laws.specs.Going.{most_rounds};
-ghost use Rattle.domain_laws.specs.Lines.{Settles};
-ghost use Rattle.domain_laws.specs.RoundMade.{all_quiet};
+ghost use Rattle.world_parts.specs.domain_laws.Going.{most_rounds};
+ghost use Rattle.world_parts.specs.domain_laws.Lines.{Settles};
+ghost use Rattle.world_parts.specs.domain_laws.RoundMade.{all_quiet};
 ghost use Rattle.lane_kinds.specs.Lanes.{gets_tick};
 ghost use Rattle.lane_kinds.specs.LanesMade.{all_true};
 ghost use Rattle.ldom_world.specs.SettleParts.{LaneNamesAdd, LaneNamesAddFront, LanesAdd, LanesAddFront, LaneTicksAdd};

@@ -7,9 +7,9 @@ ghost use Rattle.ldom_report.specs.LaneEvents.{end_of};
 ghost use Rattle.ldom_report.specs.Report.{accepted_count};
 ghost use Rattle.ldom_world.specs.OneLane.{EndSteps, LaneSteps};
 ghost use Rattle.ldom_world.specs.Steps.{MakesQuietStep, MakesStep};
-ghost use Rattle.vdisk_client.specs.Calls.{front_count};
-ghost use Rattle.world_laws.specs.Issued.{issued_on};
-ghost use Rattle.world_laws.specs.World.{WorldStep};
+ghost use Rattle.disk_lane.specs.vdisk_client.Calls.{front_count};
+ghost use Rattle.world_parts.specs.world_laws.Issued.{issued_on};
+ghost use Rattle.world_parts.specs.world_laws.World.{WorldStep};
 ghost use Rattle.world_parts.specs.Declared.{LiesWithin};
 
 use crate::disks::Disks;

@@ -1,9 +1,9 @@
 // What is left to do on the lanes of disks.
 
 ghost use Rattle.std.specs.Prelude.{◌≡◌, ◌*◌, ◌<◌, ◌≤◌, ◌^◌, length, slice_get, Some};
-ghost use Rattle.disk_model.specs.LaneState.{LaneState};
-ghost use Rattle.world_laws.specs.DiskKind.{waits_on};
-ghost use Rattle.world_laws.specs.Settle.{pending_on};
+ghost use Rattle.world_parts.specs.disk_model.LaneState.{LaneState};
+ghost use Rattle.world_parts.specs.world_laws.DiskKind.{waits_on};
+ghost use Rattle.world_parts.specs.world_laws.Settle.{pending_on};
 
 use crate::disks::Disks;
 use disk_lane::DiskLane;

@@ -1,9 +1,9 @@
 // Steps of ends turn by turn, and rounds.
 
 ghost use Rattle.std.specs.Prelude.{◌≡◌, ◌<◌, ◌≤◌, ◌∷◌, [], length, IfOk, OnErr, OnOk};
-ghost use Rattle.domain_laws.specs.Domain.{DomainStep, lanes_in};
-ghost use Rattle.domain_laws.specs.Lines as script;
-ghost use Rattle.domain_laws.specs.Lines.{both_ends, lanes_from, round_turns, Rounds, Steps, turn};
+ghost use Rattle.world_parts.specs.domain_laws.Domain.{DomainStep, lanes_in};
+ghost use Rattle.world_parts.specs.domain_laws.Lines as script;
+ghost use Rattle.world_parts.specs.domain_laws.Lines.{both_ends, lanes_from, round_turns, Rounds, Steps, turn};
 ghost use Rattle.ldom_report.specs.LaneEvents.{end_of};
 ghost use Rattle.ldom_world.specs.SettleParts.{MakesQuiet};
 ghost use Rattle.ldom_world.specs.Steps.{Counted, MakesPortStep, MakesQuietPortStep, MakesQuietStep, MakesStep};

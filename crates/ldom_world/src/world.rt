@@ -1,9 +1,9 @@
 ghost use Rattle.std.specs.Prelude.{◌≡◌, ◌≤◌, ◌<◌, ◌↔◌, [], IfErr, IfOk, IsTrue, length, map};
-ghost use Rattle.disk_model.specs.LaneState.{fresh};
-ghost use Rattle.domain_laws.specs.PortState.{fresh_port};
+ghost use Rattle.world_parts.specs.disk_model.LaneState.{fresh};
+ghost use Rattle.world_parts.specs.port_model.PortState.{fresh_port};
 ghost use Rattle.domain_script.specs.Declarations.{AreDisks, ArePorts};
 ghost use Rattle.vio_io.specs.Causes.{last_count};
-ghost use Rattle.world_laws.specs.Rounds.{Each};
+ghost use Rattle.world_parts.specs.world_laws.Rounds.{Each};
 ghost use Rattle.disk_law.specs.ListState.{as_image};
 ghost use Rattle.world_parts.specs.Declared.{LiesWithin, bytes_needed, nets_of, shapes_of, world_of};
 
@@ -28,7 +28,7 @@ pub struct World<D: Store> {
 }
 
 impl<D: Store> Model for World<D> {
-    ghost use Rattle.domain_laws.specs.Domain.{DomainState};
+    ghost use Rattle.world_parts.specs.domain_laws.Domain.{DomainState};
 
     ghost Value = { DomainState };
 

@@ -2,16 +2,16 @@
 -- before it are entries of lanes, and no part of a line begins with a name.
 use Rattle.std.proofs.Common.{◌≡◌, ◌⊎◌, inl, inr, ℕ, ◌≤◌, Bool, true, false, Some, List, [], ◌∷◌, ◌++◌, length, map, refl, sym, ap, ◌∙◌, subst, arith}
 use Rattle.std.specs.Prelude.{⊤}
-use Rattle.disk_model.specs.DiskEvent.{DiskEvent}
+use Rattle.world_parts.specs.disk_model.DiskEvent.{DiskEvent}
 use Rattle.ldom_entries.specs.declared.entry.Entry.{Entry}
 use Rattle.ldom_report.specs.LaneEvents.{AtLane, AtPort, AtServer, AtWire, ChangesNothing, LeavesNothing, LeavesOver, Meaning, NoRoomFor, Publishes, Refuses, Switches, TakesFrame, meaning}
 use Rattle.lane_kinds.specs.Settles.{SettlePart}
-use Rattle.port_model.specs.PortState.{OnLane, Receives}
-use Rattle.switch_laws.specs.Events.{OnPort, Switched}
-use Rattle.world_laws.specs.Settle.{OfLane, OfPort, SettleEntry, Settled, Unsettled, UnsettledPort}
-use Rattle.domain_laws.proofs.LineEntries.{EachEntry}
-use Rattle.domain_laws.specs.Domain.{Lanes, lanes}
-use Rattle.domain_laws.specs.Lines.{BeginsPart, Line, PartOf}
+use Rattle.world_parts.specs.port_model.PortState.{OnLane, Receives}
+use Rattle.world_parts.specs.switch_laws.Events.{OnPort, Switched}
+use Rattle.world_parts.specs.world_laws.Settle.{OfLane, OfPort, SettleEntry, Settled, Unsettled, UnsettledPort}
+use Rattle.world_parts.proofs.domain_laws.LineEntries.{EachEntry}
+use Rattle.world_parts.specs.domain_laws.Domain.{Lanes, lanes}
+use Rattle.world_parts.specs.domain_laws.Lines.{BeginsPart, Line, PartOf}
 use Rattle.world_parts.proofs.Meanings.{AllOf, Holds, all_events, all_left, entry_has}
 use Rattle.world_parts.specs.Parts.{PartSays}
 use Rattle.world_parts.specs.WorldEvents.{told_of, world_event}

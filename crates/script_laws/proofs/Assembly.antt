@@ -33,8 +33,8 @@ use Rattle.script_laws.specs.LanesStand.{LanesStand}
 use Rattle.script_laws.specs.Script.{ReadSoFar}
 use Rattle.domain_script.specs.ScriptEvents.{AllSpell, no_names}
 use Rattle.world_parts.specs.Script.{BeginBelow, FitsScript, ScriptParts, all_lines, entries_in, events_in, events_of, journal_of}
-use Rattle.disk_model.specs.LaneState.{LaneState}
-use Rattle.domain_laws.specs.Domain.{DomainState, lanes_in}
+use Rattle.world_parts.specs.disk_model.LaneState.{LaneState}
+use Rattle.world_parts.specs.domain_laws.Domain.{DomainState, lanes_in}
 use Rattle.script_laws.proofs.LineCases.{none_begun, noted_disks, noted_ports, silent, stays_ended}
 use Rattle.script_laws.proofs.LineLists.{all_behind, behind_ends, behind_lines, below_both, below_push, by_readers, entries_push, events_behind, events_both, journal_behind, whole_ends}
 use Rattle.script_laws.proofs.ReadLemmas.{opening_halves, other_line, read_none}

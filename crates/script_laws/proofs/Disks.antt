@@ -2,23 +2,23 @@
 use Rattle.std.proofs.Common.{◌≡◌, ℕ, ◌≤◌, false, List, ◌∷◌, ◌++◌, length, slice_get, Some, IfSome, ap, ◌∙◌, subst}
 use Rattle.runs.specs.Run.{Run}
 use Rattle.disk_law.specs.ListState.{ImageState}
-use Rattle.disk_model.specs.DiskEvent.{Done, Works}
-use Rattle.disk_model.specs.LaneState.{IsShape, LaneState, Shape, fresh}
-use Rattle.disk_model.specs.LaneStep.{LaneStep}
+use Rattle.world_parts.specs.disk_model.DiskEvent.{Done, Works}
+use Rattle.world_parts.specs.disk_model.LaneState.{IsShape, LaneState, Shape, fresh}
+use Rattle.world_parts.specs.disk_model.LaneStep.{LaneStep}
 use Rattle.domain_script.specs.Declarations.{AreDisks}
 use Rattle.domain_script.specs.declared.event.DiskDecl.{DiskDecl}
-use Rattle.world_laws.specs.Along.{happened}
-use Rattle.lane_laws.specs.Headline.{CompletionShows}
-use Rattle.lane_laws.specs.ImageStep.{region_of}
-use Rattle.world_laws.specs.Settle.{OfLane, SettleEntry}
-use Rattle.world_laws.specs.Sums.{IsUnforged}
-use Rattle.world_laws.proofs.Along.{lane_at, lanes_run, shape_at}
-use Rattle.world_laws.proofs.LaneLists.{each_there}
-use Rattle.world_laws.specs.World.{IsWorld, WorldStep, fresh_world}
-use Rattle.domain_laws.specs.Domain.{DomainState}
-use Rattle.port_model.specs.NetLaneState.{NetShape}
-use Rattle.channel_model.specs.WireLog.{WireLog}
-use Rattle.world_laws.proofs.Forging.{forged_by_events}
+use Rattle.world_parts.specs.world_laws.Along.{happened}
+use Rattle.world_parts.specs.lane_laws.Headline.{CompletionShows}
+use Rattle.world_parts.specs.lane_laws.ImageStep.{region_of}
+use Rattle.world_parts.specs.world_laws.Settle.{OfLane, SettleEntry}
+use Rattle.world_parts.specs.world_laws.Sums.{IsUnforged}
+use Rattle.world_parts.proofs.world_laws.Along.{lane_at, lanes_run, shape_at}
+use Rattle.world_parts.proofs.world_laws.LaneLists.{each_there}
+use Rattle.world_parts.specs.world_laws.World.{IsWorld, WorldStep, fresh_world}
+use Rattle.world_parts.specs.domain_laws.Domain.{DomainState}
+use Rattle.world_parts.specs.port_model.NetLaneState.{NetShape}
+use Rattle.world_parts.specs.channel_model.WireLog.{WireLog}
+use Rattle.world_parts.proofs.world_laws.Forging.{forged_by_events}
 use Rattle.script_laws.proofs.Failing.{fails_by_events}
 use Rattle.script_laws.proofs.FinishedBy.{finished_by}
 use Rattle.script_laws.proofs.Leading.{Leads}
@@ -32,12 +32,12 @@ use Rattle.script_laws.specs.Lanes.{LaneStands}
 use Rattle.script_laws.specs.Settled.{IsFinishedBy}
 use Rattle.script_laws.specs.Told.{log_at}
 use Rattle.script_laws.proofs.DiskShapes.{are_shapes}
-use Rattle.world_laws.proofs.WorldLaws.{lanes_well}
-use Rattle.world_laws.specs.Failures.{NeverFailed}
-use Rattle.world_laws.proofs.Contents.{own_all, own_holds}
-use Rattle.world_laws.proofs.Fronts.{front_completion}
+use Rattle.world_parts.proofs.world_laws.WorldLaws.{lanes_well}
+use Rattle.world_parts.specs.world_laws.Failures.{NeverFailed}
+use Rattle.world_parts.proofs.world_laws.Contents.{own_all, own_holds}
+use Rattle.world_parts.proofs.world_laws.Fronts.{front_completion}
 use Rattle.world_parts.specs.Declared.{bytes_needed, shapes_of}
-use Rattle.world_laws.proofs.WorldWords.{lane_agrees, lane_lawful}
+use Rattle.world_parts.proofs.world_laws.WorldWords.{lane_agrees, lane_lawful}
 
 -- BEHIND A SETTLE
 finishes : (disks : List DiskDecl) (image : ImageState) (x : ℕ) (shape : Shape) → AreDisks disks

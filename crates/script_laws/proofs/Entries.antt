@@ -1,8 +1,8 @@
 -- Conditions on entries: those of lanes; and those that aren't the answer of a settle, or name no lane that is left over.
 use Rattle.std.proofs.Common.{ℕ, List, [], ◌∷◌}
 use Rattle.std.specs.Prelude.{⊤}
-use Rattle.world_laws.specs.Settle.{OfLane, OfPort, SettleEntry, Settled, Unsettled, UnsettledPort}
-use Rattle.domain_laws.proofs.LineEntries.{EachEntry}
+use Rattle.world_parts.specs.world_laws.Settle.{OfLane, OfPort, SettleEntry, Settled, Unsettled, UnsettledPort}
+use Rattle.world_parts.proofs.domain_laws.LineEntries.{EachEntry}
 
 -- an event of a lane
 abbrev pub IsOfLane : SettleEntry → Type 0

@@ -5,19 +5,19 @@ use Rattle.vio_tag.specs.declared.cause.Cause.{Cause}
 use Rattle.std.specs.Prelude.{⊤}
 use Rattle.ldc_queue.specs.declared.end.End.TheVariants.{A}
 use Rattle.vdisk_msg.specs.Requests.{BadCount, BadRange}
-use Rattle.channel_model.specs.WireEvent.{Reset}
-use Rattle.disk_model.specs.DiskEvent.{Asks, DiskEvent, Done, Full, OnWire, Refused, Works}
+use Rattle.world_parts.specs.channel_model.WireEvent.{Reset}
+use Rattle.world_parts.specs.disk_model.DiskEvent.{Asks, DiskEvent, Done, Full, OnWire, Refused, Works}
 use Rattle.domain_script.specs.declared.event.DiskDecl.{DiskDecl}
 use Rattle.domain_script.specs.declared.event.Lane.{Lane}
 use Rattle.domain_script.specs.declared.event.Side.{Side}
 use Rattle.domain_script.specs.declared.event.Side.TheVariants.{Client, Server}
-use Rattle.world_laws.specs.Settle.{OfLane, OfPort, SettleEntry, Settled, Unsettled, UnsettledPort}
-use Rattle.port_model.specs.NetEndStep.{Frame}
-use Rattle.port_model.specs.NetEvent.{Steps}
-use Rattle.switch_laws.specs.Events.{Switched}
-use Rattle.domain_laws.proofs.LineEntries.{EachEntry}
-use Rattle.domain_laws.specs.Lines.{Asked, Calls, Joins, Line, Sends}
-use Rattle.domain_laws.specs.Quiet.{IsQuiet}
+use Rattle.world_parts.specs.world_laws.Settle.{OfLane, OfPort, SettleEntry, Settled, Unsettled, UnsettledPort}
+use Rattle.world_parts.specs.port_model.NetEndStep.{Frame}
+use Rattle.world_parts.specs.port_model.NetEvent.{Steps}
+use Rattle.world_parts.specs.switch_laws.Events.{Switched}
+use Rattle.world_parts.proofs.domain_laws.LineEntries.{EachEntry}
+use Rattle.world_parts.specs.domain_laws.Lines.{Asked, Calls, Joins, Line, Sends}
+use Rattle.world_parts.specs.domain_laws.Quiet.{IsQuiet}
 use Rattle.domain_script.specs.LaneKinds.{disk_of}
 use Rattle.ldom_report.specs.LaneEvents.{AtLane, AtPort, AtServer, AtWire, ChangesNothing, Meaning, NoRoomFor, Publishes, Refuses, end_of, meaning}
 use Rattle.world_parts.specs.WorldEvents.{full_event, of_net, refused_event, told_of, wire_event, world_event}

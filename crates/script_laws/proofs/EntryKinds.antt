@@ -5,13 +5,13 @@ use Rattle.std.specs.Prelude.{⊤}
 use Rattle.std.proofs.lemmas.Bool.{eqb-true}
 use Rattle.vdisk_msg.specs.declared.request.Request.{Request}
 use Rattle.disk_law.specs.ListStep as plain
-use Rattle.channel_model.specs.WireEvent.{Declined, Declines, InjectedFull, PokeRefused}
-use Rattle.disk_model.specs.DiskEvent.{Accepted, Asks, DiskEvent, Done, Full, Refused, Works}
+use Rattle.world_parts.specs.channel_model.WireEvent.{Declined, Declines, InjectedFull, PokeRefused}
+use Rattle.world_parts.specs.disk_model.DiskEvent.{Accepted, Asks, DiskEvent, Done, Full, Refused, Works}
 use Rattle.disk_law.specs.Requests.{Defect}
-use Rattle.port_model.specs.NetEndStep.{BadLength, GroupsFull}
-use Rattle.port_model.specs.NetEndStep as net_end
-use Rattle.port_model.specs.NetEvent.{Gives, Joins as JoinsGroup, NetEvent}
-use Rattle.world_laws.specs.Settle.{OfLane, SettleEntry}
+use Rattle.world_parts.specs.port_model.NetEndStep.{BadLength, GroupsFull}
+use Rattle.world_parts.specs.port_model.NetEndStep as net_end
+use Rattle.world_parts.specs.port_model.NetEvent.{Gives, Joins as JoinsGroup, NetEvent}
+use Rattle.world_parts.specs.world_laws.Settle.{OfLane, SettleEntry}
 use Rattle.domain_script.specs.declared.event.Event.{Event}
 use Rattle.domain_script.specs.declared.event.Event.TheVariants as line
 use Rattle.domain_script.specs.declared.event.Lane.{Lane}
@@ -28,13 +28,13 @@ use Rattle.ldom_entries.specs.declared.entry.Why.TheVariants.{Groups, Length, Ra
 use Rattle.domain_script.specs.declared.event.EndName.{EndName}
 use Rattle.ldc_queue.specs.declared.end.End.{End}
 use Rattle.ldc_queue.specs.declared.end.End.TheVariants.{A}
-use Rattle.domain_laws.specs.Lines.{Asked, Call, Calls, DiskLane, Injects, Joins, LaneName, Line, Pokes, PortLane, Sends}
+use Rattle.world_parts.specs.domain_laws.Lines.{Asked, Call, Calls, DiskLane, Injects, Joins, LaneName, Line, Pokes, PortLane, Sends}
 use Rattle.ldom_report.specs.DiskEvents.{Defective, NoRoom, NotTaken, Nothing, OfDisk, Refusal, defect_of, not_taken_for, not_taken_on, refused, request_asked, said}
 use Rattle.ldom_report.specs.LaneEvents.{AtLane, AtPort, AtServer, AtWire, ChangesNothing, LeavesNothing, LeavesOver, Meaning, NoRoomFor, Publishes, Refuses, Switches, TakesFrame, meaning}
 use Rattle.world_parts.specs.WorldEvents.{at_disk, at_port, declined_at, full_call, full_event, if_so, is_end, is_lane, kind_of as lane_kind, number_of, of_net, refused_asked, refused_call, refused_event, wire_by, world_event}
-use Rattle.world_laws.specs.Failures.{is_failed_done}
+use Rattle.world_parts.specs.world_laws.Failures.{is_failed_done}
 use Rattle.world_parts.specs.Lines.{line_of}
-use Rattle.world_laws.specs.Requests.{request_event}
+use Rattle.world_parts.specs.world_laws.Requests.{request_event}
 use Rattle.script_laws.specs.Failures.{has_failed}
 use Rattle.world_parts.proofs.Meanings.{AllOf, Holds, all_events, all_left, entry_has}
 

@@ -1,17 +1,17 @@
 -- A journal that forges a disk nowhere tells its lane of nothing that forges.
 use Rattle.std.proofs.Common.{◌≡◌, ℕ, ◌==◌, if◌then◌else◌, Bool, true, false, List, [], ◌∷◌, ◌++◌, refl}
 use Rattle.std.proofs.lemmas.Bool.{eqb-true}
-use Rattle.channel_model.specs.WireEvent.{Injected, Poked, WireEvent}
-use Rattle.disk_model.specs.DiskEvent.{DiskEvent, OnWire}
+use Rattle.world_parts.specs.channel_model.WireEvent.{Injected, Poked, WireEvent}
+use Rattle.world_parts.specs.disk_model.DiskEvent.{DiskEvent, OnWire}
 use Rattle.domain_script.specs.declared.fields.LaneKind.{LaneKind}
 use Rattle.domain_script.specs.declared.fields.LaneKind.TheVariants as kinds
 use Rattle.domain_script.specs.LaneKinds.{if_disk}
 use Rattle.ldom_entries.specs.declared.entry.Entry.{Entry}
 use Rattle.ldom_entries.specs.declared.entry.Entry.TheVariants as entry
 use Rattle.ldom_report.specs.LaneEvents.{AtLane, AtPort, AtServer, AtWire, ChangesNothing, LeavesNothing, LeavesOver, Meaning, NoRoomFor, Publishes, Refuses, Switches, TakesFrame, meaning}
-use Rattle.world_laws.specs.Along.{event_at, happened}
-use Rattle.world_laws.specs.Forged.{NobodyForges, forges}
-use Rattle.world_laws.specs.Settle.{OfLane, SettleEntry}
+use Rattle.world_parts.specs.world_laws.Along.{event_at, happened}
+use Rattle.world_parts.specs.world_laws.Forged.{NobodyForges, forges}
+use Rattle.world_parts.specs.world_laws.Settle.{OfLane, SettleEntry}
 use Rattle.world_parts.proofs.Meanings.{AllOf, Holds, all_events, all_left, entry_has}
 use Rattle.world_parts.specs.Lines.{line_of}
 use Rattle.world_parts.specs.WorldEvents.{wire_by}

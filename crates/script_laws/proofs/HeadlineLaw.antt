@@ -4,12 +4,12 @@ use Rattle.disk_law.specs.ListState.{ImageState}
 use Rattle.domain_script.specs.Declarations.{AreDisks}
 use Rattle.domain_script.specs.declared.event.DiskDecl.{DiskDecl}
 use Rattle.domain_script.specs.declared.event.Event.TheVariants.{Settle}
-use Rattle.world_laws.specs.Settle.{SettleEntry, Unsettled, UnsettledPort}
+use Rattle.world_parts.specs.world_laws.Settle.{SettleEntry, Unsettled, UnsettledPort}
 use Rattle.script_laws.proofs.Untold.{real_unsettled, real_unsettled_port}
-use Rattle.world_laws.proofs.Along.{lanes_run}
-use Rattle.domain_laws.specs.Domain.{DomainState}
+use Rattle.world_parts.proofs.world_laws.Along.{lanes_run}
+use Rattle.world_parts.specs.domain_laws.Domain.{DomainState}
 use Rattle.lane_kinds.specs.Lanes.{EachOf}
-use Rattle.port_model.specs.NetLaneState.{IsNetShape, NetShape}
+use Rattle.world_parts.specs.port_model.NetLaneState.{IsNetShape, NetShape}
 use Rattle.script_laws.proofs.ReachedLanes.{AreLanes}
 use Rattle.script_laws.proofs.PortsAlong.{many_ports, ports_stand}
 use Rattle.script_laws.proofs.Disks.{of_disk}
@@ -24,8 +24,8 @@ use Rattle.script_laws.proofs.DeclaredWorlds.{declared_world}
 use Rattle.script_laws.specs.Headline.{Headline}
 use Rattle.script_laws.specs.Told.{told, told_by}
 use Rattle.script_laws.proofs.DiskShapes.{many_shapes}
-use Rattle.world_laws.proofs.BehindDisks.{stays_behind}
-use Rattle.world_laws.specs.Stays.{StaysBehind}
+use Rattle.world_parts.proofs.world_laws.BehindDisks.{stays_behind}
+use Rattle.world_parts.specs.world_laws.Stays.{StaysBehind}
 use Rattle.world_parts.specs.Declared.{bytes_needed, shapes_of, world_of}
 use Rattle.world_parts.specs.Script.{FitsScript, ScriptParts, all_lines}
 

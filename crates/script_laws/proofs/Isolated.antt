@@ -2,18 +2,18 @@
 use Rattle.std.proofs.Common.{◌≡◌, ℕ, ◌≤◌, Option, Some, IfSome, List, ◌∷◌, ◌++◌, length, slice_get, sym, ap, ◌∙◌, subst}
 use Rattle.runs.specs.Run.{Run, run_split}
 use Rattle.disk_law.specs.ListState.{ImageState}
-use Rattle.disk_model.specs.LaneState.{Shape}
+use Rattle.world_parts.specs.disk_model.LaneState.{Shape}
 use Rattle.domain_script.specs.Declarations.{AreDisks}
 use Rattle.domain_script.specs.declared.event.DiskDecl.{DiskDecl}
 use Rattle.domain_script.specs.declared.event.Event.{Event}
-use Rattle.port_model.specs.NetLaneState.{NetShape}
-use Rattle.world_laws.specs.Stays.{StaysAround}
-use Rattle.domain_laws.proofs.OwnLines.{disk_line, line_around, port_line}
-use Rattle.domain_laws.specs.Along.{OnlyDisk}
-use Rattle.domain_laws.specs.Domain.{DomainState}
-use Rattle.domain_laws.specs.Frames.{frames_put}
-use Rattle.domain_laws.specs.Isolation.{IsFor, OnlyPortPart}
-use Rattle.domain_laws.specs.Lines.{DiskLane, PortLane}
+use Rattle.world_parts.specs.port_model.NetLaneState.{NetShape}
+use Rattle.world_parts.specs.world_laws.Stays.{StaysAround}
+use Rattle.world_parts.proofs.domain_laws.OwnLines.{disk_line, line_around, port_line}
+use Rattle.world_parts.specs.domain_laws.Along.{OnlyDisk}
+use Rattle.world_parts.specs.domain_laws.Domain.{DomainState}
+use Rattle.world_parts.specs.domain_laws.Frames.{frames_put}
+use Rattle.world_parts.specs.domain_laws.Isolation.{IsFor, OnlyPortPart}
+use Rattle.world_parts.specs.domain_laws.Lines.{DiskLane, PortLane}
 use Rattle.ldom_entries.specs.declared.entry.Entry.{Entry}
 use Rattle.script_laws.proofs.DeclaredWorlds.{AsLines, as_lines, declared_world, says_told}
 use Rattle.script_laws.proofs.Untold.{told_put}

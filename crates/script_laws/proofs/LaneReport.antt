@@ -9,17 +9,17 @@ use Rattle.std.proofs.lemmas.List.Sums.{sum_by-append}
 use Rattle.ldc_queue.specs.declared.end.End.{End}
 use Rattle.ldc_queue.specs.declared.end.End.TheVariants.{A, B}
 use Rattle.vdisk_msg.specs.Requests.{BadCount, BadRange, Defect}
-use Rattle.channel_model.specs.WireEvent.{Reset}
+use Rattle.world_parts.specs.channel_model.WireEvent.{Reset}
 use Rattle.disk_law.proofs.Counted.{completed-append}
 use Rattle.disk_law.specs.Issued.{completed}
 use Rattle.disk_law.specs.ListStep as plain
-use Rattle.disk_model.specs.DiskEvent.{Asks, Done, Full, OnWire, Refused, Works}
+use Rattle.world_parts.specs.disk_model.DiskEvent.{Asks, Done, Full, OnWire, Refused, Works}
 use Rattle.domain_script.specs.Declarations.{Declared}
 use Rattle.domain_script.specs.declared.event.DiskDecl.{DiskDecl}
 use Rattle.domain_script.specs.LaneKinds.{disk_lane}
 use Rattle.domain_script.specs.declared.event.Side.{Side}
 use Rattle.domain_script.specs.declared.event.Side.TheVariants.{Client, Server}
-use Rattle.world_laws.specs.Settle.{OfLane, SettleEntry, Settled, Unsettled}
+use Rattle.world_parts.specs.world_laws.Settle.{OfLane, SettleEntry, Settled, Unsettled}
 use Rattle.kept_requests.specs.Bytes.{filled}
 use Rattle.ldom_report.specs.DiskEvents.{said, said_of_any, whole_history}
 use Rattle.ldom_report.specs.EntryText.{entry_lines, line_text, report_entries}
@@ -31,7 +31,7 @@ use Rattle.ldom_entries.specs.declared.entry.Why.{Why}
 use Rattle.ldom_entries.specs.declared.entry.Why.TheVariants.{Count, Range}
 use Rattle.ldom_report.specs.declared.status.Mode.TheVariants as mode
 use Rattle.script_laws.specs.Completed.{completed_ids}
-use Rattle.world_laws.specs.Accepted.{accepted_in}
+use Rattle.world_parts.specs.world_laws.Accepted.{accepted_in}
 
 -- THE LINE of an entry of a lane in the report of a run
 abbrev pub side_of : End → Side

@@ -6,14 +6,14 @@ use Rattle.disk_law.specs.ListState.{ImageState}
 use Rattle.domain_script.specs.declared.event.DiskDecl.{DiskDecl}
 use Rattle.domain_script.specs.declared.event.Event.{Event}
 use Rattle.lane_kinds.proofs.Places.{map_both}
-use Rattle.port_model.specs.NetLaneState.{NetShape}
-use Rattle.world_laws.specs.Settle.{SettleEntry, Settled, Unsettled, UnsettledPort}
-use Rattle.world_laws.specs.World.{WorldStep, fresh_world}
-use Rattle.domain_laws.proofs.LineEntries.{each_in}
-use Rattle.domain_laws.proofs.Running.{disks_run}
-use Rattle.domain_laws.proofs.ScriptEntries.{lines_run}
-use Rattle.domain_laws.specs.Domain.{DomainState, DomainStep, lanes_in}
-use Rattle.domain_laws.specs.Lines as world
+use Rattle.world_parts.specs.port_model.NetLaneState.{NetShape}
+use Rattle.world_parts.specs.world_laws.Settle.{SettleEntry, Settled, Unsettled, UnsettledPort}
+use Rattle.world_parts.specs.world_laws.World.{WorldStep, fresh_world}
+use Rattle.world_parts.proofs.domain_laws.LineEntries.{each_in}
+use Rattle.world_parts.proofs.domain_laws.Running.{disks_run}
+use Rattle.world_parts.proofs.domain_laws.ScriptEntries.{lines_run}
+use Rattle.world_parts.specs.domain_laws.Domain.{DomainState, DomainStep, lanes_in}
+use Rattle.world_parts.specs.domain_laws.Lines as world
 use Rattle.ldom_entries.specs.declared.entry.Entry.{Entry}
 use Rattle.script_laws.proofs.Entries.{IsName, IsOfLane, NotSettled}
 use Rattle.script_laws.proofs.LineEntries.{begins_lanes, begins_unsettled}

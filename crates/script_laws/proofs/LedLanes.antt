@@ -2,21 +2,21 @@
 use Rattle.std.proofs.Common.{◌≡◌, ℕ, List, ◌++◌, slice_get, Some, sym, subst}
 use Rattle.runs.specs.Run.{Run, run_append}
 use Rattle.disk_law.specs.ListState.{ImageState}
-use Rattle.disk_model.specs.DiskEvent.{DiskEvent}
-use Rattle.disk_model.specs.LaneState.{LaneState, Shape, fresh}
-use Rattle.disk_model.specs.LaneStep.{LaneStep}
+use Rattle.world_parts.specs.disk_model.DiskEvent.{DiskEvent}
+use Rattle.world_parts.specs.disk_model.LaneState.{LaneState, Shape, fresh}
+use Rattle.world_parts.specs.disk_model.LaneStep.{LaneStep}
 use Rattle.domain_script.specs.declared.event.DiskDecl.{DiskDecl}
 use Rattle.domain_script.specs.declared.event.Event.{Event}
-use Rattle.world_laws.proofs.Along.{lanes_run}
-use Rattle.world_laws.proofs.Moving.{happened_both}
-use Rattle.world_laws.specs.Along.{happened}
-use Rattle.world_laws.specs.Settle.{SettleEntry}
-use Rattle.world_laws.specs.World.{WorldStep, fresh_world}
-use Rattle.port_model.specs.NetLaneState.{NetShape}
-use Rattle.domain_laws.proofs.Running.{disks_run}
-use Rattle.domain_laws.proofs.ScriptEntries.{lines_run}
-use Rattle.domain_laws.specs.Domain.{DomainState, DomainStep}
-use Rattle.domain_laws.specs.Lines.{entries_of_lines}
+use Rattle.world_parts.proofs.world_laws.Along.{lanes_run}
+use Rattle.world_parts.proofs.world_laws.Moving.{happened_both}
+use Rattle.world_parts.specs.world_laws.Along.{happened}
+use Rattle.world_parts.specs.world_laws.Settle.{SettleEntry}
+use Rattle.world_parts.specs.world_laws.World.{WorldStep, fresh_world}
+use Rattle.world_parts.specs.port_model.NetLaneState.{NetShape}
+use Rattle.world_parts.proofs.domain_laws.Running.{disks_run}
+use Rattle.world_parts.proofs.domain_laws.ScriptEntries.{lines_run}
+use Rattle.world_parts.specs.domain_laws.Domain.{DomainState, DomainStep}
+use Rattle.world_parts.specs.domain_laws.Lines.{entries_of_lines}
 use Rattle.ldom_entries.specs.declared.entry.Entry.{Entry}
 use Rattle.script_laws.proofs.DeclaredWorlds.{as_lines}
 use Rattle.script_laws.proofs.Untold.{told_run as world_run_told}

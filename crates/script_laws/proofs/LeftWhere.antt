@@ -3,9 +3,9 @@ use Rattle.std.proofs.Common.{◌≡◌, ◌⊎◌, inl, inr, ℕ, ◌+◌, ◌*
 use Rattle.std.specs.Prelude.{⊤}
 use Rattle.runs.specs.Run.{Run, run_split}
 use Rattle.disk_law.specs.ListState.{ImageState}
-use Rattle.disk_model.specs.DiskEvent.{DiskEvent}
-use Rattle.disk_model.specs.LaneState.{LaneState, Shape}
-use Rattle.disk_model.specs.LaneStep.{LaneStep}
+use Rattle.world_parts.specs.disk_model.DiskEvent.{DiskEvent}
+use Rattle.world_parts.specs.disk_model.LaneState.{LaneState, Shape}
+use Rattle.world_parts.specs.disk_model.LaneStep.{LaneStep}
 use Rattle.domain_script.specs.declared.event.DiskDecl.{DiskDecl}
 use Rattle.domain_script.specs.declared.event.Event.{Event}
 use Rattle.domain_script.specs.declared.event.Event.TheVariants.{Settle}
@@ -16,25 +16,25 @@ use Rattle.lane_kinds.specs.Both.{Two}
 use Rattle.lane_kinds.specs.Fronts.{NamesFront, SettleFront}
 use Rattle.lane_kinds.specs.Lanes.{sum_of}
 use Rattle.lane_kinds.specs.Settles.{GoesOn, RunsOut, SettlePart, TicksBehind, begin, entries_of_rounds, most_rounds}
-use Rattle.port_model.specs.NetLaneState.{NetShape}
-use Rattle.switch_laws.specs.Events.{SwitchEvent}
-use Rattle.switch_laws.specs.Ports.{pending, ports}
-use Rattle.world_laws.proofs.Along.{lane_at, shape_at}
-use Rattle.world_laws.proofs.LeftLanes.{Named, moved_left, moved_right, named}
-use Rattle.world_laws.proofs.Moving.{moves_on}
-use Rattle.world_laws.proofs.Pending.{world_pending}
-use Rattle.world_laws.specs.Along.{LanesMove, happened}
-use Rattle.world_laws.specs.DiskKind.{waits_on}
-use Rattle.world_laws.specs.Moves.{IsLeftOver, MovedIn}
-use Rattle.world_laws.specs.Requests.{pending_of}
-use Rattle.world_laws.specs.Rounds.{LaneRound}
-use Rattle.world_laws.specs.Settle.{OfLane, SettleEntry, Settled, Unsettled, UnsettledPort, disks, pending_on, round_entries}
-use Rattle.domain_laws.proofs.Counting.{made_move}
-use Rattle.domain_laws.proofs.DiskParts.{disks_end as names_move, rounds_move_disks}
-use Rattle.domain_laws.proofs.LineEntries.{AllRound, AllSettling, EachEntry, each_in, rounds_each}
-use Rattle.domain_laws.specs.Counts.{moves, moves_in}
-use Rattle.domain_laws.specs.Domain.{Lanes, lanes, lanes_in, port_entries, switch}
-use Rattle.domain_laws.specs.Lines.{fronts}
+use Rattle.world_parts.specs.port_model.NetLaneState.{NetShape}
+use Rattle.world_parts.specs.switch_laws.Events.{SwitchEvent}
+use Rattle.world_parts.specs.switch_laws.Ports.{pending, ports}
+use Rattle.world_parts.proofs.world_laws.Along.{lane_at, shape_at}
+use Rattle.world_parts.proofs.world_laws.LeftLanes.{Named, moved_left, moved_right, named}
+use Rattle.world_parts.proofs.world_laws.Moving.{moves_on}
+use Rattle.world_parts.proofs.world_laws.Pending.{world_pending}
+use Rattle.world_parts.specs.world_laws.Along.{LanesMove, happened}
+use Rattle.world_parts.specs.world_laws.DiskKind.{waits_on}
+use Rattle.world_parts.specs.world_laws.Moves.{IsLeftOver, MovedIn}
+use Rattle.world_parts.specs.world_laws.Requests.{pending_of}
+use Rattle.world_parts.specs.world_laws.Rounds.{LaneRound}
+use Rattle.world_parts.specs.world_laws.Settle.{OfLane, SettleEntry, Settled, Unsettled, UnsettledPort, disks, pending_on, round_entries}
+use Rattle.world_parts.proofs.domain_laws.Counting.{made_move}
+use Rattle.world_parts.proofs.domain_laws.DiskParts.{disks_end as names_move, rounds_move_disks}
+use Rattle.world_parts.proofs.domain_laws.LineEntries.{AllRound, AllSettling, EachEntry, each_in, rounds_each}
+use Rattle.world_parts.specs.domain_laws.Counts.{moves, moves_in}
+use Rattle.world_parts.specs.domain_laws.Domain.{Lanes, lanes, lanes_in, port_entries, switch}
+use Rattle.world_parts.specs.domain_laws.Lines.{fronts}
 use Rattle.ldom_entries.specs.declared.entry.Entry.{Entry}
 use Rattle.script_laws.proofs.DiskShapes.{are_shapes, many_shapes}
 use Rattle.script_laws.proofs.Entries.{IsName, IsOfLane}

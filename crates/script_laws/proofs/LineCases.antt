@@ -14,12 +14,12 @@ use Rattle.domain_script.specs.declared.fields.LaneKind.{LaneKind}
 use Rattle.domain_script.specs.declared.fields.LaneKind.TheVariants as kinds
 use Rattle.domain_script.specs.NamesState.{NamesState, count_of, noted}
 use Rattle.domain_script.specs.Spells.{IsDeclared}
-use Rattle.disk_model.specs.LaneState.{LaneState}
+use Rattle.world_parts.specs.disk_model.LaneState.{LaneState}
 use Rattle.lane_kinds.specs.Fronts.{SettleFront}
 use Rattle.lane_kinds.specs.Settles.{begin}
-use Rattle.world_laws.specs.Begun.{RoundFront}
-use Rattle.domain_laws.specs.Domain.{DomainState, Lanes, lanes}
-use Rattle.domain_laws.specs.Lines.{AreFirstSteps, BeginsPart, EndTurn, fronts}
+use Rattle.world_parts.specs.world_laws.Begun.{RoundFront}
+use Rattle.world_parts.specs.domain_laws.Domain.{DomainState, Lanes, lanes}
+use Rattle.world_parts.specs.domain_laws.Lines.{AreFirstSteps, BeginsPart, EndTurn, fronts}
 use Rattle.script_laws.specs.Attached.{is_opening}
 use Rattle.world_parts.specs.Lines.{EventStep, HasMemory, IsForLanes, line_of, number_of_kind}
 

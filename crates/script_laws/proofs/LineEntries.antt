@@ -4,16 +4,16 @@ use Rattle.ldc_queue.specs.declared.end.End.{End}
 use Rattle.lane_kinds.specs.Fronts.{SettleFront}
 use Rattle.lane_kinds.specs.Settles.{SettlePart, Settles}
 use Rattle.lane_kinds.specs.Stuck.{NeverThree}
-use Rattle.world_laws.specs.Settle.{SettleEntry, Settled, Unsettled}
-use Rattle.domain_laws.proofs.Counting.{disk_never, disk_never_begun, port_never, port_never_begun}
-use Rattle.domain_laws.proofs.LineEntries.{EachEntry, by_answer, each_as, each_both, each_in, one_each, one_port_each, steps_each}
-use Rattle.domain_laws.proofs.Resting.{disk_ticks_begun, disk_ticks_once, port_ticks_begun, port_ticks_once}
-use Rattle.domain_laws.proofs.Settling.{begun_few, settles}
-use Rattle.domain_laws.specs.Counts.{disk_stuck, port_stuck}
-use Rattle.domain_laws.specs.Domain.{Lanes, lanes}
-use Rattle.domain_laws.specs.Lines.{AnswersFrame, AnswersGroup, AnswersRequest, AreSteps, Asked, BeginsPart, Calls, EndTurn, Joins, Line, Nothing, PartOf, Rounds, Sends, Steps, fronts, turn, turns_of}
-use Rattle.domain_laws.specs.Lines as world
-use Rattle.domain_laws.specs.Settling.{AreUnforged}
+use Rattle.world_parts.specs.world_laws.Settle.{SettleEntry, Settled, Unsettled}
+use Rattle.world_parts.proofs.domain_laws.Counting.{disk_never, disk_never_begun, port_never, port_never_begun}
+use Rattle.world_parts.proofs.domain_laws.LineEntries.{EachEntry, by_answer, each_as, each_both, each_in, one_each, one_port_each, steps_each}
+use Rattle.world_parts.proofs.domain_laws.Resting.{disk_ticks_begun, disk_ticks_once, port_ticks_begun, port_ticks_once}
+use Rattle.world_parts.proofs.domain_laws.Settling.{begun_few, settles}
+use Rattle.world_parts.specs.domain_laws.Counts.{disk_stuck, port_stuck}
+use Rattle.world_parts.specs.domain_laws.Domain.{Lanes, lanes}
+use Rattle.world_parts.specs.domain_laws.Lines.{AnswersFrame, AnswersGroup, AnswersRequest, AreSteps, Asked, BeginsPart, Calls, EndTurn, Joins, Line, Nothing, PartOf, Rounds, Sends, Steps, fronts, turn, turns_of}
+use Rattle.world_parts.specs.domain_laws.Lines as world
+use Rattle.world_parts.specs.domain_laws.Settling.{AreUnforged}
 use Rattle.script_laws.proofs.ReachedLanes.{AreReachedFew}
 use Rattle.script_laws.proofs.Entries.{IsOfLane, LeavesNone, NotSettled, lanes_leave, lanes_unsettled, names_unsettled}
 use Rattle.script_laws.proofs.SettleEntries.{AreOfLanes, NamesLast, SettledLast, front_last, lane_steps, lanes_alone, out_last, out_unsettled, settle_front, settled_last}

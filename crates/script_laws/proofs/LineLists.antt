@@ -12,7 +12,7 @@ use Rattle.ldom_report.specs.Stops.{IsReaders}
 use Rattle.world_parts.specs.Endings.{EndsSo, ending}
 use Rattle.world_parts.specs.Lines.{EventStep}
 use Rattle.world_parts.specs.Script.{BeginBelow, FitsScript, LastStarts, ScriptParts, all_lines, entries_in, events_in, events_of, journal_of, with_last}
-use Rattle.domain_laws.specs.Domain.{DomainState}
+use Rattle.world_parts.specs.domain_laws.Domain.{DomainState}
 use Rattle.runs.specs.Run.{Run}
 
 -- ONE AFTER ANOTHER

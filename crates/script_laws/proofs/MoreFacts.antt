@@ -2,9 +2,9 @@
 use Rattle.std.proofs.Common.{◌≡◌, inl, inr, ℕ, ◌≤◌, List, [], length, refl, sym, ◌∙◌, ap, subst, Option, Some, None, IfSome}
 use Rattle.std.proofs.lemmas.Option.{IfSome_then}
 use Rattle.disk_law.specs.ListState.{ImageState}
-use Rattle.disk_model.specs.LaneState.{LaneState}
+use Rattle.world_parts.specs.disk_model.LaneState.{LaneState}
 use Rattle.domain_script.specs.NamesState.{NamesState}
-use Rattle.world_laws.specs.World.{WorldState}
+use Rattle.world_parts.specs.world_laws.World.{WorldState}
 use Rattle.ldom_entries.specs.declared.entry.Entry.{Entry}
 use Rattle.ldom_report.specs.declared.status.Status.{Status}
 use Rattle.script_laws.specs.Outside.{IsOutsideDisks, KeepsOthers, KeepsTold}

@@ -9,13 +9,13 @@ use Rattle.domain_script.specs.declared.event.DiskDecl.{DiskDecl}
 use Rattle.domain_script.specs.declared.event.Event.{Event}
 use Rattle.lane_kinds.specs.Lanes.{EachOf}
 use Rattle.lane_kinds.specs.Settles.{SettlePart}
-use Rattle.port_model.specs.NetLaneState.{IsNetShape, NetShape}
-use Rattle.world_laws.specs.Settle.{SettleEntry}
-use Rattle.domain_laws.proofs.LineEntries.{AreSoMany, by_answer}
-use Rattle.domain_laws.proofs.ScriptEntries.{fresh_many, lines_run, many_kept}
-use Rattle.domain_laws.specs.Domain.{DomainState, Lanes, lanes, lanes_in}
-use Rattle.domain_laws.specs.Lines.{AreSteps, Asked, Calls, DiskLane, EndTurn, Joins, Line, Nothing, PartOf, PortLane, Rounds, Sends, Steps, both_ends, entries_of_lines, lanes_from, round_turns, turn, turns_of}
-use Rattle.domain_laws.specs.Lines as world
+use Rattle.world_parts.specs.port_model.NetLaneState.{IsNetShape, NetShape}
+use Rattle.world_parts.specs.world_laws.Settle.{SettleEntry}
+use Rattle.world_parts.proofs.domain_laws.LineEntries.{AreSoMany, by_answer}
+use Rattle.world_parts.proofs.domain_laws.ScriptEntries.{fresh_many, lines_run, many_kept}
+use Rattle.world_parts.specs.domain_laws.Domain.{DomainState, Lanes, lanes, lanes_in}
+use Rattle.world_parts.specs.domain_laws.Lines.{AreSteps, Asked, Calls, DiskLane, EndTurn, Joins, Line, Nothing, PartOf, PortLane, Rounds, Sends, Steps, both_ends, entries_of_lines, lanes_from, round_turns, turn, turns_of}
+use Rattle.world_parts.specs.domain_laws.Lines as world
 use Rattle.world_parts.specs.WorldEvents.{told_of, world_event}
 use Rattle.ldom_entries.specs.declared.entry.Entry.{Entry}
 use Rattle.script_laws.proofs.AnswerEntries.{BeginsUnnamed, UpToAnswer, begun_unnamed, one_front, up_to_names, up_to_settled, whole_unnamed}

@@ -8,12 +8,12 @@ use Rattle.std.proofs.lemmas.List.{append-nil}
 use Rattle.vdisk_msg.specs.declared.request.Request.{Request}
 use Rattle.vdisk_msg.specs.declared.request.Request.TheVariants.{Flush, Read, Write}
 use Rattle.vdisk_msg.specs.Requests.{BadCount, BadRange, Defect, defect, operation_of}
-use Rattle.disk_model.specs.DiskEvent.{Asks, Full, Refused}
+use Rattle.world_parts.specs.disk_model.DiskEvent.{Asks, Full, Refused}
 use Rattle.domain_script.specs.declared.event.DiskDecl.{DiskDecl}
 use Rattle.domain_script.specs.declared.event.Event.{Event}
 use Rattle.domain_script.specs.declared.event.Event.TheVariants as event
 use Rattle.domain_script.specs.LaneKinds.{disk_lane}
-use Rattle.world_laws.specs.Settle.{OfLane, SettleEntry, Settled}
+use Rattle.world_parts.specs.world_laws.Settle.{OfLane, SettleEntry, Settled}
 use Rattle.kept_requests.specs.BlockWord.{blocks_text}
 use Rattle.kept_requests.specs.Bytes.{filled}
 use Rattle.ldom_entries.specs.declared.entry.Entry.TheVariants as entry
@@ -23,8 +23,8 @@ use Rattle.script_laws.proofs.LaneReport.{ids_in, ids_in_append, lane_ids, lane_
 use Rattle.script_laws.specs.PlainRun.{Plain, asked, complete, complete_all, done_line, name_text, plain_line, plain_run, refusal_line, settled}
 use Rattle.world_parts.specs.Declared.{shape_of}
 use Rattle.world_parts.specs.Lines.{line_of}
-use Rattle.world_laws.specs.Plain as lanes
-use Rattle.domain_laws.specs.PlainLines as plain_lines
+use Rattle.world_parts.specs.world_laws.Plain as lanes
+use Rattle.world_parts.specs.domain_laws.PlainLines as plain_lines
 
 -- THE PLAIN LIST OF REQUESTS: all but the text
 abbrev pub listed : Plain → lanes.Plain

@@ -6,12 +6,12 @@ use Rattle.disk_law.specs.ListState.{ImageState}
 use Rattle.domain_script.specs.Declarations.{IsDisk}
 use Rattle.domain_script.specs.declared.event.DiskDecl.{DiskDecl}
 use Rattle.domain_script.specs.declared.event.Event.{Event}
-use Rattle.world_laws.specs.Settle.{SettleEntry}
-use Rattle.world_laws.specs.World.{WorldState}
-use Rattle.domain_laws.proofs.Running.{disks_run}
-use Rattle.domain_laws.proofs.ScriptEntries.{lines_run}
-use Rattle.domain_laws.specs.Domain.{DomainState, fresh_domain}
-use Rattle.domain_laws.specs.Lines.{Line, LineStep, entries_of_lines}
+use Rattle.world_parts.specs.world_laws.Settle.{SettleEntry}
+use Rattle.world_parts.specs.world_laws.World.{WorldState}
+use Rattle.world_parts.proofs.domain_laws.Running.{disks_run}
+use Rattle.world_parts.proofs.domain_laws.ScriptEntries.{lines_run}
+use Rattle.world_parts.specs.domain_laws.Domain.{DomainState, fresh_domain}
+use Rattle.world_parts.specs.domain_laws.Lines.{Line, LineStep, entries_of_lines}
 use Rattle.ldom_report.specs.EntryText.{report_entries}
 use Rattle.ldom_report.specs.Report.{accepted_count, done_count, end_line, frame_count, report, reset_count}
 use Rattle.ldom_entries.specs.declared.entry.Entry.{Entry}
@@ -29,14 +29,14 @@ use Rattle.script_laws.specs.Completed.{completed_ids}
 use Rattle.world_parts.specs.Declared.{shape_of, world_of}
 use Rattle.world_parts.specs.Lines.{line_of}
 use Rattle.world_parts.specs.Script.{FitsScript, ScriptParts, entries_in, events_in, events_of, journal_of}
-use Rattle.domain_laws.proofs.QuietLines.{lines_before, quiet_lines}
-use Rattle.domain_laws.specs.PlainLines as plain_lines
-use Rattle.domain_laws.specs.Quiet as quiet_world
-use Rattle.domain_laws.specs.Quiet.{RunsPlainly, RunsQuietly, lines_of, shown_of}
-use Rattle.world_laws.specs.Plain as lanes
-use Rattle.world_laws.specs.Quiet.{IsPlain}
-use Rattle.world_laws.proofs.Counting.{world_counts}
-use Rattle.world_laws.specs.Accepted.{accepted_in, next_ids}
+use Rattle.world_parts.proofs.domain_laws.QuietLines.{lines_before, quiet_lines}
+use Rattle.world_parts.specs.domain_laws.PlainLines as plain_lines
+use Rattle.world_parts.specs.domain_laws.Quiet as quiet_world
+use Rattle.world_parts.specs.domain_laws.Quiet.{RunsPlainly, RunsQuietly, lines_of, shown_of}
+use Rattle.world_parts.specs.world_laws.Plain as lanes
+use Rattle.world_parts.specs.world_laws.Quiet.{IsPlain}
+use Rattle.world_parts.proofs.world_laws.Counting.{world_counts}
+use Rattle.world_parts.specs.world_laws.Accepted.{accepted_in, next_ids}
 
 -- WHAT A QUIET SCRIPT COMES TO: the report's text, the image's bytes and the completed ids are those of the plain run
 pub record PlainLaw (disk : DiskDecl) (content : List ℕ) (events : List Event) (journal : List Entry) (v : WorldState)

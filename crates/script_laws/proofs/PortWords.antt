@@ -8,27 +8,27 @@ use Rattle.ldc_queue.specs.Transcript.{Turn}
 use Rattle.ldc_queue.specs.declared.end.End.{End}
 use Rattle.vio_tag.specs.declared.cause.Cause.{Cause}
 use Rattle.vio_tag.specs.declared.cause.Cause.TheVariants as the_cause
-use Rattle.channel_model.specs.ResetSays.{ResetSays}
-use Rattle.channel_model.specs.TranscriptLog.{transcript_of}
+use Rattle.world_parts.specs.channel_model.ResetSays.{ResetSays}
+use Rattle.world_parts.specs.channel_model.TranscriptLog.{transcript_of}
 use Rattle.lane_kinds.proofs.Places.{get_within}
 use Rattle.lane_kinds.specs.Lanes.{EachOf, own_or}
-use Rattle.port_laws.proofs.EveryRun.{every_run}
-use Rattle.port_model.specs.FrameLaws.{InSession, OwnReset, SlotResets}
-use Rattle.port_model.specs.NetEndStep.{Reset}
-use Rattle.port_model.specs.NetEvent.{CalmTick, NetEvent, Steps, Ticked}
-use Rattle.port_model.specs.PortLog.{PortLog, after, log_of_end, no_events}
-use Rattle.port_model.specs.EndLog.{EndLog, SessionLog}
-use Rattle.port_model.specs.PortMay.{PortMay}
-use Rattle.port_model.specs.PortState.{OnLane, PortState, PortStep, Receives, fresh_port}
-use Rattle.switch_laws.specs.Events.{OnPort, SwitchEvent, SwitchStep, Switched}
-use Rattle.switch_laws.specs.Reached.{IsReached}
-use Rattle.world_laws.specs.Settle.{OfPort, SettleEntry, UnsettledPort}
-use Rattle.world_laws.specs.Words.{NamesFault}
-use Rattle.domain_laws.proofs.LeftOver.{IsBelow, NamesBelow}
-use Rattle.domain_laws.proofs.LineEntries.{EachEntry}
-use Rattle.domain_laws.proofs.Running.{port_moved, ports_many, stay_reached}
-use Rattle.switch_laws.specs.Ports.{gets}
-use Rattle.domain_laws.specs.Domain.{PortsStep}
+use Rattle.world_parts.proofs.port_laws.EveryRun.{every_run}
+use Rattle.world_parts.specs.port_model.FrameLaws.{InSession, OwnReset, SlotResets}
+use Rattle.world_parts.specs.port_model.NetEndStep.{Reset}
+use Rattle.world_parts.specs.port_model.NetEvent.{CalmTick, NetEvent, Steps, Ticked}
+use Rattle.world_parts.specs.port_model.PortLog.{PortLog, after, log_of_end, no_events}
+use Rattle.world_parts.specs.port_model.EndLog.{EndLog, SessionLog}
+use Rattle.world_parts.specs.port_model.PortMay.{PortMay}
+use Rattle.world_parts.specs.port_model.PortState.{OnLane, PortState, PortStep, Receives, fresh_port}
+use Rattle.world_parts.specs.switch_laws.Events.{OnPort, SwitchEvent, SwitchStep, Switched}
+use Rattle.world_parts.specs.switch_laws.Reached.{IsReached}
+use Rattle.world_parts.specs.world_laws.Settle.{OfPort, SettleEntry, UnsettledPort}
+use Rattle.world_parts.specs.world_laws.Words.{NamesFault}
+use Rattle.world_parts.proofs.domain_laws.LeftOver.{IsBelow, NamesBelow}
+use Rattle.world_parts.proofs.domain_laws.LineEntries.{EachEntry}
+use Rattle.world_parts.proofs.domain_laws.Running.{port_moved, ports_many, stay_reached}
+use Rattle.world_parts.specs.switch_laws.Ports.{gets}
+use Rattle.world_parts.specs.domain_laws.Domain.{PortsStep}
 use Rattle.world_parts.specs.WorldEvents.{told_net, told_of}
 
 -- the cause of a reset names a fault of a copy

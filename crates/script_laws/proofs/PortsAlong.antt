@@ -7,21 +7,21 @@ use Rattle.domain_script.specs.declared.event.DiskDecl.{DiskDecl}
 use Rattle.lane_kinds.proofs.Places.{get_within}
 use Rattle.lane_kinds.specs.Lanes.{EachOf}
 use Rattle.ldc_queue.specs.declared.end.End.TheVariants.{A, B}
-use Rattle.port_laws.proofs.EveryRun.{every_run}
-use Rattle.port_laws.specs.InOrder.{InOrder}
-use Rattle.port_laws.specs.Lost.{frames_lost}
-use Rattle.port_model.specs.NetLaneState.{IsNetShape, NetShape}
-use Rattle.port_model.specs.PortState.{PortState, PortStep, fresh_port}
-use Rattle.switch_laws.specs.Reached.{IsUnforged}
-use Rattle.world_laws.specs.Settle.{SettleEntry, Settled}
-use Rattle.domain_laws.proofs.Arriving.{own_run, rested_to_guest, rested_to_switch, sound_at, to_guest, to_switch}
-use Rattle.domain_laws.proofs.ForgedPorts.{port_told}
-use Rattle.domain_laws.proofs.Running.{fresh_many, port_runs, ports_run}
-use Rattle.domain_laws.specs.Along.{port_happened}
-use Rattle.domain_laws.specs.Domain.{DomainState, PortsStep}
-use Rattle.domain_laws.specs.Forged.{NobodyForgesPort}
-use Rattle.domain_laws.specs.Frames.{frames_arrived, frames_put, frames_queued, frames_switched, port_events}
-use Rattle.domain_laws.specs.Settling.{HoldsNoFrame}
+use Rattle.world_parts.proofs.port_laws.EveryRun.{every_run}
+use Rattle.world_parts.specs.port_laws.InOrder.{InOrder}
+use Rattle.world_parts.specs.port_laws.Lost.{frames_lost}
+use Rattle.world_parts.specs.port_model.NetLaneState.{IsNetShape, NetShape}
+use Rattle.world_parts.specs.port_model.PortState.{PortState, PortStep, fresh_port}
+use Rattle.world_parts.specs.switch_laws.Reached.{IsUnforged}
+use Rattle.world_parts.specs.world_laws.Settle.{SettleEntry, Settled}
+use Rattle.world_parts.proofs.domain_laws.Arriving.{own_run, rested_to_guest, rested_to_switch, sound_at, to_guest, to_switch}
+use Rattle.world_parts.proofs.domain_laws.ForgedPorts.{port_told}
+use Rattle.world_parts.proofs.domain_laws.Running.{fresh_many, port_runs, ports_run}
+use Rattle.world_parts.specs.domain_laws.Along.{port_happened}
+use Rattle.world_parts.specs.domain_laws.Domain.{DomainState, PortsStep}
+use Rattle.world_parts.specs.domain_laws.Forged.{NobodyForgesPort}
+use Rattle.world_parts.specs.domain_laws.Frames.{frames_arrived, frames_put, frames_queued, frames_switched, port_events}
+use Rattle.world_parts.specs.domain_laws.Settling.{HoldsNoFrame}
 use Rattle.script_laws.proofs.Leading.{Leads}
 use Rattle.script_laws.proofs.Settling.{PortsRestAt}
 use Rattle.script_laws.proofs.Untold.{Untold, all_told, real_forged, real_settled, told_arrived, told_forged, told_put, told_queued, told_switched, untold}

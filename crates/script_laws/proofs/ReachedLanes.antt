@@ -4,31 +4,31 @@ use Rattle.std.proofs.Common.{◌≡◌, ℕ, ◌<◌, ◌≤◌, List, ◌++◌
 use Rattle.std.proofs.lemmas.Option.{slice_get_within}
 use Rattle.runs.specs.Run.{Run}
 use Rattle.disk_law.specs.ListState.{ImageState}
-use Rattle.disk_model.specs.DiskEvent.{DiskEvent}
-use Rattle.disk_model.specs.LaneState.{Shape}
+use Rattle.world_parts.specs.disk_model.DiskEvent.{DiskEvent}
+use Rattle.world_parts.specs.disk_model.LaneState.{Shape}
 use Rattle.domain_script.specs.Declarations.{AreDisks}
 use Rattle.domain_script.specs.declared.event.DiskDecl.{DiskDecl}
 use Rattle.lane_kinds.proofs.Places.{get_within}
 use Rattle.lane_kinds.specs.Lanes.{EachOf}
-use Rattle.port_model.specs.NetLaneState.{IsNetShape, NetShape}
-use Rattle.port_model.specs.PortState.{PortState, fresh_port}
-use Rattle.switch_laws.specs.Events.{SwitchEvent}
-use Rattle.switch_laws.specs.Reached as port
-use Rattle.world_laws.specs.Settle.{SettleEntry}
-use Rattle.world_laws.proofs.Forging.{all_unforged, forges_front}
-use Rattle.world_laws.proofs.Moving.{happened_both}
-use Rattle.world_laws.specs.Along.{happened}
-use Rattle.world_laws.specs.Forged.{NobodyForges}
-use Rattle.world_laws.proofs.Along.{world_reached}
-use Rattle.world_laws.specs.World.{AreShapes}
-use Rattle.domain_laws.proofs.ForgedPorts.{port_told}
-use Rattle.domain_laws.proofs.Running.{disks_run, fresh_many, fresh_reached, ports_run, stay_reached}
-use Rattle.domain_laws.proofs.ScriptEntries.{fresh_many as many_first, lines_run, many_kept}
-use Rattle.domain_laws.specs.Along.{port_happened, port_said}
-use Rattle.domain_laws.specs.Domain.{DomainState, DomainStep, Lanes, fresh_domain, lanes_in}
-use Rattle.domain_laws.specs.Forged.{NobodyForgesPort}
-use Rattle.domain_laws.specs.Lines.{Line, LineStep, entries_of_lines}
-use Rattle.domain_laws.specs.Settling.{AreFew, AreReached, AreUnforged}
+use Rattle.world_parts.specs.port_model.NetLaneState.{IsNetShape, NetShape}
+use Rattle.world_parts.specs.port_model.PortState.{PortState, fresh_port}
+use Rattle.world_parts.specs.switch_laws.Events.{SwitchEvent}
+use Rattle.world_parts.specs.switch_laws.Reached as port
+use Rattle.world_parts.specs.world_laws.Settle.{SettleEntry}
+use Rattle.world_parts.proofs.world_laws.Forging.{all_unforged, forges_front}
+use Rattle.world_parts.proofs.world_laws.Moving.{happened_both}
+use Rattle.world_parts.specs.world_laws.Along.{happened}
+use Rattle.world_parts.specs.world_laws.Forged.{NobodyForges}
+use Rattle.world_parts.proofs.world_laws.Along.{world_reached}
+use Rattle.world_parts.specs.world_laws.World.{AreShapes}
+use Rattle.world_parts.proofs.domain_laws.ForgedPorts.{port_told}
+use Rattle.world_parts.proofs.domain_laws.Running.{disks_run, fresh_many, fresh_reached, ports_run, stay_reached}
+use Rattle.world_parts.proofs.domain_laws.ScriptEntries.{fresh_many as many_first, lines_run, many_kept}
+use Rattle.world_parts.specs.domain_laws.Along.{port_happened, port_said}
+use Rattle.world_parts.specs.domain_laws.Domain.{DomainState, DomainStep, Lanes, fresh_domain, lanes_in}
+use Rattle.world_parts.specs.domain_laws.Forged.{NobodyForgesPort}
+use Rattle.world_parts.specs.domain_laws.Lines.{Line, LineStep, entries_of_lines}
+use Rattle.world_parts.specs.domain_laws.Settling.{AreFew, AreReached, AreUnforged}
 use Rattle.lane_kinds.proofs.Moving as kind
 use Rattle.script_laws.specs.Settled.{NobodyForgesAll}
 

@@ -16,7 +16,7 @@ use Rattle.domain_script.specs.Values.{ValuesOf}
 use Rattle.domain_script.specs.Words.{words}
 use Rattle.domain_script.proofs.Spelling.{DeclaresPort, port_declared_first}
 use Rattle.lane_kinds.specs.Lanes.{EachOf}
-use Rattle.port_model.specs.NetLaneState.{IsNetShape, NetShape}
+use Rattle.world_parts.specs.port_model.NetLaneState.{IsNetShape, NetShape}
 use Rattle.world_parts.specs.Declared.{net_of, nets_of}
 use Rattle.script_laws.specs.Script.{ReadSoFar}
 use Rattle.script_laws.proofs.LineCases.{noted_ports}

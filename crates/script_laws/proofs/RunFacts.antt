@@ -7,11 +7,11 @@ use Rattle.vio_io.specs.Causes.{last_count}
 use Rattle.disk_law.specs.Issued.{CompletesOnceInOrder}
 use Rattle.disk_law.specs.ListState.{ImageState}
 use Rattle.disk_law.specs.ListStep.{Done}
-use Rattle.disk_model.specs.LaneState.{LaneState}
+use Rattle.world_parts.specs.disk_model.LaneState.{LaneState}
 use Rattle.domain_script.specs.Declarations.{AreDisks}
 use Rattle.domain_script.specs.NamesState.{NamesState, declared_by}
 use Rattle.lane_kinds.specs.Lanes.{EachOf}
-use Rattle.port_model.specs.NetLaneState.{IsNetShape, NetShape}
+use Rattle.world_parts.specs.port_model.NetLaneState.{IsNetShape, NetShape}
 use Rattle.ldom_report.specs.DiskEvents.{history}
 use Rattle.ldom_report.specs.HasWords.{HasWords}
 use Rattle.ldom_entries.specs.declared.entry.Entry.{Entry}

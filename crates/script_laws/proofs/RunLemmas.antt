@@ -15,7 +15,7 @@ use Rattle.world_parts.specs.Lines.{LineStarts, EventStep, line_of}
 use Rattle.world_parts.specs.Parts.{Fits, FitsSoFar}
 use Rattle.ldom_report.specs.LinesEnd.{counted_lines}
 use Rattle.script_laws.specs.Reading.{ReadsEvent, StopsAt}
-use Rattle.domain_laws.specs.Domain.{DomainState}
+use Rattle.world_parts.specs.domain_laws.Domain.{DomainState}
 use Rattle.world_parts.specs.Script.{BeginBelow, entries_in, events_in}
 use Rattle.domain_script.proofs.ScriptLemmas.{short-append, takes-append, takes_none}
 use Rattle.script_laws.proofs.LineLists.{below_push, entries_push, events_both, whole_ends}

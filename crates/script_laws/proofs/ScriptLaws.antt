@@ -12,42 +12,42 @@ use Rattle.vdisk_msg.specs.declared.request.Request.{Request}
 use Rattle.disk_law.specs.Issued.{Admission, CompletesOnceInOrder, issued}
 use Rattle.disk_law.specs.ListState.{ImageState}
 use Rattle.disk_law.specs.ListStep as plain
-use Rattle.disk_model.specs.DiskEvent.{DiskEvent}
-use Rattle.disk_model.specs.LaneState.{Shape, fresh}
-use Rattle.disk_model.specs.LaneStep.{LaneStep}
-use Rattle.lane_laws.specs.DiskLog.{after, nothing_yet}
+use Rattle.world_parts.specs.disk_model.DiskEvent.{DiskEvent}
+use Rattle.world_parts.specs.disk_model.LaneState.{Shape, fresh}
+use Rattle.world_parts.specs.disk_model.LaneStep.{LaneStep}
+use Rattle.world_parts.specs.lane_laws.DiskLog.{after, nothing_yet}
 use Rattle.domain_script.specs.Declarations.{AreDisks, Declared}
 use Rattle.lane_kinds.specs.Lanes.{EachOf}
-use Rattle.port_model.specs.PortState.{fresh_port}
-use Rattle.domain_laws.proofs.LineEntries.{EachEntry}
-use Rattle.domain_laws.proofs.Running.{fresh_reached as fresh_ports_reached, ports_run}
+use Rattle.world_parts.specs.port_model.PortState.{fresh_port}
+use Rattle.world_parts.proofs.domain_laws.LineEntries.{EachEntry}
+use Rattle.world_parts.proofs.domain_laws.Running.{fresh_reached as fresh_ports_reached, ports_run}
 use Rattle.script_laws.proofs.PortWords.{IsPortTold, as_told, ports_told}
 use Rattle.script_laws.proofs.ReadPorts.{many_nets}
 use Rattle.domain_script.specs.declared.event.DiskDecl.{DiskDecl}
 use Rattle.domain_script.specs.declared.event.Event.{Event}
-use Rattle.world_laws.specs.Along.{happened}
-use Rattle.world_laws.proofs.Along.{fresh_reached, lane_at, lanes_run, shape_at}
+use Rattle.world_parts.specs.world_laws.Along.{happened}
+use Rattle.world_parts.proofs.world_laws.Along.{fresh_reached, lane_at, lanes_run, shape_at}
 use Rattle.lane_kinds.proofs.Places.{get_within}
-use Rattle.world_laws.specs.World.{IsWorld, WorldState, WorldStep, fresh_world}
-use Rattle.port_model.specs.NetLaneState.{IsNetShape, NetShape}
-use Rattle.domain_laws.specs.Domain.{DomainState}
-use Rattle.world_laws.specs.Failures.{in_entry, is_failed_done, is_flush, is_store, is_store_that, is_write}
-use Rattle.world_laws.specs.Forged.{NobodyForges}
-use Rattle.world_laws.specs.NamesNo.{AllLeaveAlone}
-use Rattle.world_laws.proofs.ImageFaults.{few_counted, run_calls, run_flushes, run_writes}
+use Rattle.world_parts.specs.world_laws.World.{IsWorld, WorldState, WorldStep, fresh_world}
+use Rattle.world_parts.specs.port_model.NetLaneState.{IsNetShape, NetShape}
+use Rattle.world_parts.specs.domain_laws.Domain.{DomainState}
+use Rattle.world_parts.specs.world_laws.Failures.{in_entry, is_failed_done, is_flush, is_store, is_store_that, is_write}
+use Rattle.world_parts.specs.world_laws.Forged.{NobodyForges}
+use Rattle.world_parts.specs.world_laws.NamesNo.{AllLeaveAlone}
+use Rattle.world_parts.proofs.world_laws.ImageFaults.{few_counted, run_calls, run_flushes, run_writes}
 use Rattle.ldom_report.specs.DiskEvents.{history}
 use Rattle.ldom_report.specs.HasWords.{HasWords}
 use Rattle.ldom_entries.specs.declared.entry.Entry.{Entry}
-use Rattle.world_laws.proofs.Forging.{all_unforged, forged_by_events}
-use Rattle.world_laws.proofs.LawFacts.{log_clean}
-use Rattle.world_laws.proofs.WorldLaws.{disk_counted, world_counted, world_tells}
-use Rattle.world_laws.proofs.BehindDisks.{stays_behind}
-use Rattle.world_laws.proofs.NamedRuns.{stays_at}
+use Rattle.world_parts.proofs.world_laws.Forging.{all_unforged, forged_by_events}
+use Rattle.world_parts.proofs.world_laws.LawFacts.{log_clean}
+use Rattle.world_parts.proofs.world_laws.WorldLaws.{disk_counted, world_counted, world_tells}
+use Rattle.world_parts.proofs.world_laws.BehindDisks.{stays_behind}
+use Rattle.world_parts.proofs.world_laws.NamedRuns.{stays_at}
 use Rattle.world_parts.specs.Declared.{bytes_needed, nets_of, shape_of, shapes_of, world_of}
 use Rattle.world_parts.specs.Lines.{all_happened}
 use Rattle.world_parts.specs.Script.{FitsScript, ScriptParts, all_lines, journal_of}
-use Rattle.world_laws.proofs.RequestLaws.{disk_admits, disk_completes}
-use Rattle.world_laws.specs.Requests.{requests_of}
+use Rattle.world_parts.proofs.world_laws.RequestLaws.{disk_admits, disk_completes}
+use Rattle.world_parts.specs.world_laws.Requests.{requests_of}
 use Rattle.script_laws.specs.Admitting.{AdmitsAll}
 use Rattle.script_laws.specs.Failures.{FailuresCounted, SucceedOrFail, SucceedsOrFails, failed_count, has_failed}
 use Rattle.script_laws.specs.Forged.{IsUnforged}

@@ -3,27 +3,27 @@ use Rattle.std.proofs.Common.{◌≡◌, inl, inr, ℕ, ◌+◌, ◌*◌, ◌<�
 use Rattle.std.proofs.lemmas.List.{length-map}
 use Rattle.std.specs.Prelude.{◌&&◌, if◌then◌else◌}
 use Rattle.runs.specs.Run.{Run}
-use Rattle.channel_model.specs.WireEvent.{Blocked}
-use Rattle.disk_model.specs.DiskEvent.{OnWire}
-use Rattle.disk_model.specs.LaneState.{LaneState}
+use Rattle.world_parts.specs.channel_model.WireEvent.{Blocked}
+use Rattle.world_parts.specs.disk_model.DiskEvent.{OnWire}
+use Rattle.world_parts.specs.disk_model.LaneState.{LaneState}
 use Rattle.lane_kinds.proofs.EntriesEach.{first_each}
 use Rattle.lane_kinds.proofs.EntryRuns.{names_each}
 use Rattle.lane_kinds.specs.Both.{Two}
 use Rattle.lane_kinds.specs.Fronts.{NamesFront, SettleFront}
 use Rattle.lane_kinds.specs.Lanes.{Entries, LaneKind, all_calm, left_names}
 use Rattle.lane_kinds.specs.Settles.{GoesOn, RunsOut, Settles, begin, entries_of_rounds, most_rounds}
-use Rattle.port_model.specs.PortState.{PortState}
-use Rattle.switch_laws.specs.Events.{SwitchEvent}
-use Rattle.switch_laws.specs.Ports.{ports}
-use Rattle.world_laws.specs.DiskKind.{disk_kind}
-use Rattle.world_laws.specs.Rounds.{LaneRound}
-use Rattle.world_laws.specs.Settle.{OfLane, OfPort, SettleEntry, Settled, Unsettled, UnsettledPort, disk_entries, disks}
-use Rattle.domain_laws.proofs.Counting.{made_move, some_named}
-use Rattle.domain_laws.proofs.LineEntries.{AllRound, AllSettling, EachEntry, StepsHave, TicksHave, each_as, each_both, each_in, few_each, rounds_each, settled_each}
-use Rattle.domain_laws.specs.Counts.{is_blocked, moves, moves_in}
-use Rattle.domain_laws.specs.Domain.{Lanes, lanes, port_entries, switch}
-use Rattle.domain_laws.specs.Lines.{fronts}
-use Rattle.domain_laws.specs.Settling.{AreReached}
+use Rattle.world_parts.specs.port_model.PortState.{PortState}
+use Rattle.world_parts.specs.switch_laws.Events.{SwitchEvent}
+use Rattle.world_parts.specs.switch_laws.Ports.{ports}
+use Rattle.world_parts.specs.world_laws.DiskKind.{disk_kind}
+use Rattle.world_parts.specs.world_laws.Rounds.{LaneRound}
+use Rattle.world_parts.specs.world_laws.Settle.{OfLane, OfPort, SettleEntry, Settled, Unsettled, UnsettledPort, disk_entries, disks}
+use Rattle.world_parts.proofs.domain_laws.Counting.{made_move, some_named}
+use Rattle.world_parts.proofs.domain_laws.LineEntries.{AllRound, AllSettling, EachEntry, StepsHave, TicksHave, each_as, each_both, each_in, few_each, rounds_each, settled_each}
+use Rattle.world_parts.specs.domain_laws.Counts.{is_blocked, moves, moves_in}
+use Rattle.world_parts.specs.domain_laws.Domain.{Lanes, lanes, port_entries, switch}
+use Rattle.world_parts.specs.domain_laws.Lines.{fronts}
+use Rattle.world_parts.specs.domain_laws.Settling.{AreReached}
 use Rattle.script_laws.proofs.Entries.{IsName, IsOfLane}
 use Rattle.script_laws.proofs.Places.{InEither, no_place, place_in}
 use Rattle.script_laws.specs.Settled.{EndsUnsettled}

@@ -7,10 +7,10 @@ use Rattle.domain_script.specs.declared.event.Event.{Event}
 use Rattle.domain_script.specs.declared.event.Event.TheVariants.{Settle}
 use Rattle.lane_kinds.specs.Fronts.{SettleFront}
 use Rattle.lane_kinds.specs.Settles.{SettlePart}
-use Rattle.port_model.specs.NetLaneState.{NetShape}
-use Rattle.world_laws.specs.Settle.{SettleEntry}
-use Rattle.domain_laws.specs.Domain.{DomainState, Lanes, lanes, lanes_in}
-use Rattle.domain_laws.specs.Lines.{fronts}
+use Rattle.world_parts.specs.port_model.NetLaneState.{NetShape}
+use Rattle.world_parts.specs.world_laws.Settle.{SettleEntry}
+use Rattle.world_parts.specs.domain_laws.Domain.{DomainState, Lanes, lanes, lanes_in}
+use Rattle.world_parts.specs.domain_laws.Lines.{fronts}
 use Rattle.ldom_entries.specs.declared.entry.Entry.{Entry}
 use Rattle.script_laws.proofs.LineEntries.{settle_rules}
 use Rattle.script_laws.proofs.Places.{InEither, no_place, place_in}

@@ -2,27 +2,27 @@
 use Rattle.std.proofs.Common.{◌≡◌, ◌⊎◌, inl, inr, ℕ, zero, suc, ◌+◌, false, List, [], ◌∷◌, ◌++◌, slice_get, Some, sym, ap, ◌∙◌, subst, arith}
 use Rattle.runs.specs.Run.{Run}
 use Rattle.disk_law.specs.ListState.{ImageState}
-use Rattle.disk_model.specs.DiskEvent.{DiskEvent}
-use Rattle.disk_model.specs.LaneState.{IsShape, LaneState, Shape, fresh}
-use Rattle.disk_model.specs.LaneStep.{LaneStep}
+use Rattle.world_parts.specs.disk_model.DiskEvent.{DiskEvent}
+use Rattle.world_parts.specs.disk_model.LaneState.{IsShape, LaneState, Shape, fresh}
+use Rattle.world_parts.specs.disk_model.LaneStep.{LaneStep}
 use Rattle.domain_script.specs.declared.event.DiskDecl.{DiskDecl}
 use Rattle.domain_script.specs.declared.event.Event.{Event}
 use Rattle.domain_script.specs.declared.event.Event.TheVariants.{Settle}
 use Rattle.lane_kinds.proofs.Stuck.{sum_both}
-use Rattle.lane_laws.proofs.AgreementRuns.{run_agrees}
-use Rattle.world_laws.proofs.Along.{lane_at, shape_at}
+use Rattle.world_parts.proofs.lane_laws.AgreementRuns.{run_agrees}
+use Rattle.world_parts.proofs.world_laws.Along.{lane_at, shape_at}
 use Rattle.lane_kinds.specs.Fronts.{SettleFront}
 use Rattle.lane_kinds.specs.Settles.{SettlePart, Settles}
-use Rattle.port_model.specs.NetLaneState.{NetShape}
-use Rattle.domain_laws.proofs.DiskParts.{part_moves_disks}
-use Rattle.domain_laws.proofs.LineEntries.{each_in}
-use Rattle.domain_laws.proofs.Resting.{disks_end}
-use Rattle.domain_laws.specs.Domain.{Lanes, lanes, lanes_in}
-use Rattle.domain_laws.specs.Lines.{fronts}
-use Rattle.world_laws.specs.Along.{happened}
-use Rattle.world_laws.specs.Ended.{EndsIn, LanesEnd}
-use Rattle.world_laws.specs.Moves.{ticks, ticks_in}
-use Rattle.world_laws.specs.Settle.{SettleEntry, Settled}
+use Rattle.world_parts.specs.port_model.NetLaneState.{NetShape}
+use Rattle.world_parts.proofs.domain_laws.DiskParts.{part_moves_disks}
+use Rattle.world_parts.proofs.domain_laws.LineEntries.{each_in}
+use Rattle.world_parts.proofs.domain_laws.Resting.{disks_end}
+use Rattle.world_parts.specs.domain_laws.Domain.{Lanes, lanes, lanes_in}
+use Rattle.world_parts.specs.domain_laws.Lines.{fronts}
+use Rattle.world_parts.specs.world_laws.Along.{happened}
+use Rattle.world_parts.specs.world_laws.Ended.{EndsIn, LanesEnd}
+use Rattle.world_parts.specs.world_laws.Moves.{ticks, ticks_in}
+use Rattle.world_parts.specs.world_laws.Settle.{SettleEntry, Settled}
 use Rattle.ldom_entries.specs.declared.entry.Entry.{Entry}
 use Rattle.script_laws.proofs.ReachedLanes.{AreLanes}
 use Rattle.script_laws.proofs.Untold.{Untold, all_told, real_settled, told_happened, told_ticks, untold}

@@ -1,27 +1,27 @@
 -- Where a settle ends settled both ends of each lane are still, by the log of what its part says happened to it.
 use Rattle.std.proofs.Common.{◌≡◌, ℕ, ◌+◌, true, List, [], ◌∷◌, ◌++◌, slice_get, Some, refl, sym, ap, ◌∙◌, subst, arith, append_assoc, append-nil}
 use Rattle.std.specs.Prelude.{⊤}
-use Rattle.world_laws.specs.Rounds.{are_quiet}
+use Rattle.world_parts.specs.world_laws.Rounds.{are_quiet}
 use Rattle.runs.specs.Lawful.{log_of}
 use Rattle.runs.specs.Run.{Run, run_append}
-use Rattle.lane_laws.specs.DiskLog.{after, nothing_yet}
-use Rattle.disk_model.specs.DiskEvent.{DiskEvent}
-use Rattle.disk_model.specs.LaneState.{IsShape, LaneState, Shape, fresh}
-use Rattle.disk_model.specs.LaneStep.{LaneStep}
+use Rattle.world_parts.specs.lane_laws.DiskLog.{after, nothing_yet}
+use Rattle.world_parts.specs.disk_model.DiskEvent.{DiskEvent}
+use Rattle.world_parts.specs.disk_model.LaneState.{IsShape, LaneState, Shape, fresh}
+use Rattle.world_parts.specs.disk_model.LaneStep.{LaneStep}
 use Rattle.lane_kinds.proofs.Lanes.{own_turns}
-use Rattle.world_laws.proofs.DiskLaws.{gives_nothing}
-use Rattle.world_laws.specs.DiskKind.{disk_kind}
-use Rattle.world_laws.proofs.Moving.{happened_both, leads}
-use Rattle.world_laws.specs.Along.{happened}
+use Rattle.world_parts.proofs.world_laws.DiskLaws.{gives_nothing}
+use Rattle.world_parts.specs.world_laws.DiskKind.{disk_kind}
+use Rattle.world_parts.proofs.world_laws.Moving.{happened_both, leads}
+use Rattle.world_parts.specs.world_laws.Along.{happened}
 use Rattle.lane_kinds.proofs.Sums.{and_left}
 use Rattle.lane_kinds.specs.Settles.{Settles, begin, entries_of_rounds}
-use Rattle.switch_laws.specs.Ports.{ports}
-use Rattle.world_laws.specs.Settle.{OfPort, SettleEntry, Settled, round_entries}
+use Rattle.world_parts.specs.switch_laws.Ports.{ports}
+use Rattle.world_parts.specs.world_laws.Settle.{OfPort, SettleEntry, Settled, round_entries}
 use Rattle.lane_kinds.proofs.EntryRuns.{round_each}
-use Rattle.domain_laws.proofs.DiskParts.{rounds_move_disks}
-use Rattle.domain_laws.proofs.LineEntries.{EachEntry}
-use Rattle.domain_laws.specs.Domain.{Lanes, lanes, port_entries, switch}
-use Rattle.world_laws.proofs.LaneLists.{lane_moved}
+use Rattle.world_parts.proofs.domain_laws.DiskParts.{rounds_move_disks}
+use Rattle.world_parts.proofs.domain_laws.LineEntries.{EachEntry}
+use Rattle.world_parts.specs.domain_laws.Domain.{Lanes, lanes, port_entries, switch}
+use Rattle.world_parts.proofs.world_laws.LaneLists.{lane_moved}
 use Rattle.script_laws.proofs.Stillness.{calm_round, still_by}
 use Rattle.script_laws.proofs.TicksStand.{MovedTo, QuietAt, moved_to, quiet_at}
 use Rattle.script_laws.specs.Still.{AreStillBy}

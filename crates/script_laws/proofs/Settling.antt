@@ -4,33 +4,33 @@ use Rattle.std.proofs.Common.{◌≡◌, ◌⊎◌, ℕ, zero, suc, ◌+◌, ◌
 use Rattle.runs.specs.Lawful.{log_of}
 use Rattle.runs.specs.Run.{Run, run_append, run_split}
 use Rattle.disk_law.specs.ListState.{ImageState}
-use Rattle.disk_model.specs.ClientState.{is_finished}
-use Rattle.lane_laws.specs.DiskLog.{after, nothing_yet}
-use Rattle.disk_model.specs.DiskEvent.{DiskEvent}
-use Rattle.disk_model.specs.LaneState.{LaneState, Shape, fresh}
-use Rattle.disk_model.specs.LaneStep.{LaneStep}
+use Rattle.world_parts.specs.disk_model.ClientState.{is_finished}
+use Rattle.world_parts.specs.lane_laws.DiskLog.{after, nothing_yet}
+use Rattle.world_parts.specs.disk_model.DiskEvent.{DiskEvent}
+use Rattle.world_parts.specs.disk_model.LaneState.{LaneState, Shape, fresh}
+use Rattle.world_parts.specs.disk_model.LaneStep.{LaneStep}
 use Rattle.domain_script.specs.declared.event.DiskDecl.{DiskDecl}
 use Rattle.domain_script.specs.declared.event.Event.{Event}
 use Rattle.domain_script.specs.declared.event.Event.TheVariants.{Settle}
 use Rattle.lane_kinds.specs.Settles.{SettlePart, Settles}
-use Rattle.port_model.specs.NetLaneState.{NetShape}
-use Rattle.port_model.specs.PortState.{PortState}
-use Rattle.world_laws.proofs.Along.{lane_at, lanes_run, shape_at}
-use Rattle.world_laws.proofs.Moving.{happened_both}
-use Rattle.world_laws.specs.Along.{happened}
-use Rattle.world_laws.specs.Ended.{LanesEnd}
-use Rattle.world_laws.specs.Settle.{SettleEntry, Settled, Unsettled, UnsettledPort}
-use Rattle.world_laws.specs.Sums.{IsUnforged}
-use Rattle.world_laws.specs.World.{WorldState, WorldStep, fresh_world}
-use Rattle.domain_laws.proofs.LineEntries.{each_in}
-use Rattle.domain_laws.proofs.Arriving.{at_there}
-use Rattle.domain_laws.proofs.Resting.{disks_end, ports_end}
-use Rattle.domain_laws.proofs.Running.{disks_run}
-use Rattle.domain_laws.proofs.ScriptEntries.{lines_run}
-use Rattle.domain_laws.specs.Domain.{DomainState, DomainStep, lanes, lanes_in}
-use Rattle.domain_laws.specs.Lines as world
-use Rattle.domain_laws.specs.Settling.{AreUnforged, HoldsNoFrame, PortEndsIn, PortsEnd}
-use Rattle.switch_laws.specs.Reached as port
+use Rattle.world_parts.specs.port_model.NetLaneState.{NetShape}
+use Rattle.world_parts.specs.port_model.PortState.{PortState}
+use Rattle.world_parts.proofs.world_laws.Along.{lane_at, lanes_run, shape_at}
+use Rattle.world_parts.proofs.world_laws.Moving.{happened_both}
+use Rattle.world_parts.specs.world_laws.Along.{happened}
+use Rattle.world_parts.specs.world_laws.Ended.{LanesEnd}
+use Rattle.world_parts.specs.world_laws.Settle.{SettleEntry, Settled, Unsettled, UnsettledPort}
+use Rattle.world_parts.specs.world_laws.Sums.{IsUnforged}
+use Rattle.world_parts.specs.world_laws.World.{WorldState, WorldStep, fresh_world}
+use Rattle.world_parts.proofs.domain_laws.LineEntries.{each_in}
+use Rattle.world_parts.proofs.domain_laws.Arriving.{at_there}
+use Rattle.world_parts.proofs.domain_laws.Resting.{disks_end, ports_end}
+use Rattle.world_parts.proofs.domain_laws.Running.{disks_run}
+use Rattle.world_parts.proofs.domain_laws.ScriptEntries.{lines_run}
+use Rattle.world_parts.specs.domain_laws.Domain.{DomainState, DomainStep, lanes, lanes_in}
+use Rattle.world_parts.specs.domain_laws.Lines as world
+use Rattle.world_parts.specs.domain_laws.Settling.{AreUnforged, HoldsNoFrame, PortEndsIn, PortsEnd}
+use Rattle.world_parts.specs.switch_laws.Reached as port
 use Rattle.ldom_entries.specs.declared.entry.Entry.{Entry}
 use Rattle.script_laws.proofs.ReachedLanes.{AreLanes, AreReachedFew, any_front, reached_behind, unforged_by}
 use Rattle.script_laws.proofs.Entries.{IsName, LeavesNone}

@@ -1,14 +1,14 @@
 -- How long the image of a run is, and that its disks lie within it.
 use Rattle.std.proofs.Common.{◌≡◌, inl, inr, ◌⊎◌, ℕ, ◌+◌, ◌*◌, ◌<◌, ◌≤◌, Bool, List, [], ◌∷◌, ◌++◌, length, map, refl, sym, ap, subst, arith, Option, Some, None, IfSome, replicate}
 use Rattle.std.proofs.Math.ListN.{length-replicate}
-use Rattle.disk_model.specs.LaneState.{LaneState, Shape}
+use Rattle.world_parts.specs.disk_model.LaneState.{LaneState, Shape}
 use Rattle.domain_script.specs.Declarations.{Declared}
 use Rattle.domain_script.specs.declared.event.DiskDecl.{DiskDecl}
 use Rattle.domain_script.specs.declared.event.Event.{Event}
 use Rattle.domain_script.specs.NamesState.{NamesState, noted}
 use Rattle.domain_script.specs.ScriptEvents.{AllSpell}
-use Rattle.world_laws.specs.Rounds.{Each}
-use Rattle.domain_laws.specs.Domain.{DomainState}
+use Rattle.world_parts.specs.world_laws.Rounds.{Each}
+use Rattle.world_parts.specs.domain_laws.Domain.{DomainState}
 use Rattle.ldom_entries.specs.declared.entry.Entry.{Entry}
 use Rattle.ldom_report.specs.declared.status.Status.{Status}
 use Rattle.ldom_report.specs.declared.status.Status.TheVariants as status

@@ -1,15 +1,15 @@
 -- Which entries of a journal say that the image was called: those that mean a call of a store for the lanes.
 use Rattle.std.proofs.Common.{◌≡◌, ℕ, ◌+◌, Bool, false, cond, Some, List, [], ◌∷◌, refl, sym, ap, ◌∙◌}
 use Rattle.std.specs.List.{count_by}
-use Rattle.disk_model.specs.DiskEvent.{DiskEvent, Stored, Works}
+use Rattle.world_parts.specs.disk_model.DiskEvent.{DiskEvent, Stored, Works}
 use Rattle.domain_script.specs.declared.event.Event.{Event}
 use Rattle.ldom_entries.specs.declared.entry.Entry.{Entry}
 use Rattle.ldom_entries.specs.declared.entry.Entry.TheVariants as entry
 use Rattle.ldom_report.specs.LaneEvents.{AtLane, AtPort, AtServer, AtWire, ChangesNothing, LeavesNothing, LeavesOver, Meaning, NoRoomFor, Publishes, Refuses, Switches, TakesFrame, meaning}
 use Rattle.world_parts.specs.WorldEvents.{world_event}
-use Rattle.world_laws.proofs.Counted.{count_more}
-use Rattle.world_laws.specs.Failures.{in_entry, is_store, is_store_that}
-use Rattle.world_laws.specs.Settle.{OfLane, SettleEntry}
+use Rattle.world_parts.proofs.world_laws.Counted.{count_more}
+use Rattle.world_parts.specs.world_laws.Failures.{in_entry, is_store, is_store_that}
+use Rattle.world_parts.specs.world_laws.Settle.{OfLane, SettleEntry}
 use Rattle.world_parts.proofs.Meanings.{AllOf, Holds, all_events, all_left, entry_has, lane_has}
 use Rattle.world_parts.specs.Lines.{line_of}
 use Rattle.script_laws.proofs.Tellings.{Telling, entries_told, means_of}

@@ -5,7 +5,7 @@ use Rattle.std.proofs.lemmas.Grind.{flat_map-append}
 use Rattle.std.proofs.lemmas.List.{append-nil}
 use Rattle.disk_law.specs.ListStep as plain
 use Rattle.domain_script.specs.declared.event.Event.{Event}
-use Rattle.world_laws.specs.Settle.{SettleEntry}
+use Rattle.world_parts.specs.world_laws.Settle.{SettleEntry}
 use Rattle.ldom_report.specs.DiskEvents.{disk_event, happened_to}
 use Rattle.world_parts.specs.WorldEvents.{told_of, world_event}
 use Rattle.ldom_entries.specs.declared.entry.Entry.{Entry}

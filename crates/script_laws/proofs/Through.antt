@@ -3,21 +3,21 @@
 use Rattle.std.proofs.Common.{◌≡◌, ℕ, zero, suc, Option, Some, None, List, [], ◌∷◌, ◌++◌, length, map, slice_get, slice_set, sym, ap, ◌∙◌, subst}
 use Rattle.runs.specs.Run.{Run, run_append}
 use Rattle.disk_law.specs.ListState.{ImageState}
-use Rattle.disk_model.specs.LaneState.{LaneState, Shape}
+use Rattle.world_parts.specs.disk_model.LaneState.{LaneState, Shape}
 use Rattle.domain_script.specs.declared.event.DiskDecl.{DiskDecl}
 use Rattle.domain_script.specs.declared.event.Event.{Event}
-use Rattle.lane_laws.proofs.RingPages.{same_pages}
-use Rattle.world_laws.specs.Settle.{OfLane, SettleEntry}
-use Rattle.world_laws.proofs.Along.{lane_step}
-use Rattle.world_laws.specs.World.{WorldState, WorldStep, fresh_world}
+use Rattle.world_parts.proofs.lane_laws.RingPages.{same_pages}
+use Rattle.world_parts.specs.world_laws.Settle.{OfLane, SettleEntry}
+use Rattle.world_parts.proofs.world_laws.Along.{lane_step}
+use Rattle.world_parts.specs.world_laws.World.{WorldState, WorldStep, fresh_world}
 use Rattle.lane_kinds.proofs.Places.{map_both}
-use Rattle.port_model.specs.NetLaneState.{NetShape}
-use Rattle.domain_laws.proofs.LeftOver.{NamesBelow, cut_below, lines_below}
-use Rattle.domain_laws.proofs.Running.{disks_run}
-use Rattle.domain_laws.proofs.ScriptEntries.{lines_run}
-use Rattle.domain_laws.specs.Domain.{DomainState, DomainStep}
-use Rattle.domain_laws.specs.Lines.{Line, entries_of_lines}
-use Rattle.domain_laws.specs.Lines as script
+use Rattle.world_parts.specs.port_model.NetLaneState.{NetShape}
+use Rattle.world_parts.proofs.domain_laws.LeftOver.{NamesBelow, cut_below, lines_below}
+use Rattle.world_parts.proofs.domain_laws.Running.{disks_run}
+use Rattle.world_parts.proofs.domain_laws.ScriptEntries.{lines_run}
+use Rattle.world_parts.specs.domain_laws.Domain.{DomainState, DomainStep}
+use Rattle.world_parts.specs.domain_laws.Lines.{Line, entries_of_lines}
+use Rattle.world_parts.specs.domain_laws.Lines as script
 use Rattle.ldom_entries.specs.declared.entry.Entry.{Entry}
 use Rattle.world_parts.specs.Declared.{shapes_of, world_of}
 use Rattle.world_parts.specs.Lines.{EventStep, all_happened, line_of}

@@ -2,27 +2,27 @@
 use Rattle.std.proofs.Common.{◌≡◌, ℕ, ◌<◌, List, [], ◌∷◌, ◌++◌, length, map, refl, ap, ◌∙◌, arith, append_assoc}
 use Rattle.std.specs.List.{flat_map}
 use Rattle.runs.specs.Run.{Run}
-use Rattle.channel_model.specs.WireEvent.{Reset}
-use Rattle.disk_model.specs.DiskEvent.{Asks, Done, Full, OnWire, Refused, Works}
+use Rattle.world_parts.specs.channel_model.WireEvent.{Reset}
+use Rattle.world_parts.specs.disk_model.DiskEvent.{Asks, Done, Full, OnWire, Refused, Works}
 use Rattle.domain_script.specs.declared.event.DiskDecl.{DiskDecl}
 use Rattle.domain_script.specs.declared.event.Event.{Event}
-use Rattle.world_laws.specs.Settle.{OfLane, OfPort, SettleEntry, Settled, Unsettled, UnsettledPort}
+use Rattle.world_parts.specs.world_laws.Settle.{OfLane, OfPort, SettleEntry, Settled, Unsettled, UnsettledPort}
 use Rattle.disk_law.specs.ListState.{ImageState}
-use Rattle.disk_model.specs.LaneState.{Shape}
-use Rattle.switch_laws.specs.Events.{SwitchEvent}
-use Rattle.domain_laws.specs.Domain.{DomainState, fresh_domain}
+use Rattle.world_parts.specs.disk_model.LaneState.{Shape}
+use Rattle.world_parts.specs.switch_laws.Events.{SwitchEvent}
+use Rattle.world_parts.specs.domain_laws.Domain.{DomainState, fresh_domain}
 use Rattle.lane_kinds.proofs.EntriesEach.{first_each}
-use Rattle.domain_laws.proofs.LeftOver.{NamesBelow, lines_below, port_within}
-use Rattle.domain_laws.proofs.LineEntries.{EachEntry}
-use Rattle.domain_laws.proofs.ScriptEntries.{lines_run}
-use Rattle.domain_laws.specs.Lines.{Line, entries_of_lines}
-use Rattle.domain_laws.specs.Lines as lane_lines
+use Rattle.world_parts.proofs.domain_laws.LeftOver.{NamesBelow, lines_below, port_within}
+use Rattle.world_parts.proofs.domain_laws.LineEntries.{EachEntry}
+use Rattle.world_parts.proofs.domain_laws.ScriptEntries.{lines_run}
+use Rattle.world_parts.specs.domain_laws.Lines.{Line, entries_of_lines}
+use Rattle.world_parts.specs.domain_laws.Lines as lane_lines
 use Rattle.ldom_entries.specs.declared.entry.Entry.{Entry}
 use Rattle.script_laws.proofs.EntryByEntry.{IsOfDisks, part_same}
 use Rattle.script_laws.proofs.LaneReport.{SaysSame, says_append, told_append, told_lanes}
 use Rattle.world_parts.specs.Lines.{EventStep, line_of}
-use Rattle.domain_laws.specs.Quiet.{AreQuiet, lines_of, shown_of}
-use Rattle.world_laws.specs.Shown.{is_shown, shown, shown_if}
+use Rattle.world_parts.specs.domain_laws.Quiet.{AreQuiet, lines_of, shown_of}
+use Rattle.world_parts.specs.world_laws.Shown.{is_shown, shown, shown_if}
 
 -- LINES OF LANES by which the world was led as by these lines, and which say the same in a report
 pub record ThroughLanes (w : DomainState) (lines : List (Event × List Entry)) (v : DomainState) : Type 0 where

@@ -3,31 +3,31 @@ use Rattle.std.proofs.Common.{◌≡◌, ◌⊎◌, inl, inr, ℕ, ◌≤◌, Bo
 use Rattle.runs.specs.Lawful.{log_of}
 use Rattle.runs.specs.Run.{Run}
 use Rattle.disk_law.specs.ListState.{ImageState}
-use Rattle.disk_model.specs.ClientState.{is_finished}
-use Rattle.disk_model.specs.Reached.{IsReached}
-use Rattle.lane_laws.specs.Agreement.{AgreesWithLog}
-use Rattle.lane_laws.specs.DiskLog.{after, nothing_yet}
-use Rattle.disk_model.specs.DiskEvent.{DiskEvent}
-use Rattle.disk_model.specs.LaneState.{IsShape, LaneState, Shape, fresh}
-use Rattle.disk_model.specs.LaneStep.{LaneStep}
+use Rattle.world_parts.specs.disk_model.ClientState.{is_finished}
+use Rattle.world_parts.specs.disk_model.Reached.{IsReached}
+use Rattle.world_parts.specs.lane_laws.Agreement.{AgreesWithLog}
+use Rattle.world_parts.specs.lane_laws.DiskLog.{after, nothing_yet}
+use Rattle.world_parts.specs.disk_model.DiskEvent.{DiskEvent}
+use Rattle.world_parts.specs.disk_model.LaneState.{IsShape, LaneState, Shape, fresh}
+use Rattle.world_parts.specs.disk_model.LaneStep.{LaneStep}
 use Rattle.domain_script.specs.declared.event.DiskDecl.{DiskDecl}
 use Rattle.domain_script.specs.declared.event.Event.{Event}
 use Rattle.domain_script.specs.declared.event.Event.TheVariants.{Settle}
-use Rattle.lane_laws.proofs.AgreementRuns.{run_agrees}
-use Rattle.channel_model.specs.WireLog.{WireLog}
-use Rattle.world_laws.proofs.LaneTicks.{waits_where}
-use Rattle.world_laws.proofs.Moving.{happened_both}
-use Rattle.world_laws.specs.Along.{happened}
-use Rattle.world_laws.specs.DiskKind.{waits_on}
-use Rattle.world_laws.specs.Moves.{is_tick}
-use Rattle.world_laws.specs.Rounds.{Each}
-use Rattle.world_laws.specs.Settle.{OfLane, SettleEntry}
+use Rattle.world_parts.proofs.lane_laws.AgreementRuns.{run_agrees}
+use Rattle.world_parts.specs.channel_model.WireLog.{WireLog}
+use Rattle.world_parts.proofs.world_laws.LaneTicks.{waits_where}
+use Rattle.world_parts.proofs.world_laws.Moving.{happened_both}
+use Rattle.world_parts.specs.world_laws.Along.{happened}
+use Rattle.world_parts.specs.world_laws.DiskKind.{waits_on}
+use Rattle.world_parts.specs.world_laws.Moves.{is_tick}
+use Rattle.world_parts.specs.world_laws.Rounds.{Each}
+use Rattle.world_parts.specs.world_laws.Settle.{OfLane, SettleEntry}
 use Rattle.lane_kinds.specs.Fronts.{SettleFront}
 use Rattle.lane_kinds.specs.Settles.{SettlePart}
-use Rattle.port_model.specs.NetLaneState.{NetShape}
-use Rattle.domain_laws.specs.Domain.{DomainState, Lanes, lanes, lanes_in}
-use Rattle.domain_laws.specs.Lines.{fronts}
-use Rattle.world_laws.proofs.Along.{lane_at, shape_at}
+use Rattle.world_parts.specs.port_model.NetLaneState.{NetShape}
+use Rattle.world_parts.specs.domain_laws.Domain.{DomainState, Lanes, lanes, lanes_in}
+use Rattle.world_parts.specs.domain_laws.Lines.{fronts}
+use Rattle.world_parts.proofs.world_laws.Along.{lane_at, shape_at}
 use Rattle.ldom_entries.specs.declared.entry.Entry.{Entry}
 use Rattle.script_laws.proofs.ReachedLanes.{AreLanes}
 use Rattle.script_laws.proofs.Untold.{all_told}

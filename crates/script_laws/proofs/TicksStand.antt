@@ -5,16 +5,16 @@ use Rattle.std.proofs.lemmas.Option.{slice_get_within}
 use Rattle.std.specs.Prelude.{if◌then◌else◌, ⊤}
 use Rattle.ldc_queue.specs.declared.end.End.{End}
 use Rattle.vio_tag.specs.declared.cause.Cause.TheVariants as the_cause
-use Rattle.channel_model.specs.WireEvent.{Reset}
-use Rattle.lane_laws.specs.CalmEnds.{IsStep, StepKeeps}
+use Rattle.world_parts.specs.channel_model.WireEvent.{Reset}
+use Rattle.world_parts.specs.lane_laws.CalmEnds.{IsStep, StepKeeps}
 use Rattle.runs.specs.Lawful.{log_of}
 use Rattle.runs.specs.Run.{Run, run_append}
-use Rattle.lane_laws.specs.DiskLog.{after, nothing_yet}
-use Rattle.disk_model.specs.ClientState.{is_finished}
-use Rattle.disk_model.specs.DiskEvent.{DiskEvent, OnWire}
-use Rattle.disk_model.specs.LaneState.{IsShape, LaneState, Shape, fresh}
-use Rattle.disk_model.specs.LaneStep.{LaneStep}
-use Rattle.disk_model.specs.Reached.{IsReached}
+use Rattle.world_parts.specs.lane_laws.DiskLog.{after, nothing_yet}
+use Rattle.world_parts.specs.disk_model.ClientState.{is_finished}
+use Rattle.world_parts.specs.disk_model.DiskEvent.{DiskEvent, OnWire}
+use Rattle.world_parts.specs.disk_model.LaneState.{IsShape, LaneState, Shape, fresh}
+use Rattle.world_parts.specs.disk_model.LaneStep.{LaneStep}
+use Rattle.world_parts.specs.disk_model.Reached.{IsReached}
 use Rattle.lane_kinds.proofs.Lanes.{own_turns}
 use Rattle.lane_kinds.proofs.Moving.{none_both}
 use Rattle.lane_kinds.specs.Lanes.{OwnTurns}
@@ -27,26 +27,26 @@ use Rattle.lane_kinds.proofs.FirstKept.{first_ends_where, first_fronts_where, fi
 use Rattle.lane_kinds.specs.Both.{Two}
 use Rattle.lane_kinds.specs.Fronts.{SettleFront}
 use Rattle.lane_kinds.specs.Settles.{SettlePart}
-use Rattle.switch_laws.specs.Ports.{ports}
-use Rattle.domain_laws.proofs.DiskParts.{disks_told, is_of_disks, of_disks, same_happened}
-use Rattle.domain_laws.proofs.LineEntries.{EachEntry, StepsHave, disks_begun, disks_each, each_as, each_in}
-use Rattle.domain_laws.specs.Domain.{Lanes, lanes, port_entries}
-use Rattle.domain_laws.specs.Lines.{fronts as all_fronts}
+use Rattle.world_parts.specs.switch_laws.Ports.{ports}
+use Rattle.world_parts.proofs.domain_laws.DiskParts.{disks_told, is_of_disks, of_disks, same_happened}
+use Rattle.world_parts.proofs.domain_laws.LineEntries.{EachEntry, StepsHave, disks_begun, disks_each, each_as, each_in}
+use Rattle.world_parts.specs.domain_laws.Domain.{Lanes, lanes, port_entries}
+use Rattle.world_parts.specs.domain_laws.Lines.{fronts as all_fronts}
 use Rattle.script_laws.proofs.Untold.{all_told, told_of_disks}
-use Rattle.world_laws.proofs.LaneRounds.{quiet_finished, quiet_same, round_keeps}
-use Rattle.world_laws.proofs.LaneTicks.{either, gets_where, waits_where}
-use Rattle.world_laws.proofs.DiskLaws.{gives_nothing}
-use Rattle.world_laws.proofs.Moving.{ends, fronts_move, happened_both, leads, moved_reached, moves_on, settled_moves, stay}
-use Rattle.world_laws.specs.Along.{LanesMove, event_at, happened}
-use Rattle.world_laws.specs.Begun.{NoMore, TickFront, fronts}
-use Rattle.world_laws.specs.Moves.{is_tick}
-use Rattle.world_laws.specs.Rounds.{Each, LaneRound, MakeRound, MakesRound, are_quiet, is_quiet}
-use Rattle.world_laws.specs.Settle.{OfLane, SettleEntry, Settled, disk_entries, disks, left_over, round_entries, tick_entries}
-use Rattle.world_laws.specs.Sums.{IsUnforged}
-use Rattle.world_laws.specs.DiskKind.{disk_kind, tick, waits_on}
-use Rattle.world_laws.specs.Ticks.{TickLanes, gets_tick}
+use Rattle.world_parts.proofs.world_laws.LaneRounds.{quiet_finished, quiet_same, round_keeps}
+use Rattle.world_parts.proofs.world_laws.LaneTicks.{either, gets_where, waits_where}
+use Rattle.world_parts.proofs.world_laws.DiskLaws.{gives_nothing}
+use Rattle.world_parts.proofs.world_laws.Moving.{ends, fronts_move, happened_both, leads, moved_reached, moves_on, settled_moves, stay}
+use Rattle.world_parts.specs.world_laws.Along.{LanesMove, event_at, happened}
+use Rattle.world_parts.specs.world_laws.Begun.{NoMore, TickFront, fronts}
+use Rattle.world_parts.specs.world_laws.Moves.{is_tick}
+use Rattle.world_parts.specs.world_laws.Rounds.{Each, LaneRound, MakeRound, MakesRound, are_quiet, is_quiet}
+use Rattle.world_parts.specs.world_laws.Settle.{OfLane, SettleEntry, Settled, disk_entries, disks, left_over, round_entries, tick_entries}
+use Rattle.world_parts.specs.world_laws.Sums.{IsUnforged}
+use Rattle.world_parts.specs.world_laws.DiskKind.{disk_kind, tick, waits_on}
+use Rattle.world_parts.specs.world_laws.Ticks.{TickLanes, gets_tick}
 use Rattle.lane_kinds.proofs.Places.{get_within}
-use Rattle.world_laws.proofs.LaneLists.{each_there, other_event, lane_moved, many_moved}
+use Rattle.world_parts.proofs.world_laws.LaneLists.{each_there, other_event, lane_moved, many_moved}
 use Rattle.script_laws.proofs.Places.{InEither, no_place, place_in}
 use Rattle.script_laws.proofs.Stillness.{calm_round, still_by}
 use Rattle.script_laws.specs.Still.{AreStillBy}

@@ -4,17 +4,17 @@ use Rattle.std.specs.Prelude.{⊤}
 use Rattle.std.proofs.lemmas.Bool.{eqb-true}
 use Rattle.std.proofs.lemmas.Option.{slice_get_within}
 use Rattle.runs.specs.Run.{Run}
-use Rattle.disk_model.specs.DiskEvent.{DiskEvent}
-use Rattle.disk_model.specs.Reached.{IsReached}
-use Rattle.world_laws.specs.Along.{happened}
-use Rattle.world_laws.specs.Rounds.{Each}
-use Rattle.world_laws.specs.Settle.{OfLane, SettleEntry, Unsettled}
-use Rattle.world_laws.proofs.Along.{lane_step, many_stay, stay_reached}
-use Rattle.world_laws.proofs.LaneLists.{each_there}
-use Rattle.world_laws.specs.World.{OneMoves, WorldState, WorldStep}
-use Rattle.world_laws.proofs.EventWords.{event_words}
-use Rattle.domain_laws.proofs.LeftOver.{NamesBelow}
-use Rattle.world_laws.specs.Words.{HasWords}
+use Rattle.world_parts.specs.disk_model.DiskEvent.{DiskEvent}
+use Rattle.world_parts.specs.disk_model.Reached.{IsReached}
+use Rattle.world_parts.specs.world_laws.Along.{happened}
+use Rattle.world_parts.specs.world_laws.Rounds.{Each}
+use Rattle.world_parts.specs.world_laws.Settle.{OfLane, SettleEntry, Unsettled}
+use Rattle.world_parts.proofs.world_laws.Along.{lane_step, many_stay, stay_reached}
+use Rattle.world_parts.proofs.world_laws.LaneLists.{each_there}
+use Rattle.world_parts.specs.world_laws.World.{OneMoves, WorldState, WorldStep}
+use Rattle.world_parts.proofs.world_laws.EventWords.{event_words}
+use Rattle.world_parts.proofs.domain_laws.LeftOver.{NamesBelow}
+use Rattle.world_parts.specs.world_laws.Words.{HasWords}
 
 -- AN ENTRY of one of so many disks
 abbrev pub IsTold : ℕ → SettleEntry → Type 0

@@ -3,27 +3,27 @@
 use Rattle.std.proofs.Common.{◌≡◌, ◌⊎◌, inl, inr, ℕ, ◌+◌, ◌≤◌, Bool, true, false, List, [], ◌∷◌, ◌++◌, map, refl, sym, ap, ◌∙◌, subst}
 use Rattle.std.specs.Prelude.{◌==◌, flat_map, if◌then◌else◌}
 use Rattle.runs.specs.Run.{Run}
-use Rattle.disk_model.specs.DiskEvent.{DiskEvent}
+use Rattle.world_parts.specs.disk_model.DiskEvent.{DiskEvent}
 use Rattle.lane_kinds.proofs.Places.{map_both}
 use Rattle.lane_kinds.proofs.LaneFronts.{of_both}
 use Rattle.lane_kinds.specs.Lanes.{EachOf, own_or}
 use Rattle.lane_kinds.specs.Stuck.{NeverThree, sum_over}
 use Rattle.ldc_queue.specs.declared.end.End.{End}
-use Rattle.port_model.specs.NetEvent.{CalmTick, NetEvent, Ticked}
-use Rattle.port_model.specs.PortState.{OnLane, Receives}
-use Rattle.switch_laws.specs.Events.{OnPort, SwitchEvent, Switched}
-use Rattle.world_laws.specs.Along.{event_at, happened}
-use Rattle.world_laws.specs.Forged.{NobodyForges}
-use Rattle.world_laws.specs.Moves.{ticks, ticks_in}
-use Rattle.world_laws.specs.Settle.{OfLane, OfPort, SettleEntry, Settled, Unsettled, UnsettledPort}
-use Rattle.world_laws.specs.World.{WorldState, WorldStep}
-use Rattle.domain_laws.proofs.DiskParts.{of_disks}
-use Rattle.domain_laws.proofs.LeftOver.{NamesBelow}
-use Rattle.domain_laws.specs.Along.{port_happened, port_said}
-use Rattle.domain_laws.specs.Counts.{disk_stuck, moves, moves_in, port_stuck}
-use Rattle.domain_laws.specs.Forged.{NobodyForgesPort, forges}
-use Rattle.domain_laws.specs.Frames.{arrived_in, frames_arrived, frames_put, frames_queued, frames_switched, of_port, put_by, queued_in, switched_in}
-use Rattle.domain_laws.specs.Settling.{port_ticks, port_ticks_in}
+use Rattle.world_parts.specs.port_model.NetEvent.{CalmTick, NetEvent, Ticked}
+use Rattle.world_parts.specs.port_model.PortState.{OnLane, Receives}
+use Rattle.world_parts.specs.switch_laws.Events.{OnPort, SwitchEvent, Switched}
+use Rattle.world_parts.specs.world_laws.Along.{event_at, happened}
+use Rattle.world_parts.specs.world_laws.Forged.{NobodyForges}
+use Rattle.world_parts.specs.world_laws.Moves.{ticks, ticks_in}
+use Rattle.world_parts.specs.world_laws.Settle.{OfLane, OfPort, SettleEntry, Settled, Unsettled, UnsettledPort}
+use Rattle.world_parts.specs.world_laws.World.{WorldState, WorldStep}
+use Rattle.world_parts.proofs.domain_laws.DiskParts.{of_disks}
+use Rattle.world_parts.proofs.domain_laws.LeftOver.{NamesBelow}
+use Rattle.world_parts.specs.domain_laws.Along.{port_happened, port_said}
+use Rattle.world_parts.specs.domain_laws.Counts.{disk_stuck, moves, moves_in, port_stuck}
+use Rattle.world_parts.specs.domain_laws.Forged.{NobodyForgesPort, forges}
+use Rattle.world_parts.specs.domain_laws.Frames.{arrived_in, frames_arrived, frames_put, frames_queued, frames_switched, of_port, put_by, queued_in, switched_in}
+use Rattle.world_parts.specs.domain_laws.Settling.{port_ticks, port_ticks_in}
 use Rattle.world_parts.specs.WorldEvents.{told_net, told_of}
 use Rattle.script_laws.specs.Settled.{EndsSettled, EndsUnsettled, NobodyForgesAll}
 

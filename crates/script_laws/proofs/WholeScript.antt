@@ -3,14 +3,14 @@ use Rattle.std.proofs.Common.{◌≡◌, inl, inr, ℕ, ◌*◌, ◌≤◌, arit
 use Rattle.std.specs.Prelude.{IsSome, IsSomeAnd}
 use Rattle.std.specs.Io.KnownBytes.{Appends}
 use Rattle.disk_law.specs.ListState.{ImageState}
-use Rattle.disk_model.specs.LaneState.{LaneState}
+use Rattle.world_parts.specs.disk_model.LaneState.{LaneState}
 use Rattle.domain_script.specs.Declarations.{AreDisks, Declared}
 use Rattle.domain_script.specs.ScriptEvents.{AllSpell, no_names}
 use Rattle.domain_script.specs.ScriptLines.{script_lines}
 use Rattle.domain_script.specs.NamesState.{NamesState, declared_by}
 use Rattle.domain_script.specs.declared.event.DiskDecl.{DiskDecl}
 use Rattle.domain_script.specs.declared.event.Event.{Event}
-use Rattle.domain_laws.specs.Domain.{DomainState}
+use Rattle.world_parts.specs.domain_laws.Domain.{DomainState}
 use Rattle.ldom_report.specs.Report.{report}
 use Rattle.ldom_entries.specs.declared.entry.Entry.{Entry}
 use Rattle.ldom_report.specs.declared.status.Mode.{Mode}

@@ -4,10 +4,10 @@ use Rattle.std.specs.List.{All}
 use Rattle.std.proofs.lemmas.List.Elements.{All-cons, All-nil}
 use Rattle.std.specs.Prelude.{⊤}
 use Rattle.ldc_queue.specs.declared.end.End.{End}
-use Rattle.channel_model.specs.WireEvent.{Reset}
-use Rattle.disk_model.specs.DiskEvent.{DiskEvent, Stored, Works}
-use Rattle.world_laws.specs.Settle.{OfLane, SettleEntry}
-use Rattle.domain_laws.specs.Lines.{Line}
+use Rattle.world_parts.specs.channel_model.WireEvent.{Reset}
+use Rattle.world_parts.specs.disk_model.DiskEvent.{DiskEvent, Stored, Works}
+use Rattle.world_parts.specs.world_laws.Settle.{OfLane, SettleEntry}
+use Rattle.world_parts.specs.domain_laws.Lines.{Line}
 use Rattle.vio_tag.specs.declared.cause.Cause.{Cause}
 use Rattle.vio_tag.specs.declared.cause.Cause.TheVariants as the_cause
 use Rattle.domain_script.specs.Declarations.{Declared}
@@ -19,8 +19,8 @@ use Rattle.ldom_report.specs.HasWords.{HasFault, HasValues, HasWords, IsCompleti
 use Rattle.ldom_report.specs.LaneEvents.{AtLane, AtPort, AtServer, AtWire, ChangesNothing, LeavesNothing, LeavesOver, Meaning, NoRoomFor, Publishes, Refuses, Switches, TakesFrame, end_of, meaning}
 use Rattle.world_parts.specs.WorldEvents.{of_net, reset_of, world_event}
 use Rattle.world_parts.specs.Lines.{line_of}
-use Rattle.world_laws.specs.Words.{IsOperation, NamesFault, ReadsBlocks}
-use Rattle.domain_laws.proofs.LineEntries.{EachEntry}
+use Rattle.world_parts.specs.world_laws.Words.{IsOperation, NamesFault, ReadsBlocks}
+use Rattle.world_parts.proofs.domain_laws.LineEntries.{EachEntry}
 use Rattle.script_laws.proofs.PortWords.{IsPortTold}
 use Rattle.script_laws.proofs.Tellings.{Telling, entries_told, means_of}
 use Rattle.script_laws.proofs.ToldEntries.{AreTold, IsTold}

@@ -2,16 +2,16 @@
 use Rattle.std.specs.Prelude.{◌≡◌, ◌≤◌, ℕ, List, ◌∷◌, ◌++◌, length, Some, slice_get}
 use Rattle.runs.specs.Run.{Run}
 use Rattle.disk_law.specs.ListState.{ImageState}
-use Rattle.disk_model.specs.LaneState.{Shape}
-use Rattle.domain_laws.specs.Along.{OnlyDisk}
-use Rattle.domain_laws.specs.Domain.{DomainState}
-use Rattle.domain_laws.specs.Isolation.{IsFor, OnlyPortPart}
-use Rattle.domain_laws.specs.Lines.{DiskLane, PortLane}
+use Rattle.world_parts.specs.disk_model.LaneState.{Shape}
+use Rattle.world_parts.specs.domain_laws.Along.{OnlyDisk}
+use Rattle.world_parts.specs.domain_laws.Domain.{DomainState}
+use Rattle.world_parts.specs.domain_laws.Isolation.{IsFor, OnlyPortPart}
+use Rattle.world_parts.specs.domain_laws.Lines.{DiskLane, PortLane}
 use Rattle.domain_script.specs.declared.event.DiskDecl.{DiskDecl}
 use Rattle.domain_script.specs.declared.event.Event.{Event}
 use Rattle.ldom_entries.specs.declared.entry.Entry.{Entry}
-use Rattle.port_model.specs.NetLaneState.{NetShape}
-use Rattle.world_laws.specs.Stays.{StaysAround}
+use Rattle.world_parts.specs.port_model.NetLaneState.{NetShape}
+use Rattle.world_parts.specs.world_laws.Stays.{StaysAround}
 use Rattle.script_laws.specs.Told.{told_by}
 use Rattle.world_parts.specs.Declared.{bytes_needed, shapes_of, world_of}
 use Rattle.world_parts.specs.Lines.{EventStep, line_of}

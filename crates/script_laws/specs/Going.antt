@@ -13,7 +13,7 @@ use Rattle.script_laws.specs.Replayed.{Stopped}
 use Rattle.domain_script.specs.ScriptLines.{AreShort, TakesLines}
 use Rattle.domain_script.specs.ScriptEvents.{AllSpell}
 use Rattle.world_parts.specs.Script.{FitsScript, ScriptParts, events_of, journal_of}
-use Rattle.domain_laws.specs.Domain.{DomainState}
+use Rattle.world_parts.specs.domain_laws.Domain.{DomainState}
 use Rattle.domain_script.specs.Limits.{most_lines}
 
 -- from the bytes that are still to come, after so many lines, these lines were read

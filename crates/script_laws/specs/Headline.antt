@@ -1,13 +1,13 @@
 -- THE HEADLINE: what holds of the disks of every script, whatever it resets, stops, restarts and loses.
 use Rattle.std.specs.Prelude.{◌≡◌, ◌↔◌, ℕ, false, List, length, Some, IfSome, slice_get}
 use Rattle.disk_law.specs.ListState.{ImageState}
-use Rattle.disk_model.specs.LaneState.{LaneState, Shape}
+use Rattle.world_parts.specs.disk_model.LaneState.{LaneState, Shape}
 use Rattle.domain_script.specs.declared.event.DiskDecl.{DiskDecl}
-use Rattle.domain_laws.specs.Domain.{DomainState}
-use Rattle.port_model.specs.NetLaneState.{NetShape}
-use Rattle.world_laws.specs.Along.{happened}
-use Rattle.world_laws.specs.Settle.{SettleEntry}
-use Rattle.world_laws.specs.Stays.{StaysBehind}
+use Rattle.world_parts.specs.domain_laws.Domain.{DomainState}
+use Rattle.world_parts.specs.port_model.NetLaneState.{NetShape}
+use Rattle.world_parts.specs.world_laws.Along.{happened}
+use Rattle.world_parts.specs.world_laws.Settle.{SettleEntry}
+use Rattle.world_parts.specs.world_laws.Stays.{StaysBehind}
 use Rattle.world_parts.specs.Declared.{shapes_of}
 use Rattle.world_parts.specs.Script.{ScriptParts, all_lines}
 use Rattle.script_laws.specs.Apart.{StandApart}

@@ -1,7 +1,7 @@
 -- The lanes that a run gives back with its image.
 use Rattle.std.specs.Prelude.{◌≡◌, List, Option, Some, None}
-use Rattle.disk_model.specs.LaneState.{LaneState}
-use Rattle.domain_laws.specs.Domain.{DomainState}
+use Rattle.world_parts.specs.disk_model.LaneState.{LaneState}
+use Rattle.world_parts.specs.domain_laws.Domain.{DomainState}
 use Rattle.ldom_report.specs.declared.status.Status.{Status}
 use Rattle.ldom_report.specs.declared.status.Status.TheVariants as status
 

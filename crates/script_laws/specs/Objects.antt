@@ -2,7 +2,7 @@
 use Rattle.std.specs.Prelude.{ℕ, List, Option}
 use Rattle.vio_io.specs.declared.store.Store.{Ghosts}
 use Rattle.disk_law.specs.ListState.{ImageState, as_image}
-use Rattle.disk_model.specs.LaneState.{LaneState}
+use Rattle.world_parts.specs.disk_model.LaneState.{LaneState}
 use Rattle.ldom_entries.specs.declared.entry.Entry.{Entry}
 use Rattle.ldom_report.specs.declared.status.Status.{Status}
 use Rattle.script_laws.specs.Counts.{Counts, counts}

@@ -2,17 +2,17 @@
 use Rattle.std.specs.Prelude.{◌≡◌, ◌↔◌, ℕ, List, [], ◌∷◌, ◌++◌, map, Some, slice_get}
 use Rattle.runs.specs.Run.{Run}
 use Rattle.ldc_queue.specs.declared.end.End.TheVariants.{A, B}
-use Rattle.port_laws.specs.InOrder.{InOrder}
-use Rattle.port_laws.specs.Lost.{frames_lost}
-use Rattle.port_model.specs.NetLaneState.{NetShape}
-use Rattle.port_model.specs.PortMay.{IsLawfulPort}
-use Rattle.port_model.specs.PortState.{PortState, PortStep, fresh_port}
-use Rattle.switch_laws.specs.Reached.{IsUnforged}
-use Rattle.world_laws.specs.Settle.{SettleEntry, Settled}
-use Rattle.domain_laws.specs.Along.{port_happened}
-use Rattle.domain_laws.specs.Forged.{NobodyForgesPort}
-use Rattle.domain_laws.specs.Frames.{frames_arrived, frames_put, frames_queued, frames_switched, port_events}
-use Rattle.domain_laws.specs.Settling.{HoldsNoFrame}
+use Rattle.world_parts.specs.port_laws.InOrder.{InOrder}
+use Rattle.world_parts.specs.port_laws.Lost.{frames_lost}
+use Rattle.world_parts.specs.port_model.NetLaneState.{NetShape}
+use Rattle.world_parts.specs.port_model.PortMay.{IsLawfulPort}
+use Rattle.world_parts.specs.port_model.PortState.{PortState, PortStep, fresh_port}
+use Rattle.world_parts.specs.switch_laws.Reached.{IsUnforged}
+use Rattle.world_parts.specs.world_laws.Settle.{SettleEntry, Settled}
+use Rattle.world_parts.specs.domain_laws.Along.{port_happened}
+use Rattle.world_parts.specs.domain_laws.Forged.{NobodyForgesPort}
+use Rattle.world_parts.specs.domain_laws.Frames.{frames_arrived, frames_put, frames_queued, frames_switched, port_events}
+use Rattle.world_parts.specs.domain_laws.Settling.{HoldsNoFrame}
 use Rattle.world_parts.specs.WorldEvents.{told_of}
 
 -- BEHIND A SETTLE the port came to a state, by what happened to it; where nobody forged it, its guest is in session, and

@@ -12,8 +12,8 @@ use Rattle.ldom_report.specs.LinesEnd.{counted_lines}
 use Rattle.script_laws.specs.Attached.{ImageStands}
 use Rattle.script_laws.specs.Behind.{StandsBehind}
 use Rattle.world_parts.specs.Endings.{JournalIs, ending}
-use Rattle.disk_model.specs.LaneState.{LaneState}
-use Rattle.domain_laws.specs.Domain.{DomainState}
+use Rattle.world_parts.specs.disk_model.LaneState.{LaneState}
+use Rattle.world_parts.specs.domain_laws.Domain.{DomainState}
 use Rattle.script_laws.specs.Reading.{StopsAt}
 use Rattle.script_laws.specs.LanesStand.{LanesStand}
 use Rattle.script_laws.specs.Script.{ReadSoFar}

@@ -1,26 +1,26 @@
 -- What a settle comes to in a script.
 use Rattle.std.specs.Prelude.{◌≡◌, ◌⊎◌, ℕ, ◌+◌, ◌*◌, ◌≤◌, true, false, is_some, List, [], ◌∷◌, ◌++◌, length, map}
-use Rattle.lane_laws.specs.DiskLog.{DiskLog}
-use Rattle.disk_model.specs.DiskEvent.{DiskEvent}
-use Rattle.disk_model.specs.LaneState.{Shape}
+use Rattle.world_parts.specs.lane_laws.DiskLog.{DiskLog}
+use Rattle.world_parts.specs.disk_model.DiskEvent.{DiskEvent}
+use Rattle.world_parts.specs.disk_model.LaneState.{Shape}
 use Rattle.domain_script.specs.declared.event.Event.{Event}
 use Rattle.domain_script.specs.declared.event.Event.TheVariants.{Settle}
-use Rattle.world_laws.specs.Forged.{NobodyForgesAny}
-use Rattle.world_laws.specs.Moves.{MovedIn, is_tick, ticks_in}
-use Rattle.world_laws.specs.Requests.{pending_of}
-use Rattle.world_laws.specs.Settle.{OfLane, SettleEntry, Settled, Unsettled, UnsettledPort, pending_on}
+use Rattle.world_parts.specs.world_laws.Forged.{NobodyForgesAny}
+use Rattle.world_parts.specs.world_laws.Moves.{MovedIn, is_tick, ticks_in}
+use Rattle.world_parts.specs.world_laws.Requests.{pending_of}
+use Rattle.world_parts.specs.world_laws.Settle.{OfLane, SettleEntry, Settled, Unsettled, UnsettledPort, pending_on}
 use Rattle.disk_law.specs.ListState.{ImageState}
 use Rattle.domain_script.specs.declared.event.DiskDecl.{DiskDecl}
 use Rattle.lane_kinds.specs.Lanes.{sum_of}
 use Rattle.lane_kinds.specs.Stuck.{NeverThree}
-use Rattle.port_model.specs.NetLaneState.{NetShape}
+use Rattle.world_parts.specs.port_model.NetLaneState.{NetShape}
 use Rattle.runs.specs.Run.{Run}
-use Rattle.switch_laws.specs.Ports.{pending}
-use Rattle.domain_laws.specs.Along.{port_happened}
-use Rattle.domain_laws.specs.Counts.{disk_stuck, moves_in, port_stuck}
-use Rattle.domain_laws.specs.Domain.{DomainState}
-use Rattle.domain_laws.specs.Forged.{NobodyForgesPort}
-use Rattle.domain_laws.specs.Settling.{port_ticks_in}
+use Rattle.world_parts.specs.switch_laws.Ports.{pending}
+use Rattle.world_parts.specs.domain_laws.Along.{port_happened}
+use Rattle.world_parts.specs.domain_laws.Counts.{disk_stuck, moves_in, port_stuck}
+use Rattle.world_parts.specs.domain_laws.Domain.{DomainState}
+use Rattle.world_parts.specs.domain_laws.Forged.{NobodyForgesPort}
+use Rattle.world_parts.specs.domain_laws.Settling.{port_ticks_in}
 use Rattle.ldc_queue.specs.declared.end.End.{End}
 use Rattle.ldom_entries.specs.declared.entry.Entry.{Entry}
 use Rattle.script_laws.specs.Still.{AreStillBy}

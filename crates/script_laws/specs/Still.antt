@@ -1,8 +1,8 @@
 -- Where both ends of a disk's lane are still, by its log.
 use Rattle.std.specs.Prelude.{◌≡◌, ◌⊎◌, ◌+◌, ◌≤◌, true, [], length}
-use Rattle.lane_laws.specs.DiskLog.{DiskLog}
-use Rattle.lane_laws.specs.QuietLaws.{EndIsIdle}
-use Rattle.channel_model.specs.WireAt.{IsUp}
+use Rattle.world_parts.specs.lane_laws.DiskLog.{DiskLog}
+use Rattle.world_parts.specs.lane_laws.QuietLaws.{EndIsIdle}
+use Rattle.world_parts.specs.channel_model.WireAt.{IsUp}
 use Rattle.ldc_queue.specs.Wire.{peer_of, waiting_for}
 use Rattle.ldc_queue.specs.declared.end.End.{End}
 use Rattle.ldc_queue.specs.declared.end.End.TheVariants.{A, B}

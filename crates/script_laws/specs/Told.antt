@@ -1,11 +1,11 @@
 -- What lines with their parts of a journal tell of the lanes of the disks.
 use Rattle.std.specs.List.{filter_map, flat_map}
 use Rattle.std.specs.Prelude.{ℕ, List}
-use Rattle.lane_laws.specs.DiskLog.{DiskLog, after, nothing_yet}
-use Rattle.disk_model.specs.LaneState.{Shape}
+use Rattle.world_parts.specs.lane_laws.DiskLog.{DiskLog, after, nothing_yet}
+use Rattle.world_parts.specs.disk_model.LaneState.{Shape}
 use Rattle.domain_script.specs.declared.event.Event.{Event}
-use Rattle.world_laws.specs.Along.{happened}
-use Rattle.world_laws.specs.Settle.{SettleEntry}
+use Rattle.world_parts.specs.world_laws.Along.{happened}
+use Rattle.world_parts.specs.world_laws.Settle.{SettleEntry}
 use Rattle.world_parts.specs.WorldEvents.{world_event}
 use Rattle.ldom_entries.specs.declared.entry.Entry.{Entry}
 use Rattle.runs.specs.Lawful.{log_of}

@@ -15,7 +15,7 @@ use Rattle.script_laws.specs.Behind.{StandsBehind}
 use Rattle.script_laws.specs.Completed.{completed_ids}
 use Rattle.script_laws.specs.PlainRun.{plain_text, plain_content, plain_ids}
 use Rattle.world_parts.specs.Script.{ScriptParts, events_of}
-use Rattle.domain_laws.specs.Domain.{DomainState}
+use Rattle.world_parts.specs.domain_laws.Domain.{DomainState}
 
 -- the events and the names that all lines of a script spell, where its bytes are told, are these
 abbrev pub SpellsAll : Option (List ℕ) → List Event → NamesState → Type 0

@@ -4,7 +4,7 @@ ghost use Rattle.std.specs.Prelude.{◌≡◌, ℕ, ◌*◌, ◌≤◌, List, []
 ghost use Rattle.disk_law.specs.ListState.{ImageState};
 ghost use Rattle.domain_script.specs.Declarations.{IsDisk};
 ghost use Rattle.domain_script.specs.declared.event.DiskDecl.{DiskDecl};
-ghost use Rattle.domain_laws.specs.Domain.{DomainState};
+ghost use Rattle.world_parts.specs.domain_laws.Domain.{DomainState};
 ghost use Rattle.ldom_report.specs.Report.{report};
 ghost use Rattle.ldom_report.specs.declared.status.Mode.TheVariants as mode;
 ghost use Rattle.ldom_report.specs.declared.status.Status.TheVariants as status;

@@ -3,7 +3,7 @@ ghost use Rattle.std.specs.Prelude.{◌≡◌, ◌%◌, ◌≤◌, ◌<◌, ◌+
 ghost use Rattle.domain_script.specs.declared.event.DiskDecl.{DiskDecl};
 ghost use Rattle.domain_script.specs.Declarations.{AreDisks};
 ghost use Rattle.ldom_report.specs.HasWords.{HasFault, HasWords, IsEnd};
-ghost use Rattle.world_parts.specs.Declared.{bytes_needed};
+ghost use Rattle.ldom_world.specs.world_parts.Declared.{bytes_needed};
 
 use crate::journals::note_each_kind;
 use domain_script::{DiskDecl, Event, Name};

@@ -4,17 +4,17 @@ use Rattle.std.specs.Prelude.{IsSomeAnd, ⊤}
 use Rattle.std.proofs.lemmas.Bool.{eqb-true}
 use Rattle.vdisk_msg.specs.declared.request.Request.{Request}
 use Rattle.disk_law.specs.Requests.{Defect}
-use Rattle.world_laws.specs.WireEvent.{Declined, Declines, InjectedFull, NothingLost, NotInjected, PokeRefused, WireEvent}
-use Rattle.world_laws.specs.DiskEvent.{Asks, Calm, CalmReset, CalmRestart, CalmStart, CalmStop, CalmTick, DiskEvent, Full, OnWire, Published, Refused, Calms, Works}
-use Rattle.domain_laws.specs.NetEvent.{CalmTick as CalmPortTick, Gives, Joins, NetEvent, Steps}
-use Rattle.domain_laws.specs.NetEvent as net
-use Rattle.domain_laws.specs.NetEndStep.{Already, BadLength, Frame, GroupsFull}
-use Rattle.domain_laws.specs.NetEndStep as port
-use Rattle.domain_laws.specs.PortState.{OnLane}
-use Rattle.domain_laws.specs.Events.{OnPort, SwitchEvent, Switched}
+use Rattle.domain_laws.specs.channel_model.WireEvent.{Declined, Declines, InjectedFull, NothingLost, NotInjected, PokeRefused, WireEvent}
+use Rattle.domain_laws.specs.disk_model.DiskEvent.{Asks, Calm, CalmReset, CalmRestart, CalmStart, CalmStop, CalmTick, DiskEvent, Full, OnWire, Published, Refused, Calms, Works}
+use Rattle.domain_laws.specs.port_model.NetEvent.{CalmTick as CalmPortTick, Gives, Joins, NetEvent, Steps}
+use Rattle.domain_laws.specs.port_model.NetEvent as net
+use Rattle.domain_laws.specs.port_model.NetEndStep.{Already, BadLength, Frame, GroupsFull}
+use Rattle.domain_laws.specs.port_model.NetEndStep as port
+use Rattle.domain_laws.specs.port_model.PortState.{OnLane}
+use Rattle.domain_laws.specs.switch_laws.Events.{OnPort, SwitchEvent, Switched}
 use Rattle.ldc_queue.specs.declared.end.End.{End}
 use Rattle.ldc_queue.specs.declared.end.End.TheVariants.{A, B}
-use Rattle.world_laws.specs.Settle.{OfLane, OfPort, SettleEntry, Settled, Unsettled, UnsettledPort}
+use Rattle.domain_laws.specs.world_laws.Settle.{OfLane, OfPort, SettleEntry, Settled, Unsettled, UnsettledPort}
 use Rattle.domain_laws.specs.Lines.{Asked, Call, Calls, DiskLane, Injects, LaneName, Line, Loses, Pokes, PortLane, Resets, Restarts, Sends, Starts, Stops, Ticks}
 use Rattle.domain_laws.specs.Lines as line
 use Rattle.domain_script.specs.declared.event.EndName.{EndName}

@@ -13,7 +13,7 @@ use Rattle.domain_script.specs.declared.fields.LaneKind.TheVariants as kinds
 use Rattle.domain_script.specs.Addresses.{IsGroup}
 use Rattle.domain_script.specs.Fills.{IsPiece}
 use Rattle.domain_script.specs.Limits.{AreTurns}
-use Rattle.world_laws.specs.Settle.{SettleEntry}
+use Rattle.domain_laws.specs.world_laws.Settle.{SettleEntry}
 use Rattle.domain_laws.specs.Domain.{DomainState}
 use Rattle.domain_laws.specs.Lines.{Asked, Calls, DiskLane, Injects, Joins, LaneName, Line, LineBegins, LineMoves, Loses, Nothing, Pokes, PortLane, Resets, Restarts, Rounds, Sends, Settles, Starts, Steps, Stops, Ticks}
 use Rattle.ldom_report.specs.DiskEvents.{happened_to}

@@ -2,7 +2,7 @@
 use Rattle.std.specs.Prelude.{◌≡◌, List, ◌++◌, map, Some}
 use Rattle.world_parts.specs.WorldEvents.{told_of, world_event}
 use Rattle.ldom_entries.specs.declared.entry.Entry.{Entry}
-use Rattle.world_laws.specs.Settle.{SettleEntry}
+use Rattle.domain_laws.specs.world_laws.Settle.{SettleEntry}
 use Rattle.domain_laws.specs.Domain.{DomainState}
 use Rattle.domain_laws.specs.Lines.{Line, LineBegins, LineMoves}
 

@@ -2,22 +2,22 @@
 use Rattle.std.specs.Prelude.{ℕ, Bool, true, false, ◌==◌, ◌&&◌, List, length, Option, Some, None, option_and_then, option_map}
 use Rattle.ldc_queue.specs.declared.end.End.{End}
 use Rattle.ldc_queue.specs.declared.end.End.TheVariants.{A, B}
-use Rattle.domain_laws.specs.cause.Cause.{Cause}
-use Rattle.domain_laws.specs.cause.Cause.TheVariants as the_cause
+use Rattle.vio_tag.specs.declared.cause.Cause.{Cause}
+use Rattle.vio_tag.specs.declared.cause.Cause.TheVariants as the_cause
 use Rattle.vdisk_msg.specs.declared.request.Request.{Request}
 use Rattle.disk_law.specs.Requests.{Defect}
-use Rattle.world_laws.specs.WireEvent.{Declined, Declines, InjectedFull, NothingLost, NotInjected, PokeRefused, WireEvent}
-use Rattle.world_laws.specs.WireEvent as wire
-use Rattle.world_laws.specs.DiskEvent.{DiskEvent, OnWire, Asks, Calms, CalmTick, CalmStop, CalmStart, CalmReset, CalmRestart, Works}
-use Rattle.world_laws.specs.DiskEvent as disk
-use Rattle.domain_laws.specs.NetEvent.{CalmTick as CalmPortTick, Gives, Joins, NetEvent, Steps, Ticked}
-use Rattle.domain_laws.specs.NetEvent as net
-use Rattle.domain_laws.specs.NetEndStep.{Already, BadLength, Frame, GroupsFull, Member, Queued}
-use Rattle.domain_laws.specs.NetEndStep as port
-use Rattle.domain_laws.specs.PortState.{OnLane}
-use Rattle.domain_laws.specs.Events.{OnPort, SwitchEvent, Switched}
-use Rattle.world_laws.specs.Settle.{OfLane, OfPort, SettleEntry}
-use Rattle.world_laws.specs.Settle as settle
+use Rattle.domain_laws.specs.channel_model.WireEvent.{Declined, Declines, InjectedFull, NothingLost, NotInjected, PokeRefused, WireEvent}
+use Rattle.domain_laws.specs.channel_model.WireEvent as wire
+use Rattle.domain_laws.specs.disk_model.DiskEvent.{DiskEvent, OnWire, Asks, Calms, CalmTick, CalmStop, CalmStart, CalmReset, CalmRestart, Works}
+use Rattle.domain_laws.specs.disk_model.DiskEvent as disk
+use Rattle.domain_laws.specs.port_model.NetEvent.{CalmTick as CalmPortTick, Gives, Joins, NetEvent, Steps, Ticked}
+use Rattle.domain_laws.specs.port_model.NetEvent as net
+use Rattle.domain_laws.specs.port_model.NetEndStep.{Already, BadLength, Frame, GroupsFull, Member, Queued}
+use Rattle.domain_laws.specs.port_model.NetEndStep as port
+use Rattle.domain_laws.specs.port_model.PortState.{OnLane}
+use Rattle.domain_laws.specs.switch_laws.Events.{OnPort, SwitchEvent, Switched}
+use Rattle.domain_laws.specs.world_laws.Settle.{OfLane, OfPort, SettleEntry}
+use Rattle.domain_laws.specs.world_laws.Settle as settle
 use Rattle.domain_laws.specs.Lines.{Asked, Call, Calls, DiskLane, Injects, LaneName, Line, Loses, Pokes, PortLane, Resets, Restarts, Sends, Starts, Stops, Ticks}
 use Rattle.domain_laws.specs.Lines as line
 use Rattle.domain_script.specs.declared.event.EndName.{EndName}

@@ -1,5 +1,5 @@
 use Rattle.std.proofs.Common.{◌≡◌, ◌≤◌, ◌*◌, ◌^◌, take}
-use Rattle.world_laws.specs.Settle.{pending_on}
+use Rattle.world_parts.specs.world_laws.Settle.{pending_on}
 use Rattle.ldom_world.proofs.sums.pending_on.Given as goal
 
 abbrev pub invariant-loop-lane : goal.invariant-loop-lane

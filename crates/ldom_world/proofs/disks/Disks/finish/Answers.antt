@@ -1,7 +1,7 @@
 use Rattle.std.proofs.Common.{◌<◌, ◌≤◌, subst, sym}
 use Rattle.cached_store.proofs.Counting.{asked_at_most}
 use Rattle.vio_io.specs.Causes.{count_after, last_count}
-use Rattle.world_laws.specs.World.{WorldState}
+use Rattle.world_parts.specs.world_laws.World.{WorldState}
 use Rattle.ldom_world.proofs.disks.Disks.finish.Goals as goal
 
 pub returns-clause-calls : goal.returns-clause-calls

@@ -1,7 +1,7 @@
 use Rattle.std.proofs.Common.{◌≤◌, ap, subst, sym}
 use Rattle.cached_store.specs.CachedState.{CachedState}
 use Rattle.kept_requests.specs.Bytes.{BytesState}
-use Rattle.world_laws.specs.Rounds.{Each}
+use Rattle.world_parts.specs.world_laws.Rounds.{Each}
 use Rattle.world_parts.specs.Declared.{LiesWithin}
 use Rattle.ldom_world.specs.CachedImage.{cached_image}
 use Rattle.ldom_world.proofs.disks.Disks.over.Goals as goal

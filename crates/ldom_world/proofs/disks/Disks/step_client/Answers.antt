@@ -1,7 +1,7 @@
 use Rattle.std.proofs.Common.{Bool, slice_set}
 use Rattle.std.proofs.lemmas.Result.{IfOk-weaker}
 use Rattle.disk_law.specs.ListState.{ImageState}
-use Rattle.world_laws.specs.World.{WorldState}
+use Rattle.world_parts.specs.world_laws.World.{WorldState}
 use Rattle.ldc_queue.specs.declared.end.End.TheVariants.{A}
 use Rattle.ldom_world.proofs.Lifting.{end_steps}
 use Rattle.ldom_world.proofs.Opened.{lane_set, lane_there, over}

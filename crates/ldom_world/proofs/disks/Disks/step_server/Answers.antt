@@ -1,6 +1,6 @@
 use Rattle.std.proofs.Common.{slice_set}
 use Rattle.disk_law.specs.ListState.{ImageState}
-use Rattle.world_laws.specs.World.{WorldState}
+use Rattle.world_parts.specs.world_laws.World.{WorldState}
 use Rattle.ldc_queue.specs.declared.end.End.TheVariants.{B}
 use Rattle.ldom_world.proofs.Lifting.{end_steps}
 use Rattle.ldom_world.proofs.Opened.{image_there, lane_there, one_set, over}

@@ -1,6 +1,6 @@
 use Rattle.std.proofs.Common.{sym, subst}
 use Rattle.std.specs.Prelude.{OnErr, OnOk}
-use Rattle.domain_laws.specs.Lines.{Calls}
+use Rattle.world_parts.specs.domain_laws.Lines.{Calls}
 use Rattle.domain_script.specs.declared.fields.LaneKind.{LaneKind}
 use Rattle.ldom_world.specs.Called.{call_of}
 use Rattle.ldom_world.proofs.world.World.call_on.Goals as goal

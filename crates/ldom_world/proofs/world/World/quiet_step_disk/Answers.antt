@@ -1,14 +1,14 @@
 use Rattle.std.proofs.Common.{Bool, List}
 use Rattle.std.specs.Prelude.{IfOk}
 use Rattle.std.proofs.lemmas.Result.{IfOk-weaker, on_err_weaker}
-use Rattle.domain_laws.specs.Domain.{DomainStep, PortsStep}
-use Rattle.domain_laws.specs.Lines.{Nothing}
-use Rattle.domain_laws.specs.PortState.{PortState}
+use Rattle.world_parts.specs.domain_laws.Domain.{DomainStep, PortsStep}
+use Rattle.world_parts.specs.domain_laws.Lines.{Nothing}
+use Rattle.world_parts.specs.port_model.PortState.{PortState}
 use Rattle.ldom_report.specs.LaneEvents.{end_of}
-use Rattle.world_laws.specs.World.{WorldState, WorldStep}
-use Rattle.world_laws.specs.CalmEnds.{IsStep}
-use Rattle.world_laws.specs.DiskKind.{is_calm}
-use Rattle.world_laws.specs.Settle.{OfLane, entry_of}
+use Rattle.world_parts.specs.world_laws.World.{WorldState, WorldStep}
+use Rattle.world_parts.specs.lane_laws.CalmEnds.{IsStep}
+use Rattle.world_parts.specs.world_laws.DiskKind.{is_calm}
+use Rattle.world_parts.specs.world_laws.Settle.{OfLane, entry_of}
 use Rattle.ldom_world.specs.Steps.{MakesQuietStep}
 use Rattle.ldom_world.proofs.Lifted.{both, counted_at, disk_within, disks_counted, disks_same_numbers, lift_disks, quiet_grows, quiet_step_at, same_at}
 use Rattle.ldom_world.proofs.world.World.quiet_step_disk.Goals as goal

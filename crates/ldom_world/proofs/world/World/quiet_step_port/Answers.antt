@@ -1,13 +1,13 @@
 use Rattle.std.proofs.Common.{Bool, List}
 use Rattle.std.specs.Prelude.{IfOk}
 use Rattle.std.proofs.lemmas.Result.{IfOk-weaker, on_err_weaker}
-use Rattle.domain_laws.specs.Domain.{DomainStep, PortsStep}
-use Rattle.domain_laws.specs.Lines.{Nothing}
-use Rattle.domain_laws.specs.PortState.{PortState}
+use Rattle.world_parts.specs.domain_laws.Domain.{DomainStep, PortsStep}
+use Rattle.world_parts.specs.domain_laws.Lines.{Nothing}
+use Rattle.world_parts.specs.port_model.PortState.{PortState}
 use Rattle.ldom_report.specs.LaneEvents.{end_of}
-use Rattle.world_laws.specs.World.{WorldState, WorldStep}
-use Rattle.switch_laws.specs.Ports.{IsStepOf, is_calm}
-use Rattle.world_laws.specs.Settle.{OfPort}
+use Rattle.world_parts.specs.world_laws.World.{WorldState, WorldStep}
+use Rattle.world_parts.specs.switch_laws.Ports.{IsStepOf, is_calm}
+use Rattle.world_parts.specs.world_laws.Settle.{OfPort}
 use Rattle.ldom_world.specs.Steps.{port_entry_of}
 use Rattle.ldom_world.specs.Steps.{MakesQuietPortStep}
 use Rattle.ldom_world.proofs.Lifted.{both, given_at, lift_ports, port_within, ports_counted, ports_same_numbers, quiet_step_at, same_at}

@@ -1,5 +1,5 @@
-use Rattle.domain_laws.specs.Domain.{lanes_in}
-use Rattle.domain_laws.specs.Lines.{turns_of}
+use Rattle.world_parts.specs.domain_laws.Domain.{lanes_in}
+use Rattle.world_parts.specs.domain_laws.Lines.{turns_of}
 use Rattle.ldom_world.specs.Steps.{Counted}
 use Rattle.ldom_world.specs.TurnsMade.{TurnsMade}
 use Rattle.ldom_world.proofs.world.World.rounds.Given as goal

@@ -1,5 +1,5 @@
 use Rattle.std.proofs.Common.{[], ◌∷◌}
-use Rattle.domain_laws.specs.Lines.{turn}
+use Rattle.world_parts.specs.domain_laws.Lines.{turn}
 use Rattle.world_parts.specs.Lines.{lane_named}
 use Rattle.ldc_queue.specs.declared.end.End.TheVariants.{A, B}
 use Rattle.ldom_world.proofs.Turning.{at_error, both_made, first_alone, none_begun}

@@ -1,11 +1,11 @@
 use Rattle.std.proofs.Common.{List}
-use Rattle.domain_laws.specs.Domain.{PortsStep}
-use Rattle.domain_laws.specs.PortState.{PortState}
-use Rattle.world_laws.specs.Settle.{OfPort}
+use Rattle.world_parts.specs.domain_laws.Domain.{PortsStep}
+use Rattle.world_parts.specs.port_model.PortState.{PortState}
+use Rattle.world_parts.specs.world_laws.Settle.{OfPort}
 use Rattle.ldom_report.specs.LaneEvents.{end_of}
 use Rattle.std.proofs.lemmas.Result.{on_err_weaker, on_ok_weaker}
-use Rattle.switch_laws.specs.Ports.{IsStepOf}
-use Rattle.domain_laws.specs.Lines.{Nothing}
+use Rattle.world_parts.specs.switch_laws.Ports.{IsStepOf}
+use Rattle.world_parts.specs.domain_laws.Lines.{Nothing}
 use Rattle.ldom_world.proofs.Lifted.{both, given_at, lift_ports, port_within, ports_counted, ports_same_numbers, same_at, step_at}
 use Rattle.ldom_world.proofs.world.World.step_port.Goals as goal
 

@@ -1,5 +1,5 @@
 use Rattle.std.proofs.Common.{replicate}
-use Rattle.domain_laws.specs.Lines.{turn}
+use Rattle.world_parts.specs.domain_laws.Lines.{turn}
 use Rattle.ldom_report.specs.LaneEvents.{end_of}
 use Rattle.ldom_world.specs.TurnsMade.{SameNumbers, TurnsMade}
 use Rattle.world_parts.specs.Lines.{lane_named}
