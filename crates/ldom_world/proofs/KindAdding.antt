@@ -1,5 +1,5 @@
 -- The lanes of a kind in a settle: each adds its own entries to the journal after those of the lanes before.
-use Rattle.std.proofs.Common.{◌≡◌, ℕ, ◌+◌, ◌<◌, ◌≤◌, Bool, true, false, Some, List, [], ◌∷◌, ◌++◌, length, slice_get, slice_set, refl, sym, subst}
+use Rattle.std.proofs.Common.{◌≡◌, ℕ, ◌+◌, ◌<◌, ◌≤◌, Bool, true, false, Some, List, [], ◌∷◌, ◌++◌, length, slice_get, slice_set, refl, sym, subst, arith}
 use Rattle.std.specs.Prelude.{◌&&◌, ◌||◌}
 use Rattle.world_parts.proofs.domain_laws.LoopKinds.{disk_begins, disk_runs, disk_turn, port_begins, port_runs, port_turn}
 use Rattle.world_parts.specs.domain_laws.Domain.{DomainState, DomainStep}
@@ -20,6 +20,7 @@ use Rattle.ldom_world.proofs.Growing.{also_grew, both_grew, none_grew}
 use Rattle.ldom_world.specs.SettleParts.{Grew, LaneNamesAdd, LaneTicksAdd, LaneTicksAddFront, LaneTicksBegun, LanesAdd, LanesAddFront, LanesBegun, LanesMade, LanesNamed, LanesTicked, MakesQuiet, NamesGoOn, OneTicked, RoundBreaks, RoundGoesOn, TicksGoOn}
 use Rattle.ldom_world.specs.WorldKinds.{in_world, left_by}
 use Rattle.world_parts.specs.world_laws.Settle.{SettleEntry}
+use Rattle.world_parts.specs.Lines.{number_of_kind}
 use Rattle.world_parts.specs.Parts.{Adds}
 
 -- WHAT ROUNDS GO BY: an entry of the kind runs its lanes, and two steps are a turn
@@ -31,6 +32,11 @@ record KindLaws (kind : LaneKind) : Type 0 where
 laws : (kind : LaneKind) → KindLaws kind
 laws kinds.Disk = record { runs = disk_runs; turn = disk_turn; begins = disk_begins }
 laws kinds.Port = record { runs = port_runs; turn = port_turn; begins = port_begins }
+
+-- how many there are
+pub many_of : (kind : LaneKind) (w : DomainState) → number_of_kind kind w ≡ length ((in_world kind).lanes w)
+many_of kinds.Disk w = refl
+many_of kinds.Port w = refl
 
 module _ (kind : LaneKind) where
   abbrev Lane : Type 0
@@ -141,13 +147,22 @@ module _ (kind : LaneKind) where
       (λ one two before now. made.ticks_go_on K N lanes rest DomainStep (laws kind).runs
       k start w v one two had have some mark get before at now less) up ticked
 
-  pub ticks_add_front : (k : ℕ) (start now : DomainState) (old new : List Entry) (had have : List Bool) (some : Bool)
+  ticks_add_front : (k : ℕ) (start now : DomainState) (old new : List Entry) (had have : List Bool) (some : Bool)
       → LaneTicksAdd kind k start had some have now old new → k ≤ length (lanes start)
       → LaneTicksAddFront kind start had now old new
   ticks_add_front k start now old new had have some up within =
       also_grew (LanesTicked kind k start had some have now) (LaneTicksBegun kind start had now) old new
       (λ es at. made.ticks_want K N lanes rest DomainStep (laws kind).runs
       k start now had have es some at within) up
+
+  pub ticks_want : (k : ℕ) (start w v : DomainState) (first old new : List Entry) (had have : List Bool) (some : Bool)
+      → LaneTicksAdd kind k start had some have w first old → k < number_of_kind kind start → v ≡ w → new ≡ old
+      → LaneTicksAddFront kind start had v first new
+  ticks_want k start w v first old new had have some up less same none =
+      let within : k ≤ length (lanes start) = omega (arith, less, many_of kind start) in
+      subst (λ (x : DomainState). LaneTicksAddFront kind start had x first new) (sym same)
+      (subst (λ (l : List Entry). LaneTicksAddFront kind start had w first l) (sym none)
+      (ticks_add_front k start w first old had have some up within))
 
   pub ticks_go_by : (k : ℕ) (w v : DomainState) (old new : List Entry) (have marks : List Bool) (mark get : Bool)
       → slice_get have k ≡ Some mark → Grew (OneTicked kind k mark get w v) old new → k < length have

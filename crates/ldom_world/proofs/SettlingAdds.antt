@@ -52,15 +52,16 @@ whole_quiet start m quiet disks ports many of_disks of_ports =
     ∙ ap (λ (b : Bool). disks && b) of_ports
 
 -- THE TICKS
-pub whole_ticks : (start m now : DomainState) (old mid new : List Entry) (had have : Marks) (some any : Bool)
+pub whole_ticks : (start m now : DomainState) (old mid new : List Entry) (had have : Marks) (some any all : Bool)
     → LaneTicksAdd kinds.Disk (length start.first.lanes) start had.first some have.first m old mid
     → LaneTicksAdd kinds.Port (length m.second) m had.second any have.second now mid new
-    → TicksAdd start had (some || any) have now old new
-whole_ticks start m now old mid new had have some any disks ports =
-    both_grew (LanesTicked kinds.Disk (length start.first.lanes) start had.first some have.first m)
+    → (some || any) ≡ all → TicksAdd start had all have now old new
+whole_ticks start m now old mid new had have some any all disks ports is =
+    subst (λ (b : Bool). TicksAdd start had b have now old new) is
+    (both_grew (LanesTicked kinds.Disk (length start.first.lanes) start had.first some have.first m)
     (LanesTicked kinds.Port (length m.second) m had.second any have.second now)
     (λ es. TicksMade start had es (some || any) have now) old mid new
-    (λ one two before after. going.ticks_of_all start m now one two had have some any before after) disks ports
+    (λ one two before after. going.ticks_of_all start m now one two had have some any before after) disks ports)
 
 pub whole_ticks_front : (start now : DomainState) (old new : List Entry) (had : Marks)
     → LaneTicksAddFront kinds.Disk start had.first now old new → TicksAddFront start had now old new

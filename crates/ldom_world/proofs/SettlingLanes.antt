@@ -23,7 +23,7 @@ use Rattle.ldom_entries.specs.declared.entry.Who.TheVariants.{Lane as OfWhole, E
 use Rattle.ldom_report.specs.LaneEvents.{ChangesNothing, Meaning, NoRoomFor, Refuses, meaning}
 use Rattle.ldom_report.specs.Report.{accepted_count, is_accepted}
 use Rattle.ldom_world.proofs.Adding.{none_adds, one_adds}
-use Rattle.ldom_world.proofs.KindAdding.{names_go_by, ticks_go_by}
+use Rattle.ldom_world.proofs.KindAdding.{many_of, names_go_by, ticks_go_by}
 use Rattle.ldom_world.proofs.Lifted.{both}
 use Rattle.ldom_world.proofs.Lifting.{count_push}
 use Rattle.ldom_world.specs.SettleParts.{Grew, NamesGoOn, OneTicked, TicksGoOn}
@@ -36,7 +36,7 @@ use Rattle.world_parts.specs.port_laws.NetEndState.{unseen}
 use Rattle.world_parts.specs.world_laws.DiskKind.{tick, waits_on}
 use Rattle.world_parts.specs.world_laws.Settle.{OfLane, OfPort, SettleEntry}
 use Rattle.world_parts.specs.world_laws.World.{WorldState}
-use Rattle.world_parts.specs.Lines.{IsLaneOf, number_of_kind, of_kind}
+use Rattle.world_parts.specs.Lines.{IsLaneOf, of_kind}
 use Rattle.world_parts.specs.Parts.{Adds, Fits, FitsSoFar, PartSays}
 use Rattle.world_parts.specs.WorldEvents.{calm_event, if_so, is_lane, left_over, meant, of_net, told_of, world_event}
 
@@ -85,10 +85,6 @@ port_waits d p w is kind k waits port at =
     (subst (λ (x : DomainState). slice_get x.second k ≡ Some s) (sym is) there))
 
 -- A LANE OF A KIND, by its number
-pub many_of : (kind : LaneKind) (w : DomainState) → number_of_kind kind w ≡ length ((in_world kind).lanes w)
-many_of kinds.Disk w = refl
-many_of kinds.Port w = refl
-
 pub lane_of : (w : DomainState) (lane : Lane) → IsLaneOf w lane
     → (s : (in_world lane.kind).Lane) × (slice_get ((in_world lane.kind).lanes w) lane.number ≡ Some s)
 lane_of w lane within =

@@ -67,7 +67,7 @@ impl<D: Store> World<D> {
 
     /// One round of a settle, with the ticks after it where all lanes were quiet. Tells whether the settle ended: then
     /// the journal has its answer.
-    #[tactic(auto, using(crate::proofs::SettlingAdds::turn_is_loud, crate::proofs::SettlingAdds::turn_ticks, crate::proofs::SettlingLanes::counted_stays))]
+    #[tactic(auto, using(crate::proofs::SettlingAdds::turn_is_loud, crate::proofs::SettlingAdds::turn_ticks))]
     fn settle_turn(
         &mut self,
         had: &mut LaneMarks,
@@ -260,7 +260,6 @@ impl<D: Store> World<D> {
     }
 
     /// Names one lane where it is left over.
-    #[tactic(auto, using(crate::proofs::SettlingLanes::counted_stays))]
     fn name(&self, lane: Lane, calm: bool, journal: &mut Journal) -> Result<(), NoMemory>
         requires lane { IsLaneOf self.now lane }
         requires agrees { Counted journal.old.entries self.now }
