@@ -1,12 +1,12 @@
 -- The ports of a script's declarations, as the switch is made with them.
-use Rattle.std.proofs.Common.{◌≡◌, ℕ, ◌+◌, ◌<◌, ◌≤◌, Some, None, List, [], ◌∷◌, ◌++◌, length, map, take, slice_get, slice_index, option_map, refl, sym, ap, subst, ◌∙◌, arith}
+use Rattle.std.proofs.Common.{◌≡◌, ℕ, ◌+◌, ◌<◌, ◌≤◌, Some, None, List, [], ◌∷◌, ◌++◌, length, map, take, slice_get, option_map, refl, sym, ap, subst, ◌∙◌}
 use Rattle.std.specs.List.{AllByRecursion}
-use Rattle.std.proofs.lemmas.List.{length-append, take_all}
+use Rattle.std.proofs.lemmas.List.{take_all}
 use Rattle.std.proofs.lemmas.Option.{slice_get-map}
 use Rattle.world_parts.specs.port_model.NetLaneState.{IsNetShape, NetShape}
 use Rattle.domain_script.specs.Declarations.{AddressesDiffer, IsPort, addresses}
 use Rattle.domain_script.specs.declared.event.PortDecl.{PortDecl}
-use Rattle.lane_kinds.proofs.Places.{after_one, map_both, take_one}
+use Rattle.lane_kinds.proofs.Places.{map_both}
 use Rattle.lane_kinds.specs.Lanes.{EachOf}
 use Rattle.switched_ports.specs.Shapes.{AddressesDiffer as ShapesDiffer, shape_of, shapes_of}
 use Rattle.switched_ports.specs.declared.shape.PortShape.{PortShape}
@@ -28,6 +28,11 @@ net_shape port is bytes = record {
 }
 
 -- ONE MORE among the first
+each_push : (nets : List NetShape) (net : NetShape) → EachOf IsNetShape nets → IsNetShape net
+    → EachOf IsNetShape (nets ++ net ∷ [])
+each_push [] net each is = (is, tt)
+each_push (n ∷ nets) net each is = (each.0, each_push nets net each.1 is)
+
 module _ (ports : List PortDecl) (k : ℕ) (port : PortDecl) (there : slice_get ports k ≡ Some port) where
   nets_more : nets_of (take (k + 1) ports) ≡ nets_of (take k ports) ++ net_of port ∷ []
   nets_more =
@@ -40,11 +45,6 @@ module _ (ports : List PortDecl) (k : ℕ) (port : PortDecl) (there : slice_get 
       ap (λ (l : List PortShape). shapes_of l) grew ∙ map_both shape_of shapes (shape ∷ [])
       ∙ ap (λ (l : List NetShape). l ++ shape_of shape ∷ []) so_far
       ∙ ap (λ (s : NetShape). nets_of (take k ports) ++ s ∷ []) is ∙ sym nets_more
-
-  each_push : (nets : List NetShape) (net : NetShape) → EachOf IsNetShape nets → IsNetShape net
-      → EachOf IsNetShape (nets ++ net ∷ [])
-  each_push [] net each is = (is, tt)
-  each_push (n ∷ nets) net each is = (each.0, each_push nets net each.1 is)
 
   pub sound_more : EachOf IsNetShape (nets_of (take k ports)) → IsNetShape (net_of port)
       → EachOf IsNetShape (nets_of (take (k + 1) ports))

@@ -3,7 +3,6 @@ pub mod Adding
 pub mod Leaving
 pub mod PortLeaving
 pub mod PortAnswering
-pub mod PortResets
 pub mod PortLifting
 pub mod Answering
 pub mod LaneStepping

@@ -21,13 +21,13 @@ use Rattle.switched_ports.specs.net_lane.net_out.NetOut.{NetOut}
 use Rattle.switched_ports.specs.net_lane.net_out.NetOut.TheVariants as out
 use Rattle.world_parts.specs.switch_laws.Events.{OnPort, SwitchEvent, Switched}
 use Rattle.world_parts.specs.switch_laws.Ports.{is_calm, is_silent}
-use Rattle.switched_ports.specs.Events.{is_switched, step_event}
+use Rattle.switched_ports.specs.Events.{ResetsOwn, is_switched, step_event}
 use Rattle.vio_tag.specs.declared.cause.Cause.TheVariants as the_cause
 use Rattle.switched_ports.specs.vnet_switch.declared.forwarding.Switched.{Switched as Sets}
 use Rattle.world_parts.specs.world_laws.Settle.{OfPort, SettleEntry}
 use Rattle.world_parts.specs.WorldEvents.{of_net, told_of, world_event}
 use Rattle.ldom_world.specs.Called.{port_end}
-use Rattle.ldom_world.specs.OnePort.{IsOwnReset, PortLeaves, PortRecordedBut, PortRecords, TellsPort, frame_entry, port_blocked, port_rests}
+use Rattle.ldom_world.specs.OnePort.{PortLeaves, PortRecordedBut, PortRecords, TellsPort, frame_entry, port_blocked, port_rests}
 
 -- WHICH ANSWERS REST, and which are calm
 port_silent : (e : End) (answer : NetOut) (last : List ℕ) (sets : Option Sets)
@@ -91,7 +91,7 @@ step_accepts_none k side (out.Frame len) bytes None = refl
 step_accepts_none k side answer bytes sets = refl
 
 step_says : (line : Line) (k : ℕ) (side : Side) (answer : NetOut) (last : List ℕ) (bytes : BytesState) (sets : Option Sets)
-    → bytes.items ≡ last → is_some sets ≡ is_switched (end_of side) answer → IsOwnReset answer
+    → bytes.items ≡ last → is_some sets ≡ is_switched (end_of side) answer → ResetsOwn answer
     → world_event line (step_entry k side answer bytes sets)
     ≡ Some (told_of (OfPort k (step_event (end_of side) (net_answer answer last) sets)))
 step_says line k Client (out.Frame len) last bytes (Some sets) of_last switched own = absurd (cc switched)
@@ -109,7 +109,7 @@ step_says line k Server answer last bytes sets of_last switched own = refl
 
 -- IT IS RECORDED, with these bytes where a frame was taken
 module _ (k : ℕ) (side : Side) (answer : NetOut) (last : List ℕ) (sets : Option Sets) (s t : JournalState)
-    (switched : is_some sets ≡ is_switched (end_of side) answer) (own : IsOwnReset answer) where
+    (switched : is_some sets ≡ is_switched (end_of side) answer) (own : ResetsOwn answer) where
   pub recorded_with : (bytes : BytesState) (x : Entry) → bytes.items ≡ last → x ≡ step_entry k side answer bytes sets
       → PutsEntry s x t → PortRecords k (step_event (end_of side) (net_answer answer last) sets) s t
   recorded_with bytes x of_last is puts = record {

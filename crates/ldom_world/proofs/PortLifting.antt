@@ -21,11 +21,13 @@ use Rattle.world_parts.specs.switch_laws.Ports.{IsStepOf, is_silent, ports as ki
 use Rattle.switched_ports.proofs.Entries.{below_later, one_more}
 use Rattle.switched_ports.specs.Events.{is_switched, step_event}
 use Rattle.switched_ports.specs.Given.{GivenBelow, GivesNoMore, GivesOneMore}
+use Rattle.switched_ports.specs.HubSteps.{TakesFrame}
+use Rattle.switched_ports.specs.States.{last_at}
 use Rattle.switched_ports.specs.vnet_switch.declared.forwarding.Switched.{Switched as Sets}
 use Rattle.world_parts.specs.world_laws.Settle.{OfPort, SettleEntry}
 use Rattle.ldom_world.proofs.Adding.{none_adds, one_adds}
 use Rattle.ldom_world.proofs.Lifting.{count_push}
-use Rattle.ldom_world.specs.OnePort.{GivesBut, PortAnswers, PortEndSteps, PortLeaves, PortRecordedBut, PortRecords, TellsPort}
+use Rattle.ldom_world.specs.OnePort.{GivesBut, HasRoomForFrame, PortAnswers, PortEndSteps, PortLeaves, PortRecordedBut, PortRecords, TellsPort}
 use Rattle.ldom_world.specs.Steps.{AnswerMade, OneMade, QuietMade, MakesPortAnswer, MakesPortStep, MakesQuietPortStep, port_entry_of}
 use Rattle.world_parts.specs.Parts.{Adds}
 
@@ -159,24 +161,51 @@ none_given A answer last (Some sets) Gives silent same gives = absurd (cc same)
 none_given B (out.Frame len) last (Some sets) Gives silent same gives = absurd (cc silent)
 none_given B answer last (Some sets) Gives silent same gives = absurd (cc same)
 
+-- a frame fits into the room that was made for the longest
+fits_in : (answer : NetOut) (last : List ℕ) (room : ℕ) → TakesFrame answer last → 1514 ≤ room
+    → HasRoomForFrame answer last room
+fits_in (out.Frame len) last room is enough = omega (arith, is.most, enough)
+fits_in answer last room is enough = tt
+
 gives_by : (left : Bool) (w v : List PortState) → (left ≡ true → GivesNoMore w v) → GivesOneMore w v → GivesBut left w v
 gives_by true w v none one = none refl
 gives_by false w v none one = one
 
-pub end_stepped : (in_settle : Bool) (k : ℕ) (e : End) (w v : List PortState) (answer : NetOut) (last frame : List ℕ)
-    (sets : Option Sets) (old new : JournalState) (calm : Bool) → frame ≡ last
-    → EntryOf kind k w (step_event e (net_answer answer last) sets) v → is_some sets ≡ is_switched e answer
-    → GivesOneMore w v → IfNone sets (GivesNoMore w v)
-    → PortLeaves in_settle k (step_event e (net_answer answer frame) sets) old calm new
-    → PortEndSteps in_settle k e w old calm new v
-end_stepped in_settle k e w v answer last frame sets old new calm same entry switched one none leaves = record {
-  event = step_event e (net_answer answer frame) sets;
-  of_end = step_of_end e (net_answer answer frame) sets;
-  moves =
-      step_moves k w e (net_answer answer frame) sets v
-      (subst (λ (l : List ℕ). EntryOf kind k w (step_event e (net_answer answer l) sets) v) (sym same) entry);
-  leaves = leaves;
-  gives = gives_by (in_settle && is_silent (step_event e (net_answer answer frame) sets)) w v
-      (λ left. none_given e answer frame sets (GivesNoMore w v)
-      (and_parts in_settle (is_silent (step_event e (net_answer answer frame) sets)) left).1 switched none) one;
-}
+-- what was read of the ports, and where the entry was put, are of this end and of these ports
+module _ (k : ℕ) (lanes w v : List PortState) (e d : End) (answer : NetOut) (frame : List ℕ) (sets : Option Sets)
+    (are : lanes ≡ w) (same_end : e ≡ d) (entry : EntryOf kind k lanes (step_event e (net_answer answer (last_at e k v)) sets) v)
+    where
+  pub still_there : k < length v
+  still_there =
+      omega (arith, entry.within, port_many lanes v k (step_event e (net_answer answer (last_at e k v)) sets)
+      (step_moves k lanes e (net_answer answer (last_at e k v)) sets v entry))
+
+  pub frame_fits : (room : ℕ) → TakesFrame answer (last_at e k v) → frame ≡ last_at d k v → 1514 ≤ room
+      → HasRoomForFrame answer frame room
+  frame_fits room takes last enough =
+      fits_in answer frame room (subst (TakesFrame answer) (ap (λ (b : End). last_at b k v) same_end ∙ sym last) takes) enough
+
+  same_entry : frame ≡ last_at d k v → EntryOf kind k w (step_event d (net_answer answer frame) sets) v
+  same_entry last =
+      subst (λ (l : List ℕ). EntryOf kind k w (step_event d (net_answer answer l) sets) v) (sym last)
+      (subst (λ (b : End). EntryOf kind k w (step_event b (net_answer answer (last_at b k v)) sets) v) same_end
+      (subst (λ (l : List PortState). EntryOf kind k l (step_event e (net_answer answer (last_at e k v)) sets) v) are
+      entry))
+
+  abbrev stepped : SwitchEvent
+  stepped = step_event d (net_answer answer frame) sets
+
+  pub end_stepped : (in_settle : Bool) (old new : JournalState) (calm : Bool) → frame ≡ last_at d k v
+      → is_some sets ≡ is_switched e answer → GivesOneMore lanes v → IfNone sets (GivesNoMore lanes v)
+      → PortLeaves in_settle k stepped old calm new → PortEndSteps in_settle k d w old calm new v
+  end_stepped in_settle old new calm last switched one none leaves = record {
+    event = stepped;
+    of_end = step_of_end d (net_answer answer frame) sets;
+    moves = step_moves k w d (net_answer answer frame) sets v (same_entry last);
+    leaves = leaves;
+    gives =
+        subst (λ (l : List PortState). GivesBut (in_settle && is_silent stepped) l v) are
+        (gives_by (in_settle && is_silent stepped) lanes v
+        (λ left. none_given d answer frame sets (GivesNoMore lanes v) (and_parts in_settle (is_silent stepped) left).1
+        (switched ∙ ap (λ (b : End). is_switched b answer) same_end) none) one);
+  }

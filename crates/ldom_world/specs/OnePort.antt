@@ -1,6 +1,5 @@
 -- One event of one port, and what it leaves in the journal.
 use Rattle.std.specs.Prelude.{◌≡◌, ℕ, ◌≤◌, Bool, true, false, ◌&&◌, List, length, Option, Some, None, ⊤}
-use Rattle.world_parts.specs.channel_model.WireEvent.{ByStep, giver}
 use Rattle.ldc_queue.specs.declared.end.End.{End}
 use Rattle.switched_ports.specs.net_lane.net_out.NetOut.{NetOut}
 use Rattle.switched_ports.specs.net_lane.net_out.NetOut.TheVariants as out
@@ -89,11 +88,6 @@ IsPortCall _ = ⊤
 abbrev pub IsCallOf : LaneKind → LaneCall → Type 0
 IsCallOf kinds.Disk call = ⊤
 IsCallOf kinds.Port call = IsPortCall call
-
--- a step resets its end for a cause that a step gives: neither because a script asked, nor for a tick
-abbrev pub IsOwnReset : NetOut → Type 0
-IsOwnReset (out.Reset cause packet lost) = giver cause ≡ ByStep
-IsOwnReset _ = ⊤
 
 -- the entry of a frame that an end took: a guest, or the switch, with the ports that it is for
 abbrev pub frame_entry : EndName → Option Sets → BytesState → Entry

@@ -5,9 +5,9 @@ ghost use Rattle.domain_script.specs.LaneKinds.{port_lane};
 ghost use Rattle.ldom_report.specs.LaneEvents.{end_of};
 ghost use Rattle.ldom_world.specs.Called.{port_end};
 ghost use Rattle.ldom_entries.specs.JournalState.{PutsEntry};
-ghost use Rattle.ldom_world.specs.OnePort.{frame_entry, HasRoomForFrame, IsOwnReset, port_blocked, port_rests, PortLeaves, PortRecords};
+ghost use Rattle.ldom_world.specs.OnePort.{frame_entry, HasRoomForFrame, port_blocked, port_rests, PortLeaves, PortRecords};
 ghost use Rattle.switched_ports.specs.net_lane.Stepping.{net_answer};
-ghost use Rattle.switched_ports.specs.Events.{is_switched, step_event};
+ghost use Rattle.switched_ports.specs.Events.{is_switched, ResetsOwn, step_event};
 
 use crate::entries::filled;
 use domain_script::{EndName, Lane, LaneKind, Side};
@@ -59,10 +59,10 @@ pub fn leave_port(
     requires room { HasRoomForFrame answer.out.now answer.frame.now room.old.room }
     requires empty { room.old.items ≡ [] }
     requires switched { is_some answer.switched ≡ is_switched (end_of side) answer.out.now }
-    requires own { IsOwnReset answer.out.now }
+    requires own { ResetsOwn answer.out.now }
     ensures leaves { PortLeaves in_settle port
-        (step_event (end_of side) (net_answer answer.out.now answer.frame.now) answer.switched) journal.old result
-        journal.new }
+        (step_event (end_of side) (net_answer answer.entry.out.now answer.entry.frame.now) answer.entry.switched)
+        journal.old result journal.new }
     ensures empty { room.new.items ≡ [] }
 {
     let rests = port_rests(answer.out);
@@ -101,10 +101,10 @@ fn record_port(
     requires room { HasRoomForFrame answer.out.now answer.frame.now room.old.room }
     requires empty { room.old.items ≡ [] }
     requires switched { is_some answer.switched ≡ is_switched (end_of side) answer.out.now }
-    requires own { IsOwnReset answer.out.now }
+    requires own { ResetsOwn answer.out.now }
     ensures records { PortRecords port
-        (step_event (end_of side) (net_answer answer.out.now answer.frame.now) answer.switched) journal.old
-        journal.new }
+        (step_event (end_of side) (net_answer answer.entry.out.now answer.entry.frame.now) answer.entry.switched)
+        journal.old journal.new }
     ensures empty { room.new.items ≡ [] }
 {
     let end = port_end(port, side);

@@ -1,16 +1,12 @@
 // Steps of the ends of ports.
 
-ghost use Rattle.std.specs.Prelude.{◌≡◌, ◌<◌, ◌+◌, ◌-◌, ◌^◌, length, is_some, IfNone, IfOk, OnErr, OnOk};
+ghost use Rattle.std.specs.Prelude.{◌≡◌, ◌<◌, ◌+◌, ◌-◌, ◌^◌, length, IfOk, OnErr, OnOk};
 ghost use Rattle.world_parts.specs.domain_laws.Domain.{PortsStep};
-ghost use Rattle.lane_kinds.specs.Lanes.{EntryOf};
 ghost use Rattle.ldom_report.specs.LaneEvents.{end_of};
 ghost use Rattle.ldom_report.specs.Report.{accepted_count};
-ghost use Rattle.ldom_world.specs.OnePort.{HasRoomForFrame, IsOwnReset, PortEndSteps};
+ghost use Rattle.ldom_world.specs.OnePort.{PortEndSteps};
 ghost use Rattle.ldom_world.specs.Steps.{MakesPortStep, MakesQuietPortStep};
-ghost use Rattle.switched_ports.specs.net_lane.Stepping.{net_answer};
-ghost use Rattle.world_parts.specs.switch_laws.Ports.{ports};
-ghost use Rattle.switched_ports.specs.Events.{is_switched, step_event};
-ghost use Rattle.switched_ports.specs.Given.{GivenBelow, GivesNoMore, GivesOneMore};
+ghost use Rattle.switched_ports.specs.Given.{GivenBelow};
 ghost use Rattle.switched_ports.specs.States.{last_at};
 
 use crate::entries::end_of;
@@ -19,7 +15,7 @@ use crate::ports::PortLanes;
 use crate::stepping::make_room;
 use domain_script::Side;
 use ldom_report::Journal;
-use switched_ports::{NetOut, Ports, Switched};
+use switched_ports::{NetOut, Ports};
 use vio_bytes::NoMemory;
 
 /// The most bytes of a frame.
@@ -90,7 +86,7 @@ impl PortLanes {
     {
         make_room(&mut self.room, MOST_FRAME, self.alloc)?;
         let mut out = NetOut::Idle;
-        let switched = step_port(&mut self.lanes, port, side, &mut out);
+        let switched = self.lanes.step_into(port, end_of(side), &mut out);
         let answer = PortAnswer {
             out: &out,
             switched,
@@ -107,23 +103,6 @@ impl PortLanes {
         );
         Ok(calm)
     }
-}
-
-/// One step of an end of a port, whose answer is written into the caller's, and where a frame that it took went.
-fn step_port(lanes: &mut Ports, port: u32, side: Side, out: &mut NetOut) -> Option<Switched>
-    requires port { port < length lanes.old }
-    requires few { GivenBelow (2 ^ 64 - 1) lanes.old }
-    ensures entry { EntryOf ports port lanes.old
-        (step_event (end_of side) (net_answer out.new (last_at (end_of side) port lanes.new)) result) lanes.new }
-    ensures switched { is_some result ≡ is_switched (end_of side) out.new }
-    ensures ids { GivesOneMore lanes.old lanes.new }
-    ensures same_ids { IfNone result (GivesNoMore lanes.old lanes.new) }
-    ensures own { IsOwnReset out.new }
-    ensures fits { HasRoomForFrame out.new (last_at (end_of side) port lanes.new) 1514 }
-{
-    // The laws of ports hold of these, so that a frame has its length.
-    lanes.reached();
-    lanes.step_into(port, end_of(side), out)
 }
 
 /// The frame that an end of a port took last.
