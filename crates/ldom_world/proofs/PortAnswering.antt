@@ -53,25 +53,24 @@ at_end k side x = own_said (is_end (PortLane k) (end_of side) (port_end k side))
 at_port : (k : ℕ) (x : SettleEntry) → if_so (k == k) x ≡ Some x
 at_port k x = own_said (k == k) x (eq-eqb k k refl)
 
-module _ (k : ℕ) (lanes w v : List PortState) (same : lanes ≡ w) where
+module _ (k : ℕ) (w v : List PortState) where
   -- one event of the port's lane alone, and its entry
   answered : (line : Line) (Answers : SwitchEvent → Type 0) (event : NetEvent) (x : Entry)
-      → Answers (OnPort (OnLane event)) → EntryOf kind k lanes (OnPort (OnLane event)) v → GivesOneMore lanes v
+      → Answers (OnPort (OnLane event)) → EntryOf kind k w (OnPort (OnLane event)) v → GivesOneMore w v
       → world_event line x ≡ Some (told_of (of_net k event)) → is_accepted x ≡ false → PortAnswers line k Answers w x v
-  answered line Answers event x answers at gives says none =
-      subst (λ (l : List PortState). PortAnswers line k Answers l x v) same (record {
-        event = OnPort (OnLane event);
-        answers = answers;
-        moves = record { own = tt; entry = at };
-        tells = record { says = says; none = none };
-        gives = gives;
-      })
+  answered line Answers event x answers at gives says none = record {
+    event = OnPort (OnLane event);
+    answers = answers;
+    moves = record { own = tt; entry = at };
+    tells = record { says = says; none = none };
+    gives = gives;
+  }
 
   abbrev CameTo : NetEvent → Type 0
-  CameTo event = EntryOf kind k lanes (OnPort (OnLane event)) v
+  CameTo event = EntryOf kind k w (OnPort (OnLane event)) v
 
   -- A FRAME
-  module _ (frame : List ℕ) (gives : GivesOneMore lanes v) (sent : Result ℕ SendFault)
+  module _ (frame : List ℕ) (gives : GivesOneMore w v) (sent : Result ℕ SendFault)
       (at : CameTo (Gives A (given sent frame))) where
     abbrev FrameAnswered : Entry → Type 0
     FrameAnswered x = PortAnswers (Sends k frame) k (AnswersFrame frame) w x v
@@ -103,9 +102,9 @@ module _ (k : ℕ) (lanes w v : List PortState) (same : lanes ≡ w) where
         ∙ at_port k (of_net k (Gives A (port.Full frame)))) refl
 
   -- whatever else is called gives no end more
-  module _ (gives : GivesNoMore lanes v) where
-    one : GivesOneMore lanes v
-    one = one_more lanes v gives
+  module _ (gives : GivesNoMore w v) where
+    one : GivesOneMore w v
+    one = one_more w v gives
 
     -- A GROUP
     module _ (address : List ℕ) (joined : Result Bool Refusal) (at : CameTo (net.Joins (joining joined address))) where

@@ -6,7 +6,7 @@ ghost use Rattle.world_parts.specs.port_model.PortState.{fresh_port};
 ghost use Rattle.domain_script.specs.Declarations.{AreDisks, ArePorts, IsDisk, IsPort};
 ghost use Rattle.lane_kinds.specs.Lanes.{EachOf};
 ghost use Rattle.world_parts.specs.switch_laws.Forwards.{views};
-ghost use Rattle.world_parts.specs.switch_laws.Reached as port;
+ghost use Rattle.world_parts.specs.switch_laws.Reached.{IsReached as IsReachedPort};
 ghost use Rattle.switched_ports.specs.Shapes as the_shapes;
 ghost use Rattle.switched_ports.specs.States.{PortAt};
 ghost use Rattle.world_parts.specs.Declared.{net_of, nets_of, shape_of, shapes_of};
@@ -69,7 +69,7 @@ impl Lanes {
     pub fn port(&self, k: u32) -> &NetLane
         requires { k < length self.now.second }
         ensures lane { PortAt self.now.second k (λ at. at.lane ≡ result.now) }
-        ensures reached { EachOf port.IsReached self.now.second }
+        ensures reached { EachOf IsReachedPort self.now.second }
     {
         self.ports.reached();
         self.ports.lane(k)
