@@ -38,7 +38,7 @@ use Rattle.switched_ports.proofs.Entries.{one_more}
 use Rattle.vio_tag.specs.declared.cause.Cause.TheVariants as the_cause
 use Rattle.world_parts.specs.world_laws.Settle.{SettleEntry}
 use Rattle.world_parts.specs.WorldEvents.{if_so, is_end, is_same, of_net, told_of, world_event}
-use Rattle.ldom_world.specs.Called.{port_end}
+use Rattle.ldom_world.specs.Called.{port_end, unsent_entry}
 use Rattle.ldom_world.specs.OnePort.{PortAnswers}
 use Rattle.ldom_world.proofs.Answering.{own_said, same_end}
 
@@ -85,21 +85,24 @@ module _ (k : ℕ) (w v : List PortState) where
         (as_sent (Ok id) did) gives
         (ap (λ (b : BytesState). world_event (Sends k frame) (entry.Queued k id b)) is) refl
 
-    pub frame_refused : (lane : Lane) → sent ≡ Err fault.Length → lane ≡ port_lane k
-        → FrameAnswered (entry.Refused (OfWhole lane) Length)
-    frame_refused lane did is =
-        answered (Sends k frame) (AnswersFrame frame) (Gives A (BadLength frame)) (entry.Refused (OfWhole lane) Length)
-        refl (as_sent (Err fault.Length) did) gives
-        (ap (λ (l : Lane). world_event (Sends k frame) (entry.Refused (OfWhole l) Length)) is
-        ∙ at_port k (of_net k (Gives A (BadLength frame)))) refl
+    pub frame_refused : (why : SendFault) (x : Entry) → sent ≡ Err why → x ≡ unsent_entry k why → FrameAnswered x
+    frame_refused why x did is =
+        answered (Sends k frame) (AnswersFrame frame) (Gives A (given (Err why) frame)) x (unsent_answers why)
+        (as_sent (Err why) did) gives
+        (ap (λ (z : Entry). world_event (Sends k frame) z) is ∙ unsent_says why) (ap is_accepted is ∙ unsent_none why)
+      where
+        unsent_answers : (w : SendFault) → AnswersFrame frame (OnPort (OnLane (Gives A (given (Err w) frame))))
+        unsent_answers fault.Length = refl
+        unsent_answers fault.Full = refl
 
-    pub frame_full : (lane : Lane) → sent ≡ Err fault.Full → lane ≡ port_lane k
-        → FrameAnswered (entry.Full (OfWhole lane))
-    frame_full lane did is =
-        answered (Sends k frame) (AnswersFrame frame) (Gives A (port.Full frame)) (entry.Full (OfWhole lane)) refl
-        (as_sent (Err fault.Full) did) gives
-        (ap (λ (l : Lane). world_event (Sends k frame) (entry.Full (OfWhole l))) is
-        ∙ at_port k (of_net k (Gives A (port.Full frame)))) refl
+        unsent_says : (w : SendFault) → world_event (Sends k frame) (unsent_entry k w)
+            ≡ Some (told_of (of_net k (Gives A (given (Err w) frame))))
+        unsent_says fault.Length = at_port k (of_net k (Gives A (BadLength frame)))
+        unsent_says fault.Full = at_port k (of_net k (Gives A (port.Full frame)))
+
+        unsent_none : (w : SendFault) → is_accepted (unsent_entry k w) ≡ false
+        unsent_none fault.Length = refl
+        unsent_none fault.Full = refl
 
   -- whatever else is called gives no end more
   module _ (gives : GivesNoMore w v) where

@@ -7,7 +7,7 @@ ghost use Rattle.world_parts.specs.domain_laws.Lines as script;
 ghost use Rattle.world_parts.specs.domain_laws.Lines.{AnswersFrame, AnswersGroup, AnswersPortCall, Calls, Joins, Pokes, Sends};
 ghost use Rattle.ldom_report.specs.LaneEvents.{end_of};
 ghost use Rattle.ldom_report.specs.Report.{accepted_count};
-ghost use Rattle.ldom_world.specs.Called.{call_of};
+ghost use Rattle.ldom_world.specs.Called.{call_of, unsent_entry};
 ghost use Rattle.ldom_world.specs.OnePort.{IsPortCall, PortAnswers};
 ghost use Rattle.ldom_world.specs.Steps.{MakesPortAnswer};
 ghost use Rattle.kept_requests.specs.Bytes.{filled};
@@ -131,18 +131,27 @@ fn give_frame(lanes: &mut Ports, port: u32, frame: &[u8], kept: Bytes) -> Entry
     requires kept { kept ≡ filled frame.now }
     ensures { PortAnswers (Sends port frame.now) port (AnswersFrame frame.now) lanes.old result lanes.new }
 {
-    let who = Who::Lane(port_lane(port));
     match lanes.send(port, frame) {
         Ok(id) => Entry::Queued {
             port,
             id,
             bytes: kept,
         },
-        Err(SendFault::Length) => Entry::Refused {
+        Err(fault) => unsent(port, fault),
+    }
+}
+
+/// The entry of a frame that wasn't held.
+fn unsent(port: u32, fault: SendFault) -> Entry
+    ensures { result ≡ unsent_entry port fault }
+{
+    let who = Who::Lane(port_lane(port));
+    match fault {
+        SendFault::Length => Entry::Refused {
             who,
             why: Why::Length,
         },
-        Err(SendFault::Full) => Entry::Full { who },
+        SendFault::Full => Entry::Full { who },
     }
 }
 

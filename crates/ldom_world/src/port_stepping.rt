@@ -10,7 +10,7 @@ ghost use Rattle.switched_ports.specs.Given.{GivenBelow};
 ghost use Rattle.switched_ports.specs.States.{last_at};
 
 use crate::entries::end_of;
-use crate::port_entries::{PortAnswer, leave_port};
+use crate::port_entries::{leave_port, port_end};
 use crate::ports::PortLanes;
 use crate::stepping::make_room;
 use domain_script::Side;
@@ -118,12 +118,9 @@ fn step_port(
     make_room(room, MOST_FRAME, alloc)?;
     let mut out = NetOut::Idle;
     let switched = lanes.step_into(port, end_of(side), &mut out);
-    let answer = PortAnswer {
-        out: &out,
-        switched,
-        frame: last_frame(lanes, port, side),
-    };
-    let calm = leave_port(port, side, answer, in_settle, room, alloc, journal);
+    let end = port_end(port, side);
+    let frame = last_frame(lanes, port, side);
+    let calm = leave_port(end, &out, switched, frame, in_settle, room, alloc, journal);
     Ok(calm)
 }
 
