@@ -17,5 +17,5 @@ pub none_counted : (shapes : List Shape) (nets : List NetShape) (w : DomainState
     → w.second ≡ map fresh_port nets → Counted [] w
 none_counted shapes nets w disks ports = record {
   accepted = sym (ap issued_on disks ∙ none_issued shapes);
-  given = subst (λ (l : List PortState). GivenBelow 1 l) (sym ports) (fresh_below 1 nets);
+  given = subst (λ (l : List PortState). GivenBelow 1 l) (sym ports) (fresh_below nets);
 }

@@ -11,10 +11,10 @@ pub mod Lifted
 pub mod Opened
 pub mod Turning
 pub mod Declaring
+pub mod Growing
+pub mod KindAdding
 pub mod SettlingAdds
 pub mod SettlingLanes
-pub mod PortsAdding
-pub mod SettlingPorts
 pub mod Calling
 pub mod Beginning
 pub mod DeclaringPorts

@@ -60,11 +60,17 @@ same_numbers w v entries run = record {
   ports = ports_many w.second entries v.second (ports_run w entries v run);
 }
 
+pub fits_many : (w v : DomainState) (line : Line) (old new : List Entry) → Fits w line old new v → SameNumbers w v
+fits_many w v line old new fits = same_numbers w v fits.entries fits.moves.run
+
+pub begun_many : (w v : DomainState) (line : Line) (old new : List Entry) → FitsSoFar w line old new v → SameNumbers w v
+begun_many w v line old new so_far = same_numbers w v so_far.entries so_far.begins.run
+
 pub line_many : {E : Type 0} (w v : DomainState) (line : Line) (old new : List Entry) (result : Result Unit E)
     → OnOk result (Fits w line old new v) → OnErr result (FitsSoFar w line old new v)
     → SameNumbers w v
-line_many w v line old new (Ok done) fits so_far = same_numbers w v fits.entries fits.moves.run
-line_many w v line old new (Err fault) fits so_far = same_numbers w v so_far.entries so_far.begins.run
+line_many w v line old new (Ok done) fits so_far = fits_many w v line old new fits
+line_many w v line old new (Err fault) fits so_far = begun_many w v line old new so_far
 
 -- HOW MANY WERE ACCEPTED
 pub count_push : (old new : List Entry) (x : Entry) → new ≡ old ++ x ∷ []

@@ -38,7 +38,7 @@ use Rattle.switched_ports.proofs.Entries.{one_more}
 use Rattle.vio_tag.specs.declared.cause.Cause.TheVariants as the_cause
 use Rattle.world_parts.specs.world_laws.Settle.{SettleEntry}
 use Rattle.world_parts.specs.WorldEvents.{if_so, is_end, is_same, of_net, told_of, world_event}
-use Rattle.ldom_world.specs.Called.{port_end}
+use Rattle.ldom_world.specs.Called.{port_end, unsent_entry}
 use Rattle.ldom_world.specs.OnePort.{PortAnswers}
 use Rattle.ldom_world.proofs.Answering.{own_said, same_end}
 
@@ -53,25 +53,24 @@ at_end k side x = own_said (is_end (PortLane k) (end_of side) (port_end k side))
 at_port : (k : ℕ) (x : SettleEntry) → if_so (k == k) x ≡ Some x
 at_port k x = own_said (k == k) x (eq-eqb k k refl)
 
-module _ (k : ℕ) (lanes w v : List PortState) (same : lanes ≡ w) where
+module _ (k : ℕ) (w v : List PortState) where
   -- one event of the port's lane alone, and its entry
   answered : (line : Line) (Answers : SwitchEvent → Type 0) (event : NetEvent) (x : Entry)
-      → Answers (OnPort (OnLane event)) → EntryOf kind k lanes (OnPort (OnLane event)) v → GivesOneMore lanes v
+      → Answers (OnPort (OnLane event)) → EntryOf kind k w (OnPort (OnLane event)) v → GivesOneMore w v
       → world_event line x ≡ Some (told_of (of_net k event)) → is_accepted x ≡ false → PortAnswers line k Answers w x v
-  answered line Answers event x answers at gives says none =
-      subst (λ (l : List PortState). PortAnswers line k Answers l x v) same (record {
-        event = OnPort (OnLane event);
-        answers = answers;
-        moves = record { own = tt; entry = at };
-        tells = record { says = says; none = none };
-        gives = gives;
-      })
+  answered line Answers event x answers at gives says none = record {
+    event = OnPort (OnLane event);
+    answers = answers;
+    moves = record { own = tt; entry = at };
+    tells = record { says = says; none = none };
+    gives = gives;
+  }
 
   abbrev CameTo : NetEvent → Type 0
-  CameTo event = EntryOf kind k lanes (OnPort (OnLane event)) v
+  CameTo event = EntryOf kind k w (OnPort (OnLane event)) v
 
   -- A FRAME
-  module _ (frame : List ℕ) (gives : GivesOneMore lanes v) (sent : Result ℕ SendFault)
+  module _ (frame : List ℕ) (gives : GivesOneMore w v) (sent : Result ℕ SendFault)
       (at : CameTo (Gives A (given sent frame))) where
     abbrev FrameAnswered : Entry → Type 0
     FrameAnswered x = PortAnswers (Sends k frame) k (AnswersFrame frame) w x v
@@ -86,26 +85,29 @@ module _ (k : ℕ) (lanes w v : List PortState) (same : lanes ≡ w) where
         (as_sent (Ok id) did) gives
         (ap (λ (b : BytesState). world_event (Sends k frame) (entry.Queued k id b)) is) refl
 
-    pub frame_refused : (lane : Lane) → sent ≡ Err fault.Length → lane ≡ port_lane k
-        → FrameAnswered (entry.Refused (OfWhole lane) Length)
-    frame_refused lane did is =
-        answered (Sends k frame) (AnswersFrame frame) (Gives A (BadLength frame)) (entry.Refused (OfWhole lane) Length)
-        refl (as_sent (Err fault.Length) did) gives
-        (ap (λ (l : Lane). world_event (Sends k frame) (entry.Refused (OfWhole l) Length)) is
-        ∙ at_port k (of_net k (Gives A (BadLength frame)))) refl
+    pub frame_refused : (why : SendFault) (x : Entry) → sent ≡ Err why → x ≡ unsent_entry k why → FrameAnswered x
+    frame_refused why x did is =
+        answered (Sends k frame) (AnswersFrame frame) (Gives A (given (Err why) frame)) x (unsent_answers why)
+        (as_sent (Err why) did) gives
+        (ap (λ (z : Entry). world_event (Sends k frame) z) is ∙ unsent_says why) (ap is_accepted is ∙ unsent_none why)
+      where
+        unsent_answers : (w : SendFault) → AnswersFrame frame (OnPort (OnLane (Gives A (given (Err w) frame))))
+        unsent_answers fault.Length = refl
+        unsent_answers fault.Full = refl
 
-    pub frame_full : (lane : Lane) → sent ≡ Err fault.Full → lane ≡ port_lane k
-        → FrameAnswered (entry.Full (OfWhole lane))
-    frame_full lane did is =
-        answered (Sends k frame) (AnswersFrame frame) (Gives A (port.Full frame)) (entry.Full (OfWhole lane)) refl
-        (as_sent (Err fault.Full) did) gives
-        (ap (λ (l : Lane). world_event (Sends k frame) (entry.Full (OfWhole l))) is
-        ∙ at_port k (of_net k (Gives A (port.Full frame)))) refl
+        unsent_says : (w : SendFault) → world_event (Sends k frame) (unsent_entry k w)
+            ≡ Some (told_of (of_net k (Gives A (given (Err w) frame))))
+        unsent_says fault.Length = at_port k (of_net k (Gives A (BadLength frame)))
+        unsent_says fault.Full = at_port k (of_net k (Gives A (port.Full frame)))
+
+        unsent_none : (w : SendFault) → is_accepted (unsent_entry k w) ≡ false
+        unsent_none fault.Length = refl
+        unsent_none fault.Full = refl
 
   -- whatever else is called gives no end more
-  module _ (gives : GivesNoMore lanes v) where
-    one : GivesOneMore lanes v
-    one = one_more lanes v gives
+  module _ (gives : GivesNoMore w v) where
+    one : GivesOneMore w v
+    one = one_more w v gives
 
     -- A GROUP
     module _ (address : List ℕ) (joined : Result Bool Refusal) (at : CameTo (net.Joins (joining joined address))) where

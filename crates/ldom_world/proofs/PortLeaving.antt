@@ -8,6 +8,8 @@ use Rattle.world_parts.specs.domain_laws.Lines.{Line}
 use Rattle.world_parts.specs.port_model.NetEndStep.{Frame}
 use Rattle.world_parts.specs.port_model.NetEvent.{Steps}
 use Rattle.domain_script.specs.declared.event.EndName.{EndName}
+use Rattle.domain_script.specs.declared.fields.LaneKind.{LaneKind}
+use Rattle.domain_script.specs.declared.fields.LaneKind.TheVariants as kinds
 use Rattle.kept_requests.specs.Bytes.{BytesState, filled}
 use Rattle.ldc_queue.specs.declared.end.End.{End}
 use Rattle.ldc_queue.specs.declared.end.End.TheVariants.{A, B}
@@ -106,6 +108,14 @@ step_says line k Client (out.Reset the_cause.Tick packet lost) last bytes sets o
 step_says line k Server (out.Reset the_cause.Tick packet lost) last bytes sets of_last switched own = absurd (cc own)
 step_says line k Client answer last bytes sets of_last switched own = refl
 step_says line k Server answer last bytes sets of_last switched own = refl
+
+-- an end of a port by its own name
+pub port_named : (e : EndName) → e.lane.kind ≡ kinds.Port → e ≡ port_end e.lane.number e.side
+port_named e is =
+    ap (λ (kind : LaneKind). let n : EndName = record {
+      lane = record { kind = kind; number = e.lane.number };
+      side = e.side;
+    } in n) is
 
 -- IT IS RECORDED, with these bytes where a frame was taken
 module _ (k : ℕ) (side : Side) (answer : NetOut) (last : List ℕ) (sets : Option Sets) (s t : JournalState)

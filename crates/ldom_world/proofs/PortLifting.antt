@@ -129,28 +129,30 @@ module _ (w v : List PortState) (k : ℕ) (e : End) (old : JournalState) (calm :
   port_step_many in_settle at = port_many w v k at.event at.moves
 
 -- WHAT A LINE ASKED of a port, and whose entry was put last
-module _ (w v : List PortState) (k : ℕ) (x : Entry) (old mid new : List Entry) (same : mid ≡ old)
-    (grew : new ≡ mid ++ x ∷ []) (line : Line) (Answers : SwitchEvent → Type 0) where
+module _ (lanes w v : List PortState) (are : lanes ≡ w) (k : ℕ) (x : Entry) (old mid new : List Entry) (same : mid ≡ old)
+    (grew : new ≡ mid ++ x ∷ []) (line : Line) (Answers : SwitchEvent → Type 0)
+    (answer : PortAnswers line k Answers lanes x v) where
   put_last : new ≡ old ++ x ∷ []
   put_last = grew ∙ ap (λ (l : List Entry). l ++ x ∷ []) same
 
-  pub port_answer_made : PortAnswers line k Answers w x v → MakesPortAnswer PortsStep line k Answers w old new v
-  port_answer_made answer = record {
+  pub port_answer_made : MakesPortAnswer PortsStep line k Answers w old new v
+  port_answer_made = record {
     event = answer.event;
     answers = answer.answers;
-    moves = answer.moves;
+    moves = subst (λ (l : List PortState). PortsStep l (OfPort k answer.event) v) are answer.moves;
     adds = one_adds line old new x (OfPort k answer.event) put_last answer.tells.says;
   }
 
-  pub port_answer_given : PortAnswers line k Answers w x v → GivenBelow (length old + 1) w
-      → GivenBelow (length new + 1) v
-  port_answer_given answer = given_after old new x w v put_last answer.gives
+  pub port_answer_given : GivenBelow (length old + 1) w → GivenBelow (length new + 1) v
+  port_answer_given below =
+      given_after old new x lanes v put_last answer.gives
+      (subst (λ (l : List PortState). GivenBelow (length old + 1) l) (sym are) below)
 
-  pub port_answer_accepted : PortAnswers line k Answers w x v → accepted_count new ≡ accepted_count old
-  port_answer_accepted answer = accepted_after old new x put_last answer.tells.none
+  pub port_answer_accepted : accepted_count new ≡ accepted_count old
+  port_answer_accepted = accepted_after old new x put_last answer.tells.none
 
-  pub port_answer_many : PortAnswers line k Answers w x v → length v ≡ length w
-  port_answer_many answer = port_many w v k answer.event answer.moves
+  pub port_answer_many : length v ≡ length w
+  port_answer_many = port_many lanes v k answer.event answer.moves ∙ ap (λ (l : List PortState). length l) are
 
 -- A STEP, by what the ports and the journal say of it: where it is silent no frame was switched
 none_given : (e : End) (answer : NetOut) (last : List ℕ) (sets : Option Sets) (Gives : Type 0)
@@ -171,32 +173,30 @@ gives_by : (left : Bool) (w v : List PortState) → (left ≡ true → GivesNoMo
 gives_by true w v none one = none refl
 gives_by false w v none one = one
 
--- what was read of the ports, and where the entry was put, are of this end and of these ports
-module _ (k : ℕ) (lanes w v : List PortState) (e d : End) (answer : NetOut) (frame : List ℕ) (sets : Option Sets)
-    (are : lanes ≡ w) (same_end : e ≡ d) (entry : EntryOf kind k lanes (step_event e (net_answer answer (last_at e k v)) sets) v)
-    where
-  pub still_there : k < length v
-  still_there =
-      omega (arith, entry.within, port_many lanes v k (step_event e (net_answer answer (last_at e k v)) sets)
-      (step_moves k lanes e (net_answer answer (last_at e k v)) sets v entry))
+pub still_there : (k : ℕ) (w v : List PortState) (e : End) (answer : NetAnswer) (sets : Option Sets)
+    → EntryOf kind k w (step_event e answer sets) v → k < length v
+still_there k w v e answer sets entry =
+    omega (arith, entry.within, port_many w v k (step_event e answer sets) (step_moves k w e answer sets v entry))
 
+-- what was read of the port is of this end of it
+module _ (k : ℕ) (w v : List PortState) (e d : End) (answer : NetOut) (frame : List ℕ) (sets : Option Sets)
+    (same_end : e ≡ d) (entry : EntryOf kind k w (step_event e (net_answer answer (last_at e k v)) sets) v) where
   pub frame_fits : (room : ℕ) → TakesFrame answer (last_at e k v) → frame ≡ last_at d k v → 1514 ≤ room
       → HasRoomForFrame answer frame room
   frame_fits room takes last enough =
-      fits_in answer frame room (subst (TakesFrame answer) (ap (λ (b : End). last_at b k v) same_end ∙ sym last) takes) enough
+      fits_in answer frame room
+      (subst (TakesFrame answer) (ap (λ (b : End). last_at b k v) same_end ∙ sym last) takes) enough
 
   same_entry : frame ≡ last_at d k v → EntryOf kind k w (step_event d (net_answer answer frame) sets) v
   same_entry last =
       subst (λ (l : List ℕ). EntryOf kind k w (step_event d (net_answer answer l) sets) v) (sym last)
-      (subst (λ (b : End). EntryOf kind k w (step_event b (net_answer answer (last_at b k v)) sets) v) same_end
-      (subst (λ (l : List PortState). EntryOf kind k l (step_event e (net_answer answer (last_at e k v)) sets) v) are
-      entry))
+      (subst (λ (b : End). EntryOf kind k w (step_event b (net_answer answer (last_at b k v)) sets) v) same_end entry)
 
   abbrev stepped : SwitchEvent
   stepped = step_event d (net_answer answer frame) sets
 
   pub end_stepped : (in_settle : Bool) (old new : JournalState) (calm : Bool) → frame ≡ last_at d k v
-      → is_some sets ≡ is_switched e answer → GivesOneMore lanes v → IfNone sets (GivesNoMore lanes v)
+      → is_some sets ≡ is_switched e answer → GivesOneMore w v → IfNone sets (GivesNoMore w v)
       → PortLeaves in_settle k stepped old calm new → PortEndSteps in_settle k d w old calm new v
   end_stepped in_settle old new calm last switched one none leaves = record {
     event = stepped;
@@ -204,8 +204,7 @@ module _ (k : ℕ) (lanes w v : List PortState) (e d : End) (answer : NetOut) (f
     moves = step_moves k w d (net_answer answer frame) sets v (same_entry last);
     leaves = leaves;
     gives =
-        subst (λ (l : List PortState). GivesBut (in_settle && is_silent stepped) l v) are
-        (gives_by (in_settle && is_silent stepped) lanes v
-        (λ left. none_given d answer frame sets (GivesNoMore lanes v) (and_parts in_settle (is_silent stepped) left).1
-        (switched ∙ ap (λ (b : End). is_switched b answer) same_end) none) one);
+        gives_by (in_settle && is_silent stepped) w v
+        (λ left. none_given d answer frame sets (GivesNoMore w v) (and_parts in_settle (is_silent stepped) left).1
+        (switched ∙ ap (λ (b : End). is_switched b answer) same_end) none) one;
   }

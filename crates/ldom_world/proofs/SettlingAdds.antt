@@ -1,120 +1,44 @@
--- A journal in a settle: each turn adds its own entries after those of the turns before.
-use Rattle.std.proofs.Common.{◌≡◌, ℕ, ◌+◌, ◌<◌, ◌≤◌, Bool, true, false, Some, Result, Ok, Err, List, [], ◌∷◌, ◌++◌, length, take, slice_get, slice_set, refl, sym, ap, subst, ◌∙◌, arith}
+-- A settle over disks and ports: what all disks and behind them all ports added to the journal, and round by round how it goes on and ends.
+use Rattle.std.proofs.Common.{◌≡◌, ℕ, ◌+◌, ◌<◌, ◌≤◌, Bool, true, false, Result, Ok, Err, List, [], ◌∷◌, ◌++◌, length, take, refl, sym, ap, subst, ◌∙◌, arith}
 use Rattle.std.specs.Prelude.{◌&&◌, ◌||◌, OnErr}
 use Rattle.lane_kinds.specs.LanesMade.{Marks, all_true, first_marks}
-use Rattle.ldc_queue.specs.declared.end.End.{End}
-use Rattle.ldc_queue.specs.declared.end.End.TheVariants.{A, B}
-use Rattle.world_parts.specs.disk_model.LaneState.{LaneState}
-use Rattle.world_parts.specs.world_laws.Settle.{SettleEntry, Settled, entry_of}
+use Rattle.world_parts.specs.world_laws.Settle.{SettleEntry, Settled}
 use Rattle.world_parts.proofs.domain_laws.Looping as going
-use Rattle.world_parts.proofs.domain_laws.Loops.{disk_names_begin, disk_names_go_on, disk_round_begins, disk_round_goes_on, disk_round_wants, disk_ticks_begin, disk_ticks_go_on, disk_ticks_want, disk_turn_wants}
-use Rattle.world_parts.specs.domain_laws.Domain.{DomainState, DomainStep, lanes_in}
+use Rattle.world_parts.specs.domain_laws.Domain.{DomainState, lanes_in}
 use Rattle.world_parts.specs.domain_laws.Going.{GoneOn, fresh_marks, most_rounds}
 use Rattle.world_parts.specs.domain_laws.Lines.{LineBegins, LineMoves}
 use Rattle.world_parts.specs.domain_laws.Lines as script
-use Rattle.world_parts.specs.domain_laws.NamesMade.{AllNamed, DisksNamed, NamesBegun, PortsNamed, disk_name}
-use Rattle.world_parts.specs.domain_laws.RoundMade.{DiskMade, DisksBegun, DisksUpTo, PortsBegun, PortsUpTo, RoundBegun, RoundMade, all_quiet}
-use Rattle.world_parts.specs.domain_laws.TicksMade.{DiskTicked, DiskTicksBegun, DiskTicksUpTo, PortTicksBegun, PortTicksUpTo, TicksBegun, TicksMade}
+use Rattle.world_parts.specs.domain_laws.NamesMade.{AllNamed, NamesBegun}
+use Rattle.world_parts.specs.domain_laws.RoundMade.{RoundBegun, RoundMade, all_quiet}
+use Rattle.world_parts.specs.domain_laws.TicksMade.{TicksBegun, TicksMade}
+use Rattle.domain_script.specs.declared.fields.LaneKind.TheVariants as kinds
 use Rattle.ldom_entries.specs.declared.entry.Entry.{Entry}
 use Rattle.ldom_entries.specs.declared.entry.Entry.TheVariants as entry
-use Rattle.ldom_world.proofs.Adding.{both_add, none_adds, one_adds}
-use Rattle.ldom_world.specs.SettleParts.{DiskTicksAdd, DiskTicksAddFront, DisksAdd, DisksAddFront, DisksNameAdd, DisksNameAddFront, Grew, NamesAdd, NamesAddFront, NamesGoOn, PortTicksAdd, PortTicksAddFront, PortsAdd, PortsAddFront, PortsNameAdd, PortsNameAddFront, RoundAdds, RoundAddsFront, RoundBreaks, RoundGoesOn, RoundsAdd, TicksAdd, TicksAddFront, TicksGoOn, TurnBreaks, TurnGoesOn}
-use Rattle.ldom_world.specs.Steps.{MakesQuietStep}
-use Rattle.world_parts.specs.Parts.{Adds, Fits, FitsSoFar}
+use Rattle.ldom_world.proofs.Adding.{both_add, one_adds}
+use Rattle.ldom_world.proofs.Growing.{also_grew, begins_of, both_grew, fits_of, none_grew}
+use Rattle.ldom_world.specs.SettleParts.{LaneNamesAdd, LaneNamesAddFront, LaneTicksAdd, LaneTicksAddFront, LaneTicksBegun, LanesAdd, LanesAddFront, LanesBegun, LanesMade, LanesNamed, LanesTicked, NamesAdd, NamesAddFront, RoundAdds, RoundAddsFront, RoundsAdd, TicksAdd, TicksAddFront, TurnBreaks, TurnGoesOn}
+use Rattle.world_parts.specs.Parts.{Fits, FitsSoFar}
 
--- A JOURNAL that grew by nothing, by more after others, and by what else it may be taken for
-pub none_grew : (Holds : List SettleEntry → Type 0) (old : List Entry) → Holds [] → Grew Holds old old
-none_grew Holds old holds = record { entries = []; adds = none_adds script.Settles old old refl; holds = holds }
-
-pub both_grew : (First Second Both : List SettleEntry → Type 0) (old mid new : List Entry)
-    → ((one two : List SettleEntry) → First one → Second two → Both (one ++ two)) → Grew First old mid
-    → Grew Second mid new → Grew Both old new
-both_grew First Second Both old mid new joins first second = record {
-  entries = first.entries ++ second.entries;
-  adds = both_add script.Settles old mid new first.entries second.entries first.adds second.adds;
-  holds = joins first.entries second.entries first.holds second.holds;
-}
-
-pub also_grew : (One Other : List SettleEntry → Type 0) (old new : List Entry)
-    → ((entries : List SettleEntry) → One entries → Other entries) → Grew One old new → Grew Other old new
-also_grew One Other old new same grew =
-    record { entries = grew.entries; adds = grew.adds; holds = same grew.entries grew.holds }
-
-fits_of : (start now : DomainState) (old new : List Entry) → Grew (λ es. LineMoves start script.Settles es now) old new
-    → Fits start script.Settles old new now
-fits_of start now old new grew = record { entries = grew.entries; adds = grew.adds; moves = grew.holds }
-
-begins_of : (start now : DomainState) (old new : List Entry)
-    → Grew (λ es. LineBegins start script.Settles es now) old new → FitsSoFar start script.Settles old new now
-begins_of start now old new grew = record { entries = grew.entries; adds = grew.adds; begins = grew.holds }
-
--- A ROUND of the disks
-pub round_adds_none : (w : DomainState) (quiet : List Bool) (old : List Entry) → DisksAdd 0 w quiet w old old
-round_adds_none w quiet old = none_grew (λ es. DisksUpTo 0 w es quiet w) old (disk_round_begins w quiet)
-
-end_made : (k : ℕ) (e : End) (w v : DomainState) (old new : List Entry) (calm : Bool)
-    (step : MakesQuietStep DomainStep k e w old new calm v) → DiskMade k e w (entry_of k step.event) calm v
-end_made k e w v old new calm step =
-    record { event = step.event; of_end = step.of_end; moves = step.moves; leaves = refl; rests = step.calm_is }
-
-end_grew : (k : ℕ) (e : End) (w v : DomainState) (old new : List Entry) (calm : Bool)
-    → MakesQuietStep DomainStep k e w old new calm v → Grew (λ es. DiskMade k e w es calm v) old new
-end_grew k e w v old new calm step = record {
-  entries = entry_of k step.event;
-  adds = step.adds script.Settles;
-  holds = end_made k e w v old new calm step;
-}
-
-pub round_adds : (k : ℕ) (start w m v : DomainState) (first old mid new : List Entry) (quiet marks : List Bool)
-    (calm still : Bool) → DisksAdd k start quiet w first old
-    → MakesQuietStep DomainStep k A w old mid calm m → MakesQuietStep DomainStep k B m mid new still v → k < length quiet
-    → marks ≡ slice_set quiet k (calm && still) → DisksAdd (k + 1) start marks v first new
-round_adds k start w m v first old mid new quiet marks calm still up client server less is =
-    let one = entry_of k client.event in
-    let two = entry_of k server.event in
-    record {
-      entries = up.entries ++ (one ++ two);
-      adds = both_add script.Settles first old new up.entries (one ++ two) up.adds
-          (both_add script.Settles old mid new one two (client.adds script.Settles) (server.adds script.Settles));
-      holds = disk_round_goes_on k start w m v up.entries one two quiet marks calm still up.holds
-          (end_made k A w m old mid calm client) (end_made k B m v mid new still server) less is;
-    }
-
-pub round_adds_front : (k : ℕ) (start now : DomainState) (old new : List Entry) (quiet : List Bool)
-    → DisksAdd k start quiet now old new → DisksAddFront start now old new
-round_adds_front k start now old new quiet up =
-    also_grew (λ es. DisksUpTo k start es quiet now) (λ es. DisksBegun start es now) old new
-    (λ es at. disk_round_wants k start now es quiet at) up
-
-pub client_adds_front : (k : ℕ) (start w v : DomainState) (first old new : List Entry) (quiet : List Bool)
-    (calm : Bool) → DisksAdd k start quiet w first old → MakesQuietStep DomainStep k A w old new calm v
-    → DisksAddFront start v first new
-client_adds_front k start w v first old new quiet calm up made =
-    both_grew (λ es. DisksUpTo k start es quiet w) (λ es. DiskMade k A w es calm v)
-    (λ es. DisksBegun start es v) first old new
-    (λ one two before now. disk_turn_wants k start w v one two quiet calm before now) up
-    (end_grew k A w v old new calm made)
-
--- and behind the disks the ports make the round whole
+-- A ROUND of the disks, and behind them of the ports
 pub whole_round : (start m now : DomainState) (old mid new : List Entry) (quiet : Marks)
-    → DisksAdd (length start.first.lanes) start quiet.first m old mid
-    → PortsAdd (length m.second) m quiet.second now mid new → RoundAdds start quiet now old new
+    → LanesAdd kinds.Disk (length start.first.lanes) start quiet.first m old mid
+    → LanesAdd kinds.Port (length m.second) m quiet.second now mid new → RoundAdds start quiet now old new
 whole_round start m now old mid new quiet disks ports =
-    both_grew (λ es. DisksUpTo (length start.first.lanes) start es quiet.first m)
-    (λ es. PortsUpTo (length m.second) m es quiet.second now) (λ es. RoundMade start es quiet now) old mid new
+    both_grew (LanesMade kinds.Disk (length start.first.lanes) start quiet.first m)
+    (LanesMade kinds.Port (length m.second) m quiet.second now) (λ es. RoundMade start es quiet now) old mid new
     (λ one two before after. going.round_made start m now one two quiet before after) disks ports
 
-pub whole_round_front : (start now : DomainState) (old new : List Entry) → DisksAddFront start now old new
+pub whole_round_front : (start now : DomainState) (old new : List Entry) → LanesAddFront kinds.Disk start now old new
     → RoundAddsFront start now old new
 whole_round_front start now old new begun =
-    also_grew (λ es. DisksBegun start es now) (λ es. RoundBegun start es now) old new
+    also_grew (LanesBegun kinds.Disk start now) (λ es. RoundBegun start es now) old new
     (λ es at. going.round_of_disks start now es at) begun
 
 pub ports_round_front : (start m now : DomainState) (old mid new : List Entry) (quiet : List Bool)
-    → DisksAdd (length start.first.lanes) start quiet m old mid → PortsAddFront m now mid new
+    → LanesAdd kinds.Disk (length start.first.lanes) start quiet m old mid → LanesAddFront kinds.Port m now mid new
     → RoundAddsFront start now old new
 ports_round_front start m now old mid new quiet disks begun =
-    both_grew (λ es. DisksUpTo (length start.first.lanes) start es quiet m) (λ es. PortsBegun m es now)
+    both_grew (LanesMade kinds.Disk (length start.first.lanes) start quiet m) (LanesBegun kinds.Port m now)
     (λ es. RoundBegun start es now) old mid new
     (λ one two before after. going.round_of_ports start m now one two quiet before after) disks begun
 
@@ -127,85 +51,52 @@ whole_quiet start m quiet disks ports many of_disks of_ports =
     ∙ ap (λ (b : Bool). b && all_true (take (length m.second) quiet.second)) of_disks
     ∙ ap (λ (b : Bool). disks && b) of_ports
 
--- THE TICKS of the disks
-pub ticks_add_none : (w : DomainState) (had : List Bool) (old : List Entry) → DiskTicksAdd 0 w had false had w old old
-ticks_add_none w had old = none_grew (λ es. DiskTicksUpTo 0 w had es false had w) old (disk_ticks_begin w had)
-
-pub ticks_add : (k : ℕ) (start w v : DomainState) (first old new : List Entry) (had have : List Bool)
-    (some mark get : Bool) → DiskTicksAdd k start had some have w first old → slice_get have k ≡ Some mark
-    → Grew (λ es. DiskTicked k mark get w es v) old new → k < length have
-    → DiskTicksAdd (k + 1) start had (some || get) (slice_set have k (mark || get)) v first new
-ticks_add k start w v first old new had have some mark get up at ticked less =
-    both_grew (λ es. DiskTicksUpTo k start had es some have w) (λ es. DiskTicked k mark get w es v)
-    (λ es. DiskTicksUpTo (k + 1) start had es (some || get) (slice_set have k (mark || get)) v) first old new
-    (λ one two before now. disk_ticks_go_on k start w v one two had have some mark get before at now less) up ticked
-
-pub ticks_add_front : (k : ℕ) (start now : DomainState) (old new : List Entry) (had have : List Bool) (some : Bool)
-    → DiskTicksAdd k start had some have now old new → k ≤ length start.first.lanes
-    → DiskTicksAddFront start had now old new
-ticks_add_front k start now old new had have some up within =
-    also_grew (λ es. DiskTicksUpTo k start had es some have now) (λ es. DiskTicksBegun start had es now) old new
-    (λ es at. disk_ticks_want k start now had have es some at within) up
-
--- and behind them those of the ports
-pub whole_ticks : (start m now : DomainState) (old mid new : List Entry) (had have : Marks) (some any : Bool)
-    → DiskTicksAdd (length start.first.lanes) start had.first some have.first m old mid
-    → PortTicksAdd (length m.second) m had.second any have.second now mid new
-    → TicksAdd start had (some || any) have now old new
-whole_ticks start m now old mid new had have some any disks ports =
-    both_grew (λ es. DiskTicksUpTo (length start.first.lanes) start had.first es some have.first m)
-    (λ es. PortTicksUpTo (length m.second) m had.second es any have.second now)
+-- THE TICKS
+pub whole_ticks : (start m now : DomainState) (old mid new : List Entry) (had have : Marks) (some any all : Bool)
+    → LaneTicksAdd kinds.Disk (length start.first.lanes) start had.first some have.first m old mid
+    → LaneTicksAdd kinds.Port (length m.second) m had.second any have.second now mid new
+    → (some || any) ≡ all → TicksAdd start had all have now old new
+whole_ticks start m now old mid new had have some any all disks ports is =
+    subst (λ (b : Bool). TicksAdd start had b have now old new) is
+    (both_grew (LanesTicked kinds.Disk (length start.first.lanes) start had.first some have.first m)
+    (LanesTicked kinds.Port (length m.second) m had.second any have.second now)
     (λ es. TicksMade start had es (some || any) have now) old mid new
-    (λ one two before after. going.ticks_of_all start m now one two had have some any before after) disks ports
+    (λ one two before after. going.ticks_of_all start m now one two had have some any before after) disks ports)
 
 pub whole_ticks_front : (start now : DomainState) (old new : List Entry) (had : Marks)
-    → DiskTicksAddFront start had.first now old new → TicksAddFront start had now old new
+    → LaneTicksAddFront kinds.Disk start had.first now old new → TicksAddFront start had now old new
 whole_ticks_front start now old new had begun =
-    also_grew (λ es. DiskTicksBegun start had.first es now) (λ es. TicksBegun start had es now) old new
+    also_grew (LaneTicksBegun kinds.Disk start had.first now) (λ es. TicksBegun start had es now) old new
     (λ es at. going.ticks_of_disks start now es had at) begun
 
 pub ports_ticks_front : (start m now : DomainState) (old mid new : List Entry) (had : Marks) (have : List Bool)
-    (some : Bool) → DiskTicksAdd (length start.first.lanes) start had.first some have m old mid
-    → PortTicksAddFront m had.second now mid new → TicksAddFront start had now old new
+    (some : Bool) → LaneTicksAdd kinds.Disk (length start.first.lanes) start had.first some have m old mid
+    → LaneTicksAddFront kinds.Port m had.second now mid new → TicksAddFront start had now old new
 ports_ticks_front start m now old mid new had have some disks begun =
-    both_grew (λ es. DiskTicksUpTo (length start.first.lanes) start had.first es some have m)
-    (λ es. PortTicksBegun m had.second es now) (λ es. TicksBegun start had es now) old mid new
+    both_grew (LanesTicked kinds.Disk (length start.first.lanes) start had.first some have m)
+    (LaneTicksBegun kinds.Port m had.second now) (λ es. TicksBegun start had es now) old mid new
     (λ one two before after. going.ticks_of_ports start m now one two had have some before after) disks begun
 
--- THE NAMES of the disks
-pub names_add_none : (w : DomainState) (quiet : List Bool) (old : List Entry) → DisksNameAdd 0 w quiet old old
-names_add_none w quiet old = none_grew (λ es. DisksNamed 0 w quiet es) old (disk_names_begin w quiet)
-
-pub names_add : (k : ℕ) (w : DomainState) (quiet : List Bool) (first old new : List Entry) (calm : Bool)
-    (lane : LaneState) → DisksNameAdd k w quiet first old → slice_get w.first.lanes k ≡ Some lane
-    → slice_get quiet k ≡ Some calm → Adds script.Settles old new (disk_name k calm lane)
-    → DisksNameAdd (k + 1) w quiet first new
-names_add k w quiet first old new calm lane up there mark adds =
-    both_grew (λ es. DisksNamed k w quiet es) (λ es. es ≡ disk_name k calm lane)
-    (λ es. DisksNamed (k + 1) w quiet es) first old new
-    (λ one two before now. disk_names_go_on k w quiet one two calm lane before there mark now) up
-    (record { entries = disk_name k calm lane; adds = adds; holds = refl })
-
--- and behind them those of the ports
+-- THE NAMES
 pub whole_names : (w : DomainState) (old mid new : List Entry) (quiet : Marks)
-    → DisksNameAdd (length w.first.lanes) w quiet.first old mid → PortsNameAdd (length w.second) w quiet.second mid new
+    → LaneNamesAdd kinds.Disk (length w.first.lanes) w quiet.first old mid → LaneNamesAdd kinds.Port (length w.second) w quiet.second mid new
     → NamesAdd w quiet old new
 whole_names w old mid new quiet disks ports =
-    both_grew (λ es. DisksNamed (length w.first.lanes) w quiet.first es) (λ es. PortsNamed (length w.second) w quiet.second es)
+    both_grew (LanesNamed kinds.Disk (length w.first.lanes) w quiet.first) (LanesNamed kinds.Port (length w.second) w quiet.second)
     (λ es. AllNamed w quiet es) old mid new
     (λ one two before after. going.names_of_all w quiet one two before after) disks ports
 
 pub whole_names_front : (w : DomainState) (old new : List Entry) (quiet : Marks)
-    → DisksNameAddFront w (length w.first.lanes) quiet.first old new → NamesAddFront w quiet old new
+    → LaneNamesAddFront kinds.Disk w (length w.first.lanes) quiet.first old new → NamesAddFront w quiet old new
 whole_names_front w old new quiet begun =
-    also_grew (λ es. DisksNamed begun.named w quiet.first es) (λ es. NamesBegun w quiet es) old new
+    also_grew (LanesNamed kinds.Disk begun.named w quiet.first) (λ es. NamesBegun w quiet es) old new
     (λ es at. going.names_of_disks begun.named w quiet es at begun.within) begun.adds
 
 pub ports_names_front : (w : DomainState) (old mid new : List Entry) (quiet : Marks)
-    → DisksNameAdd (length w.first.lanes) w quiet.first old mid
-    → PortsNameAddFront w (length w.second) quiet.second mid new → NamesAddFront w quiet old new
+    → LaneNamesAdd kinds.Disk (length w.first.lanes) w quiet.first old mid
+    → LaneNamesAddFront kinds.Port w (length w.second) quiet.second mid new → NamesAddFront w quiet old new
 ports_names_front w old mid new quiet disks begun =
-    both_grew (λ es. DisksNamed (length w.first.lanes) w quiet.first es) (λ es. PortsNamed begun.named w quiet.second es)
+    both_grew (LanesNamed kinds.Disk (length w.first.lanes) w quiet.first) (LanesNamed kinds.Port begun.named w quiet.second)
     (λ es. NamesBegun w quiet es) old mid new
     (λ one two before after. going.names_of_ports begun.named w quiet one two before after begun.within) disks begun.adds
 
@@ -284,55 +175,6 @@ want_in_ticks_adds start w m v count first old mid new had quiet marks gone few 
       holds = going.wants_in_ticks start w m v count gone.entries up.entries begun.entries had quiet marks gone.holds few
           up.holds calm begun.holds;
     })
-
--- ALL OF THE DISKS, by their count
-pub round_of_all : (k n : ℕ) (start now : DomainState) (old new : List Entry) (quiet : List Bool) → k ≡ n
-    → DisksAdd k start quiet now old new → DisksAdd n start quiet now old new
-round_of_all k n start now old new quiet is up = subst (λ (i : ℕ). DisksAdd i start quiet now old new) is up
-
-pub ticks_of_all : (k n : ℕ) (start now : DomainState) (old new : List Entry) (had have : List Bool) (some : Bool)
-    → k ≡ n → DiskTicksAdd k start had some have now old new → DiskTicksAdd n start had some have now old new
-ticks_of_all k n start now old new had have some is up =
-    subst (λ (i : ℕ). DiskTicksAdd i start had some have now old new) is up
-
-pub names_of_all : (k n : ℕ) (w : DomainState) (old new : List Entry) (quiet : List Bool) → k ≡ n
-    → DisksNameAdd k w quiet old new → DisksNameAdd n w quiet old new
-names_of_all k n w old new quiet is up = subst (λ (i : ℕ). DisksNameAdd i w quiet old new) is up
-
--- ONE DISK MORE, whatever came before
-pub lane_goes_on : (k : ℕ) (w m v : DomainState) (old mid new : List Entry) (quiet marks : List Bool)
-    (calm still : Bool) → MakesQuietStep DomainStep k A w old mid calm m → MakesQuietStep DomainStep k B m mid new still v
-    → k < length quiet → marks ≡ slice_set quiet k (calm && still) → RoundGoesOn k w quiet old v marks new
-lane_goes_on k w m v old mid new quiet marks calm still client server less is =
-    λ start first up. round_adds k start w m v first old mid new quiet marks calm still up client server less is
-
-pub lane_wants : (k : ℕ) (w v : DomainState) (old new : List Entry) (quiet : List Bool) → v ≡ w → new ≡ old
-    → RoundBreaks k w quiet old v new
-lane_wants k w v old new quiet same none =
-    λ start first up. subst (λ (x : DomainState). DisksAddFront start x first new) (sym same)
-    (subst (λ (l : List Entry). DisksAddFront start w first l) (sym none)
-    (round_adds_front k start w first old quiet up))
-
-pub server_wants : (k : ℕ) (w m v : DomainState) (old mid new : List Entry) (quiet : List Bool) (calm : Bool)
-    → MakesQuietStep DomainStep k A w old mid calm m → v ≡ m → new ≡ mid → RoundBreaks k w quiet old v new
-server_wants k w m v old mid new quiet calm client same none =
-    λ start first up. subst (λ (x : DomainState). DisksAddFront start x first new) (sym same)
-    (subst (λ (l : List Entry). DisksAddFront start m first l) (sym none)
-    (client_adds_front k start w m first old mid quiet calm up client))
-
-pub ticks_go_by : (k : ℕ) (w v : DomainState) (old new : List Entry) (have marks : List Bool) (mark get : Bool)
-    → slice_get have k ≡ Some mark → Grew (λ es. DiskTicked k mark get w es v) old new → k < length have
-    → marks ≡ slice_set have k (mark || get) → TicksGoOn k w have old get v marks new
-ticks_go_by k w v old new have marks mark get at ticked less is =
-    λ start had some first up. subst (λ (l : List Bool). DiskTicksAdd (k + 1) start had (some || get) l v first new)
-    (sym is)
-    (ticks_add k start w v first old new had have some mark get up at ticked less)
-
-pub names_go_by : (k : ℕ) (w : DomainState) (old new : List Entry) (calm : Bool) (lane : LaneState)
-    → slice_get w.first.lanes k ≡ Some lane → Adds script.Settles old new (disk_name k calm lane)
-    → NamesGoOn k w calm old new
-names_go_by k w old new calm lane there adds =
-    λ quiet first mark up. names_add k w quiet first old new calm lane up there mark adds
 
 -- A TURN, whatever rounds came before it
 pub turn_wants_in_round : (w v : DomainState) (old new : List Entry) (had quiet : Marks)

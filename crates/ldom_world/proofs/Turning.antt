@@ -44,23 +44,26 @@ none_turned w v old new same none = record {
 pub nothing_turned : (w : DomainState) (old : List Entry) → TurnsMade [] w old old w
 nothing_turned w old = none_turned w w old old refl refl
 
-pub disk_turned : (k : ℕ) (e : End) (w v : DomainState) (old new : List Entry) → MakesStep DomainStep k e w old new v
-    → TurnsMade (turn (DiskLane k) e ∷ []) w old new v
-disk_turned k e w v old new made = record {
-  entries = OfLane k made.event ∷ [];
-  adds = made.adds;
-  steps = ((refl, made.of_end), tt);
-  run = (v, made.moves, refl);
-}
+-- of a lane of this kind
+pub disk_turned : (kind : LaneKind) (k : ℕ) (e : End) (w v : DomainState) (old new : List Entry) → kind ≡ kinds.Disk
+    → MakesStep DomainStep k e w old new v → TurnsMade (turn (of_kind kind k) e ∷ []) w old new v
+disk_turned kind k e w v old new is made =
+    subst (λ (x : LaneKind). TurnsMade (turn (of_kind x k) e ∷ []) w old new v) (sym is) (record {
+      entries = OfLane k made.event ∷ [];
+      adds = made.adds;
+      steps = ((refl, made.of_end), tt);
+      run = (v, made.moves, refl);
+    })
 
-pub port_turned : (k : ℕ) (e : End) (w v : DomainState) (old new : List Entry) → MakesPortStep DomainStep k e w old new v
-    → TurnsMade (turn (PortLane k) e ∷ []) w old new v
-port_turned k e w v old new made = record {
-  entries = OfPort k made.event ∷ [];
-  adds = made.adds;
-  steps = ((refl, made.of_end), tt);
-  run = (v, made.moves, refl);
-}
+pub port_turned : (kind : LaneKind) (k : ℕ) (e : End) (w v : DomainState) (old new : List Entry) → kind ≡ kinds.Port
+    → MakesPortStep DomainStep k e w old new v → TurnsMade (turn (of_kind kind k) e ∷ []) w old new v
+port_turned kind k e w v old new is made =
+    subst (λ (x : LaneKind). TurnsMade (turn (of_kind x k) e ∷ []) w old new v) (sym is) (record {
+      entries = OfPort k made.event ∷ [];
+      adds = made.adds;
+      steps = ((refl, made.of_end), tt);
+      run = (v, made.moves, refl);
+    })
 
 -- so many turns are these, by an equation
 as_turns : (turns others : List EndTurn) (w v : DomainState) (old new : List Entry) → turns ≡ others

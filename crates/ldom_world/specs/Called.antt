@@ -9,9 +9,11 @@ use Rattle.ldom_report.specs.LaneEvents.{end_of}
 use Rattle.ldom_entries.specs.declared.entry.Entry.{Entry}
 use Rattle.ldom_entries.specs.declared.entry.Entry.TheVariants as entry
 use Rattle.ldom_entries.specs.declared.entry.Who.TheVariants as who
-use Rattle.ldom_entries.specs.declared.entry.Why.TheVariants.{Count, Range}
+use Rattle.ldom_entries.specs.declared.entry.Why.TheVariants.{Count, Length, Range}
 use Rattle.disk_lane.specs.vdisk_client.declared.answers.IssueFault.{IssueFault}
 use Rattle.disk_lane.specs.vdisk_client.declared.answers.IssueFault.TheVariants as fault
+use Rattle.switched_ports.specs.net_lane.answers.SendFault.{SendFault}
+use Rattle.switched_ports.specs.net_lane.answers.SendFault.TheVariants as unsent
 use Rattle.ldom_world.specs.declared.calls.LaneCall.{LaneCall}
 use Rattle.ldom_world.specs.declared.calls.LaneCall.TheVariants as lane
 
@@ -23,6 +25,11 @@ call_of lane.Start = script.Starts
 call_of (lane.Lose side) = script.Loses (end_of side)
 call_of lane.Tick = script.Ticks
 call_of (lane.Inject side packet) = script.Injects (end_of side) packet
+
+-- the entry of a frame that wasn't held
+abbrev pub unsent_entry : ℕ → SendFault → Entry
+unsent_entry k unsent.Length = entry.Refused (who.Lane (port_lane k)) Length
+unsent_entry k unsent.Full = entry.Full (who.Lane (port_lane k))
 
 -- an end of the disk with this number
 abbrev pub disk_end : ℕ → Side → EndName

@@ -4,6 +4,7 @@ pub mod OneLane
 pub mod OnePort
 pub mod Called
 pub mod Resting
+pub mod WorldKinds
 pub mod Steps
 pub mod TurnsMade
 pub mod SettleParts

@@ -60,7 +60,12 @@ impl<D: Store> World<D> {
     }
 
     /// Calls a lane, among those of its kind.
-    fn call_on(&mut self, lane: Lane, call: LaneCall, journal: &mut Journal) -> Result<(), NoMemory>
+    pub(crate) fn call_on(
+        &mut self,
+        lane: Lane,
+        call: LaneCall,
+        journal: &mut Journal,
+    ) -> Result<(), NoMemory>
         requires lane { IsLaneOf self.old lane }
         requires call { IsCallOf lane.kind call }
         requires agrees { Counted journal.old.entries self.old }
@@ -116,7 +121,7 @@ impl<D: Store> World<D> {
     }
 
     /// Calls the lane of the disk with this number.
-    pub(crate) fn answer_call(
+    fn answer_call(
         &mut self,
         disk: u32,
         call: LaneCall,
@@ -179,7 +184,7 @@ impl<D: Store> World<D> {
     }
 
     /// Calls the port with this number.
-    pub(crate) fn answer_port(
+    fn answer_port(
         &mut self,
         port: u32,
         call: LaneCall,

@@ -1,4 +1,5 @@
 ghost use Rattle.std.specs.Prelude.{◌≡◌, ◌≤◌, ◌<◌, IfOk, length, map, Some, slice_get};
+ghost use Rattle.std.specs.List.{AllByRecursion};
 ghost use Rattle.world_parts.specs.disk_model.LaneState.{fresh};
 ghost use Rattle.world_parts.specs.disk_model.Reached.{IsReached};
 ghost use Rattle.world_parts.specs.port_model.NetLaneState.{IsNetShape};
@@ -6,7 +7,7 @@ ghost use Rattle.world_parts.specs.port_model.PortState.{fresh_port};
 ghost use Rattle.domain_script.specs.Declarations.{AreDisks, ArePorts, IsDisk, IsPort};
 ghost use Rattle.lane_kinds.specs.Lanes.{EachOf};
 ghost use Rattle.world_parts.specs.switch_laws.Forwards.{views};
-ghost use Rattle.world_parts.specs.switch_laws.Reached as port;
+ghost use Rattle.world_parts.specs.switch_laws.Reached.{IsReached as IsReachedPort};
 ghost use Rattle.switched_ports.specs.Shapes as the_shapes;
 ghost use Rattle.switched_ports.specs.States.{PortAt};
 ghost use Rattle.world_parts.specs.Declared.{net_of, nets_of, shape_of, shapes_of};
@@ -69,7 +70,7 @@ impl Lanes {
     pub fn port(&self, k: u32) -> &NetLane
         requires { k < length self.now.second }
         ensures lane { PortAt self.now.second k (λ at. at.lane ≡ result.now) }
-        ensures reached { EachOf port.IsReached self.now.second }
+        ensures reached { EachOf IsReachedPort self.now.second }
     {
         self.ports.reached();
         self.ports.lane(k)
@@ -111,18 +112,26 @@ fn port_shapes(alloc: Global, names: &Names) -> Result<Vec<PortShape>, NoMemory>
     Ok(shapes)
 }
 
-/// What a declared port is made with. Each byte of its address is read, so that it is known to be one.
+/// What a declared port is made with.
 fn port_shape(port: &PortDecl) -> PortShape
     requires { IsPort port.now }
     ensures made { the_shapes.shape_of result ≡ net_of port.now }
     ensures sound { IsNetShape (net_of port.now) }
 {
-    let [a, b, c, d, e, f] = port.address;
     PortShape {
-        address: [a, b, c, d, e, f],
+        address: read_address(&port.address),
         slots: port.ring,
         entries: port.queue,
     }
+}
+
+/// An address. Each of its bytes is read, so that it is known to be one.
+fn read_address(address: &[u8; 6]) -> [u8; 6]
+    ensures same { result ≡ address.now }
+    ensures bytes { AllByRecursion (λ byte. byte < 256) result }
+{
+    let [a, b, c, d, e, f] = *address;
+    [a, b, c, d, e, f]
 }
 
 /// The lanes of these declarations, before anything was asked.

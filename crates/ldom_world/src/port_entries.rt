@@ -2,6 +2,7 @@
 
 ghost use Rattle.std.specs.Prelude.{◌≡◌, ◌<◌, ◌||◌, [], is_some};
 ghost use Rattle.domain_script.specs.LaneKinds.{port_lane};
+ghost use Rattle.domain_script.specs.declared.fields.LaneKind.TheVariants as kinds;
 ghost use Rattle.ldom_report.specs.LaneEvents.{end_of};
 ghost use Rattle.ldom_world.specs.Called.{port_end};
 ghost use Rattle.ldom_entries.specs.JournalState.{PutsEntry};
@@ -35,42 +36,35 @@ pub fn port_end(port: u32, side: Side) -> EndName
     }
 }
 
-/// What an end of a port answered: its step, where the frame that it took went, and that frame.
-#[derive(Drop)]
-pub struct PortAnswer<'a> {
-    pub out: &'a NetOut,
-    pub switched: Option<Switched>,
-    pub frame: &'a [u8],
-}
-
-/// Puts what the step of a port's end leaves in the journal, and tells whether the step was calm. In a settle a step
-/// that idles leaves nothing.
+/// Puts what the step of a port's end leaves in the journal, and tells whether the step was calm. Where the end took a
+/// frame, the switch says where that went. In a settle a step that idles leaves nothing.
 #[tactic(auto, using(crate::proofs::PortLeaving::port_leaves_none, crate::proofs::PortLeaving::port_leaves_entry))]
 pub fn leave_port(
-    port: u32,
-    side: Side,
-    answer: PortAnswer<'_>,
+    end: EndName,
+    out: &NetOut,
+    switched: Option<Switched>,
+    frame: &[u8],
     in_settle: bool,
     room: &mut Bytes,
     alloc: Global,
     journal: &mut Journal,
 ) -> bool
+    requires port { end.lane.kind ≡ kinds.Port }
     requires ready { 0 < journal.old.room }
-    requires room { HasRoomForFrame answer.out.now answer.frame.now room.old.room }
+    requires room { HasRoomForFrame out.now frame.now room.old.room }
     requires empty { room.old.items ≡ [] }
-    requires switched { is_some answer.switched ≡ is_switched (end_of side) answer.out.now }
-    requires own { ResetsOwn answer.out.now }
-    ensures leaves { PortLeaves in_settle port
-        (step_event (end_of side) (net_answer answer.entry.out.now answer.entry.frame.now) answer.entry.switched)
-        journal.old result journal.new }
+    requires switched { is_some switched ≡ is_switched (end_of end.side) out.now }
+    requires own { ResetsOwn out.now }
+    ensures leaves { PortLeaves in_settle end.lane.number
+        (step_event (end_of end.side) (net_answer out.now frame.now) switched) journal.old result journal.new }
     ensures empty { room.new.items ≡ [] }
 {
-    let rests = port_rests(answer.out);
+    let rests = port_rests(out);
     if in_settle && rests {
         return true;
     }
-    let calm = rests || port_blocked(answer.out);
-    record_port(port, side, answer, room, alloc, journal);
+    let calm = rests || port_blocked(out);
+    record_port(end, out, switched, frame, room, alloc, journal);
     calm
 }
 
@@ -90,25 +84,25 @@ fn port_blocked(out: &NetOut) -> bool
 
 /// Puts the entry of the step of a port's end last. The bytes of a frame are put into the room that was made for them.
 fn record_port(
-    port: u32,
-    side: Side,
-    answer: PortAnswer<'_>,
+    end: EndName,
+    out: &NetOut,
+    switched: Option<Switched>,
+    frame: &[u8],
     room: &mut Bytes,
     alloc: Global,
     journal: &mut Journal,
 )
+    requires port { end.lane.kind ≡ kinds.Port }
     requires ready { 0 < journal.old.room }
-    requires room { HasRoomForFrame answer.out.now answer.frame.now room.old.room }
+    requires room { HasRoomForFrame out.now frame.now room.old.room }
     requires empty { room.old.items ≡ [] }
-    requires switched { is_some answer.switched ≡ is_switched (end_of side) answer.out.now }
-    requires own { ResetsOwn answer.out.now }
-    ensures records { PortRecords port
-        (step_event (end_of side) (net_answer answer.entry.out.now answer.entry.frame.now) answer.entry.switched)
-        journal.old journal.new }
+    requires switched { is_some switched ≡ is_switched (end_of end.side) out.now }
+    requires own { ResetsOwn out.now }
+    ensures records { PortRecords end.lane.number
+        (step_event (end_of end.side) (net_answer out.now frame.now) switched) journal.old journal.new }
     ensures empty { room.new.items ≡ [] }
 {
-    let end = port_end(port, side);
-    match answer.out {
+    match out {
         NetOut::Idle => journal.push_idle(end),
         NetOut::Blocked => journal.push_blocked(end),
         NetOut::Joined { lost } => journal.push_joined(end, *lost),
@@ -116,8 +110,8 @@ fn record_port(
         NetOut::Sent { packet, opens } => journal.push_sent(end, packet, *opens),
         NetOut::Published { id } => journal.push_published(end, *id),
         NetOut::Frame { .. } => {
-            let bytes = filled(room, answer.frame, alloc);
-            record_frame(end, answer.switched, bytes, journal);
+            let bytes = filled(room, frame, alloc);
+            record_frame(end, switched, bytes, journal);
         }
         NetOut::Reset {
             cause,

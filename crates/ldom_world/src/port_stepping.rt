@@ -1,6 +1,6 @@
 // Steps of the ends of ports.
 
-ghost use Rattle.std.specs.Prelude.{◌≡◌, ◌<◌, ◌+◌, ◌-◌, ◌^◌, length, IfOk, OnErr, OnOk};
+ghost use Rattle.std.specs.Prelude.{◌≡◌, ◌<◌, ◌+◌, ◌-◌, ◌^◌, [], length, IfOk, OnErr, OnOk};
 ghost use Rattle.world_parts.specs.domain_laws.Domain.{PortsStep};
 ghost use Rattle.ldom_report.specs.LaneEvents.{end_of};
 ghost use Rattle.ldom_report.specs.Report.{accepted_count};
@@ -10,11 +10,12 @@ ghost use Rattle.switched_ports.specs.Given.{GivenBelow};
 ghost use Rattle.switched_ports.specs.States.{last_at};
 
 use crate::entries::end_of;
-use crate::port_entries::{PortAnswer, leave_port};
+use crate::port_entries::{leave_port, port_end};
 use crate::ports::PortLanes;
 use crate::stepping::make_room;
 use domain_script::Side;
-use ldom_report::Journal;
+use ldom_report::{Bytes, Journal};
+use std::alloc::Global;
 use switched_ports::{NetOut, Ports};
 use vio_bytes::NoMemory;
 
@@ -68,8 +69,7 @@ impl PortLanes {
         Ok(calm)
     }
 
-    /// One step of an end, in a settle or not, into room for its entry, once there is room for a frame that it takes.
-    /// Tells whether it was calm.
+    /// One step of an end, in a settle or not, into room for its entry. Tells whether it was calm.
     fn step_end(
         &mut self,
         port: u32,
@@ -84,25 +84,44 @@ impl PortLanes {
             journal.new self.new) }
         ensures same { OnErr result ((self.new ≡ self.old) × (journal.new ≡ journal.old)) }
     {
-        make_room(&mut self.room, MOST_FRAME, self.alloc)?;
-        let mut out = NetOut::Idle;
-        let switched = self.lanes.step_into(port, end_of(side), &mut out);
-        let answer = PortAnswer {
-            out: &out,
-            switched,
-            frame: last_frame(&self.lanes, port, side),
-        };
-        let calm = leave_port(
+        step_port(
+            &mut self.lanes,
             port,
             side,
-            answer,
             in_settle,
             &mut self.room,
             self.alloc,
             journal,
-        );
-        Ok(calm)
+        )
     }
+}
+
+/// One step of an end of a port, once there is room for a frame that it takes. Tells whether it was calm.
+fn step_port(
+    lanes: &mut Ports,
+    port: u32,
+    side: Side,
+    in_settle: bool,
+    room: &mut Bytes,
+    alloc: Global,
+    journal: &mut Journal,
+) -> Result<bool, NoMemory>
+    requires port { port < length lanes.old }
+    requires few { GivenBelow (2 ^ 64 - 1) lanes.old }
+    requires empty { room.old.items ≡ [] }
+    requires ready { 0 < journal.old.room }
+    ensures steps { IfOk result (λ calm. PortEndSteps in_settle port (end_of side) lanes.old journal.old calm
+        journal.new lanes.new) }
+    ensures same { OnErr result ((lanes.new ≡ lanes.old) × (journal.new ≡ journal.old)) }
+    ensures empty { room.new.items ≡ [] }
+{
+    make_room(room, MOST_FRAME, alloc)?;
+    let mut out = NetOut::Idle;
+    let switched = lanes.step_into(port, end_of(side), &mut out);
+    let end = port_end(port, side);
+    let frame = last_frame(lanes, port, side);
+    let calm = leave_port(end, &out, switched, frame, in_settle, room, alloc, journal);
+    Ok(calm)
 }
 
 /// The frame that an end of a port took last.

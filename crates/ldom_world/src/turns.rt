@@ -1,10 +1,11 @@
 // Steps of ends turn by turn, and rounds.
 
-ghost use Rattle.std.specs.Prelude.{◌≡◌, ◌<◌, ◌∷◌, [], length, IfOk, OnErr, OnOk};
+ghost use Rattle.std.specs.Prelude.{◌≡◌, ◌<◌, ◌≤◌, ◌∷◌, [], length, IfOk, OnErr, OnOk};
 ghost use Rattle.world_parts.specs.domain_laws.Domain.{DomainStep, lanes_in};
 ghost use Rattle.world_parts.specs.domain_laws.Lines as script;
 ghost use Rattle.world_parts.specs.domain_laws.Lines.{both_ends, lanes_from, round_turns, Rounds, Steps, turn};
 ghost use Rattle.ldom_report.specs.LaneEvents.{end_of};
+ghost use Rattle.ldom_world.specs.SettleParts.{MakesQuiet};
 ghost use Rattle.ldom_world.specs.Steps.{Counted, MakesPortStep, MakesQuietPortStep, MakesQuietStep, MakesStep};
 ghost use Rattle.ldom_world.specs.TurnsMade.{kind_turns, SameNumbers, TurnsBegun, TurnsMade};
 ghost use Rattle.world_parts.specs.Lines.{IsLaneOf, lane_named, number_of_kind};
@@ -120,6 +121,27 @@ impl<D: Store> World<D> {
         }
     }
 
+    /// The same in a settle, where a step that idles leaves no entry, nor one of a stopped server; and whether it was calm.
+    pub(crate) fn quiet_step(
+        &mut self,
+        lane: Lane,
+        side: Side,
+        journal: &mut Journal,
+    ) -> Result<bool, NoMemory>
+        requires lane { IsLaneOf self.old lane }
+        requires agrees { Counted journal.old.entries self.old }
+        ensures made { IfOk result (λ calm. MakesQuiet lane.kind lane.number (end_of side) self.old
+            journal.old.entries journal.new.entries calm self.new) }
+        ensures same { OnErr result ((self.new ≡ self.old) × (journal.new.entries ≡ journal.old.entries)) }
+        ensures many { SameNumbers self.old self.new }
+        ensures agrees { Counted journal.new.entries self.new }
+    {
+        match lane.kind {
+            LaneKind::Disk => self.quiet_step_disk(lane.number, side, journal),
+            LaneKind::Port => self.quiet_step_port(lane.number, side, journal),
+        }
+    }
+
     /// One step of an end of the disk with this number.
     fn step_disk(&mut self, disk: u32, side: Side, journal: &mut Journal) -> Result<(), NoMemory>
         requires disk { disk < length self.old.first.lanes }
@@ -133,8 +155,8 @@ impl<D: Store> World<D> {
         self.disks.step(disk, side, journal)
     }
 
-    /// The same in a settle, where a step that idles leaves no entry, nor one of a stopped server; and whether it was calm.
-    pub(crate) fn quiet_step_disk(
+    /// The same in a settle.
+    fn quiet_step_disk(
         &mut self,
         disk: u32,
         side: Side,
@@ -164,8 +186,8 @@ impl<D: Store> World<D> {
         self.ports.step(port, side, journal)
     }
 
-    /// The same in a settle, where a step that idles leaves no entry; and whether it was calm.
-    pub(crate) fn quiet_step_port(
+    /// The same in a settle.
+    fn quiet_step_port(
         &mut self,
         port: u32,
         side: Side,
@@ -183,8 +205,9 @@ impl<D: Store> World<D> {
     }
 
     /// How many lanes of a kind there are.
-    fn count_of(&self, kind: LaneKind) -> u32
-        ensures { result ≡ number_of_kind kind self.now }
+    pub(crate) fn count_of(&self, kind: LaneKind) -> u32
+        ensures count { result ≡ number_of_kind kind self.now }
+        ensures few { number_of_kind kind self.now ≤ 8 }
     {
         match kind {
             LaneKind::Disk => self.disk_count(),

@@ -1,25 +1,11 @@
+use Rattle.std.proofs.Common.{Bool, IfOk, List, subst}
 use Rattle.ldom_report.specs.LaneEvents.{end_of}
-use Rattle.ldom_world.proofs.PortLifting.{end_stepped, frame_fits, still_there}
+use Rattle.ldom_world.specs.OnePort.{PortEndSteps}
+use Rattle.world_parts.specs.port_model.PortState.{PortState}
 use Rattle.ldom_world.proofs.ports.PortLanes.step_end.Goals as goal
-
-pub last_frame-requires : goal.last_frame-requires
-last_frame-requires c =
-    still_there c.args.port c.self.inside.lanes c.args.self.now c.step_into-switched.new.self c.end_of.result
-    (end_of c.args.side) c.step_into-switched.new.out _ c.step_into-switched.result c.self.view_is c.end_of.ensures
-    c.step_into-switched.ensures.entry
-
-pub leave_port-calm-requires-clause-room : goal.leave_port-calm-requires-clause-room
-leave_port-calm-requires-clause-room c =
-    frame_fits c.args.port c.self.inside.lanes c.args.self.now c.step_into-switched.new.self c.end_of.result
-    (end_of c.args.side) c.step_into-switched.new.out c.last_frame.result.now c.step_into-switched.result
-    c.self.view_is c.end_of.ensures c.step_into-switched.ensures.entry c.make_room.new.room.room
-    c.step_into-switched.ensures.frame c.last_frame.ensures c.in_ok-make_room.ensures.made
 
 pub returns-clause-steps : goal.returns-clause-steps
 returns-clause-steps c =
-    end_stepped c.args.port c.self.inside.lanes c.args.self.now c.step_into-switched.new.self c.end_of.result
-    (end_of c.args.side) c.step_into-switched.new.out c.last_frame.result.now c.step_into-switched.result
-    c.self.view_is c.end_of.ensures c.step_into-switched.ensures.entry c.args.in_settle c.args.journal.now
-    c.leave_port-calm.new.journal c.leave_port-calm.result c.last_frame.ensures
-    c.step_into-switched.ensures.switched c.step_into-switched.ensures.ids c.step_into-switched.ensures.same_ids
-    c.leave_port-calm.ensures.leaves
+    subst (λ (w : List PortState). IfOk c.step_port.result (λ (calm : Bool). PortEndSteps c.args.in_settle c.args.port
+    (end_of c.args.side) w c.args.journal.now calm c.step_port.new.journal c.step_port.new.lanes)) c.self.view_is
+    c.step_port.ensures.steps

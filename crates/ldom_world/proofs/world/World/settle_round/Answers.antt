@@ -1,22 +1,19 @@
-use Rattle.ldom_world.proofs.SettlingAdds.{on_err, ports_round_front, whole_quiet, whole_round, whole_round_front}
-use Rattle.ldom_world.specs.SettleParts.{marks_of}
+use Rattle.ldom_world.proofs.SettlingAdds.{on_err, ports_round_front, whole_round}
 use Rattle.ldom_world.proofs.world.World.settle_round.Goals as goal
 
-pub returns-in_err-round_of_disks-clause-begun : goal.returns-in_err-round_of_disks-clause-begun
-returns-in_err-round_of_disks-clause-begun g c =
-    on_err c.from_residual.result
-    (whole_round_front c.args.self.now c.round_of_disks.new.self c.args.journal.now.entries
-    c.round_of_disks.new.journal.entries c.in_err-round_of_disks.ensures.begun)
+pub returns-in_err-ports-clause-begun : goal.returns-in_err-ports-clause-begun
+returns-in_err-ports-clause-begun g c =
+    on_err c.from_residual-in_err-ports.result
+    (ports_round_front c.args.self.now c.round_of.new.self c.round_of-2.new.self c.args.journal.now.entries
+    c.round_of.new.journal.entries c.round_of-2.new.journal.entries _ c.in_ok-disks.ensures.made
+    c.in_err-ports.ensures.begun)
 
-pub returns-in_err-round_of_ports-clause-begun : goal.returns-in_err-round_of_ports-clause-begun
-returns-in_err-round_of_ports-clause-begun g c =
-    on_err c.from_residual-in_err-round_of_ports.result
-    (ports_round_front c.args.self.now c.round_of_disks.new.self c.round_of_ports.new.self c.args.journal.now.entries
-    c.round_of_disks.new.journal.entries c.round_of_ports.new.journal.entries _ c.in_ok-round_of_disks.ensures.made
-    c.in_err-round_of_ports.ensures.begun)
+pub returns-then-disks-clause-made : goal.returns-then-disks-clause-made
+returns-then-disks-clause-made g c =
+    whole_round c.args.self.now c.round_of.new.self c.round_of-2.new.self c.args.journal.now.entries
+    c.round_of.new.journal.entries c.round_of-2.new.journal.entries _ c.in_ok-disks.ensures.made c.in_ok-ports.ensures.made
 
-pub returns-clause-made : goal.returns-clause-made
-returns-clause-made g c =
-    whole_round c.args.self.now c.round_of_disks.new.self c.round_of_ports.new.self c.args.journal.now.entries
-    c.round_of_disks.new.journal.entries c.round_of_ports.new.journal.entries _ c.in_ok-round_of_disks.ensures.made
-    c.in_ok-round_of_ports.ensures.made
+pub returns-else-disks-clause-made : goal.returns-else-disks-clause-made
+returns-else-disks-clause-made g c =
+    whole_round c.args.self.now c.round_of.new.self c.round_of-2.new.self c.args.journal.now.entries
+    c.round_of.new.journal.entries c.round_of-2.new.journal.entries _ c.in_ok-disks.ensures.made c.in_ok-ports.ensures.made

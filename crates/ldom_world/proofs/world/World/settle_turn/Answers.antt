@@ -1,7 +1,8 @@
-use Rattle.std.proofs.Common.{rules, ◌∙◌, ◌++◌, List, [], ◌∷◌, ap}
+use Rattle.std.proofs.Common.{rules, ◌∙◌, ◌++◌, List, [], ◌∷◌, ap, refl}
 use Rattle.ldom_entries.specs.declared.entry.Entry.{Entry}
 use Rattle.ldom_entries.specs.declared.entry.Entry.TheVariants as entry
 use Rattle.ldom_world.proofs.SettlingAdds.{on_err, turn_settles, turn_wants_answer, turn_wants_in_round, turn_wants_in_ticks}
+use Rattle.ldom_world.proofs.SettlingLanes.{counted_stays}
 use Rattle.ldom_world.specs.SettleParts.{marks_of}
 use Rattle.ldom_world.proofs.world.World.settle_turn.Goals as goal
 
@@ -34,3 +35,9 @@ returns-clause-turned g c =
     c.in_ok-reserve.ensures.entries in
     turn_settles c.args.self.now c.settle_round.new.self _ c.args.journal.now.entries _ _ _ (marks_of c.args.had.now) _
     (marks_of c.args.quiet.now) _ _ round.made (search rules) c.in_ok-tick_lanes.ensures.ticked c.if-branch.false said
+
+pub returns-clause-agrees : goal.returns-clause-agrees
+returns-clause-agrees g c =
+    let said = c.push.ensures.entries ∙ ap (λ (l : List Entry). l ++ entry.Settled ∷ [])
+    c.in_ok-reserve.ensures.entries in
+    counted_stays c.tick_lanes.new.journal.entries _ entry.Settled c.tick_lanes.new.self c.tick_lanes.ensures.agrees refl said

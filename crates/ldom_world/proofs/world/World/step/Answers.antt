@@ -6,11 +6,11 @@ use Rattle.ldom_world.proofs.world.World.step.Goals as goal
 pub returns-in-Disk-clause-made : goal.returns-in-Disk-clause-made
 returns-in-Disk-clause-made g c =
     on_ok_weaker c.step_disk.result
-    (λ made. disk_turned c.args.lane.number (end_of c.args.side) c.args.self.now c.step_disk.new.self
-    c.args.journal.now.entries c.step_disk.new.journal.entries made) c.step_disk.ensures.made
+    (λ made. disk_turned c.args.lane.kind c.args.lane.number (end_of c.args.side) c.args.self.now c.step_disk.new.self
+    c.args.journal.now.entries c.step_disk.new.journal.entries c.in-Disk.is made) c.step_disk.ensures.made
 
 pub returns-in-Port-clause-made : goal.returns-in-Port-clause-made
 returns-in-Port-clause-made g c =
     on_ok_weaker c.step_port.result
-    (λ made. port_turned c.args.lane.number (end_of c.args.side) c.args.self.now c.step_port.new.self
-    c.args.journal.now.entries c.step_port.new.journal.entries made) c.step_port.ensures.made
+    (λ made. port_turned c.args.lane.kind c.args.lane.number (end_of c.args.side) c.args.self.now c.step_port.new.self
+    c.args.journal.now.entries c.step_port.new.journal.entries c.in-Port.is made) c.step_port.ensures.made
