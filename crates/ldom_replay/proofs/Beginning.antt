@@ -11,7 +11,7 @@ use Rattle.script_laws.specs.Replayed.{start_of}
 use Rattle.ldom_world.specs.world_parts.disk_model.LaneState.{LaneState, fresh}
 use Rattle.ldom_world.specs.world_parts.world_laws.World.{WorldState}
 use Rattle.ldom_world.specs.world_parts.Declared.{nets_of, shapes_of}
-use Rattle.ldom_replay.specs.Declared.{HasLanes}
+use Rattle.ldom_replay.specs.NamesLanes.{HasLanes}
 use Rattle.ldom_world.specs.Steps.{Counted}
 use Rattle.ldom_world.specs.TurnsMade.{SameNumbers}
 use Rattle.ldom_world.proofs.Beginning.{none_counted}

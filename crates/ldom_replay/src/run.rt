@@ -7,7 +7,7 @@ ghost use Rattle.domain_script.specs.Declarations.{AreDeclared};
 ghost use Rattle.domain_script.specs.NamesState.{declared_by};
 ghost use Rattle.script_reader.specs.LinesState.{GoesOn, to_come};
 ghost use Rattle.domain_script.specs.Spells.{IsDeclared};
-ghost use Rattle.ldom_replay.specs.Declared.{HasLanes};
+ghost use Rattle.ldom_replay.specs.NamesLanes.{HasLanes};
 ghost use Rattle.ldom_report.specs.Stops.{stop_lines, stop_status};
 ghost use Rattle.vio_io.specs.Causes.{Fails};
 ghost use Rattle.script_laws.specs.Going.{RunsAll, RunsLines};

@@ -8,7 +8,7 @@ use Rattle.script_laws.proofs.ReadLemmas.{same_disks, same_ports, still_ended}
 use Rattle.script_laws.proofs.LineCases.{for_declared}
 use Rattle.ldom_world.specs.world_parts.Lines.{line_of}
 use Rattle.ldom_world.specs.world_parts.Parts.{Fits, FitsSoFar}
-use Rattle.ldom_replay.specs.Declared.{HasLanes}
+use Rattle.ldom_replay.specs.NamesLanes.{HasLanes}
 use Rattle.ldom_replay.proofs.Beginning.{has_still}
 use Rattle.script_laws.proofs.RunLemmas.{runs_cut, runs_more, runs_none, runs_stop}
 use Rattle.ldom_report.proofs.StopLemmas.{readers_of}

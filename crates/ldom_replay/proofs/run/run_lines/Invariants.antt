@@ -1,6 +1,6 @@
 use Rattle.std.proofs.Common.{◌≡◌, ◌-◌, ◌≤◌, true}
 use Rattle.script_reader.specs.LinesState.{GoesOn, to_come}
-use Rattle.ldom_replay.specs.Declared.{HasLanes}
+use Rattle.ldom_replay.specs.NamesLanes.{HasLanes}
 use Rattle.ldom_world.specs.Steps.{Counted}
 use Rattle.script_laws.proofs.RunLemmas.{RunsSoFar}
 use Rattle.ldom_replay.proofs.run.run_lines.Given as goal
