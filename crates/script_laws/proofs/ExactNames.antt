@@ -1,38 +1,35 @@
 -- A whole settle that leaves lanes over names exactly those that moved in its last round, or wait.
-use Rattle.std.proofs.Common.{◌≡◌, ◌⊎◌, ◌↔◌, inl, inr, ℕ, ◌+◌, ◌<◌, Bool, true, false, List, [], ◌∷◌, ◌++◌, length, map, slice_get, Some, refl, sym, ap, ◌∙◌, subst, arith, append_assoc, append-nil}
+use Rattle.std.proofs.Common.{◌≡◌, ◌⊎◌, inl, inr, ℕ, ◌+◌, ◌<◌, Bool, true, false, List, [], ◌∷◌, ◌++◌, length, slice_get, Some, refl, sym, ap, ◌∙◌, subst, arith, append_assoc, append-nil}
 use Rattle.std.proofs.lemmas.Option.{slice_get_within}
-use Rattle.std.specs.Prelude.{if◌then◌else◌, not, ⊤}
+use Rattle.std.specs.Prelude.{⊤}
 use Rattle.runs.specs.Run.{Run, run_split}
 use Rattle.lane_kinds.proofs.EntryRuns.{names_each, round_each}
 use Rattle.lane_kinds.proofs.LaneFronts.{of_both, ticks_each}
 use Rattle.lane_kinds.proofs.Moving.{many_moved}
-use Rattle.lane_kinds.proofs.Places.{get_within, map_both}
+use Rattle.lane_kinds.proofs.Places.{get_within}
 use Rattle.lane_kinds.specs.Both.{Two}
 use Rattle.lane_kinds.specs.Settles.{GoesOn, RunsOut, TicksBehind, begin, entries_of_rounds}
 use Rattle.world_parts.specs.disk_model.DiskEvent.{DiskEvent}
 use Rattle.world_parts.specs.disk_model.LaneState.{LaneState}
-use Rattle.world_parts.specs.port_model.NetEvent.{CalmTick, NetEvent, Ticked}
-use Rattle.world_parts.specs.port_model.PortState.{OnLane, PortState, Receives}
+use Rattle.world_parts.specs.port_model.PortState.{PortState}
 use Rattle.world_parts.proofs.switch_laws.Turns.{silent_calm}
-use Rattle.world_parts.specs.switch_laws.Events.{OnPort, SwitchEvent, SwitchStep, Switched}
+use Rattle.world_parts.specs.switch_laws.Events.{SwitchEvent, SwitchStep}
 use Rattle.world_parts.specs.switch_laws.Ports.{ports, waits_on as port_waits}
 use Rattle.world_parts.proofs.world_laws.DiskLaws.{disk_moves}
 use Rattle.world_parts.proofs.world_laws.LaneLists.{many_moved as disks_moved}
 use Rattle.world_parts.specs.world_laws.DiskKind.{disk_kind, waits_on as disk_waits}
 use Rattle.world_parts.specs.world_laws.Rounds.{LaneRound}
-use Rattle.world_parts.specs.world_laws.Settle.{OfLane, OfPort, SettleEntry, Settled, Unsettled, UnsettledPort, disk_entries, disks}
+use Rattle.world_parts.specs.world_laws.Settle.{OfLane, OfPort, SettleEntry, Unsettled, UnsettledPort, disk_entries, disks}
 use Rattle.world_parts.proofs.domain_laws.DiskParts.{rounds_move_disks}
-use Rattle.world_parts.proofs.domain_laws.LineEntries.{AllRound, AllSettling, EachEntry, each_in, rounds_each}
+use Rattle.world_parts.proofs.domain_laws.LineEntries.{AllSettling, EachEntry, each_in, rounds_each}
 use Rattle.world_parts.specs.domain_laws.Along.{port_said}
 use Rattle.world_parts.specs.domain_laws.Domain.{Lanes, lanes, port_entries, switch}
-use Rattle.world_parts.specs.WorldEvents.{told_net, told_of}
 use Rattle.script_laws.proofs.Entries.{IsName, IsOfLane}
 use Rattle.script_laws.proofs.LeftNames.{LoudTurn, MovedBy, NamedIn, WaitsBy, loud_turn, moved_left, moved_right, named, named_where}
 use Rattle.script_laws.proofs.NamesAt.{last_entries, no_name}
 use Rattle.script_laws.proofs.Places.{InEither, place_in}
 use Rattle.script_laws.proofs.PortRounds.{rounds_move_ports}
 use Rattle.script_laws.proofs.SettleEntries.{lane_steps, lane_ticks}
-use Rattle.script_laws.proofs.Untold.{all_told}
 use Rattle.script_laws.specs.LastRounds.{IsTick, NamesDisk}
 use Rattle.script_laws.specs.PortSettles.{NamesPort}
 

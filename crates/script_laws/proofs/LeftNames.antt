@@ -1,5 +1,5 @@
 -- Where the rounds of a settle ran out, a lane of a kind is named exactly where it moved in the last of them, or waits.
-use Rattle.std.proofs.Common.{◌≡◌, ◌⊎◌, inl, inr, ℕ, zero, suc, ◌+◌, Bool, true, false, List, [], ◌∷◌, ◌++◌, length, slice_get, Some, refl, sym, ap, ◌∙◌, subst, arith, append_assoc}
+use Rattle.std.proofs.Common.{◌≡◌, ◌⊎◌, inl, inr, ℕ, zero, suc, ◌+◌, Bool, true, false, List, [], ◌∷◌, ◌++◌, slice_get, Some, refl, sym, ap, ◌∙◌, subst, arith, append_assoc}
 use Rattle.std.specs.Prelude.{◌&&◌, if◌then◌else◌}
 use Rattle.lane_kinds.specs.Lanes.{Entries, LaneKind, all_calm, left_names, round_entries, turn_entries}
 use Rattle.script_laws.proofs.Places.{InEither, no_place, place_in}

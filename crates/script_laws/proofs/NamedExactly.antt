@@ -1,7 +1,7 @@
 -- Each whole settle of a script's lines that leaves lanes over names exactly those that moved in its last round, or aren't
 -- finished.
 use Rattle.std.proofs.Common.{◌≡◌, ◌⊎◌, ◌↔◌, inl, inr, ℕ, Bool, true, false, List, [], ◌∷◌, ◌++◌, length, slice_get, Some, refl, sym, ap, ◌∙◌, subst}
-use Rattle.std.specs.Prelude.{if◌then◌else◌, ⊤}
+use Rattle.std.specs.Prelude.{if◌then◌else◌}
 use Rattle.runs.specs.Run.{Run}
 use Rattle.disk_law.specs.ListState.{ImageState}
 use Rattle.domain_script.specs.declared.event.DiskDecl.{DiskDecl}
@@ -25,11 +25,11 @@ use Rattle.world_parts.proofs.world_laws.Along.{lane_at, lanes_run, shape_at}
 use Rattle.world_parts.specs.world_laws.Along.{happened}
 use Rattle.world_parts.specs.world_laws.DiskKind.{disk_kind, waits_on}
 use Rattle.world_parts.specs.world_laws.Moves.{MovedIn}
-use Rattle.world_parts.specs.world_laws.Settle.{OfLane, OfPort, SettleEntry, Settled, Unsettled, UnsettledPort, disk_entries, disks as disk_lanes}
+use Rattle.world_parts.specs.world_laws.Settle.{OfPort, SettleEntry, Unsettled, disk_entries, disks as disk_lanes}
 use Rattle.world_parts.proofs.domain_laws.DiskParts.{part_moves_disks}
 use Rattle.world_parts.proofs.domain_laws.LineEntries.{EachEntry}
 use Rattle.world_parts.proofs.domain_laws.Running.{fresh_many, ports_run}
-use Rattle.world_parts.specs.domain_laws.Domain.{DomainState, Lanes, lanes, lanes_in, port_entries, switch}
+use Rattle.world_parts.specs.domain_laws.Domain.{Lanes, lanes, lanes_in, port_entries, switch}
 use Rattle.world_parts.specs.domain_laws.Lines.{entries_of_lines}
 use Rattle.ldom_entries.specs.declared.entry.Entry.{Entry}
 use Rattle.script_laws.proofs.DeclaredWorlds.{as_lines}
@@ -51,7 +51,6 @@ use Rattle.script_laws.specs.PortSettles.{is_port_tick}
 use Rattle.script_laws.specs.Settled.{EndsUnsettled, WaitsBy}
 use Rattle.script_laws.specs.Told.{log_at, told, told_by}
 use Rattle.world_parts.specs.Declared.{shapes_of, world_of}
-use Rattle.world_parts.specs.Lines.{EventStep}
 use Rattle.world_parts.specs.WorldEvents.{told_net, told_of}
 
 -- TICKS AND NAMES as they are told

@@ -1,5 +1,5 @@
 -- What each settle of a script's lines comes to for each port: its ticks, its names and its answer.
-use Rattle.std.proofs.Common.{◌≡◌, ◌⊎◌, ◌↔◌, inl, inr, ℕ, ◌+◌, ◌≤◌, ◌<◌, Bool, true, false, List, [], ◌∷◌, ◌++◌, length, map, slice_get, Some, refl, sym, ap, ◌∙◌, subst, arith, append_assoc, append-nil}
+use Rattle.std.proofs.Common.{◌≡◌, ◌⊎◌, ◌↔◌, inl, inr, ℕ, ◌+◌, ◌≤◌, ◌<◌, Bool, true, false, List, [], ◌∷◌, ◌++◌, length, map, slice_get, Some, refl, sym, ap, ◌∙◌, subst, arith, append-nil}
 use Rattle.std.proofs.lemmas.Bool.{eq-eqb}
 use Rattle.std.proofs.lemmas.Option.{slice_get_within}
 use Rattle.std.specs.Prelude.{not, ⊤}
@@ -11,13 +11,13 @@ use Rattle.domain_script.specs.declared.event.DiskDecl.{DiskDecl}
 use Rattle.domain_script.specs.declared.event.Event.{Event}
 use Rattle.domain_script.specs.declared.event.Event.TheVariants.{Settle}
 use Rattle.lane_kinds.proofs.EntryRuns.{names_each}
-use Rattle.lane_kinds.proofs.Moving.{both_move, happened_both, many_moved}
+use Rattle.lane_kinds.proofs.Moving.{both_move, happened_both}
 use Rattle.lane_kinds.proofs.Places.{get_within, map_both}
 use Rattle.lane_kinds.proofs.Stuck.{sum_both}
 use Rattle.lane_kinds.specs.Both.{Two}
 use Rattle.lane_kinds.specs.Fronts.{SettleFront}
 use Rattle.lane_kinds.specs.LaneCounts.{once}
-use Rattle.lane_kinds.specs.Settles.{GoesOn, RunsOut, SettlePart, Settles, begin, entries_of_rounds}
+use Rattle.lane_kinds.specs.Settles.{RunsOut, SettlePart, Settles, begin, entries_of_rounds}
 use Rattle.world_parts.specs.port_model.FrameLaws.{IsFinished}
 use Rattle.world_parts.specs.port_model.NetEvent.{CalmTick, NetEvent, Ticked}
 use Rattle.world_parts.specs.port_model.NetLaneState.{IsNetShape, NetShape}
@@ -47,7 +47,7 @@ use Rattle.script_laws.proofs.Entries.{IsName}
 use Rattle.script_laws.proofs.ExactNames.{port_named, port_why}
 use Rattle.script_laws.proofs.LedLanes.{real_run}
 use Rattle.script_laws.proofs.LeftNames.{MovedBy, WaitsBy, moved_left, moved_right, named}
-use Rattle.script_laws.proofs.NamesAt.{LastRound, NamesAt, last_round, names_at, ran_out}
+use Rattle.script_laws.proofs.NamesAt.{LastRound, NamesAt, last_round, names_at}
 use Rattle.script_laws.proofs.Places.{InEither, place_in}
 use Rattle.script_laws.proofs.PortLogs.{finished_by, next_may, same_wire, told_log, unfinished_by}
 use Rattle.script_laws.proofs.PortRounds.{AnswerAt, PortMoved, PortsMove, answer_behind_quiet, names_move_ports, part_moves_ports, port_moved_to, rounds_move_ports, ticks_behind_quiet}
@@ -63,7 +63,6 @@ use Rattle.script_laws.specs.Settled.{EndsUnsettled}
 use Rattle.script_laws.specs.PortSettles.{NamesPort, PortEndsSo, PortMovedIn, PortNeedsTick, PortSettles, is_port_tick}
 use Rattle.script_laws.specs.Told.{port_log_at, told, told_by}
 use Rattle.world_parts.specs.Declared.{world_of}
-use Rattle.world_parts.specs.Script.{ScriptParts, all_lines}
 use Rattle.world_parts.specs.WorldEvents.{told_net, told_of}
 
 -- A TICK AS IT IS TOLD is told of one

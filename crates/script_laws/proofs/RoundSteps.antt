@@ -1,14 +1,12 @@
 -- The entries of a round are the steps of all ends in order, less the silent ones; and as they are told they are the same.
-use Rattle.std.proofs.Common.{◌≡◌, ℕ, zero, suc, ◌+◌, Bool, true, false, List, [], ◌∷◌, ◌++◌, length, map, refl, sym, ap, ◌∙◌, subst, arith, append_assoc}
-use Rattle.std.specs.Prelude.{if◌then◌else◌, ⊤}
+use Rattle.std.proofs.Common.{◌≡◌, ℕ, zero, suc, ◌+◌, Bool, List, [], ◌∷◌, ◌++◌, length, map, refl, sym, ap, ◌∙◌, arith, append_assoc}
+use Rattle.std.specs.Prelude.{if◌then◌else◌}
 use Rattle.ldc_queue.specs.declared.end.End.{End}
 use Rattle.lane_kinds.specs.Both.{Two}
 use Rattle.lane_kinds.specs.Lanes.{Entries, LaneKind, MakeTurns, round_entries, turn_entries}
-use Rattle.world_parts.specs.disk_model.DiskEvent.{DiskEvent}
 use Rattle.world_parts.specs.disk_model.LaneState.{LaneState}
 use Rattle.world_parts.specs.port_model.NetEvent.{CalmTick, Ticked}
 use Rattle.world_parts.specs.port_model.PortState.{OnLane, PortState}
-use Rattle.world_parts.specs.lane_laws.CalmEnds.{IsStep}
 use Rattle.world_parts.specs.switch_laws.Events.{OnPort, SwitchEvent}
 use Rattle.world_parts.specs.switch_laws.Ports.{IsStepOf, ports}
 use Rattle.world_parts.specs.world_laws.DiskKind.{disk_kind}
@@ -19,7 +17,7 @@ use Rattle.world_parts.specs.domain_laws.Domain.{Lanes, lanes, port_entries, swi
 use Rattle.world_parts.specs.domain_laws.Lines.{AreSteps, DiskLane, EndTurn, PortLane, both_ends, lanes_from}
 use Rattle.world_parts.specs.WorldEvents.{told_of}
 use Rattle.script_laws.proofs.Untold.{all_told}
-use Rattle.script_laws.specs.LastRounds.{IsRound, kept_steps, leaves_none, turns_over}
+use Rattle.script_laws.specs.LastRounds.{IsRound, kept_steps, leaves_none}
 
 -- ALL STEPS of turns, from the lane with this number on
 all_steps : {V : Type 0} → (ℕ → V → SettleEntry) → ℕ → List (List V) → List SettleEntry
