@@ -12,6 +12,7 @@ use Rattle.lane_kinds.specs.Lanes.{EachOf}
 use Rattle.world_parts.specs.port_model.NetLaneState.{IsNetShape, NetShape}
 use Rattle.script_laws.proofs.ReachedLanes.{AreLanes}
 use Rattle.script_laws.proofs.PortsAlong.{many_ports, ports_stand}
+use Rattle.script_laws.proofs.NamedExactly.{names_exactly}
 use Rattle.script_laws.proofs.PortsSettle.{port_settles}
 use Rattle.script_laws.proofs.Disks.{of_disk}
 use Rattle.script_laws.proofs.Isolated.{stand_apart}
@@ -78,7 +79,7 @@ headline_law disks nets image parts v disks_are few_disks nets_are few_nets long
       outside = outside disks nets image disks_are long entries v leads;
       ports_many = many_ports disks nets image nets_are entries v leads;
       ports = ports_stand disks nets image nets_are entries v leads;
-      ports_settle = λ k shape of_shape. port_settles disks nets image are k shape of_shape parts each
-          (each_whole disks nets image parts.whole fits.middle fits.run);
+      ports_settle = λ k shape of_shape. port_settles disks nets image are k shape of_shape (all_lines parts) each;
+      names = names_exactly disks nets image are parts.whole (each_whole disks nets image parts.whole fits.middle fits.run);
       apart = stand_apart disks nets image parts v disks_are fits;
     }

@@ -68,3 +68,6 @@ pub mod PortRounds
 pub mod LeftNames
 pub mod NamesAt
 pub mod PortsSettle
+pub mod RoundSteps
+pub mod ExactNames
+pub mod NamedExactly

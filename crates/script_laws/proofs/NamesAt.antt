@@ -15,7 +15,7 @@ use Rattle.script_laws.proofs.Places.{InEither, no_place, place_in}
 use Rattle.script_laws.proofs.SettleEntries.{SettledLast, lane_steps, lane_ticks, settle_front, settled_last}
 
 -- a name is no event of a lane
-no_name : (entry : SettleEntry) → IsName entry → IsOfLane entry → ⊥
+pub no_name : (entry : SettleEntry) → IsName entry → IsOfLane entry → ⊥
 no_name (Unsettled k) name of = of
 no_name (UnsettledPort k) name of = of
 no_name _ name of = name
@@ -133,7 +133,7 @@ leaves_first : (quiet : Bool) (w : AllSettling) (steps : Two (List LaneRound) (L
 leaves_first false w steps between entries v behind = record { ticks = []; is = behind.1 ∙ sym (append-nil (lanes.leaves steps)) }
 leaves_first true w steps between entries v behind = record { ticks = lanes.ticks_leave between w.marks; is = behind.3 }
 
-last_entries : (rounds : List AllRound) (last : AllRound)
+pub last_entries : (rounds : List AllRound) (last : AllRound)
     → entries_of_rounds (rounds ++ last ∷ []) ≡ entries_of_rounds rounds ++ last.entries
 last_entries [] last = append-nil last.entries
 last_entries (round ∷ rounds) last =

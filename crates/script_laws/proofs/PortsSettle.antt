@@ -1,5 +1,5 @@
 -- What each settle of a script's lines comes to for each port: its ticks, its names and its answer.
-use Rattle.std.proofs.Common.{◌≡◌, ◌⊎◌, inl, inr, ℕ, ◌+◌, ◌≤◌, ◌<◌, Bool, true, false, List, [], ◌∷◌, ◌++◌, length, map, slice_get, Some, refl, sym, ap, ◌∙◌, subst, arith, append_assoc, append-nil}
+use Rattle.std.proofs.Common.{◌≡◌, ◌⊎◌, ◌↔◌, inl, inr, ℕ, ◌+◌, ◌≤◌, ◌<◌, Bool, true, false, List, [], ◌∷◌, ◌++◌, length, map, slice_get, Some, refl, sym, ap, ◌∙◌, subst, arith, append-nil}
 use Rattle.std.proofs.lemmas.Bool.{eq-eqb}
 use Rattle.std.proofs.lemmas.Option.{slice_get_within}
 use Rattle.std.specs.Prelude.{not, ⊤}
@@ -11,13 +11,13 @@ use Rattle.domain_script.specs.declared.event.DiskDecl.{DiskDecl}
 use Rattle.domain_script.specs.declared.event.Event.{Event}
 use Rattle.domain_script.specs.declared.event.Event.TheVariants.{Settle}
 use Rattle.lane_kinds.proofs.EntryRuns.{names_each}
-use Rattle.lane_kinds.proofs.Moving.{both_move, happened_both, many_moved}
+use Rattle.lane_kinds.proofs.Moving.{both_move, happened_both}
 use Rattle.lane_kinds.proofs.Places.{get_within, map_both}
 use Rattle.lane_kinds.proofs.Stuck.{sum_both}
 use Rattle.lane_kinds.specs.Both.{Two}
 use Rattle.lane_kinds.specs.Fronts.{SettleFront}
 use Rattle.lane_kinds.specs.LaneCounts.{once}
-use Rattle.lane_kinds.specs.Settles.{GoesOn, RunsOut, SettlePart, Settles, begin, entries_of_rounds}
+use Rattle.lane_kinds.specs.Settles.{RunsOut, SettlePart, Settles, begin, entries_of_rounds}
 use Rattle.world_parts.specs.port_model.FrameLaws.{IsFinished}
 use Rattle.world_parts.specs.port_model.NetEvent.{CalmTick, NetEvent, Ticked}
 use Rattle.world_parts.specs.port_model.NetLaneState.{IsNetShape, NetShape}
@@ -44,9 +44,10 @@ use Rattle.world_parts.specs.domain_laws.Settling.{PortEndsIn, PortsEnd, port_ti
 use Rattle.ldom_entries.specs.declared.entry.Entry.{Entry}
 use Rattle.script_laws.proofs.DeclaredWorlds.{as_lines}
 use Rattle.script_laws.proofs.Entries.{IsName}
+use Rattle.script_laws.proofs.ExactNames.{port_named, port_why}
 use Rattle.script_laws.proofs.LedLanes.{real_run}
-use Rattle.script_laws.proofs.LeftNames.{MovedBy, NamedIn, WaitsBy, moved_left, moved_right, named, waits_named}
-use Rattle.script_laws.proofs.NamesAt.{LastRound, NamesAt, last_round, names_at, ran_out}
+use Rattle.script_laws.proofs.LeftNames.{MovedBy, WaitsBy, moved_left, moved_right, named}
+use Rattle.script_laws.proofs.NamesAt.{LastRound, NamesAt, last_round, names_at}
 use Rattle.script_laws.proofs.Places.{InEither, place_in}
 use Rattle.script_laws.proofs.PortLogs.{finished_by, next_may, same_wire, told_log, unfinished_by}
 use Rattle.script_laws.proofs.PortRounds.{AnswerAt, PortMoved, PortsMove, answer_behind_quiet, names_move_ports, part_moves_ports, port_moved_to, rounds_move_ports, ticks_behind_quiet}
@@ -54,7 +55,7 @@ use Rattle.script_laws.proofs.PortStill.{QuietAt, quiet_lost, quiet_still}
 use Rattle.script_laws.proofs.PortWords.{OwnStep, own_step}
 use Rattle.script_laws.proofs.ReachedLanes.{AreLanes}
 use Rattle.script_laws.proofs.SettleEntries.{none_behind, settled_last}
-use Rattle.script_laws.proofs.SettleLines.{EachSettles, EachWhole, SettlesBehind, WholeSettle}
+use Rattle.script_laws.proofs.SettleLines.{EachSettles, SettlesBehind}
 use Rattle.script_laws.proofs.SettleRests.{settles_if}
 use Rattle.script_laws.proofs.Settling.{reached_events}
 use Rattle.script_laws.proofs.Untold.{Untold, all_told, real_settled, real_unsettled, real_unsettled_port, told_port_ticks, untold}
@@ -62,7 +63,6 @@ use Rattle.script_laws.specs.Settled.{EndsUnsettled}
 use Rattle.script_laws.specs.PortSettles.{NamesPort, PortEndsSo, PortMovedIn, PortNeedsTick, PortSettles, is_port_tick}
 use Rattle.script_laws.specs.Told.{port_log_at, told, told_by}
 use Rattle.world_parts.specs.Declared.{world_of}
-use Rattle.world_parts.specs.Script.{ScriptParts, all_lines}
 use Rattle.world_parts.specs.WorldEvents.{told_net, told_of}
 
 -- A TICK AS IT IS TOLD is told of one
@@ -184,32 +184,6 @@ port_left start part behind goes k so_far rest is =
         (moved_right ports port_entries k (disks.leaves steps.first) (switch.leaves steps.second) moved))))
     by_why steps last (inr at) = inr at
 
--- and one that waits is named, where the rounds ran out
-out_named : (start : Lanes) (part : List SettleEntry) (behind : Lanes) → RunsOut lanes start part behind → (k : ℕ) (s : PortState)
-    → slice_get behind.second k ≡ Some s → waits_on s ≡ true → NamesPort k part
-out_named start part behind out k s there waits =
-    let split = run_split (GoesOn lanes) (begin lanes start) out.now out.rounds (out.last ∷ []) out.run in
-    let goes : GoesOn lanes split.0 out.last split.2.0 = split.2.1 in
-    let steps = out.last.steps in
-    let now = out.now.lanes.second in
-    let moved : length now ≡ length split.0.lanes.second =
-    many_moved SwitchStep port_said 0 split.0.lanes.second (entries_of_rounds (out.last ∷ [])) now
-    (rounds_move_ports split.0 (out.last ∷ []) out.now split.2) in
-    let same : behind.second ≡ now = ap (λ (l : Lanes). l.second) out.lanes in
-    let many : length steps.second ≡ length behind.second =
-    goes.made.of_second.many ∙ sym moved ∙ ap (λ (l : List PortState). length l) (sym same) in
-    let at : NamedIn ports port_entries k (switch.names steps.second behind.second) =
-    waits_named ports port_entries 0 k k steps.second behind.second s (own_place k) many there waits in
-    let rounds : List SettleEntry = entries_of_rounds (out.rounds ++ out.last ∷ []) in
-    let first : List SettleEntry = disks.names steps.first behind.first in
-    record {
-      front = rounds ++ (first ++ at.front);
-      later = at.later;
-      is = out.is ∙ ap (λ (l : List SettleEntry). rounds ++ (first ++ l)) at.is
-          ∙ ap (λ (l : List SettleEntry). rounds ++ l) (sym (append_assoc first at.front (UnsettledPort k ∷ at.later)))
-          ∙ sym (append_assoc rounds (first ++ at.front) (UnsettledPort k ∷ at.later));
-    }
-
 told_named : (k : ℕ) (part : List SettleEntry) → NamesPort k part → NamesPort k (all_told part)
 told_named k part at = record {
   front = all_told at.front;
@@ -218,15 +192,15 @@ told_named k part at = record {
 }
 
 -- the first name of a part that has one
-record FirstName (part : List SettleEntry) : Type 0 where
-  entry : SettleEntry
-  name : IsName entry
-  so_far : List SettleEntry
-  rest : List SettleEntry
-  is : part ≡ so_far ++ entry ∷ rest
-  real : (x : SettleEntry) → entry ≡ told_of x → x ≡ entry
+pub record FirstName (part : List SettleEntry) : Type 0 where
+  pub entry : SettleEntry
+  pub name : IsName entry
+  pub so_far : List SettleEntry
+  pub rest : List SettleEntry
+  pub is : part ≡ so_far ++ entry ∷ rest
+  pub real : (x : SettleEntry) → entry ≡ told_of x → x ≡ entry
 
-first_name : (part : List SettleEntry) → EndsUnsettled part → FirstName part
+pub first_name : (part : List SettleEntry) → EndsUnsettled part → FirstName part
 first_name part ends = by_names ends.disks ends.ports ends.some ends.is
   where
     by_names : (ds ps : List ℕ) → 1 ≤ length ds + length ps → part ≡ ends.front ++ (map Unsettled ds ++ map UnsettledPort ps)
@@ -248,6 +222,13 @@ first_name part ends = by_names ends.disks ends.ports ends.some ends.is
       real = real_unsettled_port p;
     }
     by_names [] [] some is = absurd (omega (arith, some))
+
+-- it moved, by its events as they are kept and as a law says it
+moved_by : (k : ℕ) (part : List SettleEntry) → PortMovedIn k part → MovedBy ports port_entries k part
+moved_by k part at = record { before = at.before; event = at.event; later = at.later; is = at.is; loud = at.loud }
+
+moved_in : (k : ℕ) (part : List SettleEntry) → MovedBy ports port_entries k part → PortMovedIn k part
+moved_in k part at = record { before = at.before; event = at.event; later = at.later; is = at.is; loud = at.loud }
 
 -- AS IT IS TOLD
 told_loud : (event : NetEvent) → is_calm (OnPort (OnLane event)) ≡ false → is_calm (OnPort (OnLane (told_net event))) ≡ false
@@ -487,40 +468,66 @@ module _ (disks : List DiskDecl) (nets : List NetShape) (image : ImageState) (ar
         subst (λ (l : List SettleEntry). PortEndsSo k l (port_log_at shape k (told before ++ l))) (sym at.past_is)
         (subst (PortEndsSo k (all_told at.past)) (same_log at.past) (rests_real at.past at.rest place))
 
-    -- A WHOLE SETTLE that leaves a lane over
-    named_where : SettlePart lanes (lanes_in of.at) of.real of.behind → EndsUnsettled part
-        → (IsFinished (port_log_at shape k (told before ++ part)) → ⊥) → NamesPort k part
-    named_where settle ends waits =
-        let first : FirstName part = first_name part ends in
-        let at : Untold of.real first.so_far first.entry first.rest =
-        untold of.real first.so_far first.entry first.rest (sym of.told_is ∙ first.is) in
-        let place : of.real ≡ at.past ++ first.entry ∷ at.rest =
-        at.is ∙ ap (λ (e : SettleEntry). at.past ++ e ∷ at.rest) (first.real at.real at.real_is) in
-        let out : RunsOut lanes (lanes_in of.at) of.real of.behind =
-        ran_out (lanes_in of.at) of.real of.behind settle first.entry first.name at.past at.rest place in
-        let m : PortMoved k of.real begins.state of.behind.second =
-        port_moved_to of.at.second of.real of.behind.second k begins.state
-        (part_moves_ports (lanes_in of.at) of.real of.behind settle) begins.there in
-        let busy : waits_on m.state ≡ true = by_state m.state (led_on of.real m.state m.run) (is_finished m.state.lane (length m.state.queue)) refl in
-        subst (NamesPort k) (sym of.told_is)
-        (told_named k of.real (out_named (lanes_in of.at) of.real of.behind out k m.state m.there busy))
-      where
-        by_state : (t : PortState) → Run PortStep (fresh_port shape) (port_events k (front ++ of.real)) t → (b : Bool)
-            → is_finished t.lane (length t.queue) ≡ b → waits_on t ≡ true
-        by_state t run false is = ap not is
-        by_state t run true is =
-            absurd
-            (waits
-            (subst (λ (l : List SettleEntry). IsFinished (port_log_at shape k (told before ++ l))) (sym of.told_is)
-            (subst IsFinished (same_log of.real) (finished_by shape sound (port_events k (front ++ of.real)) t run is))))
+    -- A WHOLE SETTLE that leaves lanes over
+    module _ (settle : SettlePart lanes (lanes_in of.at) of.real of.behind) (out : RunsOut lanes (lanes_in of.at) of.real of.behind) where
+      abbrev round : List SettleEntry
+      round = lanes.leaves out.last.steps
+
+      ended : PortMoved k of.real begins.state of.behind.second
+      ended =
+          port_moved_to of.at.second of.real of.behind.second k begins.state
+          (part_moves_ports (lanes_in of.at) of.real of.behind settle) begins.there
+
+      end_run : Run PortStep (fresh_port shape) (port_events k (front ++ of.real)) ended.state
+      end_run = led_on of.real ended.state ended.run
+
+      abbrev Waits : Type 0
+      Waits = IsFinished (port_log_at shape k (told before ++ part)) → ⊥
+
+      by_log : waits_on ended.state ≡ true → Waits
+      by_log waits =
+          subst (λ (l : List SettleEntry). IsFinished (port_log_at shape k (told before ++ l)) → ⊥) (sym of.told_is)
+          (subst (λ (l : PortLog). IsFinished l → ⊥) (same_log of.real)
+          (unfinished_by shape sound (port_events k (front ++ of.real)) ended.state end_run
+          (waits_where (is_finished ended.state.lane (length ended.state.queue)) waits)))
+
+      by_state : Waits → (b : Bool) → is_finished ended.state.lane (length ended.state.queue) ≡ b → waits_on ended.state ≡ true
+      by_state waits false is = ap not is
+      by_state waits true is =
+          absurd
+          (waits
+          (subst (λ (l : List SettleEntry). IsFinished (port_log_at shape k (told before ++ l))) (sym of.told_is)
+          (subst IsFinished (same_log of.real)
+          (finished_by shape sound (port_events k (front ++ of.real)) ended.state end_run is))))
+
+      real_name : NamesPort k part → NamesPort k of.real
+      real_name at =
+          let place : Untold of.real at.front (UnsettledPort k) at.later =
+          untold of.real at.front (UnsettledPort k) at.later (sym of.told_is ∙ at.is) in
+          record {
+            front = place.past;
+            later = place.rest;
+            is = place.is ∙ ap (λ (e : SettleEntry). place.past ++ e ∷ place.rest) (real_unsettled_port k place.real place.real_is);
+          }
+
+      why : MovedBy ports port_entries k round ⊎ (waits_on ended.state ≡ true) → PortMovedIn k round ⊎ Waits
+      why (inl moved) = inl (moved_in k round moved)
+      why (inr waits) = inr (by_log waits)
+
+      back : PortMovedIn k round ⊎ Waits → MovedBy ports port_entries k round ⊎ (waits_on ended.state ≡ true)
+      back (inl moved) = inl (moved_by k round moved)
+      back (inr waits) = inr (by_state waits (is_finished ended.state.lane (length ended.state.queue)) refl)
+
+      pub port_exact : (NamesPort k part) ↔ (PortMovedIn k round ⊎ Waits)
+      port_exact = (
+        λ at. why (port_why (lanes_in of.at) of.real of.behind out k ended.state ended.there (real_name at)),
+        λ moved. subst (NamesPort k) (sym of.told_is)
+            (told_named k of.real (port_named (lanes_in of.at) of.real of.behind out k ended.state ended.there (back moved))),
+      )
 
   -- OF ALL LINES
-  pub port_settles : (parts : ScriptParts) → EachSettles disks nets image (all_lines parts) → EachWhole disks nets image parts.whole
-      → PortSettles shape k parts
-  port_settles parts each whole = record {
-    named = λ before part behind is ends waits.
-        let of : WholeSettle disks nets image before (told_by (Settle, part)) = whole before part behind is in
-        named_where before (told_by (Settle, part)) of.settles of.whole ends waits;
+  pub port_settles : (lines : List (Event × List Entry)) → EachSettles disks nets image lines → PortSettles shape k lines
+  port_settles lines each = record {
     ticks = λ before part behind so_far event rest is place of_tick.
         tick_needs before (told_by (Settle, part)) (each before part behind is) so_far event rest place of_tick;
     left = λ before part behind so_far rest is place.

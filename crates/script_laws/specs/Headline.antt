@@ -13,6 +13,7 @@ use Rattle.world_parts.specs.Script.{ScriptParts, all_lines}
 use Rattle.script_laws.specs.Apart.{StandApart}
 use Rattle.script_laws.specs.Contents.{DiskHolds, NoStoreFailed, ReadsShow}
 use Rattle.script_laws.specs.Lanes.{LaneStands}
+use Rattle.script_laws.specs.LastRounds.{EachNamesExactly}
 use Rattle.script_laws.specs.Ports.{PortsStand}
 use Rattle.script_laws.specs.PortSettles.{PortSettles}
 use Rattle.script_laws.specs.Settled.{FinishesAll, LeftWhereBusy, RestsOrTicked, SettlesEnd, StillBehind, TicksAreNeeded}
@@ -50,5 +51,6 @@ pub record Headline (disks : List DiskDecl) (nets : List NetShape) (start : Imag
   pub outside : IfSome start.told (λ first. StaysBehind (shapes_of 0 disks) first v.first.image.told)
   pub ports_many : length v.second ≡ length nets
   pub ports : PortsStand nets (told (all_lines parts)) v.second
-  pub ports_settle : (k : ℕ) (shape : NetShape) → slice_get nets k ≡ Some shape → PortSettles shape k parts
+  pub ports_settle : (k : ℕ) (shape : NetShape) → slice_get nets k ≡ Some shape → PortSettles shape k (all_lines parts)
+  pub names : EachNamesExactly disks nets parts.whole
   pub apart : StandApart disks nets start parts v

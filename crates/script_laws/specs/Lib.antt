@@ -29,3 +29,4 @@ pub mod Sized
 pub mod Whole
 pub mod Still
 pub mod PortSettles
+pub mod LastRounds

@@ -12,10 +12,8 @@ use Rattle.world_parts.specs.switch_laws.Events.{OnPort, SwitchEvent}
 use Rattle.world_parts.specs.switch_laws.Ports.{is_calm}
 use Rattle.world_parts.specs.world_laws.Settle.{OfPort, SettleEntry, Settled, UnsettledPort}
 use Rattle.world_parts.specs.domain_laws.Settling.{port_ticks_in}
-use Rattle.script_laws.specs.Settled.{EndsUnsettled}
 use Rattle.script_laws.specs.Still.{IsPortStill}
 use Rattle.script_laws.specs.Told.{port_log_at, told, told_by}
-use Rattle.world_parts.specs.Script.{ScriptParts, all_lines}
 
 -- A TICK IN IT comes only where the port isn't finished and both its ends are still; and where nobody forged the port,
 -- only where a packet was lost since its queues were last emptied.
@@ -64,21 +62,14 @@ PortRestsOrTicked shape k lines =
     → lines ≡ before ++ (Settle, part) ∷ behind → told_by (Settle, part) ≡ so_far ++ Settled ∷ rest
     → PortEndsSo k so_far (port_log_at shape k (told before ++ so_far))
 
--- AND WHERE A WHOLE SETTLE leaves a lane over, each port that isn't finished is named.
+-- IT IS NAMED in a part
 pub record NamesPort (k : ℕ) (part : List SettleEntry) : Type 0 where
   pub front : List SettleEntry
   pub later : List SettleEntry
   pub is : part ≡ front ++ UnsettledPort k ∷ later
 
-abbrev pub PortNamedWhereWaits : NetShape → ℕ → List (Event × List Entry) → Type 0
-PortNamedWhereWaits shape k whole =
-    (before : List (Event × List Entry)) (part : List Entry) (behind : List (Event × List Entry))
-    → whole ≡ before ++ (Settle, part) ∷ behind → EndsUnsettled (told_by (Settle, part))
-    → (IsFinished (port_log_at shape k (told before ++ told_by (Settle, part))) → ⊥) → NamesPort k (told_by (Settle, part))
-
--- OF EACH SETTLE of a script, also one that want of memory cut off
-pub record PortSettles (shape : NetShape) (k : ℕ) (parts : ScriptParts) : Type 0 where
-  pub ticks : PortTicksAreNeeded shape k (all_lines parts)
-  pub left : PortLeftWhereBusy shape k (all_lines parts)
-  pub named : PortNamedWhereWaits shape k parts.whole
-  pub rests : PortRestsOrTicked shape k (all_lines parts)
+-- OF EACH SETTLE among these lines, also one that want of memory cut off
+pub record PortSettles (shape : NetShape) (k : ℕ) (lines : List (Event × List Entry)) : Type 0 where
+  pub ticks : PortTicksAreNeeded shape k lines
+  pub left : PortLeftWhereBusy shape k lines
+  pub rests : PortRestsOrTicked shape k lines
