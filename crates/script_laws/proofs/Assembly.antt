@@ -33,8 +33,7 @@ use Rattle.script_laws.specs.LanesStand.{LanesStand}
 use Rattle.script_laws.specs.Script.{ReadSoFar}
 use Rattle.domain_script.specs.ScriptEvents.{AllSpell, no_names}
 use Rattle.world_parts.specs.Script.{BeginBelow, FitsScript, ScriptParts, all_lines, entries_in, events_in, events_of, journal_of}
-use Rattle.world_parts.specs.disk_model.LaneState.{LaneState}
-use Rattle.world_parts.specs.domain_laws.Domain.{DomainState, lanes_in}
+use Rattle.world_parts.specs.domain_laws.Domain.{DomainState, Lanes, lanes_in}
 use Rattle.script_laws.proofs.LineCases.{none_begun, noted_disks, noted_ports, silent, stays_ended}
 use Rattle.script_laws.proofs.LineLists.{all_behind, behind_ends, behind_lines, below_both, below_push, by_readers, entries_push, events_behind, events_both, journal_behind, whole_ends}
 use Rattle.script_laws.proofs.ReadLemmas.{opening_halves, other_line, read_none}
@@ -345,12 +344,12 @@ ended_image image why faulty events rest journal readers =
     done false = refl
 
 -- and its lanes
-ended_lanes : {D : Type 0} (image : D) (why : Status) (faulty : Bool) (lanes : List LaneState) (t : DomainState) → IsReaders why → lanes ≡ t.first.lanes
+ended_lanes : {D : Type 0} (image : D) (why : Status) (faulty : Bool) (lanes : Lanes) (t : DomainState) → IsReaders why → lanes ≡ lanes_in t
     → LanesStand (ended_status why faulty) (Some image) (Some lanes) t
 ended_lanes image why faulty lanes t readers left =
     by_readers (λ (w : Status). LanesStand (ended_status w faulty) (Some image) (Some lanes) t) (done faulty) (λ at fault. same) same (λ at kind. same) same why readers
   where
-    same : Some lanes ≡ Some t.first.lanes
+    same : Some lanes ≡ Some (lanes_in t)
     same = ap Some left
 
     done : (faulty : Bool) → LanesStand (ended_status status.Done faulty) (Some image) (Some lanes) t
@@ -422,8 +421,8 @@ nothing_between seen image is = record {
 
 module _ {D : Type 0} (seen : D → ImageState) (start now : Option (List ℕ)) (gives : ℕ → Option (List ℕ)) where
   -- A RUN in a world that ended
-  pub replayed_of : (why : Status) (faulty : Bool) (names after : NamesState) (s t : DomainState) (journal : List Entry) (lines : ℕ) (image : D) (lanes : List LaneState) → IsReaders why → RunsAll start now names s why after journal t lines → s ≡ start_of names gives
-      → StandsBehind (seen image) t.first.image → lanes ≡ t.first.lanes → (IsTrue faulty ↔ (0 < t.first.image.faults))
+  pub replayed_of : (why : Status) (faulty : Bool) (names after : NamesState) (s t : DomainState) (journal : List Entry) (lines : ℕ) (image : D) (lanes : Lanes) → IsReaders why → RunsAll start now names s why after journal t lines → s ≡ start_of names gives
+      → StandsBehind (seen image) t.first.image → lanes ≡ lanes_in t → (IsTrue faulty ↔ (0 < t.first.image.faults))
       → Replayed seen start now gives (ended_status why faulty) lines after journal (Some image) (Some lanes)
   replayed_of why faulty names after s t journal lines image lanes readers runs begins told left tells =
       let begin : s ≡ start_of after gives = begins ∙ ap (λ (d : Declared). start_of (record { disks = d.disks; ports = d.ports; ended = true }) gives) (sym runs.declared) in
@@ -550,7 +549,7 @@ module _ {D : Type 0} (seen : D → ImageState) (start now : Option (List ℕ)) 
   }
 
   -- the same run, its parts said otherwise
-  pub replayed_as : (why ended : Status) (lines number : ℕ) (names now_named : NamesState) (journal entries : List Entry) (image disk : Option D) (stand left : Option (List LaneState))
+  pub replayed_as : (why ended : Status) (lines number : ℕ) (names now_named : NamesState) (journal entries : List Entry) (image disk : Option D) (stand left : Option Lanes)
       → ended ≡ why → number ≡ lines → now_named ≡ names → entries ≡ journal → disk ≡ image → left ≡ stand
       → Replayed seen start now gives why lines names journal image stand → Replayed seen start now gives ended number now_named entries disk left
   replayed_as why ended lines number names now_named journal entries image disk stand left status_is lines_are names_are journal_is image_is lanes_are replayed =
@@ -559,4 +558,4 @@ module _ {D : Type 0} (seen : D → ImageState) (start now : Option (List ℕ)) 
       (subst (λ (n : NamesState). Replayed seen start now gives why lines n entries disk left) (sym names_are)
       (subst (λ (l : List Entry). Replayed seen start now gives why lines names l disk left) (sym journal_is)
       (subst (λ (d : Option D). Replayed seen start now gives why lines names journal d left) (sym image_is)
-      (subst (λ (o : Option (List LaneState)). Replayed seen start now gives why lines names journal image o) (sym lanes_are) replayed)))))
+      (subst (λ (o : Option Lanes). Replayed seen start now gives why lines names journal image o) (sym lanes_are) replayed)))))

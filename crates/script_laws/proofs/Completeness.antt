@@ -1,11 +1,11 @@
 -- A clean script is run to its end, where memory suffices and no count rose.
 use Rattle.std.proofs.Common.{◌≡◌, ◌≢◌, inl, inr, ℕ, ◌*◌, ◌<◌, replicate, ◌≤◌, List, [], ◌∷◌, ◌++◌, length, refl, sym, ◌∙◌, ap, subst, arith, length-append, Option, Some, None, IfSome}
+use Rattle.world_parts.specs.domain_laws.Domain.{Lanes}
 use Rattle.std.specs.Prelude.{◌==◌, if◌then◌else◌, Bool, true, false, IsSome}
 use Rattle.std.specs.Io.KnownBytes.{prepend_known}
 use Rattle.std.specs.Str.{bytes_eq}
 use Rattle.std.proofs.lemmas.Slice.Eq.{bytes_eq-Decides}
 use Rattle.vio_io.specs.Causes.{Rose}
-use Rattle.world_parts.specs.disk_model.LaneState.{LaneState}
 use Rattle.domain_script.specs.declared.event.Event.{Event}
 use Rattle.domain_script.specs.declared.event.LineFault.{LineFault}
 use Rattle.domain_script.specs.Faults.{first_fault}
@@ -86,7 +86,7 @@ no_fewer bytes (Some rest) texts names after events all taken read spelled =
     let behind = rest_spells texts (script_lines rest) no_names names after events all read (subst (λ (l : List (List ℕ)). AllSpell l no_names all after) taken.0 spelled) in
     blocks_stay (script_lines rest) names after behind.0 behind.1
 
-module _ {D : Type 0} (seen : D → ImageState) (script behind : Option (List ℕ)) (gives : ℕ → Option (List ℕ)) (ran : Status) (lines : ℕ) (names : NamesState) (journal : List Entry) (image : Option D) (lanes : Option (List LaneState)) (run : Replayed seen script behind gives ran lines names journal image lanes)
+module _ {D : Type 0} (seen : D → ImageState) (script behind : Option (List ℕ)) (gives : ℕ → Option (List ℕ)) (ran : Status) (lines : ℕ) (names : NamesState) (journal : List Entry) (image : Option D) (lanes : Option Lanes) (run : Replayed seen script behind gives ran lines names journal image lanes)
     (why : Status) (old new : Option (List ℕ)) (text bytes : List ℕ) (reports : Reports ran why old new text) (known : script ≡ Some bytes) (clean : IsCleanScript bytes)
     (source : ran ≡ status.SourceFault → ⊥) (host : ran ≡ status.HostFault → ⊥) (sink : why ≡ status.SinkFault → ran ≢ status.SinkFault → ⊥) (store : IfSome image (λ disk. (seen disk).faults ≡ 0))
     (size : D → ℕ) (sized : SizeIs size ran (512 * blocks_of names.disks) (gives (512 * blocks_of names.disks)) image) (name : List ℕ) (zeros : name ≡ 45 ∷ [] → (n : ℕ) → gives n ≡ Some (replicate n 0))

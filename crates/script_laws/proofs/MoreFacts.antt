@@ -1,8 +1,8 @@
 -- What the image of every run is left with, outside of what accepted writes name.
 use Rattle.std.proofs.Common.{◌≡◌, inl, inr, ℕ, ◌≤◌, List, [], length, refl, sym, ◌∙◌, ap, subst, Option, Some, None, IfSome}
+use Rattle.world_parts.specs.domain_laws.Domain.{Lanes}
 use Rattle.std.proofs.lemmas.Option.{IfSome_then}
 use Rattle.disk_law.specs.ListState.{ImageState}
-use Rattle.world_parts.specs.disk_model.LaneState.{LaneState}
 use Rattle.domain_script.specs.NamesState.{NamesState}
 use Rattle.world_parts.specs.world_laws.World.{WorldState}
 use Rattle.ldom_entries.specs.declared.entry.Entry.{Entry}
@@ -21,7 +21,7 @@ use Rattle.world_parts.specs.Script.{journal_of}
 unchanged : (IsLeft : ℕ → Type 0) (first : List ℕ) (told : Option (List ℕ)) → told ≡ Some first → KeepsOthers IsLeft first told
 unchanged IsLeft first told is = record { content = first; told_is = is; long = refl; same = λ place left. refl }
 
-module _ {D : Type 0} (seen : D → ImageState) (script now : Option (List ℕ)) (gives : ℕ → Option (List ℕ)) (why : Status) (lines : ℕ) (names : NamesState) (journal : List Entry) (image : Option D) (lanes : Option (List LaneState))
+module _ {D : Type 0} (seen : D → ImageState) (script now : Option (List ℕ)) (gives : ℕ → Option (List ℕ)) (why : Status) (lines : ℕ) (names : NamesState) (journal : List Entry) (image : Option D) (lanes : Option Lanes)
     (run : Replayed seen script now gives why lines names journal image lanes) where
   abbrev Kept : List ℕ → Type 0
   Kept first = IfSome image (λ disk. KeepsOthers (IsOutsideDisks names.disks journal) first (seen disk).told)

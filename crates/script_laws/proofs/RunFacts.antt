@@ -1,5 +1,6 @@
 -- What holds of the journal of every run.
 use Rattle.std.proofs.Common.{◌≡◌, ℕ, ◌^◌, ◌<◌, ◌≤◌, List, [], ◌∷◌, ◌++◌, length, refl, sym, ◌∙◌, ap, arith, subst, true, Option, IfSome}
+use Rattle.world_parts.specs.domain_laws.Domain.{Lanes}
 use Rattle.std.specs.List.{All}
 use Rattle.std.proofs.lemmas.List.Sums.{count_by-le-length}
 use Rattle.std.proofs.lemmas.Option.{IfSome_then}
@@ -7,7 +8,6 @@ use Rattle.vio_io.specs.Causes.{last_count}
 use Rattle.disk_law.specs.Issued.{CompletesOnceInOrder}
 use Rattle.disk_law.specs.ListState.{ImageState}
 use Rattle.disk_law.specs.ListStep.{Done}
-use Rattle.world_parts.specs.disk_model.LaneState.{LaneState}
 use Rattle.domain_script.specs.Declarations.{AreDisks}
 use Rattle.domain_script.specs.NamesState.{NamesState, declared_by}
 use Rattle.lane_kinds.specs.Lanes.{EachOf}
@@ -43,7 +43,7 @@ none_once disk before after id operation status bytes is = absurd (not_last befo
 pub said_otherwise : {J D : Type 0} (P : J → Option D → Type 0) (journal now : J) (image disk : Option D) → now ≡ journal → disk ≡ image → P journal image → P now disk
 said_otherwise P journal now image disk journal_is image_is holds = subst (λ j. P j disk) (sym journal_is) (subst (λ d. P journal d) (sym image_is) holds)
 
-module _ {D : Type 0} (seen : D → ImageState) (script now : Option (List ℕ)) (gives : ℕ → Option (List ℕ)) (why : Status) (lines : ℕ) (names : NamesState) (journal : List Entry) (image : Option D) (lanes : Option (List LaneState))
+module _ {D : Type 0} (seen : D → ImageState) (script now : Option (List ℕ)) (gives : ℕ → Option (List ℕ)) (why : Status) (lines : ℕ) (names : NamesState) (journal : List Entry) (image : Option D) (lanes : Option Lanes)
     (run : Replayed seen script now gives why lines names journal image lanes) where
   -- the disks that were declared are within the limits
   pub disks_are : AreDisks names.disks

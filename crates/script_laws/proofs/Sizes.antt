@@ -8,7 +8,7 @@ use Rattle.domain_script.specs.declared.event.Event.{Event}
 use Rattle.domain_script.specs.NamesState.{NamesState, noted}
 use Rattle.domain_script.specs.ScriptEvents.{AllSpell}
 use Rattle.world_parts.specs.world_laws.Rounds.{Each}
-use Rattle.world_parts.specs.domain_laws.Domain.{DomainState}
+use Rattle.world_parts.specs.domain_laws.Domain.{DomainState, Lanes}
 use Rattle.ldom_entries.specs.declared.entry.Entry.{Entry}
 use Rattle.ldom_report.specs.declared.status.Status.{Status}
 use Rattle.ldom_report.specs.declared.status.Status.TheVariants as status
@@ -78,14 +78,14 @@ module _ {D : Type 0} (size : D → ℕ) where
   long_or_none status.NoMemory least told image sized = inl (longs least told image sized)
 
   -- what was told is long enough where the run has lanes: there is an image then, and it isn't too short
-  long_over : (least : ℕ) (told : Option (List ℕ)) (image : Option D) (lanes : Option (List LaneState)) (t : DomainState)
+  long_over : (least : ℕ) (told : Option (List ℕ)) (image : Option D) (lanes : Option Lanes) (t : DomainState)
       → IfSome image (λ disk. (least ≤ size disk) × IfSome told (λ bytes. least ≤ length bytes)) → LanesOver image lanes t
       → IfSome lanes (λ stand. IfSome told (λ bytes. least ≤ length bytes))
   long_over least told image None t sized stand = tt
   long_over least told None (Some lanes) t sized stand = absurd (cc stand)
   long_over least told (Some disk) (Some lanes) t sized stand = sized.1
 
-  pub lanes_long : (why : Status) (least : ℕ) (told : Option (List ℕ)) (image : Option D) (lanes : Option (List LaneState)) (t : DomainState)
+  pub lanes_long : (why : Status) (least : ℕ) (told : Option (List ℕ)) (image : Option D) (lanes : Option Lanes) (t : DomainState)
       → SizeIs size why least told image → LanesStand why image lanes t → IfSome lanes (λ stand. IfSome told (λ bytes. least ≤ length bytes))
   lanes_long (status.ImageSize need have) least told image None t sized stand = tt
   lanes_long (status.ImageSize need have) least told image (Some lanes) t sized stand = absurd (cc stand)

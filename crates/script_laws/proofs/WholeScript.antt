@@ -3,14 +3,13 @@ use Rattle.std.proofs.Common.{◌≡◌, inl, inr, ℕ, ◌*◌, ◌≤◌, arit
 use Rattle.std.specs.Prelude.{IsSome, IsSomeAnd}
 use Rattle.std.specs.Io.KnownBytes.{Appends}
 use Rattle.disk_law.specs.ListState.{ImageState}
-use Rattle.world_parts.specs.disk_model.LaneState.{LaneState}
 use Rattle.domain_script.specs.Declarations.{AreDisks, Declared}
 use Rattle.domain_script.specs.ScriptEvents.{AllSpell, no_names}
 use Rattle.domain_script.specs.ScriptLines.{script_lines}
 use Rattle.domain_script.specs.NamesState.{NamesState, declared_by}
 use Rattle.domain_script.specs.declared.event.DiskDecl.{DiskDecl}
 use Rattle.domain_script.specs.declared.event.Event.{Event}
-use Rattle.world_parts.specs.domain_laws.Domain.{DomainState}
+use Rattle.world_parts.specs.domain_laws.Domain.{DomainState, Lanes}
 use Rattle.ldom_report.specs.Report.{report}
 use Rattle.ldom_entries.specs.declared.entry.Entry.{Entry}
 use Rattle.ldom_report.specs.declared.status.Mode.{Mode}
@@ -52,7 +51,7 @@ seen_so seen None i is some = absurd (cc some)
 seen_so seen (Some d) i is some = is
 
 -- WHAT A RUN ENDED WITH at the script's end
-module _ {D : Type 0} (shown : Mode) (seen : D → ImageState) (script now : Option (List ℕ)) (gives : ℕ → Option (List ℕ)) (ran : Status) (lines : ℕ) (names : NamesState) (journal : List Entry) (image : Option D) (lanes : Option (List LaneState)) (old new : Option (List ℕ))
+module _ {D : Type 0} (shown : Mode) (seen : D → ImageState) (script now : Option (List ℕ)) (gives : ℕ → Option (List ℕ)) (ran : Status) (lines : ℕ) (names : NamesState) (journal : List Entry) (image : Option D) (lanes : Option Lanes) (old new : Option (List ℕ))
     (run : Replayed seen script now gives ran lines names journal image lanes) (why : Status) (reports : Reports ran why old new (report shown (declared_by names) lines journal ran)) (done : why ≡ status.Done) where
   abbrev read_events : List Event
   read_events = events_of run.parts
@@ -100,7 +99,7 @@ left_so seen None i left is same = absurd is
 left_so seen (Some d) i left is same = is.told ∙ same
 
 -- A QUIET SCRIPT, over an image that tells its bytes
-module _ {D : Type 0} (seen : D → ImageState) (size : D → ℕ) (script now : Option (List ℕ)) (gives : ℕ → Option (List ℕ)) (why ended : Status) (journal : List Entry) (image : Option D) (lanes : Option (List LaneState)) (old new : Option (List ℕ)) (before after : Counts)
+module _ {D : Type 0} (seen : D → ImageState) (size : D → ℕ) (script now : Option (List ℕ)) (gives : ℕ → Option (List ℕ)) (why ended : Status) (journal : List Entry) (image : Option D) (lanes : Option Lanes) (old new : Option (List ℕ)) (before after : Counts)
     (runs : RunsScript mode.Run (record { gives = gives; seen = seen; size = size }) (record { left = script; written = old; failed = before }) (record { left = now; written = new; failed = after }) (record { status = why; ran = ended; journal = journal; image = image; lanes = lanes })) (bytes : List ℕ) (events : List Event) (known : script ≡ Some bytes) (done : why ≡ status.Done) (disk : DiskDecl) (given : List ℕ) (quiet : IsQuietScript bytes disk events)
     (gave : gives (512 * disk.blocks) ≡ Some given) where
   abbrev parts : ScriptParts

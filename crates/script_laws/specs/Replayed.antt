@@ -12,8 +12,7 @@ use Rattle.ldom_report.specs.LinesEnd.{counted_lines}
 use Rattle.script_laws.specs.Attached.{ImageStands}
 use Rattle.script_laws.specs.Behind.{StandsBehind}
 use Rattle.world_parts.specs.Endings.{JournalIs, ending}
-use Rattle.world_parts.specs.disk_model.LaneState.{LaneState}
-use Rattle.world_parts.specs.domain_laws.Domain.{DomainState}
+use Rattle.world_parts.specs.domain_laws.Domain.{DomainState, Lanes}
 use Rattle.script_laws.specs.Reading.{StopsAt}
 use Rattle.script_laws.specs.LanesStand.{LanesStand}
 use Rattle.script_laws.specs.Script.{ReadSoFar}
@@ -55,7 +54,7 @@ start_of names gives = world_of names.disks (nets_of names.ports) (attached (giv
 -- what the journal makes of the image that was attached and of fresh lanes, but that reads may have been spared the image.
 -- The source has `now` left. `seen` is what contracts see of an image.
 pub record Replayed {D : Type 0} (seen : D → ImageState) (script now : Option (List ℕ)) (gives : ℕ → Option (List ℕ))
-    (why : Status) (lines : ℕ) (names : NamesState) (journal : List Entry) (image : Option D) (lanes : Option (List LaneState)) : Type 0 where
+    (why : Status) (lines : ℕ) (names : NamesState) (journal : List Entry) (image : Option D) (lanes : Option Lanes) : Type 0 where
   -- its lines with their parts, of which all that is said of the run speaks
   pub parts : ScriptParts
   pub stopped : Stopped script now why (events_of parts) names (length journal) lines
