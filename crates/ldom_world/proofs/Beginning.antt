@@ -1,10 +1,10 @@
 -- Fresh lanes: nothing was asked of a disk, and no frame was given to a port.
-use Rattle.std.proofs.Common.{◌≡◌, ℕ, List, [], ◌∷◌, map, refl, ap, sym, subst, ◌∙◌, arith}
+use Rattle.std.proofs.Common.{◌≡◌, List, [], ◌∷◌, map, refl, ap, sym, subst, ◌∙◌, arith}
 use Rattle.world_parts.specs.domain_laws.Domain.{DomainState}
 use Rattle.world_parts.specs.port_model.NetLaneState.{NetShape}
 use Rattle.world_parts.specs.port_model.PortState.{PortState, fresh_port}
 use Rattle.world_parts.specs.world_laws.Issued.{issued_on}
-use Rattle.world_parts.specs.disk_model.LaneState.{LaneState, Shape, fresh}
+use Rattle.world_parts.specs.disk_model.LaneState.{Shape, fresh}
 use Rattle.switched_ports.specs.Given.{GivenBelow}
 use Rattle.switched_ports.proofs.Fresh.{fresh_below}
 use Rattle.ldom_world.specs.Steps.{Counted}

@@ -4,7 +4,6 @@ use Rattle.domain_script.specs.declared.event.Side.{Side}
 use Rattle.domain_script.specs.declared.fields.LaneKind.{LaneKind}
 use Rattle.domain_script.specs.declared.fields.LaneKind.TheVariants as kinds
 use Rattle.ldom_world.specs.OnePort.{IsCallOf}
-use Rattle.ldom_world.specs.declared.calls.LaneCall.{LaneCall}
 use Rattle.ldom_world.specs.declared.calls.LaneCall.TheVariants as lane
 
 pub reset_of_lane : (kind : LaneKind) (side : Side) → IsCallOf kind (lane.Reset side)

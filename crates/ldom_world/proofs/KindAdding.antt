@@ -1,5 +1,5 @@
 -- The lanes of a kind in a settle: each adds its own entries to the journal after those of the lanes before.
-use Rattle.std.proofs.Common.{◌≡◌, ℕ, ◌+◌, ◌<◌, ◌≤◌, Bool, true, false, Some, List, [], ◌∷◌, ◌++◌, length, slice_get, slice_set, refl, sym, subst, arith}
+use Rattle.std.proofs.Common.{◌≡◌, ℕ, ◌+◌, ◌<◌, ◌≤◌, Bool, false, Some, List, [], ◌∷◌, ◌++◌, length, slice_get, slice_set, refl, sym, subst, arith}
 use Rattle.std.specs.Prelude.{◌&&◌, ◌||◌}
 use Rattle.world_parts.proofs.domain_laws.LoopKinds.{disk_begins, disk_runs, disk_turn, port_begins, port_runs, port_turn}
 use Rattle.world_parts.specs.domain_laws.Domain.{DomainState, DomainStep}

@@ -1,5 +1,5 @@
 -- A world by its parts: lanes over an image, and one lane of them set; and what a line asked of that lane.
-use Rattle.std.proofs.Common.{◌≡◌, ℕ, ◌<◌, List, [], ◌∷◌, ◌++◌, length, slice_get, slice_set, get_or, Some, refl, sym, ap, subst, ◌∙◌}
+use Rattle.std.proofs.Common.{◌≡◌, ℕ, ◌<◌, List, [], ◌∷◌, ◌++◌, length, slice_get, slice_set, get_or, Some, sym, ap, subst, ◌∙◌}
 use Rattle.disk_law.specs.ListState.{ImageState}
 use Rattle.world_parts.specs.disk_model.DiskEvent.{DiskEvent}
 use Rattle.world_parts.specs.disk_model.LaneState.{LaneState}

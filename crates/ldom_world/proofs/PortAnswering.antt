@@ -6,7 +6,7 @@ use Rattle.domain_script.specs.LaneKinds.{port_lane}
 use Rattle.domain_script.specs.declared.event.EndName.{EndName}
 use Rattle.domain_script.specs.declared.event.Lane.{Lane}
 use Rattle.domain_script.specs.declared.event.Side.{Side}
-use Rattle.domain_script.specs.declared.event.Side.TheVariants.{Client, Server}
+use Rattle.domain_script.specs.declared.event.Side.TheVariants.{Client}
 use Rattle.world_parts.specs.domain_laws.Lines.{AnswersFrame, AnswersGroup, AnswersPortCall, Call, Calls, Injects, Joins, Line, Loses, PortLane, Pokes, Resets, Sends, Ticks}
 use Rattle.world_parts.specs.port_model.NetEndStep.{Already, BadLength, GroupsFull, Member, Queued}
 use Rattle.world_parts.specs.port_model.NetEndStep as port
@@ -17,13 +17,13 @@ use Rattle.world_parts.specs.channel_model.WireEvent.{InjectedFull, NothingLost,
 use Rattle.kept_requests.specs.Bytes.{BytesState, filled}
 use Rattle.lane_kinds.specs.Lanes.{EntryOf}
 use Rattle.ldc_queue.specs.declared.end.End.{End}
-use Rattle.ldc_queue.specs.declared.end.End.TheVariants.{A, B}
+use Rattle.ldc_queue.specs.declared.end.End.TheVariants.{A}
 use Rattle.ldc_queue.specs.declared.end.PutFault.{PutFault}
 use Rattle.ldc_queue.specs.declared.end.PutFault.TheVariants as put_fault
 use Rattle.ldom_entries.specs.declared.entry.Entry.{Entry}
 use Rattle.ldom_entries.specs.declared.entry.Entry.TheVariants as entry
 use Rattle.ldom_entries.specs.declared.entry.Who.TheVariants.{Lane as OfWhole, End as OfEnd}
-use Rattle.ldom_entries.specs.declared.entry.Why.TheVariants.{Groups, Length, Range}
+use Rattle.ldom_entries.specs.declared.entry.Why.TheVariants.{Groups, Range}
 use Rattle.ldom_report.specs.LaneEvents.{end_of}
 use Rattle.ldom_report.specs.Report.{is_accepted}
 use Rattle.switched_ports.specs.net_lane.Calls.{given, joining}

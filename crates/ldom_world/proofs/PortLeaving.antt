@@ -21,15 +21,15 @@ use Rattle.ldom_report.specs.Report.{is_accepted}
 use Rattle.switched_ports.specs.net_lane.Stepping.{net_answer}
 use Rattle.switched_ports.specs.net_lane.net_out.NetOut.{NetOut}
 use Rattle.switched_ports.specs.net_lane.net_out.NetOut.TheVariants as out
-use Rattle.world_parts.specs.switch_laws.Events.{OnPort, SwitchEvent, Switched}
+use Rattle.world_parts.specs.switch_laws.Events.{SwitchEvent, Switched}
 use Rattle.world_parts.specs.switch_laws.Ports.{is_calm, is_silent}
 use Rattle.switched_ports.specs.Events.{ResetsOwn, is_switched, step_event}
 use Rattle.vio_tag.specs.declared.cause.Cause.TheVariants as the_cause
 use Rattle.switched_ports.specs.vnet_switch.declared.forwarding.Switched.{Switched as Sets}
-use Rattle.world_parts.specs.world_laws.Settle.{OfPort, SettleEntry}
+use Rattle.world_parts.specs.world_laws.Settle.{OfPort}
 use Rattle.world_parts.specs.WorldEvents.{of_net, told_of, world_event}
 use Rattle.ldom_world.specs.Called.{port_end}
-use Rattle.ldom_world.specs.OnePort.{PortLeaves, PortRecordedBut, PortRecords, TellsPort, frame_entry, port_blocked, port_rests}
+use Rattle.ldom_world.specs.OnePort.{PortLeaves, PortRecordedBut, PortRecords, frame_entry, port_blocked, port_rests}
 
 -- WHICH ANSWERS REST, and which are calm
 port_silent : (e : End) (answer : NetOut) (last : List ℕ) (sets : Option Sets)

@@ -18,17 +18,17 @@ use Rattle.switched_ports.specs.net_lane.net_out.NetOut.TheVariants as out
 use Rattle.world_parts.specs.port_model.NetEndStep.{Frame, NetAnswer}
 use Rattle.world_parts.specs.switch_laws.Events.{SwitchEvent}
 use Rattle.world_parts.specs.switch_laws.Ports.{IsStepOf, is_silent, ports as kind}
-use Rattle.switched_ports.proofs.Entries.{below_later, one_more}
+use Rattle.switched_ports.proofs.Entries.{below_later}
 use Rattle.switched_ports.specs.Events.{is_switched, step_event}
 use Rattle.switched_ports.specs.Given.{GivenBelow, GivesNoMore, GivesOneMore}
 use Rattle.switched_ports.specs.HubSteps.{TakesFrame}
 use Rattle.switched_ports.specs.States.{last_at}
 use Rattle.switched_ports.specs.vnet_switch.declared.forwarding.Switched.{Switched as Sets}
-use Rattle.world_parts.specs.world_laws.Settle.{OfPort, SettleEntry}
+use Rattle.world_parts.specs.world_laws.Settle.{OfPort}
 use Rattle.ldom_world.proofs.Adding.{none_adds, one_adds}
 use Rattle.ldom_world.proofs.Lifting.{count_push}
-use Rattle.ldom_world.specs.OnePort.{GivesBut, HasRoomForFrame, PortAnswers, PortEndSteps, PortLeaves, PortRecordedBut, PortRecords, TellsPort}
-use Rattle.ldom_world.specs.Steps.{AnswerMade, OneMade, QuietMade, MakesPortAnswer, MakesPortStep, MakesQuietPortStep, port_entry_of}
+use Rattle.ldom_world.specs.OnePort.{GivesBut, HasRoomForFrame, PortAnswers, PortEndSteps, PortLeaves, PortRecordedBut, PortRecords}
+use Rattle.ldom_world.specs.Steps.{MakesPortAnswer, MakesPortStep, MakesQuietPortStep}
 use Rattle.world_parts.specs.Parts.{Adds}
 
 -- THE EVENT OF A STEP is one of its end, and the port's own

@@ -2,7 +2,7 @@
 use Rattle.std.proofs.Common.{◌≡◌, ℕ, ◌+◌, ◌<◌, ◌≤◌, Bool, true, false, Result, Ok, Err, List, [], ◌∷◌, ◌++◌, length, take, refl, sym, ap, subst, ◌∙◌, arith}
 use Rattle.std.specs.Prelude.{◌&&◌, ◌||◌, OnErr}
 use Rattle.lane_kinds.specs.LanesMade.{Marks, all_true, first_marks}
-use Rattle.world_parts.specs.world_laws.Settle.{SettleEntry, Settled}
+use Rattle.world_parts.specs.world_laws.Settle.{Settled}
 use Rattle.world_parts.proofs.domain_laws.Looping as going
 use Rattle.world_parts.specs.domain_laws.Domain.{DomainState, lanes_in}
 use Rattle.world_parts.specs.domain_laws.Going.{GoneOn, fresh_marks, most_rounds}

@@ -9,7 +9,7 @@ use Rattle.world_parts.specs.domain_laws.Lines.{Line}
 use Rattle.world_parts.specs.switch_laws.Events.{SwitchEvent}
 use Rattle.world_parts.specs.switch_laws.Ports.{IsStepOf, is_calm, is_silent}
 use Rattle.switched_ports.specs.Given.{GivesNoMore, GivesOneMore}
-use Rattle.world_parts.specs.world_laws.Settle.{OfPort, SettleEntry}
+use Rattle.world_parts.specs.world_laws.Settle.{OfPort}
 use Rattle.ldom_entries.specs.JournalState.{JournalState, PutsEntry}
 use Rattle.domain_script.specs.declared.event.EndName.{EndName}
 use Rattle.domain_script.specs.declared.fields.LaneKind.{LaneKind}

@@ -1,5 +1,5 @@
 -- What a settle added to a journal as far as it has come, and how each turn of it goes on.
-use Rattle.std.specs.Prelude.{◌≡◌, ℕ, ◌+◌, ◌<◌, ◌≤◌, Bool, true, false, ◌||◌, List, [], Some, length, take, slice_get}
+use Rattle.std.specs.Prelude.{◌≡◌, ℕ, ◌+◌, ◌<◌, ◌≤◌, Bool, true, false, ◌||◌, List, Some, length, take, slice_get}
 use Rattle.lane_kinds.specs.LaneFronts.{RoundFront, TickFront}
 use Rattle.lane_kinds.specs.LanesMade.{Marks, RoundUpTo, TicksUpTo}
 use Rattle.lane_kinds.specs.WorldMade.{LaneTicked, NamesUpTo}

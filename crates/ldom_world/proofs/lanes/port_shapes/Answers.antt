@@ -1,4 +1,4 @@
-use Rattle.std.proofs.Common.{◌≡◌, ℕ, ◌+◌, ◌≤◌, List, Some, None, length, slice_get, take, sym, ap, subst, ◌∙◌, arith}
+use Rattle.std.proofs.Common.{◌≡◌, ◌≤◌, List, Some, slice_get, sym, subst, ◌∙◌, arith}
 use Rattle.world_parts.specs.port_model.NetLaneState.{IsNetShape, NetShape}
 use Rattle.domain_script.proofs.Disks.{is_port_at}
 use Rattle.lane_kinds.specs.Lanes.{EachOf}

@@ -1,4 +1,4 @@
-use Rattle.std.proofs.Common.{◌≤◌, ap, subst, sym}
+use Rattle.std.proofs.Common.{ap, subst, sym}
 use Rattle.cached_store.specs.CachedState.{CachedState}
 use Rattle.kept_requests.specs.Bytes.{BytesState}
 use Rattle.world_parts.specs.world_laws.Rounds.{Each}

@@ -1,9 +1,7 @@
-use Rattle.std.proofs.Common.{Bool, List}
-use Rattle.std.specs.Prelude.{IfOk}
+use Rattle.std.proofs.Common.{Bool}
 use Rattle.std.proofs.lemmas.Result.{IfOk-weaker, on_err_weaker}
-use Rattle.world_parts.specs.domain_laws.Domain.{DomainStep, PortsStep}
+use Rattle.world_parts.specs.domain_laws.Domain.{DomainStep}
 use Rattle.world_parts.specs.domain_laws.Lines.{Nothing}
-use Rattle.world_parts.specs.port_model.PortState.{PortState}
 use Rattle.ldom_report.specs.LaneEvents.{end_of}
 use Rattle.world_parts.specs.world_laws.World.{WorldState, WorldStep}
 use Rattle.world_parts.specs.lane_laws.CalmEnds.{IsStep}

@@ -1,11 +1,8 @@
 use Rattle.std.proofs.Common.{Bool, List}
-use Rattle.std.specs.Prelude.{IfOk}
 use Rattle.std.proofs.lemmas.Result.{IfOk-weaker, on_err_weaker}
 use Rattle.world_parts.specs.domain_laws.Domain.{DomainStep, PortsStep}
-use Rattle.world_parts.specs.domain_laws.Lines.{Nothing}
 use Rattle.world_parts.specs.port_model.PortState.{PortState}
 use Rattle.ldom_report.specs.LaneEvents.{end_of}
-use Rattle.world_parts.specs.world_laws.World.{WorldState, WorldStep}
 use Rattle.world_parts.specs.switch_laws.Ports.{IsStepOf, is_calm}
 use Rattle.world_parts.specs.world_laws.Settle.{OfPort}
 use Rattle.ldom_world.specs.Steps.{port_entry_of}

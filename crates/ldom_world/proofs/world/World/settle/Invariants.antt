@@ -1,4 +1,3 @@
-use Rattle.std.proofs.Common.{◌≡◌}
 use Rattle.ldom_world.specs.SettleParts.{RoundsAdd, marks_of}
 use Rattle.ldom_world.specs.Steps.{Counted}
 use Rattle.ldom_world.proofs.world.World.settle.Given as goal
