@@ -390,7 +390,11 @@ fn whole_row(entry: &Entry) -> Row {
         Entry::Member { port, address } => ("member", (*port).into(), address[5].into()),
         Entry::Frame { end, bytes } => ("frame", at(*end), bytes.len() as u64),
         Entry::Switched { end, out, full, .. } => {
-            ("switched", at(*end), 10 * u64::from(*out) + u64::from(*full))
+            (
+                "switched",
+                at(*end),
+                10 * u64::from(*out) + u64::from(*full),
+            )
         }
         Entry::Injected { end, packet } => ("injected", at(*end), packet.len() as u64),
         Entry::Poked { end, at: place, .. } => ("poked", at(*end), *place),
