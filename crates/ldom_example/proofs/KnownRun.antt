@@ -22,9 +22,9 @@ use Rattle.ldom_entries.specs.declared.entry.Entry.{Entry}
 use Rattle.ldom_report.specs.declared.status.LimitKind.{LimitKind}
 use Rattle.ldom_report.specs.declared.status.Status.{Status}
 use Rattle.ldom_report.specs.declared.status.Status.TheVariants as status
-use Rattle.ldom_replay.specs.script_laws.Clean.{IsCleanScript, IsFull}
-use Rattle.ldom_replay.specs.script_laws.PlainRun.{plain_content, plain_ids, plain_text}
-use Rattle.ldom_replay.specs.script_laws.Quiet.{IsQuietScript}
+use Rattle.script_laws.specs.Clean.{IsCleanScript, IsFull}
+use Rattle.script_laws.specs.PlainRun.{plain_content, plain_ids, plain_text}
+use Rattle.script_laws.specs.Quiet.{IsQuietScript}
 use Rattle.script_laws.proofs.PlainRows.{a_read_sees_the_write}
 use Rattle.ldom_words.specs.Words.{AsksRun}
 use Rattle.ldom_example.specs.Known.{image, report, script}
@@ -40,7 +40,7 @@ abbrev pub events : List Event
 events = Disk disk ∷ Issue 0 (Write 3 2 word) ∷ Issue 0 (Read 2 3) ∷ Settle ∷ []
 
 abbrev names : NamesState
-names = record { disks = disk ∷ []; ended = true }
+names = record { disks = disk ∷ []; ports = []; ended = true }
 
 spelled : AllSpell (script_lines script) no_names events names
 unfolding digits count_ones
