@@ -28,7 +28,7 @@ use Rattle.domain_laws.proofs.Telling.{arrived_told, put_told, queued_told, swit
 use Rattle.domain_laws.proofs.Running.{disks_run, fresh_reached, port_runs, ports_run, stay_reached}
 
 -- ONE OF THOSE that a condition holds of, each with its number
-at_there : {S : Type 0} (P : ℕ → S → Type 0) (j k : ℕ) (lanes : List S) (s : S) → EachAt P j lanes → slice_get lanes k ≡ Some s → P (j + k) s
+pub at_there : {S : Type 0} (P : ℕ → S → Type 0) (j k : ℕ) (lanes : List S) (s : S) → EachAt P j lanes → slice_get lanes k ≡ Some s → P (j + k) s
 at_there P j k [] s each there = absurd (cc there)
 at_there P j zero (x ∷ lanes) s each there =
     let same : x ≡ s = cc there in
@@ -38,7 +38,7 @@ at_there P j (suc k) (x ∷ lanes) s each there =
     let place : j + 1 + k ≡ j + (suc k) = omega arith in
     subst (λ (i : ℕ). P i s) place (at_there P (j + 1) k lanes s each.1 there)
 
-sound_at : (nets : List NetShape) (k : ℕ) (shape : NetShape) → EachOf IsNetShape nets → slice_get nets k ≡ Some shape → IsNetShape shape
+pub sound_at : (nets : List NetShape) (k : ℕ) (shape : NetShape) → EachOf IsNetShape nets → slice_get nets k ≡ Some shape → IsNetShape shape
 sound_at [] k shape are there = absurd (cc there)
 sound_at (x ∷ nets) zero shape are there = let same : x ≡ shape = cc there in subst IsNetShape same are.0
 sound_at (x ∷ nets) (suc k) shape are there = sound_at nets k shape are.1 there
@@ -48,7 +48,7 @@ told_in_order told taken asked given one two order = subst (λ (l : List (List �
 
 module _ (shapes : List Shape) (image : ImageState) (nets : List NetShape) (are : EachOf IsNetShape nets) where
   -- IT IS RUN by its events
-  own_run : (entries : List SettleEntry) (w : DomainState) (k : ℕ) (shape : NetShape) (s : PortState) → Run DomainStep (fresh_domain shapes image nets) entries w → slice_get nets k ≡ Some shape
+  pub own_run : (entries : List SettleEntry) (w : DomainState) (k : ℕ) (shape : NetShape) (s : PortState) → Run DomainStep (fresh_domain shapes image nets) entries w → slice_get nets k ≡ Some shape
       → slice_get w.second k ≡ Some s → Run PortStep (fresh_port shape) (port_events k entries) s
   own_run entries w k shape s run there here = port_runs nets entries w.second k shape s (ports_run (fresh_domain shapes image nets) entries w run) there here
 
@@ -67,6 +67,26 @@ module _ (shapes : List Shape) (image : ImageState) (nets : List NetShape) (are 
       told_in_order (frames_arrived k entries) (frames_taken A (port_events k entries)) (frames_put k entries) (log_of after (no_events shape) (port_events k entries)).hub.given
       (arrived_told shape k (map fresh_port nets) entries w.second ports) (put_told shape k (map fresh_port nets) entries w.second ports)
       (guest_takes_in_order shape (port_events k entries) s (sound_at nets k shape are there) (own_run entries w k shape s run there here) clean)
+
+  -- WHERE THE PORT IS AT REST
+  pub rested_to_switch : (entries : List SettleEntry) (w : DomainState) (k : ℕ) (shape : NetShape) (s : PortState) → Run DomainStep (fresh_domain shapes image nets) entries w
+      → slice_get nets k ≡ Some shape → slice_get w.second k ≡ Some s → IsUnforged s → frames_lost A (port_events k entries) ≡ 0 → HoldsNoFrame s
+      → frames_switched k entries ≡ frames_queued k entries
+  rested_to_switch entries w k shape s run there here clean none rests =
+      let ports = ports_run (fresh_domain shapes image nets) entries w run in
+      switched_told shape k (map fresh_port nets) entries w.second ports
+      ∙ guest_all shape (port_events k entries) s (sound_at nets k shape are there) (own_run entries w k shape s run there here) clean none rests.guest
+      ∙ sym (queued_told shape k (map fresh_port nets) entries w.second ports)
+
+  pub rested_to_guest : (entries : List SettleEntry) (w : DomainState) (k : ℕ) (shape : NetShape) (s : PortState) → Run DomainStep (fresh_domain shapes image nets) entries w
+      → slice_get nets k ≡ Some shape → slice_get w.second k ≡ Some s → IsUnforged s → frames_lost B (port_events k entries) ≡ 0 → HoldsNoFrame s
+      → frames_arrived k entries ≡ frames_put k entries
+  rested_to_guest entries w k shape s run there here clean none rests =
+      let ports = ports_run (fresh_domain shapes image nets) entries w run in
+      arrived_told shape k (map fresh_port nets) entries w.second ports
+      ∙ hub_all shape (port_events k entries) s (sound_at nets k shape are there) (own_run entries w k shape s run there here) clean none
+      (ap (λ (l : List (List ℕ)). l ++ s.queue) rests.switch_end ∙ rests.queue)
+      ∙ sym (put_told shape k (map fresh_port nets) entries w.second ports)
 
   -- WHERE IT ENDS SETTLED
   module _ (disks_are : AreShapes 0 shapes) where
@@ -88,21 +108,10 @@ module _ (shapes : List Shape) (image : ImageState) (nets : List NetShape) (are 
         → slice_get nets k ≡ Some shape → slice_get v.second k ≡ Some s → IsUnforged s → frames_lost A (port_events k (before ++ part)) ≡ 0
         → frames_switched k (before ++ part) ≡ frames_queued k (before ++ part)
     all_to_switch before part w v k shape s at there here clean none =
-        let run = whole_run before part w v at in
-        let ports = ports_run (fresh_domain shapes image nets) (before ++ part) v run in
-        switched_told shape k (map fresh_port nets) (before ++ part) v.second ports
-        ∙ guest_all shape (port_events k (before ++ part)) s (sound_at nets k shape are there) (own_run (before ++ part) v k shape s run there here) clean none
-        (at_rest before part w v k s at here clean).guest
-        ∙ sym (queued_told shape k (map fresh_port nets) (before ++ part) v.second ports)
+        rested_to_switch (before ++ part) v k shape s (whole_run before part w v at) there here clean none (at_rest before part w v k s at here clean)
 
     pub all_to_guest : (before part : List SettleEntry) (w v : DomainState) (k : ℕ) (shape : NetShape) (s : PortState) → EndsSettled (fresh_domain shapes image nets) w before part v
         → slice_get nets k ≡ Some shape → slice_get v.second k ≡ Some s → IsUnforged s → frames_lost B (port_events k (before ++ part)) ≡ 0
         → frames_arrived k (before ++ part) ≡ frames_put k (before ++ part)
     all_to_guest before part w v k shape s at there here clean none =
-        let rests = at_rest before part w v k s at here clean in
-        let run = whole_run before part w v at in
-        let ports = ports_run (fresh_domain shapes image nets) (before ++ part) v run in
-        arrived_told shape k (map fresh_port nets) (before ++ part) v.second ports
-        ∙ hub_all shape (port_events k (before ++ part)) s (sound_at nets k shape are there) (own_run (before ++ part) v k shape s run there here) clean none
-        (ap (λ (l : List (List ℕ)). l ++ s.queue) rests.switch_end ∙ rests.queue)
-        ∙ sym (put_told shape k (map fresh_port nets) (before ++ part) v.second ports)
+        rested_to_guest (before ++ part) v k shape s (whole_run before part w v at) there here clean none (at_rest before part w v k s at here clean)

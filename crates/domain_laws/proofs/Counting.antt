@@ -7,21 +7,27 @@ use Rattle.disk_model.specs.DiskEvent.{DiskEvent, OnWire}
 use Rattle.disk_model.specs.Reached as disk
 use Rattle.ldc_queue.specs.declared.end.End.{End}
 use Rattle.lane_kinds.proofs.Both.{both_move, both_name, first_unsticks, second_unsticks}
-use Rattle.lane_kinds.proofs.Counting.{out_moves}
+use Rattle.lane_kinds.proofs.BothFronts.{first_fronts_unstick, lanes_ignore_fronts, second_fronts_unstick}
+use Rattle.lane_kinds.proofs.Counting.{out_moves, rounds_move}
 use Rattle.lane_kinds.proofs.LaneCounts.{lanes_ignore, lanes_move, lanes_name, lanes_unstick}
+use Rattle.lane_kinds.proofs.LaneFronts.{fronts_unstick}
 use Rattle.lane_kinds.proofs.Naming.{out_names}
-use Rattle.lane_kinds.proofs.Stuck.{part_never}
+use Rattle.lane_kinds.proofs.Stuck.{front_never, part_never}
 use Rattle.lane_kinds.specs.LaneCounts.{LaneMoves, LaneUnsticks, once}
 use Rattle.lane_kinds.specs.Lanes.{EachMarked, turn_entries}
 use Rattle.lane_kinds.specs.Laws.{Moves}
-use Rattle.lane_kinds.specs.Settles.{RunsOut, SettlePart, most_rounds}
+use Rattle.lane_kinds.specs.Settles.{GoesOn, RunsOut, SettlePart, SettleRound, Settling, entries_of_rounds, most_rounds}
+use Rattle.lane_kinds.specs.Both.{Two}
+use Rattle.lane_kinds.specs.Fronts.{SettleFront}
+use Rattle.lane_kinds.specs.LaneFronts.{fronts_of}
+use Rattle.runs.specs.Run.{Run}
 use Rattle.lane_kinds.specs.Stuck.{NeverThree, sum_over}
 use Rattle.port_model.specs.NetEndStep.{Blocked}
 use Rattle.port_model.specs.NetEvent.{Steps}
 use Rattle.port_model.specs.PortState.{OnLane}
 use Rattle.switch_laws.proofs.Counting as switch_counts
 use Rattle.switch_laws.proofs.Resting as port_resting
-use Rattle.switch_laws.proofs.Turns.{silent_calm}
+use Rattle.switch_laws.proofs.Turns.{silent_calm, turn_steps}
 use Rattle.switch_laws.specs.Events.{OnPort, SwitchEvent}
 use Rattle.switch_laws.specs.PortCounts as port_counts
 use Rattle.switch_laws.specs.Ports.{IsTurn, is_calm, is_silent, of_ports, ports}
@@ -30,10 +36,14 @@ use Rattle.switch_laws.specs.Reached as port
 use Rattle.world_laws.proofs.Behind as behind_disks
 use Rattle.world_laws.proofs.Counts.{blocked, still_or_none, stuck_most}
 use Rattle.world_laws.proofs.DiskLaws.{IsLossless, disk_moves, disk_rests, disk_unsticks, tick_waits}
+use Rattle.world_laws.proofs.DiskLaws as disk_laws
+use Rattle.world_laws.specs.Begun.{fronts as disk_fronts}
+use Rattle.world_laws.specs.Rounds.{LaneRound}
 use Rattle.world_laws.specs.DiskKind.{disk_kind}
 use Rattle.world_laws.specs.Settle.{OfLane, OfPort, SettleEntry, disk_entries, disks}
 use Rattle.world_laws.specs.Sums as forging
 use Rattle.domain_laws.specs.Counts.{disk_stuck, is_blocked, moves, moves_in, port_blocked, port_stuck}
+use Rattle.domain_laws.specs.Lines.{fronts}
 use Rattle.domain_laws.specs.Domain.{Lanes, lanes, port_entries, switch}
 use Rattle.domain_laws.specs.Settling.{AreReached}
 use Rattle.domain_laws.proofs.Resting.{Stand, WholePort, begins, keeps}
@@ -57,6 +67,10 @@ ports_moving = lanes_move ports port_entries moves port_moving
 
 pub runs_out_moving : (start : Lanes) (part : List SettleEntry) (behind : Lanes) → RunsOut lanes start part behind → most_rounds lanes start ≤ moves_in part
 runs_out_moving start part behind out = out_moves lanes moves_in (both_move disks switch moves_in disks_moving ports_moving) start part behind out
+
+pub made_move : (w : Settling Lanes (Two (List Bool) (List Bool))) (rounds : List (SettleRound (Two (List LaneRound) (List (List SwitchEvent))) SettleEntry))
+    (v : Settling Lanes (Two (List Bool) (List Bool))) → Run (GoesOn lanes) w rounds v → length rounds ≤ moves_in (entries_of_rounds rounds)
+made_move w rounds v run = rounds_move lanes moves_in (both_move disks switch moves_in disks_moving ports_moving) w rounds v run
 
 pub some_named : (start : Lanes) (part : List SettleEntry) (behind : Lanes) (out : RunsOut lanes start part behind) → AreReached start → 1 ≤ length (lanes.names out.last.steps behind)
 some_named start part behind out reached =
@@ -145,3 +159,23 @@ port_never start part behind k e settle =
     part_never lanes (port_stuck k e) (port_blocked k e) moves
     (second_unsticks disks switch (port_stuck k e) (port_blocked k e) moves (lanes_unstick ports port_entries k (port_stuck k e) (port_blocked k e) moves (port_sticks k e)) disks_moving
     (lanes_ignore disk_kind disk_entries (port_blocked k e) (λ j event. refl) (λ j. refl)) refl) start part behind settle
+
+-- in a front of a settle
+pub disk_never_begun : (start : Lanes) (part : List SettleEntry) (behind : Lanes) (k : ℕ) (e : End) → SettleFront lanes fronts start part behind → NeverThree (disk_stuck k e) 0 part
+disk_never_begun start part behind k e at =
+    let laws = lanes_unstick disk_kind disk_entries k (disk_stuck k e) (blocked k e) moves (disk_sticks k e) in
+    front_never lanes (disk_stuck k e) (blocked k e) moves
+    (first_unsticks disks switch (disk_stuck k e) (blocked k e) moves laws ports_moving (lanes_ignore ports port_entries (blocked k e) (λ j event. refl) (λ j. refl))) fronts
+    (first_fronts_unstick disks switch disk_fronts (fronts_of ports port_entries) (disk_stuck k e) (blocked k e) moves laws
+    (fronts_unstick disk_kind disk_entries k (disk_stuck k e) (blocked k e) moves (disk_sticks k e))
+    (lanes_ignore_fronts ports port_entries turn_steps (blocked k e) (λ j event. refl))) start part behind at
+
+pub port_never_begun : (start : Lanes) (part : List SettleEntry) (behind : Lanes) (k : ℕ) (e : End) → SettleFront lanes fronts start part behind → NeverThree (port_stuck k e) 0 part
+port_never_begun start part behind k e at =
+    let ignores = lanes_ignore disk_kind disk_entries (port_blocked k e) (λ j event. refl) (λ j. refl) in
+    front_never lanes (port_stuck k e) (port_blocked k e) moves
+    (second_unsticks disks switch (port_stuck k e) (port_blocked k e) moves (lanes_unstick ports port_entries k (port_stuck k e) (port_blocked k e) moves (port_sticks k e)) disks_moving
+    ignores refl) fronts
+    (second_fronts_unstick disks switch disk_fronts (fronts_of ports port_entries) (port_blocked k e)
+    (fronts_unstick ports port_entries k (port_stuck k e) (port_blocked k e) moves (port_sticks k e)) ignores
+    (lanes_ignore_fronts disk_kind disk_entries disk_laws.turn_steps (port_blocked k e) (λ j event. refl))) start part behind at

@@ -1,9 +1,9 @@
 -- The part of a settle over disks and ports runs the ports, entry by entry.
-use Rattle.std.proofs.Common.{◌≡◌, ℕ, List, [], ◌∷◌, ◌++◌, refl, sym, subst}
+use Rattle.std.proofs.Common.{◌≡◌, ℕ, List, [], ◌∷◌, refl, sym, subst}
 use Rattle.std.specs.Prelude.{⊤}
-use Rattle.disk_model.specs.LaneState.{LaneState}
 use Rattle.runs.specs.Run.{Run}
 use Rattle.lane_kinds.proofs.Both.{second_ends, second_leads}
+use Rattle.lane_kinds.proofs.EntriesEach.{first_each}
 use Rattle.lane_kinds.proofs.EntryRuns.{entries_end, entries_lead, lanes_leave, names_each, round_each}
 use Rattle.lane_kinds.proofs.LaneFronts as fronts
 use Rattle.lane_kinds.proofs.LaneFronts.{lanes_each, of_both}
@@ -46,10 +46,6 @@ step_own k (OnPort (OnLane event)) step = tt
 step_own k (OnPort (Receives frame)) step = absurd step.1
 step_own k (Switched frame out full) step = tt
 
-first_own : (part more : List SettleEntry) → EachOf OwnEntry (part ++ more) → EachOf OwnEntry part
-first_own [] more each = tt
-first_own (x ∷ part) more each = (each.0, first_own part more each.1)
-
 own_leads : Leads lanes (λ w part v. EachOf OwnEntry part)
 own_leads = record {
   none = λ w. tt;
@@ -63,7 +59,7 @@ own_leads = record {
 own_ends : Ends lanes (λ w part v. EachOf OwnEntry part)
 own_ends = record {
   answer = λ w. (tt, tt);
-  names = λ r w part more is. first_own part more (subst (EachOf OwnEntry) (sym is)
+  names = λ r w part more is. first_each OwnEntry part more (subst (EachOf OwnEntry) (sym is)
       (of_both OwnEntry (disks.names r.first w.first) (switch.names r.second w.second) (names_each disk_kind disk_entries OwnEntry (λ k. tt) 0 r.first w.first)
       (names_each ports port_entries OwnEntry (λ k. tt) 0 r.second w.second)));
 }

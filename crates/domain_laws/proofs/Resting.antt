@@ -3,15 +3,20 @@ use Rattle.std.proofs.Common.{◌≡◌, ◌⊎◌, inl, inr, ℕ, ◌+◌, ◌�
 use Rattle.std.proofs.lemmas.Bool.{eqb-true}
 use Rattle.std.specs.Prelude.{◌&&◌, ◌==◌, is_some, not}
 use Rattle.disk_model.specs.Reached as disk
+use Rattle.lane_kinds.proofs.BothFronts.{first_fronts_count, lanes_ignore_fronts, second_fronts_count}
 use Rattle.lane_kinds.proofs.Both.{both_keep, first_counts, first_ends_with, second_counts, second_ends_with}
-use Rattle.lane_kinds.proofs.Counting.{part_counted, settles_counted}
+use Rattle.lane_kinds.proofs.Counting.{front_counted, part_counted, settles_counted}
 use Rattle.lane_kinds.proofs.Finishing.{IsWhole, all_each, all_rest, lanes_keep, whole_fresh}
 use Rattle.lane_kinds.proofs.LaneCounts.{lanes_ignore, lanes_tick}
+use Rattle.lane_kinds.proofs.LaneFronts.{fronts_tick}
+use Rattle.lane_kinds.proofs.Stuck.{sum_both}
 use Rattle.lane_kinds.proofs.Standing.{ends_with}
 use Rattle.lane_kinds.proofs.Sums.{and_left, and_right}
 use Rattle.lane_kinds.proofs.Ticked.{AreTicks, each_ticked}
 use Rattle.lane_kinds.specs.Both.{BothStand, Two}
+use Rattle.lane_kinds.specs.Fronts.{SettleFront}
 use Rattle.lane_kinds.specs.LaneCounts.{LaneTicks, mark_at}
+use Rattle.lane_kinds.specs.LaneFronts.{fronts_of}
 use Rattle.lane_kinds.specs.Lanes.{EachMarked, EachOf, IsAtRest}
 use Rattle.lane_kinds.specs.Laws.{Counts, Keeps}
 use Rattle.lane_kinds.specs.Settles.{EndsWith, SettlePart, Settles}
@@ -21,16 +26,20 @@ use Rattle.port_model.specs.NetLaneStep.{is_finished, is_nothing, told_all}
 use Rattle.port_model.specs.PortState.{PortState}
 use Rattle.switch_laws.proofs.Counting as switch_counts
 use Rattle.switch_laws.proofs.Resting.{port_rests}
+use Rattle.switch_laws.proofs.Turns.{turn_steps}
 use Rattle.switch_laws.specs.Ports.{ports, waits_on}
 use Rattle.switch_laws.specs.Reached as port
 use Rattle.world_laws.proofs.Behind as behind_disks
 use Rattle.world_laws.proofs.DiskLaws.{IsLossless, disk_rests, disk_ticks}
+use Rattle.world_laws.proofs.DiskLaws as disk_laws
+use Rattle.world_laws.specs.Begun.{fronts as disk_fronts}
 use Rattle.world_laws.proofs.SettledLanes.{lanes_end}
 use Rattle.world_laws.specs.DiskKind.{disk_kind}
 use Rattle.world_laws.specs.Ended.{EndsFinished, LanesEnd}
 use Rattle.world_laws.specs.Moves.{ticks, ticks_in}
 use Rattle.world_laws.specs.Settle.{SettleEntry, disk_entries, disks}
 use Rattle.world_laws.specs.Sums as forging
+use Rattle.domain_laws.specs.Lines.{fronts}
 use Rattle.domain_laws.specs.Domain.{Lanes, lanes, port_entries, switch}
 use Rattle.domain_laws.specs.Settling.{AreReached, HoldsNoFrame, PortEndsIn, PortsEnd, port_ticks, port_ticks_in}
 
@@ -79,6 +88,20 @@ disk_ticks_once start part behind k settle = part_counted lanes (ticks_in k) (λ
 
 pub port_ticks_once : (start : Lanes) (part : List SettleEntry) (behind : Lanes) (k : ℕ) → SettlePart lanes start part behind → port_ticks_in k part ≤ 1
 port_ticks_once start part behind k settle = part_counted lanes (port_ticks_in k) (λ m. mark_at k 0 m.second) (port_counts k) start part behind settle
+
+-- also in a front of one
+pub disk_ticks_begun : (start : Lanes) (part : List SettleEntry) (behind : Lanes) (k : ℕ) → SettleFront lanes fronts start part behind → ticks_in k part ≤ 1
+disk_ticks_begun start part behind k at =
+    front_counted lanes (ticks_in k) (λ m. mark_at k 0 m.first) (disk_counts k) fronts
+    (first_fronts_count disks switch disk_fronts (fronts_of ports port_entries) (ticks_in k) (sum_both (ticks k)) (mark_at k 0) (lanes_tick disk_kind disk_entries ticks disk_ticks k)
+    (fronts_tick disk_kind disk_entries ticks disk_ticks k) (lanes_ignore_fronts ports port_entries turn_steps (ticks k) (λ j event. refl))) start part behind at
+
+pub port_ticks_begun : (start : Lanes) (part : List SettleEntry) (behind : Lanes) (k : ℕ) → SettleFront lanes fronts start part behind → port_ticks_in k part ≤ 1
+port_ticks_begun start part behind k at =
+    front_counted lanes (port_ticks_in k) (λ m. mark_at k 0 m.second) (port_counts k) fronts
+    (second_fronts_count disks switch disk_fronts (fronts_of ports port_entries) (port_ticks_in k) (sum_both (port_ticks k)) (mark_at k 0) (lanes_tick ports port_entries port_ticks port_ticking k).most
+    (fronts_tick ports port_entries port_ticks port_ticking k) (lanes_ignore disk_kind disk_entries (port_ticks k) (λ j event. refl) (λ j. refl))
+    (lanes_ignore_fronts disk_kind disk_entries disk_laws.turn_steps (port_ticks k) (λ j event. refl))) start part behind at
 
 same_is_most : (a b : ℕ) → a ≡ b → b ≤ a
 same_is_most a b is = omega (arith, is)

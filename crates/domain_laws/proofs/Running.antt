@@ -53,7 +53,7 @@ pub ports_many : (lanes : List PortState) (entries : List SettleEntry) (behind :
 ports_many lanes entries behind run = many_moved SwitchStep port_said 0 lanes entries behind (ports_move lanes entries behind run)
 
 -- FROM FRESH ONES
-fresh_there : (nets : List NetShape) (k : ℕ) (shape : NetShape) → slice_get nets k ≡ Some shape → slice_get (map fresh_port nets) k ≡ Some (fresh_port shape)
+pub fresh_there : (nets : List NetShape) (k : ℕ) (shape : NetShape) → slice_get nets k ≡ Some shape → slice_get (map fresh_port nets) k ≡ Some (fresh_port shape)
 fresh_there nets k shape there = slice_get-map fresh_port nets k ∙ ap (option_map fresh_port) there
 
 pub port_runs : (nets : List NetShape) (entries : List SettleEntry) (behind : List PortState) (k : ℕ) (shape : NetShape) (s : PortState) → Run PortsStep (map fresh_port nets) entries behind

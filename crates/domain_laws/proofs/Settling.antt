@@ -3,9 +3,10 @@ use Rattle.std.proofs.Common.{◌≡◌, ℕ, ◌+◌, ◌*◌, ◌≤◌, ◌<�
 use Rattle.std.specs.Prelude.{⊤}
 use Rattle.disk_model.specs.LaneState.{LaneState}
 use Rattle.lane_kinds.proofs.Both.{both_fall}
-use Rattle.lane_kinds.proofs.Falling.{ends_settled}
+use Rattle.lane_kinds.proofs.Falling.{ends_settled, rounds_few}
 use Rattle.lane_kinds.proofs.Lanes.{lanes_fall}
 use Rattle.lane_kinds.specs.Both.{BothHold}
+use Rattle.lane_kinds.specs.Fronts.{SettleFront}
 use Rattle.lane_kinds.specs.Lanes.{AreClean, EachOf, sum_of}
 use Rattle.lane_kinds.specs.Laws.{Falls}
 use Rattle.lane_kinds.specs.Settles.{SettlePart, Settles, most_rounds}
@@ -19,6 +20,7 @@ use Rattle.world_laws.proofs.Falling as disk
 use Rattle.world_laws.specs.Settle.{SettleEntry, disks, pending_on}
 use Rattle.world_laws.specs.Sums.{remaining_on}
 use Rattle.domain_laws.specs.Domain.{Lanes, lanes, port_entries, switch}
+use Rattle.domain_laws.specs.Lines.{fronts}
 use Rattle.domain_laws.specs.Settling.{AreFew, AreReached, AreUnforged}
 
 -- CLEAN LANES
@@ -62,3 +64,10 @@ pub settles : (start : Lanes) (part : List SettleEntry) (behind : Lanes) → Are
 settles start part behind reached unforged few settle =
     ends_settled lanes Clean all_remaining falls start part behind (are_clean start reached unforged few)
     (within (all_remaining start) (length start.first) (length start.second) (lanes.pending start) (remains_most start reached unforged few) few.of_disks few.of_ports) settle
+
+-- and a front of a settle has fewer than the most rounds
+pub begun_few : (start : Lanes) (part : List SettleEntry) (behind : Lanes) → AreReached start → AreUnforged start → AreFew start → (at : SettleFront lanes fronts start part behind)
+    → length at.rounds < most_rounds lanes start
+begun_few start part behind reached unforged few at =
+    rounds_few lanes Clean all_remaining falls start at.rounds at.now (are_clean start reached unforged few)
+    (within (all_remaining start) (length start.first) (length start.second) (lanes.pending start) (remains_most start reached unforged few) few.of_disks few.of_ports) at.run

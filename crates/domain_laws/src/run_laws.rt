@@ -1,6 +1,6 @@
 // What holds along every run of a world of disks and ports.
 
-ghost use Rattle.std.specs.Prelude.{◌≡◌, ◌≢◌, ℕ, length, List, map, slice_get, Some};
+ghost use Rattle.std.specs.Prelude.{◌≡◌, ◌≢◌, ◌↔◌, ℕ, length, List, map, slice_get, Some};
 ghost use Rattle.runs.specs.Run.{Run};
 ghost use Rattle.disk_law.specs.ListState.{ImageState};
 ghost use Rattle.disk_model.specs.DiskEvent.{DiskEvent};
@@ -10,12 +10,13 @@ ghost use Rattle.lane_kinds.specs.Lanes.{AllMove, EachOf};
 ghost use Rattle.port_model.specs.NetLaneState.{IsNetShape, NetShape};
 ghost use Rattle.port_model.specs.PortState.{fresh_port, PortState, PortStep};
 ghost use Rattle.switch_laws.specs.Events.{at_port, SwitchEvent, SwitchStep};
-ghost use Rattle.switch_laws.specs.Reached.{IsReached};
+ghost use Rattle.switch_laws.specs.Reached.{IsReached, IsUnforged};
 ghost use Rattle.world_laws.specs.Settle.{OfLane, OfPort, SettleEntry};
 ghost use Rattle.world_laws.specs.Stays.{StaysAround};
 ghost use Rattle.world_laws.specs.World.{fresh_world, IsWorld, WorldState, WorldStep};
 ghost use Rattle.domain_laws.specs.Along.{IsOfDisk, IsOfPort, OnlyDisk, OnlyPort, port_happened, port_said};
 ghost use Rattle.domain_laws.specs.Domain.{DomainState, DomainStep, fresh_domain, PortsStep};
+ghost use Rattle.domain_laws.specs.Forged.{NobodyForgesPort};
 
 /// A run of a world of disks and ports is a run of the disks' world and one of the switch, each over the same entries.
 /// Two such runs are one of both. So each law of a world of disks that is stated over runs holds as it stands.
@@ -68,4 +69,13 @@ pub fn an_entry_of_a_port_leaves_all_other_lanes()
     ensures entry { (k : ℕ) (event : SwitchEvent) (w v : DomainState) → DomainStep w (OfPort k event) v → OnlyPort k event w v }
     ensures part { (k : ℕ) (part : List SettleEntry) (w v : DomainState) → EachOf (IsOfPort k) part
         → Run DomainStep w part v → v.first ≡ w.first }
+{}
+
+/// A port's state says whether somebody forged it: nobody did exactly where none of its events forges, by what the
+/// journal says happened to it. What happened to other lanes forges no port.
+pub fn forging_of_ports_is_told()
+    ensures { (nets : List NetShape) (entries : List SettleEntry) (behind : List PortState) (k : ℕ)
+        (shape : NetShape) (s : PortState) → Run PortsStep (map fresh_port nets) entries behind
+        → slice_get nets k ≡ Some shape → slice_get behind k ≡ Some s
+        → (IsUnforged s) ↔ NobodyForgesPort (port_happened k entries) }
 {}

@@ -1,5 +1,5 @@
 -- The words of a line that spells an event have printable bytes, none of them a space, and aren't empty.
-use Rattle.std.proofs.Common.{◌≡◌, ℕ, ◌<◌, ◌≤◌, Bool, true, false, ◌&&◌, List, [], ◌∷◌, ◌++◌, length, decimal, inl, inr, refl, sym, ◌∙◌, ap, subst, arith}
+use Rattle.std.proofs.Common.{◌≡◌, ℕ, ◌/◌, ◌<◌, ◌≤◌, Bool, true, false, ◌&&◌, List, [], ◌∷◌, ◌++◌, length, decimal, inl, inr, refl, sym, ◌∙◌, ap, subst, arith}
 use Rattle.std.specs.Prelude.{nat_le}
 use Rattle.std.specs.Char.{is_ascii_digit, is_ascii_lowercase}
 use Rattle.std.specs.List.{join_with_byte, list_all, list_any}
@@ -9,26 +9,25 @@ use Rattle.std.proofs.lemmas.Fmt.{decimal_is_IsNumeral}
 use Rattle.std.proofs.lemmas.List.Folds.{list_all-append}
 use Rattle.std.proofs.lemmas.List.Splits.{join_with_byte-slice_split}
 use Rattle.std.proofs.lemmas.Str.Parse.{digit_from_value}
-use Rattle.vdisk_msg.specs.declared.request.Fill.{Fill}
 use Rattle.domain_script.specs.declared.event.Name.{Name}
 use Rattle.domain_script.specs.declared.event.Side.{Side}
 use Rattle.domain_script.specs.declared.event.Side.TheVariants.{Client, Server}
 use Rattle.domain_script.specs.declared.event.EndName.{EndName}
 use Rattle.domain_script.specs.declared.event.Lane.{Lane}
 use Rattle.domain_script.specs.declared.fields.Field.{Field}
-use Rattle.domain_script.specs.declared.fields.Field.TheVariants.{NewName, DiskName, LaneName, End, Number, Bytes, Packet}
+use Rattle.domain_script.specs.declared.fields.Field.TheVariants.{NewName, NewAddress, Named, LaneName, End, Number, Bytes, Frame, Packet, Group}
 use Rattle.domain_script.specs.declared.rows.RowKind.{RowKind}
 use Rattle.domain_script.specs.declared.rows.RowKind.TheVariants as row
 use Rattle.domain_script.specs.Faults.{is_empty}
 use Rattle.domain_script.specs.NamesState.{NamesState}
 use Rattle.domain_script.specs.Pieces.{HasNo}
 use Rattle.domain_script.specs.Rows.{row_of}
-use Rattle.domain_script.specs.Spells.{NamesDisk, NamesEnd, NamesLane, SpellsField, SpellsFields, is_printable}
+use Rattle.domain_script.specs.Spells.{NamesEnd, NamesLane, SpellsField, SpellsFields, is_printable}
 use Rattle.domain_script.specs.Values.{ValueOf, ValuesOf}
-use Rattle.domain_script.specs.Words.{IsNameWord, SpellsFill, SpellsName, SpellsNumber, SpellsPacket, is_lower_digit, is_name_byte, side_text, words}
+use Rattle.domain_script.specs.Words.{IsNameWord, SpellsExactly, SpellsFront, SpellsName, SpellsNumber, is_lower_digit, is_name_byte, side_text, words}
 use Rattle.domain_script.proofs.WordLemmas.{words_none, words_space}
-use Rattle.domain_script.proofs.WordTests.{is_bytes_from, is_packet_from}
-use Rattle.domain_script.proofs.LaneKinds.{of_disks}
+use Rattle.domain_script.proofs.WordTests.{is_exactly_from, is_front_from}
+use Rattle.domain_script.specs.LaneKinds.{lane_at}
 
 -- printable bytes without the space, and at least one
 abbrev pub is_graphic : ℕ → Bool
@@ -92,8 +91,7 @@ side_clean (b ∷ bs) Client clean = record { graphic = list_all-append is_graph
 side_clean (b ∷ bs) Server clean = record { graphic = list_all-append is_graphic (b ∷ bs) (side_text Server) ∙ and_from _ _ clean.graphic refl; some = refl }
 
 lane_clean : (names : NamesState) (word : List ℕ) (l : Lane) → NamesLane names word l → IsClean word
-lane_clean names word l named =
-    of_disks (λ x. IsClean word) (NamesDisk names word) (λ disk is. name_clean word is.name is.spelled) l named
+lane_clean names word l named = name_clean word named.name named.spelled
 
 end_clean : (names : NamesState) (word : List ℕ) (end : EndName) → NamesEnd names word end → IsClean word
 end_clean names word end named =
@@ -114,27 +112,30 @@ number_clean word n spells =
     let numeral = (decimal_is_IsNumeral n spells.1).0 in
     subst (λ (w : List ℕ). IsClean w) (sym spells.0) (some_clean (decimal n) (digits_graphic (decimal n) numeral.1) numeral.0)
 
-bytes_clean : (word : List ℕ) (fill : Fill) → SpellsFill word fill → IsClean word
-bytes_clean word fill spells =
-    let parts = and_parts _ _ (is_bytes_from word fill spells) in
+front_clean : (size : ℕ) (word : List ℕ) (len : ℕ) (bytes : List ℕ) → SpellsFront size word len bytes → IsClean word
+front_clean size word len bytes spells =
+    let parts = and_parts _ _ (is_front_from size word len bytes spells) in
     let limits = and_parts _ _ (and_parts _ _ parts.1).1 in
-    let some : 2 ≤ length word = leb-true 2 (length word) limits.0 in
+    let some : 1 ≤ length word / 2 = leb-true 1 (length word / 2) limits.0 in
     some_clean word (all_more is_lower_digit is_graphic word lower_digit_graphic parts.0) (omega (arith, some))
 
-packet_clean : (word packet : List ℕ) → SpellsPacket word packet → IsClean word
-packet_clean word packet spells =
-    let parts = and_parts _ _ (is_packet_from word packet spells) in
-    let long : length word ≡ 128 = eqb-true (length word) 128 parts.1 in
-    some_clean word (all_more is_lower_digit is_graphic word lower_digit_graphic parts.0) (omega (arith, long))
+exactly_clean : (size : ℕ) (word bytes : List ℕ) → 0 < size → SpellsExactly size word bytes → IsClean word
+exactly_clean size word bytes some spells =
+    let parts = and_parts _ _ (is_exactly_from size word bytes spells) in
+    let half : length word / 2 ≡ size = eqb-true (length word / 2) size (and_parts _ _ parts.1).1 in
+    some_clean word (all_more is_lower_digit is_graphic word lower_digit_graphic parts.0) (omega (arith, half, some))
 
 field_clean : (names : NamesState) (field : Field) (word : List ℕ) (value : ValueOf field) → SpellsField names field word value → IsClean word
 field_clean names (NewName kind) word name spelled = name_clean word name spelled.0
-field_clean names DiskName word disk spelled = name_clean word spelled.name spelled.spelled
+field_clean names NewAddress word address spelled = exactly_clean 6 word address (omega arith) spelled.0
+field_clean names (Named kind) word k spelled = lane_clean names word (lane_at kind k) spelled
 field_clean names LaneName word l spelled = lane_clean names word l spelled
 field_clean names (End kind) word end spelled = end_clean names word end spelled.0
 field_clean names (Number bounds) word n spelled = number_clean word n spelled.0
-field_clean names Bytes word fill spelled = bytes_clean word fill spelled
-field_clean names Packet word packet spelled = packet_clean word packet spelled
+field_clean names Bytes word fill spelled = front_clean 1024 word fill.len fill.bytes spelled
+field_clean names Frame word piece spelled = front_clean 1540 word piece.len piece.bytes spelled
+field_clean names Packet word packet spelled = exactly_clean 64 word packet (omega arith) spelled
+field_clean names Group word address spelled = exactly_clean 6 word address (omega arith) spelled.0
 
 -- many of them
 pub record AreClean (ws : List (List ℕ)) : Type 0 where

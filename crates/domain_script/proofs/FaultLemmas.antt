@@ -1,7 +1,6 @@
 -- A line that spells an event has none of the faults.
 use Rattle.std.proofs.Common.{◌≡◌, ℕ, ◌+◌, Bool, true, false, not, List, [], ◌∷◌, length, Option, Some, None, find, zip, is_none, is_some, inl, inr, refl, sym, ◌∙◌, ap, subst, arith}
 use Rattle.std.specs.Prelude.{◌==◌}
-use Rattle.std.specs.Option.{option_map}
 use Rattle.std.specs.List.{list_all, list_any, onto_first}
 use Rattle.std.proofs.lemmas.Bool.{and_from, and_left, and_right, cond-false, eq-eqb, lt-leb, not_from_true, or_from}
 use Rattle.domain_script.specs.declared.event.EndName.{EndName}
@@ -11,36 +10,40 @@ use Rattle.domain_script.specs.declared.event.LineFault.{LineFault}
 use Rattle.domain_script.specs.declared.event.LineFault.TheVariants as line_fault
 use Rattle.domain_script.specs.declared.event.Name.{Name}
 use Rattle.domain_script.specs.declared.fields.Field.{Field}
-use Rattle.domain_script.specs.declared.fields.Field.TheVariants.{NewName, DiskName, LaneName, End, Number, Bytes, Packet}
+use Rattle.domain_script.specs.declared.fields.Field.TheVariants.{NewName, NewAddress, Named, LaneName, End, Number, Bytes, Frame, Packet, Group}
 use Rattle.domain_script.specs.declared.rows.RowKind.{RowKind}
+use Rattle.domain_script.specs.Addresses.{is_among, is_group, is_own}
+use Rattle.domain_script.specs.Declarations.{addresses}
 use Rattle.domain_script.specs.Faults.{asks_other, faults, fields_of, first_fault, has_fault, is_blank, is_empty, is_wrong, placed, row_in}
-use Rattle.domain_script.specs.Naming.{lane_named, number_named, some_of_kind}
-use Rattle.domain_script.specs.NamesState.{NamesState, count_of}
+use Rattle.domain_script.specs.Naming.{first_named, lane_named, some_of_kind}
+use Rattle.domain_script.specs.NamesState.{IsFree, NamesState, count_of}
 use Rattle.domain_script.specs.Rows.{row_named, row_of}
 use Rattle.domain_script.specs.Spells.{IsBlank, Spells, SpellsField, SpellsFields, SpellsFound, SpellsRow, SpellsWords, is_printable}
 use Rattle.domain_script.specs.Values.{ValueOf, ValuesOf}
-use Rattle.domain_script.specs.Words.{is_bytes, is_name, is_number, is_packet, is_within, name_of, number_of, words}
+use Rattle.domain_script.specs.Words.{SpellsName, is_exactly, is_front, is_name, is_number, is_within, number_of, words}
 use Rattle.domain_script.proofs.CleanWords.{AreClean, IsClean, clean_more, fields_clean, line_prints, row_clean}
 use Rattle.domain_script.proofs.FieldValues.{as_many}
-use Rattle.domain_script.proofs.NamingTests.{disk_is, disk_of_name, end_is, free_none, kind_test, lane_is}
+use Rattle.domain_script.proofs.AddressTests.{free_test, group_test, own_test, tested}
+use Rattle.domain_script.proofs.NamingTests.{end_is, free_first, kind_is, kind_test, lane_is, lane_of_name}
 use Rattle.domain_script.proofs.OneEvent.{words_of_hash}
 use Rattle.domain_script.proofs.RowLemmas.{word_of_row}
-use Rattle.domain_script.proofs.WordTests.{is_bytes_from, is_name_from, is_number_from, is_packet_from, name_is, number_is, within_test}
-use Rattle.domain_script.specs.LaneKinds.{disk_lane}
+use Rattle.domain_script.proofs.WordTests.{is_exactly_from, is_front_from, is_name_from, is_number_from, name_is, number_is, within_test}
 
 -- A FIELD whose word spells a value
-not_taken : (names : NamesState) (word : List ℕ) (name : Name) → is_name word ≡ true → number_named (name_of word) names.disks ≡ None → is_some (lane_named names word) ≡ false
-not_taken names word name is none =
-    ap (λ (o : Option ℕ). is_some (option_map disk_lane o)) (disk_of_name names word is ∙ none)
+not_taken : (names : NamesState) (word : List ℕ) (name : Name) → SpellsName word name → IsFree names name → is_some (lane_named names word) ≡ false
+not_taken names word name spelled free =
+    ap (λ (o : Option Lane). is_some o)
+    (lane_of_name names word (is_name_from word name spelled) ∙ ap (λ (n : Name). first_named names n) (name_is word name spelled) ∙ free_first names name free)
 
 not_wrong : (which : LineFault) (names : NamesState) (field : Field) (word : List ℕ) (value : ValueOf field) → SpellsField names field word value → is_wrong which names field word ≡ false
 not_wrong line_fault.Name names (NewName kind) word name spelled = not_from_true (is_name word) (is_name_from word name spelled.0)
 not_wrong line_fault.Place names (NewName kind) word name spelled = spelled.1.open_still
 not_wrong line_fault.Taken names (NewName kind) word name spelled =
-    not_taken names word name (is_name_from word name spelled.0)
-    (ap (λ (n : Name). number_named n names.disks) (name_is word name spelled.0) ∙ free_none name names.disks spelled.1.free)
+    not_taken names word name spelled.0 spelled.1.free
+not_wrong line_fault.Taken names NewAddress word address spelled =
+    tested 6 word address (λ (bytes : List ℕ). is_among bytes (addresses names.ports)) spelled.0 ∙ free_test address (addresses names.ports) spelled.2
 not_wrong line_fault.Many names (NewName kind) word name spelled = lt-leb 8 (count_of kind names) spelled.1.few
-not_wrong line_fault.Unknown names DiskName word disk spelled = ap (λ (o : Option ℕ). is_none o) (disk_is names word disk spelled)
+not_wrong line_fault.Unknown names (Named kind) word k spelled = ap (λ (o : Option ℕ). is_none o) (kind_is names word kind k spelled)
 not_wrong line_fault.Unknown names LaneName word l spelled = ap (λ (o : Option Lane). is_none o) (lane_is names word l spelled)
 not_wrong line_fault.Unknown names (End kind) word end spelled =
     ap (λ (o : Option EndName). not (some_of_kind kind o)) (end_is names word end spelled.0) ∙ ap not (kind_test kind end spelled.1)
@@ -49,8 +52,15 @@ not_wrong line_fault.Range names (Number bounds) word n spelled =
     and_right (is_number word) (not (is_within bounds (number_of word)))
     (not_from_true (is_within bounds (number_of word))
     (subst (λ (k : ℕ). is_within bounds k ≡ true) (sym (number_is word n spelled.0)) (within_test bounds n spelled.1)))
-not_wrong line_fault.Hex names Bytes word fill spelled = not_from_true (is_bytes word) (is_bytes_from word fill spelled)
-not_wrong line_fault.Hex names Packet word packet spelled = not_from_true (is_packet word) (is_packet_from word packet spelled)
+not_wrong line_fault.Range names NewAddress word address spelled =
+    tested 6 word address (λ (bytes : List ℕ). not (is_own bytes)) spelled.0 ∙ ap not (own_test address spelled.1)
+not_wrong line_fault.Range names Group word address spelled =
+    tested 6 word address (λ (bytes : List ℕ). not (is_group bytes)) spelled.0 ∙ ap not (group_test address spelled.1)
+not_wrong line_fault.Hex names NewAddress word address spelled = not_from_true (is_exactly 6 word) (is_exactly_from 6 word address spelled.0)
+not_wrong line_fault.Hex names Bytes word fill spelled = not_from_true (is_front 1024 word) (is_front_from 1024 word fill.len fill.bytes spelled)
+not_wrong line_fault.Hex names Frame word piece spelled = not_from_true (is_front 1540 word) (is_front_from 1540 word piece.len piece.bytes spelled)
+not_wrong line_fault.Hex names Packet word packet spelled = not_from_true (is_exactly 64 word) (is_exactly_from 64 word packet spelled)
+not_wrong line_fault.Hex names Group word address spelled = not_from_true (is_exactly 6 word) (is_exactly_from 6 word address spelled.0)
 not_wrong which names field word value spelled = refl
 
 none_wrong : (which : LineFault) (names : NamesState) (fields : List Field) (line : List (List ℕ)) (values : ValuesOf fields) → SpellsFields names fields line values

@@ -2,7 +2,6 @@
 use Rattle.std.proofs.Common.{◌≡◌, ℕ, suc, ◌+◌, ◌<◌, Bool, true, false, ◌&&◌, not, cond, List, [], ◌∷◌, length, get_or, zero, Option, Some, None, find, zip, is_none, is_some, unwrap_or, IfSome, inl, inr, refl, sym, ◌∙◌, ap, arith}
 use Rattle.std.specs.Prelude.{◌==◌, if◌then◌else◌}
 use Rattle.std.specs.List.{list_any}
-use Rattle.std.specs.Option.{option_map}
 use Rattle.std.proofs.lemmas.Bool.{and_parts, eqb-true, leb-false, not-false, or_parts}
 use Rattle.domain_script.specs.declared.event.EndName.{EndName}
 use Rattle.domain_script.specs.declared.event.Event.TheVariants.{Blank}
@@ -11,18 +10,21 @@ use Rattle.domain_script.specs.declared.event.LineFault.TheVariants as line_faul
 use Rattle.domain_script.specs.declared.event.Side.TheVariants.{Client}
 use Rattle.domain_script.specs.declared.fields.EndKind.{EndKind}
 use Rattle.domain_script.specs.declared.fields.Field.{Field}
-use Rattle.domain_script.specs.declared.fields.Field.TheVariants.{NewName, DiskName, LaneName, End, Number, Bytes, Packet}
+use Rattle.domain_script.specs.declared.fields.Field.TheVariants.{NewName, NewAddress, Named, LaneName, End, Number, Bytes, Frame, Packet, Group}
 use Rattle.domain_script.specs.declared.rows.RowKind.{RowKind}
+use Rattle.domain_script.specs.Addresses.{is_among, is_group, is_own}
 use Rattle.domain_script.specs.Computed.{faultless_event, field_value, field_values, found_event, words_event}
+use Rattle.domain_script.specs.Declarations.{addresses}
 use Rattle.domain_script.specs.Faults.{asks_other, faults, fields_of, first_fault, has_fault, has_other_byte, has_wrong_field, is_blank, is_wrong, placed, row_in}
-use Rattle.domain_script.specs.Naming.{disk_named, end_named, lane_named, some_of_kind}
+use Rattle.domain_script.specs.Naming.{end_named, lane_named, kind_named, some_of_kind}
 use Rattle.domain_script.specs.NamesState.{NamesState, count_of}
 use Rattle.domain_script.specs.Rows.{row_named, row_of}
-use Rattle.domain_script.specs.Spells.{IsBlank, IsOfKind, NamesDisk, NamesEnd, NamesLane, Spells, SpellsField, SpellsFields, SpellsFound, SpellsWords}
-use Rattle.domain_script.specs.Words.{is_bytes, is_name, is_number, is_packet, is_within, name_of, number_of, words}
-use Rattle.domain_script.proofs.NamingTests.{disk_found, disk_of_name, end_found, kind_from_test, lane_found, none_free}
-use Rattle.domain_script.proofs.WordTests.{fill_spelled, name_spelled, number_spelled, packet_spelled, within_from_test}
-use Rattle.domain_script.specs.LaneKinds.{disk_lane}
+use Rattle.domain_script.specs.Spells.{IsBlank, IsOfKind, NamesEnd, NamesLane, Spells, SpellsField, SpellsFields, SpellsFound, SpellsWords}
+use Rattle.domain_script.specs.Words.{bytes_of, is_exactly, is_front, is_name, is_number, is_within, name_of, number_of, words}
+use Rattle.domain_script.proofs.AddressTests.{free_from_test, group_from_test, own_from_word}
+use Rattle.domain_script.proofs.NamingTests.{end_found, kind_found, kind_from_test, lane_found, lane_of_name, none_free}
+use Rattle.domain_script.proofs.WordTests.{exactly_spelled, front_spelled, name_spelled, number_spelled, within_from_test}
+use Rattle.domain_script.specs.LaneKinds.{disk_lane, lane_at}
 
 -- A FIELD whose word has no fault
 is_there : {A : Type 0} (o : Option A) (d : A) (P : A → Type 0) → is_none o ≡ false → IfSome o P → P (unwrap_or o d)
@@ -33,9 +35,9 @@ end_there : (kind : EndKind) (o : Option EndName) (d : EndName) (P : EndName →
 end_there kind None d P some holds = absurd (cc some)
 end_there kind (Some end) d P some holds = (holds, kind_from_test kind end some)
 
-none_of_map : (o : Option ℕ) → is_some (option_map disk_lane o) ≡ false → o ≡ None
-none_of_map None none = refl
-none_of_map (Some k) none = absurd (cc none)
+none_of_some : {A : Type 0} (o : Option A) → is_some o ≡ false → o ≡ None
+none_of_some None none = refl
+none_of_some (Some a) none = absurd (cc none)
 
 second_false : (x y : Bool) → x ≡ true → (x && y) ≡ false → y ≡ false
 second_false true y first both = both
@@ -48,10 +50,18 @@ spells_value names (NewName kind) word right =
       record {
         open_still = right line_fault.Place;
         few = leb-false 8 (count_of kind names) (right line_fault.Many);
-        free = none_free (name_of word) names.disks (sym (disk_of_name names word is) ∙ none_of_map (disk_named names word) (right line_fault.Taken));
+        free = none_free names (name_of word) (sym (lane_of_name names word is) ∙ none_of_some (lane_named names word) (right line_fault.Taken));
       },
     )
-spells_value names DiskName word right = is_there (disk_named names word) 0 (NamesDisk names word) (right line_fault.Unknown) (disk_found names word)
+spells_value names NewAddress word right =
+    let is : is_exactly 6 word ≡ true = not-false (is_exactly 6 word) (right line_fault.Hex) in
+    let spells = exactly_spelled 6 word is in (
+      spells,
+      own_from_word word (bytes_of word) spells (not-false (is_own (bytes_of word)) (second_false (is_exactly 6 word) (not (is_own (bytes_of word))) is (right line_fault.Range))),
+      free_from_test (bytes_of word) (addresses names.ports) (second_false (is_exactly 6 word) (is_among (bytes_of word) (addresses names.ports)) is (right line_fault.Taken)),
+    )
+spells_value names (Named kind) word right =
+    is_there (kind_named kind names word) 0 (λ k. NamesLane names word (lane_at kind k)) (right line_fault.Unknown) (kind_found names word kind)
 spells_value names LaneName word right = is_there (lane_named names word) (disk_lane 0) (NamesLane names word) (right line_fault.Unknown) (lane_found names word)
 spells_value names (End kind) word right =
     end_there kind (end_named names word) (record { lane = disk_lane 0; side = Client }) (NamesEnd names word)
@@ -61,8 +71,15 @@ spells_value names (Number bounds) word right =
     let within : is_within bounds (number_of word) ≡ true =
     not-false (is_within bounds (number_of word)) (second_false (is_number word) (not (is_within bounds (number_of word))) is (right line_fault.Range)) in
     (number_spelled word is, within_from_test bounds (number_of word) within)
-spells_value names Bytes word right = fill_spelled word (not-false (is_bytes word) (right line_fault.Hex))
-spells_value names Packet word right = packet_spelled word (not-false (is_packet word) (right line_fault.Hex))
+spells_value names Bytes word right = front_spelled 1024 word (not-false (is_front 1024 word) (right line_fault.Hex))
+spells_value names Frame word right = front_spelled 1540 word (not-false (is_front 1540 word) (right line_fault.Hex))
+spells_value names Packet word right = exactly_spelled 64 word (not-false (is_exactly 64 word) (right line_fault.Hex))
+spells_value names Group word right =
+    let is : is_exactly 6 word ≡ true = not-false (is_exactly 6 word) (right line_fault.Hex) in
+    let spells = exactly_spelled 6 word is in (
+      spells,
+      group_from_test (bytes_of word) spells.long (not-false (is_group (bytes_of word)) (second_false (is_exactly 6 word) (not (is_group (bytes_of word))) is (right line_fault.Range))),
+    )
 
 spells_values : (names : NamesState) (fields : List Field) (line : List (List ℕ)) → length line ≡ length fields
     → ((which : LineFault) → list_any (λ (place : Field × List ℕ). is_wrong which names place.0 place.1) (zip fields line) ≡ false)

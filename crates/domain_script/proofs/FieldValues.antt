@@ -1,22 +1,21 @@
 -- What the words of a row's fields spell: at most one value each, which fits its field.
-use Rattle.std.proofs.Common.{◌≡◌, ℕ, zero, suc, ◌<◌, List, [], ◌∷◌, length, get_or, slice_get, IsSomeAnd, refl, sym, ◌∙◌, ap, subst, arith}
+use Rattle.std.proofs.Common.{◌≡◌, ℕ, zero, suc, ◌<◌, List, [], ◌∷◌, length, get_or, Option, Some, None, IsSomeAnd, refl, sym, ◌∙◌, ap, subst, arith}
 use Rattle.std.proofs.lemmas.Fmt.{decimal_injective}
-use Rattle.domain_script.specs.declared.event.DiskDecl.{DiskDecl}
 use Rattle.domain_script.specs.declared.event.Lane.{Lane}
 use Rattle.domain_script.specs.declared.event.Name.{Name}
 use Rattle.domain_script.specs.declared.fields.Bounds.{Bounds}
 use Rattle.domain_script.specs.declared.fields.Bounds.TheVariants as numbers
 use Rattle.domain_script.specs.declared.fields.Field.{Field}
-use Rattle.domain_script.specs.declared.fields.Field.TheVariants.{NewName, DiskName, LaneName, End, Number, Bytes, Packet}
-use Rattle.domain_script.specs.NamesState.{NamesState, IsDiskNamed}
-use Rattle.domain_script.specs.Printed.{AllCanStand, CanStand, HasName, IsLaneNamed}
-use Rattle.domain_script.specs.Spells.{FitFields, FitsField, NamesDisk, NamesLane, SpellsField, SpellsFields}
+use Rattle.domain_script.specs.declared.fields.Field.TheVariants.{NewName, NewAddress, Named, LaneName, End, Number, Bytes, Frame, Packet, Group}
+use Rattle.domain_script.specs.NamesState.{NamesState, lane_name, names_of}
+use Rattle.domain_script.specs.Printed.{AllCanStand, CanStand, HasName}
+use Rattle.domain_script.specs.Spells.{FitFields, FitsField, NamesLane, SpellsField, SpellsFields}
 use Rattle.domain_script.specs.Values.{ValueOf, ValuesOf}
 use Rattle.domain_script.specs.Words.{IsName, IsWithin, SpellsNumber}
-use Rattle.domain_script.proofs.HexWords.{one_fill, one_packet}
-use Rattle.domain_script.proofs.Naming.{lane_within, named_within, names_one_disk, names_one_end, one_lane, one_name}
-use Rattle.domain_script.specs.LaneKinds.{disk_of}
-use Rattle.domain_script.proofs.LaneKinds.{some_weaker}
+use Rattle.domain_script.proofs.HexWords.{one_exactly, one_fill, one_piece}
+use Rattle.domain_script.proofs.Naming.{lane_within, names_one_end, one_lane, one_name, one_number as one_number_of}
+use Rattle.domain_script.specs.LaneKinds.{lane_at}
+use Rattle.domain_script.proofs.Firsts.{first_there}
 
 -- a word spells at most one number
 pub one_number : (word : List ℕ) (m n : ℕ) → SpellsNumber word m → SpellsNumber word n → m ≡ n
@@ -24,12 +23,15 @@ one_number word m n first second = decimal_injective m n first.1 second.1 (sym f
 
 one_value : (names : NamesState) (field : Field) (word : List ℕ) (a b : ValueOf field) → SpellsField names field word a → SpellsField names field word b → a ≡ b
 one_value names (NewName kind) word a b first second = one_name word a b first.0 second.0
-one_value names DiskName word a b first second = names_one_disk names word a b first second
+one_value names NewAddress word a b first second = one_exactly 6 word a b first.0 second.0
+one_value names (Named kind) word a b first second = one_number_of names word kind a b first second
 one_value names LaneName word a b first second = one_lane names word a b first second
 one_value names (End kind) word a b first second = names_one_end names word a b first.0 second.0
 one_value names (Number bounds) word a b first second = one_number word a b first.0 second.0
 one_value names Bytes word a b first second = one_fill word a b first second
-one_value names Packet word a b first second = one_packet word a b first second
+one_value names Frame word a b first second = one_piece word a b first second
+one_value names Packet word a b first second = one_exactly 64 word a b first second
+one_value names Group word a b first second = one_exactly 6 word a b first.0 second.0
 
 -- words spell at most one list of values
 pub one_values : (names : NamesState) (fields : List Field) (line : List (List ℕ)) (a b : ValuesOf fields)
@@ -67,12 +69,15 @@ nothing_at (suc k) names (field ∷ fields) (word ∷ line) values lt none spell
 -- WHAT IS SPELLED FITS ITS FIELD
 fits_field : (names : NamesState) (field : Field) (word : List ℕ) (value : ValueOf field) → SpellsField names field word value → FitsField names field value
 fits_field names (NewName kind) word name spelled = record { word = word; spelled = spelled.0 }
-fits_field names DiskName word disk spelled = named_within names.disks spelled.name disk spelled.declared_as
+fits_field names NewAddress word address spelled = spelled.1
+fits_field names (Named kind) word k spelled = lane_within names word (lane_at kind k) spelled
 fits_field names LaneName word l spelled = lane_within names word l spelled
 fits_field names (End kind) word end spelled = (lane_within names spelled.0.name end.lane spelled.0.lane_named, spelled.1)
 fits_field names (Number bounds) word n spelled = (spelled.0.1, spelled.1)
-fits_field names Bytes word fill spelled = spelled.limits
+fits_field names Bytes word fill spelled = record { some = spelled.some; most = spelled.most; room = spelled.room; zeros = spelled.zeros }
+fits_field names Frame word piece spelled = record { some = spelled.some; most = spelled.most; room = spelled.room; zeros = spelled.zeros }
 fits_field names Packet word packet spelled = spelled.long
+fits_field names Group word address spelled = spelled.1
 
 pub fit_fields : (names : NamesState) (fields : List Field) (line : List (List ℕ)) (values : ValuesOf fields) → SpellsFields names fields line values → FitFields names fields values
 fit_fields names [] line values spelled = tt
@@ -80,27 +85,27 @@ fit_fields names (field ∷ fields) [] values spelled = absurd spelled
 fit_fields names (field ∷ fields) (word ∷ line) values spelled =
     (fits_field names field word values.0 spelled.0, fit_fields names fields line values.1 spelled.1)
 
--- and can stand in it: the disk that is named has that name
-has_name : (disks : List DiskDecl) (name : Name) (k : ℕ) → IsName name → IsDiskNamed name disks k → IsSomeAnd (slice_get disks k) (λ d. IsName d.name)
-has_name [] name k is named = absurd named
-has_name (x ∷ xs) name zero is named = subst (λ (n : Name). IsName n) (sym named) is
-has_name (x ∷ xs) name (suc k) is named = has_name xs name k is named.1
+-- and can stand in it: the lane that is named has that name
+some_name : (found : Option Name) (name : Name) → found ≡ Some name → IsName name → IsSomeAnd found IsName
+some_name None name is spelled = absurd (cc is)
+some_name (Some own) name is spelled = let same : name ≡ own = cc is in subst IsName same spelled
 
-disk_has_name : (names : NamesState) (word : List ℕ) (disk : ℕ) → NamesDisk names word disk → HasName names disk
-disk_has_name names word disk named = has_name names.disks named.name disk (record { word = word; spelled = named.spelled }) named.declared_as
-
-lane_has_name : (names : NamesState) (word : List ℕ) (l : Lane) → NamesLane names word l → IsLaneNamed names l
-lane_has_name names word l named =
-    some_weaker (disk_of l) (NamesDisk names word) (HasName names) (disk_has_name names word) named
+lane_has_name : (names : NamesState) (word : List ℕ) (lane : Lane) → NamesLane names word lane → HasName names lane
+lane_has_name names word lane named =
+    some_name (lane_name names lane) named.name (first_there (names_of lane.kind names) named.name lane.number named.declared_as.1)
+    (record { word = word; spelled = named.spelled })
 
 stands_in_field : (names : NamesState) (field : Field) (word : List ℕ) (value : ValueOf field) → SpellsField names field word value → CanStand names field value
 stands_in_field names (NewName kind) word name spelled = spelled.1
-stands_in_field names DiskName word disk spelled = disk_has_name names word disk spelled
+stands_in_field names NewAddress word address spelled = spelled.2
+stands_in_field names (Named kind) word k spelled = lane_has_name names word (lane_at kind k) spelled
 stands_in_field names LaneName word l spelled = lane_has_name names word l spelled
 stands_in_field names (End kind) word end spelled = lane_has_name names spelled.0.name end.lane spelled.0.lane_named
 stands_in_field names (Number bounds) word n spelled = tt
 stands_in_field names Bytes word fill spelled = tt
+stands_in_field names Frame word piece spelled = tt
 stands_in_field names Packet word packet spelled = tt
+stands_in_field names Group word address spelled = tt
 
 pub stand_in_fields : (names : NamesState) (fields : List Field) (line : List (List ℕ)) (values : ValuesOf fields) → SpellsFields names fields line values → AllCanStand names fields values
 stand_in_fields names [] line values spelled = tt

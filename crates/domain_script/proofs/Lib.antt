@@ -1,4 +1,6 @@
 pub mod Disks
+pub mod Firsts
+pub mod Taken
 pub mod Feeds
 pub mod ScriptLemmas
 pub mod WordLemmas
@@ -7,9 +9,11 @@ pub mod DecimalDigits
 pub mod HexWords
 pub mod SameName
 pub mod LaneKinds
-pub mod NamedLanes
+pub mod LaneNames
+pub mod Noting
 pub mod Naming
 pub mod WordTests
+pub mod AddressTests
 pub mod NamingTests
 pub mod FieldValues
 pub mod RowLemmas

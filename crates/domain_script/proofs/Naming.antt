@@ -1,81 +1,55 @@
--- Which disk and which end a word names.
-use Rattle.std.proofs.Common.{◌≡◌, ◌<◌, ℕ, zero, suc, List, [], ◌∷◌, ◌++◌, append_assoc, length, Option, Some, None, MatchOption, IsTrue, ◌↔◌, Bool, not, true, false, IfNone, refl, sym, ◌∙◌, ap, subst, arith}
+-- Which lane and which end a word names.
+use Rattle.std.proofs.Common.{◌≡◌, ℕ, List, [], ◌∷◌, ◌++◌, append_assoc, Option, Some, None, MatchOption, IsTrue, ◌↔◌, Bool, not, true, false, IfNone, refl, sym, ◌∙◌, ap, subst, arith}
 use Rattle.std.specs.Option.{is_some}
 use Rattle.std.proofs.lemmas.List.{append_cancel_right, same_from_push}
-use Rattle.domain_script.specs.declared.event.DiskDecl.{DiskDecl}
 use Rattle.domain_script.specs.declared.event.EndName.{EndName}
 use Rattle.domain_script.specs.declared.event.Lane.{Lane}
 use Rattle.domain_script.specs.declared.event.Name.{Name}
 use Rattle.domain_script.specs.declared.event.Side.{Side}
 use Rattle.domain_script.specs.declared.event.Side.TheVariants.{Client, Server}
-use Rattle.domain_script.specs.NamesState.{NamesState, IsDiskNamed, IsFree, IsLane}
-use Rattle.domain_script.specs.Spells.{NamesDisk, NamesEnd, NamesLane}
+use Rattle.domain_script.specs.NamesState.{NamesState, IsFree, IsLane, IsNamed}
+use Rattle.domain_script.specs.Spells.{NamesEnd, NamesLane}
 use Rattle.domain_script.specs.Words.{side_text, SpellsName}
 use Rattle.domain_script.proofs.SameName.{same_end, same_name}
-use Rattle.domain_script.specs.LaneKinds.{disk_lane, disk_of}
-use Rattle.domain_script.proofs.LaneKinds.{of_disks, some_weaker}
+use Rattle.domain_script.specs.declared.fields.LaneKind.{LaneKind}
+use Rattle.domain_script.specs.LaneKinds.{lane_at}
+use Rattle.domain_script.proofs.LaneNames.{named_within, none_named, one_named}
 
 -- a word spells at most one name
 pub one_name : (word : List ℕ) (a b : Name) → SpellsName word a → SpellsName word b → a ≡ b
 one_name word a b first second = same_name a b (first.len ∙ sym second.len) (first.bytes ∙ sym second.bytes)
 
--- a name is of at most one disk
-pub one_disk : (disks : List DiskDecl) (name : Name) (j k : ℕ) → IsDiskNamed name disks j → IsDiskNamed name disks k → j ≡ k
-one_disk [] name j k first second = absurd first
-one_disk (x ∷ xs) name zero zero first second = refl
-one_disk (x ∷ xs) name zero (suc k) first second = absurd (second.0 first)
-one_disk (x ∷ xs) name (suc j) zero first second = absurd (first.0 second)
-one_disk (x ∷ xs) name (suc j) (suc k) first second = ap (λ (n : ℕ). suc n) (one_disk xs name j k first.1 second.1)
-
--- a free name is of none
-pub no_disk : (disks : List DiskDecl) (name : Name) (k : ℕ) → IsFree name disks → IsDiskNamed name disks k → ⊥
-no_disk [] name k free named = named
-no_disk (x ∷ xs) name zero free named = free.0 named
-no_disk (x ∷ xs) name (suc k) free named = no_disk xs name k free.1 named.1
-
 -- where `find` gives nothing the name is free
-pub free_tells : (name : Name) (disks : List DiskDecl) (found : Option ℕ) (test : Bool) → MatchOption found (IsFree name disks) (IsDiskNamed name disks)
-    → is_some found ≡ not test → IsTrue test ↔ IsFree name disks
-free_tells name disks None true free is = (λ none. free, λ free. refl)
-free_tells name disks None false free is = let both : false ≡ true = is in cc
-free_tells name disks (Some k) true named is = let both : true ≡ false = is in cc
-free_tells name disks (Some k) false named is = (λ none. let both : false ≡ true = none in cc, λ free. absurd (no_disk disks name k free named))
+pub free_tells : (names : NamesState) (name : Name) (found : Option Lane) (test : Bool) → MatchOption found (IsFree names name) (IsNamed names name)
+    → is_some found ≡ not test → IsTrue test ↔ IsFree names name
+free_tells names name None true free is = (λ none. free, λ free. refl)
+free_tells names name None false free is = let both : false ≡ true = is in cc
+free_tells names name (Some lane) true named is = let both : true ≡ false = is in cc
+free_tells names name (Some lane) false named is = (λ none. let both : false ≡ true = none in cc, λ free. absurd (none_named names name lane free named))
 
--- a disk that is named is declared
-pub named_within : (disks : List DiskDecl) (name : Name) (k : ℕ) → IsDiskNamed name disks k → k < length disks
-named_within [] name k named = absurd named
-named_within (x ∷ xs) name zero named = omega arith
-named_within (x ∷ xs) name (suc k) named = let less : k < length xs = named_within xs name k named.1 in omega arith
-
--- no disk has the name that the word spells
-pub names_no_disk : (names : NamesState) (word : List ℕ) (name : Name) → SpellsName word name → IsFree name names.disks → (k : ℕ) → NamesDisk names word k → ⊥
-names_no_disk names word name spelled free k named =
-    no_disk names.disks name k free (subst (λ (n : Name). IsDiskNamed n names.disks k) (one_name word named.name name named.spelled spelled) named.declared_as)
-
--- a word names at most one disk
-pub names_one_disk : (names : NamesState) (word : List ℕ) (j k : ℕ) → NamesDisk names word j → NamesDisk names word k → j ≡ k
-names_one_disk names word j k first second =
-    one_disk names.disks second.name j k
-    (subst (λ (n : Name). IsDiskNamed n names.disks j) (one_name word first.name second.name first.spelled second.spelled) first.declared_as)
-    second.declared_as
-
--- what `find` says, for the word
-pub none_named : (names : NamesState) (word : List ℕ) (name : Name) (found : Option ℕ) → SpellsName word name
-    → MatchOption found (IsFree name names.disks) (IsDiskNamed name names.disks) → IfNone found ((k : ℕ) → NamesDisk names word k → ⊥)
-none_named names word name None spelled free = names_no_disk names word name spelled free
-none_named names word name (Some k) spelled named = tt
-
--- the lane that a word names is declared
-pub lane_within : (names : NamesState) (word : List ℕ) (l : Lane) → NamesLane names word l → IsLane names l
-lane_within names word l named =
-    some_weaker (disk_of l) (NamesDisk names word) (λ disk. disk < length names.disks)
-    (λ disk is. named_within names.disks is.name disk is.declared_as) named
-
+-- a word names at most one lane
 pub one_lane : (names : NamesState) (word : List ℕ) (a b : Lane) → NamesLane names word a → NamesLane names word b → a ≡ b
 one_lane names word a b first second =
-    of_disks (λ (x : Lane). x ≡ b) (NamesDisk names word)
-    (λ j one. of_disks (λ (y : Lane). disk_lane j ≡ y) (NamesDisk names word)
-    (λ k two. ap disk_lane (names_one_disk names word j k one two)) b second) a first
+    one_named names second.name a b
+    (subst (λ (n : Name). IsNamed names n a) (one_name word first.name second.name first.spelled second.spelled) first.declared_as)
+    second.declared_as
+
+pub one_number : (names : NamesState) (word : List ℕ) (kind : LaneKind) (j k : ℕ) → NamesLane names word (lane_at kind j) → NamesLane names word (lane_at kind k) → j ≡ k
+one_number names word kind j k first second = ap (λ (l : Lane). l.number) (one_lane names word (lane_at kind j) (lane_at kind k) first second)
+
+-- what `find` says, for the word: no lane has the name that the word spells
+names_no_lane : (names : NamesState) (word : List ℕ) (name : Name) → SpellsName word name → IsFree names name → (lane : Lane) → NamesLane names word lane → ⊥
+names_no_lane names word name spelled free lane named =
+    none_named names name lane free (subst (λ (n : Name). IsNamed names n lane) (one_name word named.name name named.spelled spelled) named.declared_as)
+
+pub none_found : (names : NamesState) (word : List ℕ) (name : Name) (found : Option Lane) → SpellsName word name
+    → MatchOption found (IsFree names name) (IsNamed names name) → IfNone found ((lane : Lane) → NamesLane names word lane → ⊥)
+none_found names word name None spelled free = names_no_lane names word name spelled free
+none_found names word name (Some lane) spelled named = tt
+
+-- the lane that a word names is declared
+pub lane_within : (names : NamesState) (word : List ℕ) (lane : Lane) → NamesLane names word lane → IsLane names lane
+lane_within names word lane named = named_within names named.name lane named.declared_as
 
 -- two sides are written differently
 other_letter : (xs ys : List ℕ) (a b : ℕ) → xs ++ 46 ∷ a ∷ [] ≡ ys ++ 46 ∷ b ∷ [] → a ≡ b

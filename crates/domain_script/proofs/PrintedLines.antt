@@ -1,26 +1,27 @@
 -- The one line of an event: it spells the event, and a line that spells it and isn't blank is that line.
-use Rattle.std.proofs.Common.{◌≡◌, ℕ, zero, suc, List, [], ◌∷◌, ◌++◌, length, take, slice_get, Option, Some, None, IfSome, IsSomeAnd, inl, inr, refl, sym, ◌∙◌, ap, subst, append_assoc}
+use Rattle.std.proofs.Common.{◌≡◌, ℕ, List, [], ◌∷◌, ◌++◌, length, take, Option, Some, None, IsSomeAnd, inl, inr, refl, sym, ◌∙◌, ap, subst, append_assoc}
 use Rattle.std.specs.List.{join_with_byte}
 use Rattle.std.proofs.lemmas.List.{take_at}
 use Rattle.std.proofs.lemmas.List.Splits.{join_with_byte-slice_split}
 use Rattle.hex.proofs.HexLemmas.{decode_of-encode_lower}
-use Rattle.domain_script.specs.declared.event.DiskDecl.{DiskDecl}
 use Rattle.domain_script.specs.declared.event.Event.{Event}
 use Rattle.domain_script.specs.declared.event.Lane.{Lane}
 use Rattle.domain_script.specs.declared.event.Name.{Name}
 use Rattle.domain_script.specs.declared.fields.Field.{Field}
-use Rattle.domain_script.specs.declared.fields.Field.TheVariants.{NewName, DiskName, LaneName, End, Number, Bytes, Packet}
+use Rattle.domain_script.specs.declared.fields.Field.TheVariants.{NewName, NewAddress, Named, LaneName, End, Number, Bytes, Frame, Packet, Group}
 use Rattle.domain_script.specs.declared.rows.RowKind.{RowKind}
 use Rattle.domain_script.specs.declared.rows.RowKind.TheVariants as row
-use Rattle.domain_script.specs.NamesState.{IsDiskNamed, NamesDiffer, NamesState}
-use Rattle.domain_script.specs.Printed.{AllAreBytes, AllCanStand, AreBytes, CanPrint, CanStand, EventBytes, HasName, IsLaneNamed, RowBytes, RowCanStand, declared_name, disk_text, field_text, field_texts, followed_by, lane_text, line_text, name_text, text_said}
+use Rattle.domain_script.specs.NamesState.{NamesDiffer, NamesState, lane_name, names_of}
+use Rattle.domain_script.specs.Printed.{AllAreBytes, AllCanStand, AreBytes, CanPrint, CanStand, EventBytes, HasName, RowBytes, RowCanStand, field_text, field_texts, followed_by, lane_text, line_text, name_text, option_text, text_said}
 use Rattle.domain_script.specs.Rows.{row_named, row_of}
-use Rattle.domain_script.specs.Spells.{FitFields, FitsField, FitsRow, IsBlank, NamesDisk, NamesLane, Spells, SpellsField, SpellsFields, SpellsFound, SpellsRow, SpellsWords}
+use Rattle.domain_script.specs.Spells.{FitFields, FitsField, FitsRow, IsBlank, NamesLane, Spells, SpellsField, SpellsFields, SpellsFound, SpellsRow, SpellsWords}
 use Rattle.domain_script.specs.Values.{Said, ValueOf, ValuesOf, said}
 use Rattle.domain_script.specs.Words.{IsName, SpellsName, side_text, words}
 use Rattle.domain_script.proofs.CleanWords.{AreClean, clean_more, cut_again, fields_clean, row_clean}
 use Rattle.domain_script.proofs.RowLemmas.{IsMade, made_said, said_made, word_of_row}
-use Rattle.domain_script.proofs.LaneKinds.{of_disks}
+use Rattle.domain_script.specs.LaneKinds.{lane_at}
+use Rattle.domain_script.proofs.Firsts.{first_there}
+use Rattle.domain_script.proofs.LaneNames.{named_by_own}
 
 -- a word is the text of the name that it spells
 text_of_name : (word : List ℕ) (name : Name) → SpellsName word name → word ≡ name_text name
@@ -40,30 +41,41 @@ are_joined text (word ∷ others) = are_joined (text ++ 32 ∷ word) others ∙ 
 name_spells : (name : Name) → IsName name → SpellsName (name_text name) name
 name_spells name is = subst (λ (w : List ℕ). SpellsName w name) (text_of_name is.word name is.spelled) is.spelled
 
-module _ (names : NamesState) (differ : NamesDiffer names.disks) where
-  found_spells : (k : ℕ) (found : Option DiskDecl) → IfSome found (λ d. IsDiskNamed d.name names.disks k) → IsSomeAnd found (λ d. IsName d.name) → NamesDisk names (declared_name found) k
-  found_spells k None named is = absurd is
-  found_spells k (Some d) named is = record { name = d.name; spelled = name_spells d.name is; declared_as = named }
+module _ (names : NamesState) (differ : NamesDiffer names) where
+  found_spells : (lane : Lane) (found : Option Name) → lane_name names lane ≡ found → IsSomeAnd found IsName → NamesLane names (option_text name_text found) lane
+  found_spells lane None found is = absurd is
+  found_spells lane (Some name) found is = record { name = name; spelled = name_spells name is; declared_as = named_by_own names name lane differ found }
 
-  disk_spells : (k : ℕ) → HasName names k → NamesDisk names (disk_text names k) k
-  disk_spells k has = found_spells k (slice_get names.disks k) (differ k) has
-
-  lane_spells : (l : Lane) → IsLaneNamed names l → NamesLane names (lane_text names l) l
-  lane_spells l has = of_disks (λ (x : Lane). NamesLane names (lane_text names x) x) (HasName names) disk_spells l has
+  lane_spells : (lane : Lane) → HasName names lane → NamesLane names (lane_text names lane) lane
+  lane_spells lane has = found_spells lane (lane_name names lane) refl has
 
   field_spells : (field : Field) (value : ValueOf field) → FitsField names field value → CanStand names field value → AreBytes field value
       → SpellsField names field (field_text names field value) value
   field_spells (NewName kind) name fits stands bytes = (name_spells name fits, stands)
-  field_spells DiskName disk fits stands bytes = disk_spells disk stands
+  field_spells NewAddress address fits stands bytes =
+      (record { long = fits.long; reads = decode_of-encode_lower address bytes; lower = refl }, fits, stands)
+  field_spells (Named kind) k fits stands bytes = lane_spells (lane_at kind k) stands
   field_spells LaneName l fits stands bytes = lane_spells l stands
   field_spells (End kind) end fits stands bytes =
       (record { name = lane_text names end.lane; spelled = refl; lane_named = lane_spells end.lane stands }, fits.1)
   field_spells (Number bounds) n fits stands bytes = ((refl, fits.0), fits.1)
   field_spells Bytes fill fits stands bytes = record {
-    limits = fits;
+    some = fits.some;
+    most = fits.most;
+    room = fits.room;
+    zeros = fits.zeros;
     reads = decode_of-encode_lower (take fill.len fill.bytes) bytes;
     lower = refl;
   }
+  field_spells Frame piece fits stands bytes = record {
+    some = fits.some;
+    most = fits.most;
+    room = fits.room;
+    zeros = fits.zeros;
+    reads = decode_of-encode_lower (take piece.len piece.bytes) bytes;
+    lower = refl;
+  }
+  field_spells Group address fits stands bytes = (record { long = fits.long; reads = decode_of-encode_lower address bytes; lower = refl }, fits)
   field_spells Packet packet fits stands bytes = record { long = fits; reads = decode_of-encode_lower packet bytes; lower = refl }
 
   fields_spell : (fields : List Field) (values : ValuesOf fields) → FitFields names fields values → AllCanStand names fields values → AllAreBytes fields values
@@ -86,7 +98,7 @@ line_spells kind texts names event spells =
     inr (subst (λ (ws : List (List ℕ)). SpellsWords ws names event) (sym cut)
     (subst (λ (found : Option RowKind). SpellsFound found texts names event) (sym (named_row kind)) spells))
 
-said_spells : (names : NamesState) (event : Event) (s : Option Said) → NamesDiffer names.disks → IsMade event s → FitsRow names s → RowCanStand names s → RowBytes s
+said_spells : (names : NamesState) (event : Event) (s : Option Said) → NamesDiffer names → IsMade event s → FitsRow names s → RowCanStand names s → RowBytes s
     → Spells (text_said names s) names event
 said_spells names event None differ is fits stands bytes = inl (tt, is)
 said_spells names event (Some s) differ is fits stands bytes =
@@ -94,31 +106,27 @@ said_spells names event (Some s) differ is fits stands bytes =
     (record { values = s.values; spelled = fields_spell names differ (row_of s.kind).fields s.values fits stands bytes; makes = is })
 
 -- so the line of an event spells it
-pub printed_spells : (names : NamesState) (event : Event) → NamesDiffer names.disks → CanPrint names event → EventBytes event → Spells (line_text names event) names event
+pub printed_spells : (names : NamesState) (event : Event) → NamesDiffer names → CanPrint names event → EventBytes event → Spells (line_text names event) names event
 printed_spells names event differ can bytes = said_spells names event (said event) differ (made_said event) can.fits can.stands bytes
 
 -- A WORD IS THE TEXT of the value that it spells
-named_text : (disks : List DiskDecl) (name : Name) (k : ℕ) → IsDiskNamed name disks k → name_text name ≡ declared_name (slice_get disks k)
-named_text [] name k named = absurd named
-named_text (x ∷ xs) name zero named = ap (λ (n : Name). name_text n) (sym named)
-named_text (x ∷ xs) name (suc k) named = named_text xs name k named.1
-
-text_of_disk : (names : NamesState) (word : List ℕ) (k : ℕ) → NamesDisk names word k → word ≡ disk_text names k
-text_of_disk names word k named = text_of_name word named.name named.spelled ∙ named_text names.disks named.name k named.declared_as
-
-text_of_lane : (names : NamesState) (word : List ℕ) (l : Lane) → NamesLane names word l → word ≡ lane_text names l
-text_of_lane names word l named =
-    of_disks (λ (x : Lane). word ≡ lane_text names x) (NamesDisk names word) (text_of_disk names word) l named
+text_of_lane : (names : NamesState) (word : List ℕ) (lane : Lane) → NamesLane names word lane → word ≡ lane_text names lane
+text_of_lane names word lane named =
+    text_of_name word named.name named.spelled
+    ∙ ap (λ (found : Option Name). option_text name_text found) (sym (first_there (names_of lane.kind names) named.name lane.number named.declared_as.1))
 
 text_of_field : (names : NamesState) (field : Field) (word : List ℕ) (value : ValueOf field) → SpellsField names field word value → word ≡ field_text names field value
 text_of_field names (NewName kind) word name spelled = text_of_name word name spelled.0
-text_of_field names DiskName word disk spelled = text_of_disk names word disk spelled
+text_of_field names NewAddress word address spelled = spelled.0.lower
+text_of_field names (Named kind) word k spelled = text_of_lane names word (lane_at kind k) spelled
 text_of_field names LaneName word l spelled = text_of_lane names word l spelled
 text_of_field names (End kind) word end spelled =
     spelled.0.spelled ∙ ap (λ (l : List ℕ). l ++ side_text end.side) (text_of_lane names spelled.0.name end.lane spelled.0.lane_named)
 text_of_field names (Number bounds) word n spelled = spelled.0.0
 text_of_field names Bytes word fill spelled = spelled.lower
+text_of_field names Frame word piece spelled = spelled.lower
 text_of_field names Packet word packet spelled = spelled.lower
+text_of_field names Group word address spelled = spelled.0.lower
 
 texts_of_fields : (names : NamesState) (fields : List Field) (line : List (List ℕ)) (values : ValuesOf fields) → SpellsFields names fields line values → line ≡ field_texts names fields values
 texts_of_fields names [] [] values spelled = refl

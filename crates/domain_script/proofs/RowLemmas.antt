@@ -6,20 +6,22 @@ use Rattle.std.proofs.lemmas.Slice.Eq.{bytes_eq-Decides}
 use Rattle.vdisk_msg.specs.declared.request.Fill.{Fill}
 use Rattle.vdisk_msg.specs.declared.request.Request.TheVariants.{Read, Write, Flush}
 use Rattle.domain_script.specs.declared.event.Event.{Event}
+use Rattle.domain_script.specs.declared.event.Piece.{Piece}
 use Rattle.domain_script.specs.declared.event.EndName.{EndName}
-use Rattle.domain_script.specs.declared.event.Event.TheVariants.{Blank, Issue, Poke}
+use Rattle.domain_script.specs.declared.event.Event.TheVariants.{Blank, Issue, Poke, Send}
 use Rattle.domain_script.specs.declared.fields.Bounds.TheVariants as numbers
 use Rattle.domain_script.specs.declared.fields.EndKind.TheVariants as ends
 use Rattle.domain_script.specs.declared.fields.Field.{Field}
 use Rattle.domain_script.specs.declared.fields.Field.TheVariants.{Number}
 use Rattle.domain_script.specs.declared.rows.RowKind.{RowKind}
 use Rattle.domain_script.specs.declared.rows.RowKind.TheVariants as row
+use Rattle.domain_script.specs.LaneKinds.{disk_lane, port_lane}
 use Rattle.domain_script.specs.NamesState.{NamesState}
 use Rattle.domain_script.specs.Printed.{CanPrint, RowCanStand}
 use Rattle.domain_script.specs.Rows.{row_among, row_named, row_of, rows}
-use Rattle.domain_script.specs.Spells.{FitsRow, IsOfKind, NamesDisk, NamesEnd, SpellsFields, SpellsFound, SpellsRow}
+use Rattle.domain_script.specs.Spells.{FitsRow, IsOfKind, NamesEnd, NamesLane, SpellsFields, SpellsFound, SpellsRow}
 use Rattle.domain_script.specs.Values.{Said, ValuesOf, made, said}
-use Rattle.domain_script.specs.Words.{SpellsNumber, SpellsFill}
+use Rattle.domain_script.specs.Words.{SpellsNumber, SpellsFill, SpellsPiece}
 use Rattle.domain_script.proofs.FieldValues.{SpellsNothing, as_many, fit_fields, nothing_at, one_values, stand_in_fields}
 
 -- AN EVENT AND WHAT IT IS MADE OF, there and back
@@ -74,7 +76,7 @@ no_one (Some a) names field line word is none = tt
 
 -- a write's row is spelled exactly where its bytes are
 pub if_filled : (found : Option Unit) (line : List (List ℕ)) (names : NamesState) (word place size digits : List ℕ) (disk block count : ℕ) (fill : Fill)
-    → line ≡ word ∷ place ∷ size ∷ digits ∷ [] → NamesDisk names word disk → SpellsNumber place block → SpellsNumber size count
+    → line ≡ word ∷ place ∷ size ∷ digits ∷ [] → NamesLane names word (disk_lane disk) → SpellsNumber place block → SpellsNumber size count
     → OnSome found (SpellsFill digits fill) → OnSome found (SpellsRow row.Write line names (Issue disk (Write block count fill)))
 if_filled None line names word place size digits disk block count fill is named b c filled = tt
 if_filled (Some done) line names word place size digits disk block count fill is named b c filled = record {
@@ -98,6 +100,17 @@ if_poked None line names word place digits end at fill is named n filled = tt
 if_poked (Some done) line names word place digits end at fill is named n filled = record {
   values = (end, (at, (fill, tt)));
   spelled = rw is (named, ((n, tt), (filled, tt)));
+  makes = refl;
+}
+
+-- and that of a frame
+pub if_sent : (found : Option Unit) (line : List (List ℕ)) (names : NamesState) (word digits : List ℕ) (port : ℕ) (piece : Piece)
+    → line ≡ word ∷ digits ∷ [] → NamesLane names word (port_lane port) → OnSome found (SpellsPiece digits piece)
+    → OnSome found (SpellsRow row.Send line names (Send port piece))
+if_sent None line names word digits port piece is named filled = tt
+if_sent (Some done) line names word digits port piece is named filled = record {
+  values = (port, (piece, tt));
+  spelled = rw is (named, (filled, tt));
   makes = refl;
 }
 

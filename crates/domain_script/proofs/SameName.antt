@@ -1,5 +1,5 @@
 -- Names and ends by their fields.
-use Rattle.std.proofs.Common.{◌≡◌, ℕ, Bool, true, false, ◌&&◌, eqb, List, sym, ◌∙◌, ap}
+use Rattle.std.proofs.Common.{◌≡◌, ℕ, Bool, true, false, ◌&&◌, eqb, List, Option, Some, IsTrue, ◌↔◌, sym, ◌∙◌, ap}
 use Rattle.std.proofs.lemmas.Bool.{and_parts, eqb-true, eq-eqb, false_from_ne_true}
 use Rattle.std.proofs.lemmas.Slice.Eq.{bytes_eq-Decides}
 use Rattle.std.specs.Str.{bytes_eq}
@@ -41,3 +41,13 @@ not_from_test a b other is =
 
 pub test_from_other : (a b : Name) → (a ≡ b → ⊥) → (eqb a.len b.len && bytes_eq a.bytes b.bytes) ≡ false
 test_from_other a b other = false_from_ne_true _ (λ is. other (name_from_test a b (sym is)))
+
+-- whether what was found has a name
+pub name_told : (own name : Name) (found : Option Name) (said : Bool) → found ≡ Some own → said ≡ (eqb own.len name.len && bytes_eq own.bytes name.bytes)
+    → IsTrue said ↔ (found ≡ Some name)
+name_told own name found said is test = (
+  λ holds. is ∙ ap Some (name_from_test own name (sym holds ∙ test)),
+  λ same.
+      let one : Some own ≡ Some name = sym is ∙ same in
+      let names : own ≡ name = cc one in test ∙ test_from_name own name names,
+)

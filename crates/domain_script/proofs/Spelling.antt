@@ -1,12 +1,13 @@
 -- From the words of a line to the line, and what a line that spells an event says of the names.
-use Rattle.std.proofs.Common.{◌≡◌, ◌<◌, inl, inr, ℕ, false, List, [], ◌∷◌, length, Option, Some, None, IfNone, sym, subst}
+use Rattle.std.proofs.Common.{◌≡◌, ◌<◌, inl, inr, ℕ, false, List, [], ◌∷◌, length, Option, Some, None, IfNone, sym, subst, arith}
 use Rattle.domain_script.specs.declared.event.DiskDecl.{DiskDecl}
+use Rattle.domain_script.specs.declared.event.PortDecl.{PortDecl}
 use Rattle.domain_script.specs.declared.event.Event.{Event}
-use Rattle.domain_script.specs.declared.event.Event.TheVariants.{Blank, Disk}
+use Rattle.domain_script.specs.declared.event.Event.TheVariants.{Blank, Disk, Net}
 use Rattle.domain_script.specs.declared.fields.LaneKind.TheVariants as lanes
 use Rattle.domain_script.specs.declared.rows.RowKind.{RowKind}
-use Rattle.domain_script.specs.Declarations.{IsDisk}
-use Rattle.domain_script.specs.NamesState.{CanDeclare, IsFree, NamesState}
+use Rattle.domain_script.specs.Declarations.{IsDisk, IsPort}
+use Rattle.domain_script.specs.NamesState.{CanDeclare, IsFree, IsFreeAddress, NamesState}
 use Rattle.domain_script.specs.Printed.{CanPrint}
 use Rattle.domain_script.specs.Rows.{row_named}
 use Rattle.domain_script.specs.Words.{words}
@@ -48,7 +49,7 @@ is_declared line names event spells = (can_print line names event spells).fits
 pub record Declares (names : NamesState) (disk : DiskDecl) : Type 0 where
   pub open_still : names.ended ≡ false
   pub few : length names.disks < 8
-  pub free : IsFree disk.name names.disks
+  pub free : IsFree names disk.name
   pub limits : IsDisk disk
 
 pub declared_first : (line : List ℕ) (names : NamesState) (disk : DiskDecl) → Spells line names (Disk disk) → Declares names disk
@@ -71,5 +72,35 @@ declared_first line names disk spells =
         least_queue = queue.0;
         most_queue = queue.1;
         queue_power = power_from_bit disk.queue queue.1 queue.2;
+      };
+    }
+
+-- and so is that of a port
+pub record DeclaresPort (names : NamesState) (port : PortDecl) : Type 0 where
+  pub open_still : names.ended ≡ false
+  pub few : length names.ports < 8
+  pub free : IsFree names port.name
+  pub free_address : IsFreeAddress names port.address
+  pub limits : IsPort port
+
+pub port_declared_first : (line : List ℕ) (names : NamesState) (port : PortDecl) → Spells line names (Net port) → DeclaresPort names port
+port_declared_first line names port spells =
+    let can : CanPrint names (Net port) = can_print line names (Net port) spells in
+    let may : CanDeclare names lanes.Port port.name = can.stands.0 in
+    let ring = can.fits.1.1.0.1 in
+    let queue = can.fits.1.1.1.0.1 in
+    record {
+      open_still = may.open_still;
+      few = may.few;
+      free = may.free;
+      free_address = can.stands.1.0;
+      limits = record {
+        address = can.fits.1.0;
+        least_ring = ring.0;
+        most_ring = ring.1;
+        ring_power = power_from_bit port.ring (omega (arith, ring.1)) ring.2;
+        least_queue = queue.0;
+        most_queue = queue.1;
+        queue_power = power_from_bit port.queue queue.1 queue.2;
       };
     }

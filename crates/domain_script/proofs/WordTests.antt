@@ -11,12 +11,10 @@ use Rattle.std.proofs.lemmas.List.{drop_at, length-append, length-replicate, len
 use Rattle.std.proofs.lemmas.Slice.Eq.{bytes_eq-Decides}
 use Rattle.hex.proofs.HexLemmas.{decode_of-encode_lower, decode_of-ok, length-encode_with}
 use Rattle.hex.specs.Hex.{IsBytes, decode_of, encode_lower, encode_with, lower_digits}
-use Rattle.vdisk_msg.specs.declared.request.Fill.{Fill}
 use Rattle.domain_script.specs.declared.event.Name.{Name}
 use Rattle.domain_script.specs.declared.fields.Bounds.{Bounds}
 use Rattle.domain_script.specs.declared.fields.Bounds.TheVariants.{Any, Between, PowerBetween}
-use Rattle.domain_script.specs.Computed.{bytes_of, digit_of, fill_of}
-use Rattle.domain_script.specs.Words.{IsNameWord, IsWithin, SpellsFill, SpellsName, SpellsNumber, SpellsPacket, begins_name, is_bytes, is_lower_digit, is_name, is_number, is_packet, is_within, name_of, number_of}
+use Rattle.domain_script.specs.Words.{IsNameWord, IsWithin, SpellsExactly, SpellsFront, SpellsName, SpellsNumber, begins_name, bytes_of, digit_of, in_room, is_exactly, is_front, is_lower_digit, is_name, is_number, is_within, name_of, number_of}
 use Rattle.domain_script.proofs.SameName.{same_name}
 
 -- NUMBERS
@@ -128,40 +126,40 @@ small_bytes (high ∷ low ∷ rest) digits zero =
     omega (arith, h.1, l.1)
 small_bytes (high ∷ low ∷ rest) digits (suc i) = small_bytes rest (and_parts _ _ (and_parts _ _ digits).1).1 i
 
-pub fill_spelled : (word : List ℕ) → is_bytes word ≡ true → SpellsFill word (fill_of word)
-fill_spelled word is =
+pub front_spelled : (size : ℕ) (word : List ℕ) → is_front size word ≡ true → SpellsFront size word (length (bytes_of word)) (in_room size (bytes_of word))
+front_spelled size word is =
     let digits = and_parts _ _ is in
-    let size = and_parts _ _ digits.1 in
-    let limits = and_parts _ _ size.1 in
+    let even_and = and_parts _ _ digits.1 in
+    let limits = and_parts _ _ even_and.1 in
     let bytes : List ℕ = bytes_of word in
-    let zeros : List ℕ = replicate (1024 - length bytes) 0 in
-    let even : length word % 2 ≡ 0 = eqb-true (length word % 2) 0 size.0 in
+    let zeros : List ℕ = replicate (size - length bytes) 0 in
+    let even : length word % 2 ≡ 0 = eqb-true (length word % 2) 0 even_and.0 in
     let text : encode_lower bytes ≡ word = text_back word digits.0 even in
     let long : length word ≡ 2 * length bytes = ap (λ (l : List ℕ). length l) (sym text) ∙ length-encode_with lower_digits bytes in
-    let some : 2 ≤ length word = leb-true 2 (length word) limits.0 in
-    let most : length word ≤ 2048 = leb-true (length word) 2048 limits.1 in
-    let few : length bytes ≤ 1024 = omega (arith, long, most) in
+    let some : 1 ≤ length word / 2 = leb-true 1 (length word / 2) limits.0 in
+    let most : length word / 2 ≤ size = leb-true (length word / 2) size limits.1 in
+    let few : length bytes ≤ size = omega (arith, long, most) in
     let front : take (length bytes) (bytes ++ zeros) ≡ bytes = take_at bytes zeros (length bytes) refl in
     record {
-      limits = record {
-        some = omega (arith, long, some);
-        most = few;
-        room = omega (arith, few, length-append bytes zeros, length-replicate {A = ℕ} (1024 - length bytes) 0);
-        zeros = drop_at bytes zeros (length bytes) refl;
-      };
+      some = omega (arith, long, some);
+      most = few;
+      room = omega (arith, few, length-append bytes zeros, length-replicate {A = ℕ} (size - length bytes) 0);
+      zeros = drop_at bytes zeros (length bytes) refl;
       reads = ap (λ (l : List ℕ). decode_of l) (sym text) ∙ decode_of-encode_lower bytes (small_bytes word digits.0) ∙ ap (λ (l : List ℕ). Ok l) (sym front);
       lower = sym text ∙ ap (λ (l : List ℕ). encode_lower l) (sym front);
     }
 
-pub packet_spelled : (word : List ℕ) → is_packet word ≡ true → SpellsPacket word (bytes_of word)
-packet_spelled word is =
+pub exactly_spelled : (size : ℕ) (word : List ℕ) → is_exactly size word ≡ true → SpellsExactly size word (bytes_of word)
+exactly_spelled size word is =
     let digits = and_parts _ _ is in
-    let size : length word ≡ 128 = eqb-true (length word) 128 digits.1 in
+    let even_and = and_parts _ _ digits.1 in
+    let even : length word % 2 ≡ 0 = eqb-true (length word % 2) 0 even_and.0 in
+    let half : length word / 2 ≡ size = eqb-true (length word / 2) size even_and.1 in
     let bytes : List ℕ = bytes_of word in
-    let text : encode_lower bytes ≡ word = text_back word digits.0 (omega (arith, size)) in
+    let text : encode_lower bytes ≡ word = text_back word digits.0 even in
     let long : length word ≡ 2 * length bytes = ap (λ (l : List ℕ). length l) (sym text) ∙ length-encode_with lower_digits bytes in
     record {
-      long = omega (arith, long, size);
+      long = omega (arith, long, half);
       reads = ap (λ (l : List ℕ). decode_of l) (sym text) ∙ decode_of-encode_lower bytes (small_bytes word digits.0);
       lower = sym text;
     }
@@ -173,21 +171,21 @@ all_digits (b ∷ bytes) small =
     let byte : b < 256 = small 0 in
     and_from _ _ (figure (b / 16) (omega (arith, byte))) (and_from _ _ (figure (b % 16) (omega arith)) (all_digits bytes (λ i. small (suc i))))
 
-pub is_bytes_from : (word : List ℕ) (fill : Fill) → SpellsFill word fill → is_bytes word ≡ true
-is_bytes_from word fill spells =
-    let bytes : List ℕ = take fill.len fill.bytes in
-    let ok = decode_of-ok word bytes spells.reads in
-    let taken : length bytes ≡ fill.len = length-take-le fill.len fill.bytes (omega (arith, spells.limits.most, spells.limits.room)) in
-    and_from _ _ (subst (λ (l : List ℕ). list_all is_lower_digit l ≡ true) (sym spells.lower) (all_digits bytes ok.3))
+pub is_front_from : (size : ℕ) (word : List ℕ) (len : ℕ) (bytes : List ℕ) → SpellsFront size word len bytes → is_front size word ≡ true
+is_front_from size word len bytes spells =
+    let front : List ℕ = take len bytes in
+    let ok = decode_of-ok word front spells.reads in
+    let taken : length front ≡ len = length-take-le len bytes (omega (arith, spells.most, spells.room)) in
+    and_from _ _ (subst (λ (l : List ℕ). list_all is_lower_digit l ≡ true) (sym spells.lower) (all_digits front ok.3))
     (and_from _ _ (eq-eqb (length word % 2) 0 ok.0)
-    (and_from _ _ (le-leb 2 (length word) (omega (arith, ok.2, taken, spells.limits.some)))
-    (le-leb (length word) 2048 (omega (arith, ok.2, taken, spells.limits.most)))))
+    (and_from _ _ (le-leb 1 (length word / 2) (omega (arith, ok.2, taken, spells.some)))
+    (le-leb (length word / 2) size (omega (arith, ok.2, taken, spells.most)))))
 
-pub is_packet_from : (word packet : List ℕ) → SpellsPacket word packet → is_packet word ≡ true
-is_packet_from word packet spells =
-    let ok = decode_of-ok word packet spells.reads in
-    and_from _ _ (subst (λ (l : List ℕ). list_all is_lower_digit l ≡ true) (sym spells.lower) (all_digits packet ok.3))
-    (eq-eqb (length word) 128 (omega (arith, ok.2, spells.long)))
+pub is_exactly_from : (size : ℕ) (word bytes : List ℕ) → SpellsExactly size word bytes → is_exactly size word ≡ true
+is_exactly_from size word bytes spells =
+    let ok = decode_of-ok word bytes spells.reads in
+    and_from _ _ (subst (λ (l : List ℕ). list_all is_lower_digit l ≡ true) (sym spells.lower) (all_digits bytes ok.3))
+    (and_from _ _ (eq-eqb (length word % 2) 0 ok.0) (eq-eqb (length word / 2) size (omega (arith, ok.2, spells.long))))
 
 -- WHETHER A VALUE WAS FOUND tells whether the word spells one
 pub number_tells : (word : List ℕ) (found : Option ℕ) → IfSome found (SpellsNumber word) → IfNone found ((n : ℕ) → SpellsNumber word n → ⊥) → is_some found ≡ is_number word

@@ -1,42 +1,42 @@
 -- The events of lines that are known byte for byte: `events_of` computes them.
-use Rattle.std.specs.Prelude.{ℕ, ◌-◌, ◌*◌, ◌+◌, ◌++◌, cond, nat_lt, if◌then◌else◌, List, [], ◌∷◌, length, replicate, Option, Some, None, option_and_then, unwrap_or}
+use Rattle.std.specs.Prelude.{ℕ, if◌then◌else◌, List, [], ◌∷◌, length, Option, Some, None, option_and_then, unwrap_or}
 use Rattle.vdisk_msg.specs.declared.request.Fill.{Fill}
 use Rattle.domain_script.specs.declared.event.Event.{Event}
 use Rattle.domain_script.specs.declared.event.Event.TheVariants.{Blank}
 use Rattle.domain_script.specs.declared.event.LineFault.{LineFault}
+use Rattle.domain_script.specs.declared.event.Piece.{Piece}
 use Rattle.domain_script.specs.declared.event.Side.TheVariants.{Client}
 use Rattle.domain_script.specs.declared.fields.Field.{Field}
-use Rattle.domain_script.specs.declared.fields.Field.TheVariants.{NewName, DiskName, LaneName, End, Number, Bytes, Packet}
+use Rattle.domain_script.specs.declared.fields.Field.TheVariants.{NewName, NewAddress, Named, LaneName, End, Number, Bytes, Frame, Packet, Group}
 use Rattle.domain_script.specs.declared.rows.RowKind.{RowKind}
 use Rattle.domain_script.specs.Faults.{first_fault, is_blank}
-use Rattle.domain_script.specs.Naming.{disk_named, end_named, lane_named}
+use Rattle.domain_script.specs.Limits.{most_of_a_fill, most_of_a_piece}
+use Rattle.domain_script.specs.Naming.{end_named, lane_named, kind_named}
 use Rattle.domain_script.specs.NamesState.{NamesState, noted}
 use Rattle.domain_script.specs.Rows.{row_named, row_of}
 use Rattle.domain_script.specs.Values.{ValueOf, ValuesOf, made}
-use Rattle.domain_script.specs.Words.{name_of, number_of, words}
+use Rattle.domain_script.specs.Words.{bytes_of, in_room, name_of, number_of, words}
 use Rattle.domain_script.specs.LaneKinds.{disk_lane}
 
--- the bytes of lower-case digits, two by two
-abbrev pub digit_of : ℕ → ℕ
-digit_of b = cond (nat_lt b 58) (b - 48) (b - 87)
-
-abbrev pub bytes_of : List ℕ → List ℕ
-bytes_of [] = []
-bytes_of (high ∷ []) = []
-bytes_of (high ∷ low ∷ rest) = (16 * digit_of high + digit_of low) ∷ bytes_of rest
-
+-- bytes in front of zeros
 abbrev pub fill_of : List ℕ → Fill
-fill_of word = record { len = length (bytes_of word); bytes = bytes_of word ++ replicate (1024 - length (bytes_of word)) 0 }
+fill_of word = record { len = length (bytes_of word); bytes = in_room most_of_a_fill (bytes_of word) }
+
+abbrev pub piece_of : List ℕ → Piece
+piece_of word = record { len = length (bytes_of word); bytes = in_room most_of_a_piece (bytes_of word) }
 
 -- the value of a field whose word has no fault
 abbrev pub field_value : NamesState → (field : Field) → List ℕ → ValueOf field
 field_value names (NewName kind) word = name_of word
-field_value names DiskName word = unwrap_or (disk_named names word) 0
+field_value names NewAddress word = bytes_of word
+field_value names (Named kind) word = unwrap_or (kind_named kind names word) 0
 field_value names LaneName word = unwrap_or (lane_named names word) (disk_lane 0)
 field_value names (End kind) word = unwrap_or (end_named names word) (record { lane = disk_lane 0; side = Client })
 field_value names (Number bounds) word = number_of word
 field_value names Bytes word = fill_of word
+field_value names Frame word = piece_of word
 field_value names Packet word = bytes_of word
+field_value names Group word = bytes_of word
 
 -- the values of fields that have as many words
 abbrev pub first_word : List (List ℕ) → List ℕ

@@ -1,6 +1,11 @@
 -- What a script may declare.
-use Rattle.std.specs.Prelude.{◌≡◌, ℕ, ◌≤◌, ◌^◌, List, [], ◌∷◌}
+use Rattle.std.specs.Prelude.{◌≡◌, ℕ, ◌≤◌, ◌^◌, List, length, map}
 use Rattle.domain_script.specs.declared.event.DiskDecl.{DiskDecl}
+use Rattle.domain_script.specs.declared.event.PortDecl.{PortDecl}
+use Rattle.domain_script.specs.declared.fields.LaneKind.{LaneKind}
+use Rattle.domain_script.specs.declared.fields.LaneKind.TheVariants as lanes
+use Rattle.domain_script.specs.Addresses.{IsAddress}
+use Rattle.domain_script.specs.Firsts.{AllDiffer, AreAll}
 
 -- a power of two
 abbrev pub IsPowerOfTwo : ℕ → Type 0
@@ -19,5 +24,43 @@ pub record IsDisk (disk : DiskDecl) : Type 0 where
 
 -- all of them are disks within the limits
 abbrev pub AreDisks : List DiskDecl → Type 0
-AreDisks [] = Unit {0}
-AreDisks (disk ∷ disks) = IsDisk disk × AreDisks disks
+AreDisks disks = AreAll IsDisk disks
+
+-- a port within the limits, with an address of its own and not of a group
+pub record IsPort (port : PortDecl) : Type 0 where
+  pub address : IsAddress port.address
+  pub least_ring : 2 ≤ port.ring
+  pub most_ring : port.ring ≤ 64
+  pub ring_power : IsPowerOfTwo port.ring
+  pub least_queue : 8 ≤ port.queue
+  pub most_queue : port.queue ≤ 256
+  pub queue_power : IsPowerOfTwo port.queue
+
+-- all of them are ports within the limits
+abbrev pub ArePorts : List PortDecl → Type 0
+ArePorts ports = AreAll IsPort ports
+
+-- their addresses, of which no two are one
+abbrev pub addresses : List PortDecl → List (List ℕ)
+addresses ports = map (λ (port : PortDecl). port.address) ports
+
+abbrev pub AddressesDiffer : List PortDecl → Type 0
+AddressesDiffer ports = AllDiffer (addresses ports)
+
+-- WHAT A SCRIPT DECLARES, each in the order of declaration
+pub record Declared : Type 0 where
+  pub disks : List DiskDecl
+  pub ports : List PortDecl
+
+-- how many of a kind
+abbrev pub number_of_kind : LaneKind → Declared → ℕ
+number_of_kind lanes.Disk all = length all.disks
+number_of_kind lanes.Port all = length all.ports
+
+-- at most eight of each kind, all within the limits, and no two ports with one address
+pub record AreDeclared (all : Declared) : Type 0 where
+  pub disks : AreDisks all.disks
+  pub few_disks : length all.disks ≤ 8
+  pub ports : ArePorts all.ports
+  pub few_ports : length all.ports ≤ 8
+  pub differ : AddressesDiffer all.ports

@@ -5,14 +5,16 @@ use Rattle.std.specs.List.{list_all, list_any}
 use Rattle.domain_script.specs.declared.event.LineFault.{LineFault}
 use Rattle.domain_script.specs.declared.event.LineFault.TheVariants as line_fault
 use Rattle.domain_script.specs.declared.fields.Field.{Field}
-use Rattle.domain_script.specs.declared.fields.Field.TheVariants.{NewName, DiskName, LaneName, End, Number, Bytes, Packet}
+use Rattle.domain_script.specs.declared.fields.Field.TheVariants.{NewName, NewAddress, Named, LaneName, End, Number, Bytes, Frame, Packet, Group}
 use Rattle.domain_script.specs.declared.rows.RowKind.{RowKind}
-use Rattle.domain_script.specs.Limits.{most_of_a_kind}
-use Rattle.domain_script.specs.Naming.{disk_named, end_named, lane_named, some_of_kind}
+use Rattle.domain_script.specs.Addresses.{is_among, is_group, is_own}
+use Rattle.domain_script.specs.Declarations.{addresses}
+use Rattle.domain_script.specs.Limits.{address_bytes, most_of_a_fill, most_of_a_kind, most_of_a_piece, packet_bytes}
+use Rattle.domain_script.specs.Naming.{end_named, lane_named, kind_named, some_of_kind}
 use Rattle.domain_script.specs.NamesState.{NamesState, count_of}
 use Rattle.domain_script.specs.Rows.{row_named, row_of}
 use Rattle.domain_script.specs.Spells.{is_printable}
-use Rattle.domain_script.specs.Words.{is_bytes, is_name, is_number, is_packet, is_within, number_of, words}
+use Rattle.domain_script.specs.Words.{bytes_of, is_exactly, is_front, is_name, is_number, is_within, number_of, words}
 
 -- an empty line, or a comment
 abbrev pub is_blank : List ℕ → Bool
@@ -59,14 +61,15 @@ abbrev pub is_misplaced : NamesState → Field → Bool
 is_misplaced names (NewName kind) = names.ended
 is_misplaced names field = false
 
--- 7. the name was declared before
+-- 7. the name, or a port's address, was declared before
 abbrev pub is_taken : NamesState → Field → List ℕ → Bool
 is_taken names (NewName kind) word = is_some (lane_named names word)
+is_taken names NewAddress word = is_exactly address_bytes word && is_among (bytes_of word) (addresses names.ports)
 is_taken names field word = false
 
 -- 8. a name or an end isn't declared, or isn't of the kind that the row needs
 abbrev pub is_unknown : NamesState → Field → List ℕ → Bool
-is_unknown names DiskName word = is_none (disk_named names word)
+is_unknown names (Named kind) word = is_none (kind_named kind names word)
 is_unknown names LaneName word = is_none (lane_named names word)
 is_unknown names (End kind) word = not (some_of_kind kind (end_named names word))
 is_unknown names field word = false
@@ -76,15 +79,20 @@ abbrev pub is_no_number : Field → List ℕ → Bool
 is_no_number (Number bounds) word = not (is_number word)
 is_no_number field word = false
 
--- 10. a number is outside of its bounds
+-- 10. a number is outside of its bounds, or an address is of the wrong kind
 abbrev pub is_out_of_bounds : Field → List ℕ → Bool
 is_out_of_bounds (Number bounds) word = is_number word && not (is_within bounds (number_of word))
+is_out_of_bounds NewAddress word = is_exactly address_bytes word && not (is_own (bytes_of word))
+is_out_of_bounds Group word = is_exactly address_bytes word && not (is_group (bytes_of word))
 is_out_of_bounds field word = false
 
 -- 11. a word of hexadecimal digits isn't one, or has another length than it may have
 abbrev pub is_no_bytes : Field → List ℕ → Bool
-is_no_bytes Bytes word = not (is_bytes word)
-is_no_bytes Packet word = not (is_packet word)
+is_no_bytes NewAddress word = not (is_exactly address_bytes word)
+is_no_bytes Bytes word = not (is_front most_of_a_fill word)
+is_no_bytes Frame word = not (is_front most_of_a_piece word)
+is_no_bytes Packet word = not (is_exactly packet_bytes word)
+is_no_bytes Group word = not (is_exactly address_bytes word)
 is_no_bytes field word = false
 
 -- 12. eight of the kind are declared

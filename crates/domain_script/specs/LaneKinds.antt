@@ -1,15 +1,35 @@
--- Lanes by their kinds. `if_disk` alone tells which are disks': what speaks of lanes of disks goes by `disk_of`.
-use Rattle.std.specs.Prelude.{ℕ, Option, Some}
+-- Lanes by their kinds. `if_disk` and `if_port` alone tell whose a lane is: what speaks of lanes of one kind goes by
+-- `disk_of` or `port_of`.
+use Rattle.std.specs.Prelude.{ℕ, Option, Some, None}
 use Rattle.domain_script.specs.declared.event.Lane.{Lane}
 use Rattle.domain_script.specs.declared.fields.LaneKind.{LaneKind}
 use Rattle.domain_script.specs.declared.fields.LaneKind.TheVariants as lanes
 
-abbrev pub disk_lane : ℕ → Lane
-disk_lane k = record { kind = lanes.Disk; number = k }
+abbrev pub lane_at : LaneKind → ℕ → Lane
+lane_at kind k = record { kind = kind; number = k }
 
--- the number of a lane that is a disk's
+abbrev pub disk_lane : ℕ → Lane
+disk_lane k = lane_at lanes.Disk k
+
+abbrev pub port_lane : ℕ → Lane
+port_lane k = lane_at lanes.Port k
+
+-- the number of a lane that is a disk's, and of one that is a port's
 abbrev pub if_disk : LaneKind → ℕ → Option ℕ
 if_disk lanes.Disk k = Some k
+if_disk lanes.Port k = None
 
 abbrev pub disk_of : Lane → Option ℕ
 disk_of lane = if_disk lane.kind lane.number
+
+abbrev pub if_port : LaneKind → ℕ → Option ℕ
+if_port lanes.Disk k = None
+if_port lanes.Port k = Some k
+
+abbrev pub port_of : Lane → Option ℕ
+port_of lane = if_port lane.kind lane.number
+
+-- the number of a lane of this kind
+abbrev pub number_if : LaneKind → Lane → Option ℕ
+number_if lanes.Disk lane = disk_of lane
+number_if lanes.Port lane = port_of lane

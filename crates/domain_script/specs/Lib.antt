@@ -1,4 +1,6 @@
 pub mod Limits
+pub mod Addresses
+pub mod Firsts
 pub mod Declarations
 pub mod LaneKinds
 pub mod NamesState

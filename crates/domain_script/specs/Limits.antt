@@ -13,6 +13,19 @@ most_line_bytes = 3100
 abbrev pub most_of_a_kind : ℕ
 most_of_a_kind = 8
 
+-- the bytes of a packet, of an address, of the word that a write repeats, and of a frame that is handed to a guest
+abbrev pub packet_bytes : ℕ
+packet_bytes = 64
+
+abbrev pub address_bytes : ℕ
+address_bytes = 6
+
+abbrev pub most_of_a_fill : ℕ
+most_of_a_fill = 1024
+
+abbrev pub most_of_a_piece : ℕ
+most_of_a_piece = 1540
+
 -- the steps of a line, and its rounds
 abbrev pub most_turns : ℕ
 most_turns = 100

@@ -1,7 +1,7 @@
--- The disk, the lane and the end that a word names, where it names one.
-use Rattle.std.specs.Prelude.{ℕ, suc, ◌-◌, ◌==◌, ◌&&◌, not, if◌then◌else◌, Bool, true, false, List, [], ◌∷◌, length, take, drop, Option, Some, None, option_and_then, option_map}
+-- The lane and the end that a word names, where it names one.
+use Rattle.std.specs.Prelude.{ℕ, suc, ◌-◌, ◌==◌, ◌&&◌, ◌||◌, not, if◌then◌else◌, Bool, true, false, List, [], ◌∷◌, length, take, drop, Option, Some, None, option_and_then, option_map}
+use Rattle.std.specs.Option.{option_or}
 use Rattle.std.specs.Str.{bytes_eq}
-use Rattle.domain_script.specs.declared.event.DiskDecl.{DiskDecl}
 use Rattle.domain_script.specs.declared.event.EndName.{EndName}
 use Rattle.domain_script.specs.declared.event.Lane.{Lane}
 use Rattle.domain_script.specs.declared.event.Name.{Name}
@@ -9,24 +9,33 @@ use Rattle.domain_script.specs.declared.event.Side.{Side}
 use Rattle.domain_script.specs.declared.event.Side.TheVariants.{Client, Server}
 use Rattle.domain_script.specs.declared.fields.EndKind.{EndKind}
 use Rattle.domain_script.specs.declared.fields.EndKind.TheVariants as ends
-use Rattle.domain_script.specs.NamesState.{NamesState}
+use Rattle.domain_script.specs.declared.fields.LaneKind.{LaneKind}
+use Rattle.domain_script.specs.declared.fields.LaneKind.TheVariants as lanes
+use Rattle.domain_script.specs.NamesState.{NamesState, names_of}
 use Rattle.domain_script.specs.Words.{is_name, name_of, side_text}
-use Rattle.domain_script.specs.LaneKinds.{disk_lane}
+use Rattle.domain_script.specs.LaneKinds.{lane_at, number_if}
 
--- whether a disk has a name, and the number of the first that has it
-abbrev pub has_name : Name → DiskDecl → Bool
-has_name name disk = (disk.name.len == name.len) && bytes_eq disk.name.bytes name.bytes
+-- whether two names are one, and the number of the first that is this one
+abbrev pub same_name : Name → Name → Bool
+same_name name other = (other.len == name.len) && bytes_eq other.bytes name.bytes
 
-abbrev pub number_named : Name → List DiskDecl → Option ℕ
+abbrev pub number_named : Name → List Name → Option ℕ
 number_named name [] = None
-number_named name (disk ∷ disks) = if has_name name disk then Some 0 else option_map (λ k. suc k) (number_named name disks)
+number_named name (other ∷ others) = if same_name name other then Some 0 else option_map (λ k. suc k) (number_named name others)
 
--- the number of the disk that a word names
-abbrev pub disk_named : NamesState → List ℕ → Option ℕ
-disk_named names word = if is_name word then number_named (name_of word) names.disks else None
+-- the first lane with a name; disks come before ports
+abbrev pub among : NamesState → Name → LaneKind → Option Lane
+among names name kind = option_map (lane_at kind) (number_named name (names_of kind names))
 
+abbrev pub first_named : NamesState → Name → Option Lane
+first_named names name = option_or (among names name lanes.Disk) (among names name lanes.Port)
+
+-- the lane that a word names, and the number of the lane of a kind
 abbrev pub lane_named : NamesState → List ℕ → Option Lane
-lane_named names word = option_map disk_lane (disk_named names word)
+lane_named names word = if is_name word then first_named names (name_of word) else None
+
+abbrev pub kind_named : LaneKind → NamesState → List ℕ → Option ℕ
+kind_named kind names word = option_and_then (number_if kind) (lane_named names word)
 
 -- the last two bytes of a word, those before them, and the side that two bytes spell
 abbrev pub last_two : List ℕ → List ℕ
@@ -50,10 +59,14 @@ abbrev pub is_server : Side → Bool
 is_server Client = false
 is_server Server = true
 
+abbrev pub is_disk : LaneKind → Bool
+is_disk lanes.Disk = true
+is_disk lanes.Port = false
+
 abbrev pub is_of_kind : EndKind → EndName → Bool
 is_of_kind ends.Any end = true
-is_of_kind ends.DiskServer end = is_server end.side
-is_of_kind ends.WithMemory end = not (is_server end.side)
+is_of_kind ends.DiskServer end = is_disk end.lane.kind && is_server end.side
+is_of_kind ends.WithMemory end = not (is_disk end.lane.kind) || not (is_server end.side)
 
 abbrev pub some_of_kind : EndKind → Option EndName → Bool
 some_of_kind kind None = false

@@ -1,55 +1,49 @@
 -- The one canonical line of an event: its row's word, and the words of its values, with a space before each.
-use Rattle.std.specs.Prelude.{ℕ, List, [], ◌∷◌, ◌++◌, take, decimal, slice_get, Option, Some, None, IsSomeAnd, ⊤}
+use Rattle.std.specs.Prelude.{ℕ, List, [], ◌∷◌, ◌++◌, take, decimal, Option, Some, None, IsSomeAnd, ⊤}
 use Rattle.hex.specs.Hex.{IsBytes, encode_lower}
-use Rattle.vdisk_msg.specs.declared.request.Fill.{Fill}
-use Rattle.domain_script.specs.declared.event.DiskDecl.{DiskDecl}
 use Rattle.domain_script.specs.declared.event.EndName.{EndName}
 use Rattle.domain_script.specs.declared.event.Event.{Event}
 use Rattle.domain_script.specs.declared.event.Lane.{Lane}
 use Rattle.domain_script.specs.declared.event.Name.{Name}
 use Rattle.domain_script.specs.declared.fields.Field.{Field}
-use Rattle.domain_script.specs.declared.fields.Field.TheVariants.{NewName, DiskName, LaneName, End, Number, Bytes, Packet}
-use Rattle.domain_script.specs.NamesState.{NamesState, CanDeclare}
+use Rattle.domain_script.specs.declared.fields.Field.TheVariants.{NewName, NewAddress, Named, LaneName, End, Number, Bytes, Frame, Packet, Group}
+use Rattle.domain_script.specs.NamesState.{NamesState, CanDeclare, IsFreeAddress, lane_name}
 use Rattle.domain_script.specs.Rows.{row_of}
 use Rattle.domain_script.specs.Spells.{IsDeclared}
 use Rattle.domain_script.specs.Values.{Said, ValueOf, ValuesOf, said}
 use Rattle.domain_script.specs.Words.{side_text, IsName}
-use Rattle.domain_script.specs.LaneKinds.{disk_of}
+use Rattle.domain_script.specs.LaneKinds.{lane_at}
 
--- a name; that of a declared disk, and nothing where there is none; that of a lane; an end
+-- a name; that of a declared lane, and nothing where there is none; an end
 abbrev pub name_text : Name → List ℕ
 name_text name = take name.len name.bytes
 
-abbrev pub declared_name : Option DiskDecl → List ℕ
-declared_name None = []
-declared_name (Some disk) = name_text disk.name
-
-abbrev pub disk_text : NamesState → ℕ → List ℕ
-disk_text names k = declared_name (slice_get names.disks k)
-
-abbrev pub option_text : (ℕ → List ℕ) → Option ℕ → List ℕ
+abbrev pub option_text : {A : Type 0} → (A → List ℕ) → Option A → List ℕ
 option_text text None = []
-option_text text (Some k) = text k
+option_text text (Some x) = text x
 
 abbrev pub lane_text : NamesState → Lane → List ℕ
-lane_text names lane = option_text (disk_text names) (disk_of lane)
+lane_text names lane = option_text name_text (lane_name names lane)
 
 abbrev pub end_text : NamesState → EndName → List ℕ
 end_text names end = lane_text names end.lane ++ side_text end.side
 
--- bytes in hexadecimal
-abbrev pub fill_text : Fill → List ℕ
-fill_text fill = encode_lower (take fill.len fill.bytes)
+-- bytes in hexadecimal: the first of them
+abbrev pub front_text : ℕ → List ℕ → List ℕ
+front_text len bytes = encode_lower (take len bytes)
 
 -- the word of a field's value
 abbrev pub field_text : NamesState → (field : Field) → ValueOf field → List ℕ
 field_text names (NewName kind) name = name_text name
-field_text names DiskName disk = disk_text names disk
+field_text names NewAddress address = encode_lower address
+field_text names (Named kind) k = lane_text names (lane_at kind k)
 field_text names LaneName lane = lane_text names lane
 field_text names (End kind) end = end_text names end
 field_text names (Number bounds) n = decimal n
-field_text names Bytes fill = fill_text fill
+field_text names Bytes fill = front_text fill.len fill.bytes
+field_text names Frame piece = front_text piece.len piece.bytes
 field_text names Packet packet = encode_lower packet
+field_text names Group address = encode_lower address
 
 abbrev pub field_texts : NamesState → (fields : List Field) → ValuesOf fields → List (List ℕ)
 field_texts names [] values = []
@@ -68,19 +62,17 @@ text_said names (Some s) = followed_by (row_of s.kind).word (field_texts names (
 abbrev pub line_text : NamesState → Event → List ℕ
 line_text names event = text_said names (said event)
 
--- the disk is declared, under a name that a word can spell
-abbrev pub HasName : NamesState → ℕ → Type 0
-HasName names disk = IsSomeAnd (slice_get names.disks disk) (λ d. IsName d.name)
+-- the lane is declared, under a name that a word can spell
+abbrev pub HasName : NamesState → Lane → Type 0
+HasName names lane = IsSomeAnd (lane_name names lane) IsName
 
-abbrev pub IsLaneNamed : NamesState → Lane → Type 0
-IsLaneNamed names lane = IsSomeAnd (disk_of lane) (HasName names)
-
--- a new name may be declared, and what is named has a name
+-- a new name and a new address may be declared, and what is named has a name
 abbrev pub CanStand : NamesState → (field : Field) → ValueOf field → Type 0
 CanStand names (NewName kind) name = CanDeclare names kind name
-CanStand names DiskName disk = HasName names disk
-CanStand names LaneName lane = IsLaneNamed names lane
-CanStand names (End kind) end = IsLaneNamed names end.lane
+CanStand names NewAddress address = IsFreeAddress names address
+CanStand names (Named kind) k = HasName names (lane_at kind k)
+CanStand names LaneName lane = HasName names lane
+CanStand names (End kind) end = HasName names end.lane
 CanStand names field value = ⊤
 
 abbrev pub AllCanStand : NamesState → (fields : List Field) → ValuesOf fields → Type 0
@@ -99,8 +91,11 @@ pub record CanPrint (names : NamesState) (event : Event) : Type 0 where
 
 -- what its type says of a value's bytes
 abbrev pub AreBytes : (field : Field) → ValueOf field → Type 0
+AreBytes NewAddress address = IsBytes address
 AreBytes Bytes fill = IsBytes (take fill.len fill.bytes)
+AreBytes Frame piece = IsBytes (take piece.len piece.bytes)
 AreBytes Packet packet = IsBytes packet
+AreBytes Group address = IsBytes address
 AreBytes field value = ⊤
 
 abbrev pub AllAreBytes : (fields : List Field) → ValuesOf fields → Type 0

@@ -6,7 +6,7 @@ use Rattle.domain_script.specs.Spells.{Spells}
 
 -- nothing is declared
 abbrev pub no_names : NamesState
-no_names = record { disks = []; ended = false }
+no_names = record { disks = []; ports = []; ended = false }
 
 -- each line spells its event, given the names that those before it declared
 abbrev pub AllSpell : List (List ℕ) → NamesState → List Event → NamesState → Type 0

@@ -1,5 +1,5 @@
 -- The words of a line, and what a single word spells.
-use Rattle.std.specs.Prelude.{◌≡◌, ℕ, ◌-◌, ◌%◌, ◌^◌, ◌<◌, ◌≤◌, ◌==◌, ◌&&◌, ◌||◌, nat_le, nat_lt, Bool, true, false, IsTrue, List, [], ◌∷◌, ◌++◌, length, take, replicate, codes, decimal, Ok, ⊤}
+use Rattle.std.specs.Prelude.{◌≡◌, ℕ, ◌-◌, ◌+◌, ◌*◌, ◌/◌, ◌%◌, ◌^◌, ◌<◌, ◌≤◌, ◌==◌, ◌&&◌, ◌||◌, nat_le, nat_lt, Bool, true, false, IsTrue, List, [], ◌∷◌, ◌++◌, length, take, drop, replicate, cond, codes, decimal, Ok, ⊤}
 use Rattle.std.specs.Char.{is_ascii_lowercase, is_ascii_digit}
 use Rattle.std.specs.Int.{is_power_of_two}
 use Rattle.std.specs.List.{slice_split, list_all}
@@ -8,11 +8,12 @@ use Rattle.std.specs.Str.Parse.{digits_value}
 use Rattle.hex.specs.Hex.{decode_of, encode_lower}
 use Rattle.vdisk_msg.specs.declared.request.Fill.{Fill}
 use Rattle.domain_script.specs.declared.event.Name.{Name}
+use Rattle.domain_script.specs.declared.event.Piece.{Piece}
 use Rattle.domain_script.specs.declared.event.Side.{Side}
 use Rattle.domain_script.specs.declared.event.Side.TheVariants.{Client, Server}
 use Rattle.domain_script.specs.declared.fields.Bounds.{Bounds}
 use Rattle.domain_script.specs.declared.fields.Bounds.TheVariants.{Any, Between, PowerBetween}
-use Rattle.domain_script.specs.Fills.{IsFill}
+use Rattle.domain_script.specs.Limits.{most_of_a_fill, most_of_a_piece}
 
 -- the parts between spaces: each space ends a word, so that two together have an empty one between them
 abbrev pub words : List ℕ → List (List ℕ)
@@ -77,25 +78,46 @@ abbrev pub side_text : Side → List ℕ
 side_text Client = codes ".c"
 side_text Server = codes ".s"
 
--- the word of a write in hexadecimal: it reads as the bytes, and is their lower-case text
-pub record SpellsFill (word : List ℕ) (fill : Fill) : Type 0 where
-  pub limits : IsFill fill
-  pub reads : decode_of word ≡ Ok (take fill.len fill.bytes)
-  pub lower : word ≡ encode_lower (take fill.len fill.bytes)
+-- WORDS IN HEXADECIMAL: one reads as its bytes, and is their lower-case text. A word of exactly so many bytes, as that of
+-- a packet or of an address:
+pub record SpellsExactly (size : ℕ) (word bytes : List ℕ) : Type 0 where
+  pub long : length bytes ≡ size
+  pub reads : decode_of word ≡ Ok bytes
+  pub lower : word ≡ encode_lower bytes
 
--- the 64 bytes of a packet, likewise
-pub record SpellsPacket (word packet : List ℕ) : Type 0 where
-  pub long : length packet ≡ 64
-  pub reads : decode_of word ≡ Ok packet
-  pub lower : word ≡ encode_lower packet
+-- and one of 1 to so many bytes, which stand in front of zeros: the word of a write, or a frame
+pub record SpellsFront (size : ℕ) (word : List ℕ) (len : ℕ) (bytes : List ℕ) : Type 0 where
+  pub some : 1 ≤ len
+  pub most : len ≤ size
+  pub room : length bytes ≡ size
+  pub zeros : drop len bytes ≡ replicate (size - len) 0
+  pub reads : decode_of word ≡ Ok (take len bytes)
+  pub lower : word ≡ encode_lower (take len bytes)
 
--- whether a word is one: lower-case digits, two for each of 1 to 1,024 bytes
+abbrev pub SpellsFill : List ℕ → Fill → Type 0
+SpellsFill word fill = SpellsFront most_of_a_fill word fill.len fill.bytes
+
+abbrev pub SpellsPiece : List ℕ → Piece → Type 0
+SpellsPiece word piece = SpellsFront most_of_a_piece word piece.len piece.bytes
+
+-- whether a word is one: lower-case digits, two for each byte
 abbrev pub is_lower_digit : ℕ → Bool
 is_lower_digit b = is_ascii_digit b || (nat_le 97 b && nat_le b 102)
 
-abbrev pub is_bytes : List ℕ → Bool
-is_bytes word = list_all is_lower_digit word && ((length word % 2 == 0) && (nat_le 2 (length word) && nat_le (length word) 2048))
+abbrev pub is_exactly : ℕ → List ℕ → Bool
+is_exactly size word = list_all is_lower_digit word && ((length word % 2 == 0) && (length word / 2 == size))
 
--- and two for each of 64
-abbrev pub is_packet : List ℕ → Bool
-is_packet word = list_all is_lower_digit word && (length word == 128)
+abbrev pub is_front : ℕ → List ℕ → Bool
+is_front size word = list_all is_lower_digit word && ((length word % 2 == 0) && (nat_le 1 (length word / 2) && nat_le (length word / 2) size))
+
+-- the bytes of lower-case digits, two by two, and a room that begins with bytes
+abbrev pub digit_of : ℕ → ℕ
+digit_of b = cond (nat_lt b 58) (b - 48) (b - 87)
+
+abbrev pub bytes_of : List ℕ → List ℕ
+bytes_of [] = []
+bytes_of (high ∷ []) = []
+bytes_of (high ∷ low ∷ rest) = (16 * digit_of high + digit_of low) ∷ bytes_of rest
+
+abbrev pub in_room : ℕ → List ℕ → List ℕ
+in_room size bytes = bytes ++ replicate (size - length bytes) 0

@@ -20,11 +20,63 @@ pub struct DiskDecl {
     pub queue: u32,
 }
 
+/// A port on the network: its address, of which the first byte is even; the slots of each of its rings, a power of two
+/// from 2 to 64. The entries of its channel's queues, a power of two from 8 to 256.
+#[derive(Clone, Copy, Debug, PartialEq, Eq)]
+pub struct PortDecl {
+    pub name: Name,
+    pub address: [u8; 6],
+    pub ring: u32,
+    pub queue: u32,
+}
+
+/// Bytes that are handed to a guest as a frame: `len` bytes, 1 to 1,540, and zeros after them.
+#[derive(Clone, Copy, Debug)]
+pub struct Piece {
+    pub len: u16,
+    pub bytes: [u8; 1540],
+}
+
 /// A lane by its kind and its number among the lanes of that kind, in the order of declaration and counted from 0.
 #[derive(Clone, Copy, Debug, PartialEq, Eq)]
 pub struct Lane {
     pub kind: LaneKind,
     pub number: u32,
+}
+
+impl Lane {
+    ghost use Rattle.std.specs.Prelude.{◌≡◌};
+    ghost use Rattle.domain_script.specs.LaneKinds.{disk_of, number_if, port_of};
+
+    /// The number of a lane that is a disk's.
+    pub fn disk(self) -> Option<u32>
+        ensures { result ≡ disk_of self }
+    {
+        match self.kind {
+            LaneKind::Disk => Some(self.number),
+            LaneKind::Port => None,
+        }
+    }
+
+    /// The number of a lane that is a port's.
+    pub fn port(self) -> Option<u32>
+        ensures { result ≡ port_of self }
+    {
+        match self.kind {
+            LaneKind::Disk => None,
+            LaneKind::Port => Some(self.number),
+        }
+    }
+
+    /// The number of a lane of this kind.
+    pub fn number_if(self, kind: LaneKind) -> Option<u32>
+        ensures { result ≡ number_if kind self }
+    {
+        match kind {
+            LaneKind::Disk => self.disk(),
+            LaneKind::Port => self.port(),
+        }
+    }
 }
 
 /// The guest's side of a lane, or its service domain's.
@@ -34,7 +86,7 @@ pub enum Side {
     Server,
 }
 
-/// An end of a lane: a disk's client is written `NAME.c`, its server `NAME.s`.
+/// An end of a lane: the guest's is written `NAME.c`, that of the service domain `NAME.s`.
 #[derive(Clone, Copy, Debug, PartialEq, Eq)]
 pub struct EndName {
     pub lane: Lane,
@@ -49,6 +101,15 @@ pub enum Event {
 
     /// The declaration of a disk.
     Disk(DiskDecl),
+
+    /// The declaration of a port.
+    Net(PortDecl),
+
+    /// A frame is handed to the guest of a port.
+    Send { port: u32, frame: Piece },
+
+    /// The guest of a port joins a group: its first byte is odd, and it isn't that of all ports.
+    Join { port: u32, address: [u8; 6] },
 
     /// A guest asks its disk.
     Issue { disk: u32, request: Request },
@@ -115,7 +176,7 @@ pub enum LineFault {
     #[error("place")]
     Place,
 
-    /// The name was declared before.
+    /// The name, or a port's address, was declared before.
     #[error("taken")]
     Taken,
 
@@ -127,7 +188,7 @@ pub enum LineFault {
     #[error("number")]
     Number,
 
-    /// A number of a declaration, of steps or of rounds is outside of its limits.
+    /// A number of a declaration, of steps or of rounds is outside of its limits, or an address is of the wrong kind.
     #[error("range")]
     Range,
 

@@ -4,11 +4,12 @@ ghost use Rattle.std.specs.List.{list_any};
 ghost use Rattle.domain_script.specs.Faults.{has_wrong_field, is_misnamed, is_misplaced, is_no_bytes, is_no_number, is_one_too_many, is_out_of_bounds, is_taken, is_unknown, is_wrong};
 ghost use Rattle.domain_script.specs.Words.{words};
 
+use crate::addresses::{has_taken_address, is_no_group, is_no_own};
 use crate::fields::Field;
-use crate::lane_words::{declared_disk, declared_end, declared_lane};
+use crate::lane_words::{declared_end, declared_lane, declared_number};
 use crate::numbers::{is_number, is_within, number};
 use crate::rows::row_named;
-use crate::spellings::{is_bytes, is_name, is_packet};
+use crate::spellings::{ADDRESS, MOST_FILL, MOST_PIECE, PACKET, is_exactly, is_front, is_name};
 use crate::words::split_once;
 use crate::{LineFault, Names};
 
@@ -81,12 +82,13 @@ fn is_misplaced(names: &Names, field: Field) -> bool
     }
 }
 
-/// Whether the name that a declaration gives was declared before.
+/// Whether the name that a declaration gives, or a port's address, was declared before.
 fn is_taken(names: &Names, field: Field, word: &[u8]) -> bool
     ensures { result ≡ is_taken names.now field word.now }
 {
     match field {
         Field::NewName(_) => declared_lane(word, names).is_some(),
+        Field::NewAddress => has_taken_address(word, names),
         _ => false,
     }
 }
@@ -96,7 +98,7 @@ fn is_unknown(names: &Names, field: Field, word: &[u8]) -> bool
     ensures { result ≡ is_unknown names.now field word.now }
 {
     match field {
-        Field::DiskName => declared_disk(word, names).is_none(),
+        Field::Named(kind) => declared_number(word, names, kind).is_none(),
         Field::LaneName => declared_lane(word, names).is_none(),
         Field::End(kind) => declared_end(word, names, kind).is_none(),
         _ => false,
@@ -113,7 +115,7 @@ fn is_no_number(field: Field, word: &[u8]) -> bool
     }
 }
 
-/// Whether a number is outside of its bounds.
+/// Whether a number is outside of its bounds, or an address of the wrong kind.
 fn is_out_of_bounds(field: Field, word: &[u8]) -> bool
     ensures { result ≡ is_out_of_bounds field word.now }
 {
@@ -122,6 +124,8 @@ fn is_out_of_bounds(field: Field, word: &[u8]) -> bool
             Some(n) => !is_within(n, bounds),
             None => false,
         },
+        Field::NewAddress => is_no_own(word),
+        Field::Group => is_no_group(word),
         _ => false,
     }
 }
@@ -131,8 +135,10 @@ fn is_no_bytes(field: Field, word: &[u8]) -> bool
     ensures { result ≡ is_no_bytes field word.now }
 {
     match field {
-        Field::Bytes => !is_bytes(word),
-        Field::Packet => !is_packet(word),
+        Field::NewAddress | Field::Group => !is_exactly(word, ADDRESS),
+        Field::Bytes => !is_front(word, MOST_FILL),
+        Field::Frame => !is_front(word, MOST_PIECE),
+        Field::Packet => !is_exactly(word, PACKET),
         _ => false,
     }
 }

@@ -2,6 +2,7 @@
 #[derive(Clone, Copy, Debug, PartialEq, Eq)]
 pub enum LaneKind {
     Disk,
+    Port,
 }
 
 /// The ends that a line may name.
@@ -13,7 +14,7 @@ pub enum EndKind {
     /// The server of a disk.
     DiskServer,
 
-    /// An end that has memory of its own: a disk's client, and not its server.
+    /// An end that has memory of its own: a disk's client and not its server, or either end of a port.
     WithMemory,
 }
 
@@ -36,8 +37,11 @@ pub enum Field {
     /// The name of what the line declares.
     NewName(LaneKind),
 
-    /// The name of a declared disk.
-    DiskName,
+    /// The address of the port that the line declares.
+    NewAddress,
+
+    /// The name of a declared lane of this kind.
+    Named(LaneKind),
 
     /// The name of a declared lane.
     LaneName,
@@ -51,6 +55,12 @@ pub enum Field {
     /// 1 to 1,024 bytes, two lower-case hexadecimal digits each.
     Bytes,
 
+    /// The 1 to 1,540 bytes of a frame, likewise.
+    Frame,
+
     /// The 64 bytes of a packet, likewise.
     Packet,
+
+    /// The six bytes of a group's address, likewise.
+    Group,
 }

@@ -1,7 +1,8 @@
 ghost use Rattle.std.specs.Prelude.{◌↔◌, ℕ, [], ◌∷◌, IfNone, IfSome, IsTrue};
 ghost use Rattle.domain_script.specs.declared.event.EndName.{EndName as end_data};
 ghost use Rattle.domain_script.specs.declared.event.Lane.{Lane as lane_data};
-ghost use Rattle.domain_script.specs.Spells.{IsOfKind, NamesDisk, NamesEnd, NamesLane, SpellsFields};
+ghost use Rattle.domain_script.specs.LaneKinds.{lane_at};
+ghost use Rattle.domain_script.specs.Spells.{IsOfKind, NamesEnd, NamesLane, SpellsFields};
 ghost use Rattle.domain_script.specs.Values.{ValuesOf};
 ghost use Rattle.domain_script.specs.Words.{words};
 
@@ -10,24 +11,21 @@ use crate::spellings::{name, name_and_side};
 use crate::words::one_word;
 use crate::{EndName, Lane, Names, Side};
 
-/// The number of the disk that a word names.
-pub fn declared_disk(word: &[u8], names: &Names) -> Option<u32>
-    ensures some { IfSome result (NamesDisk names.now word.now) }
-    ensures none { IfNone result ((disk : ℕ) → NamesDisk names.now word.now disk → ⊥) }
-{
-    names.find(&name(word)?)
-}
-
 /// The lane that a word names.
 pub fn declared_lane(word: &[u8], names: &Names) -> Option<Lane>
     ensures some { IfSome result (NamesLane names.now word.now) }
     ensures none { IfNone result ((lane : lane_data) → NamesLane names.now word.now lane → ⊥) }
 {
-    let number = declared_disk(word, names)?;
-    Some(Lane {
-        kind: LaneKind::Disk,
-        number,
-    })
+    names.find(&name(word)?)
+}
+
+/// The number of the lane of this kind that a word names.
+pub fn declared_number(word: &[u8], names: &Names, kind: LaneKind) -> Option<u32>
+    ensures some { IfSome result (λ number. NamesLane names.now word.now (lane_at kind number)) }
+    ensures none { IfNone result ((number : ℕ) → NamesLane names.now word.now (lane_at kind number) → ⊥) }
+{
+    let lane = declared_lane(word, names)?;
+    lane.number_if(kind)
 }
 
 /// The end of this kind that a word names.
@@ -46,23 +44,23 @@ pub fn declared_end(word: &[u8], names: &Names, kind: EndKind) -> Option<EndName
     }
 }
 
-/// Whether an end is of this kind: all lanes are disks'.
+/// Whether an end is of this kind: of a disk's two ends the client alone has memory, of a port's each.
 fn is_of_kind(end: EndName, kind: EndKind) -> bool
     ensures { IsTrue result ↔ IsOfKind kind end }
 {
     match kind {
         EndKind::Any => true,
-        EndKind::DiskServer => end.side == Side::Server,
-        EndKind::WithMemory => end.side == Side::Client,
+        EndKind::DiskServer => end.lane.kind == LaneKind::Disk && end.side == Side::Server,
+        EndKind::WithMemory => end.lane.kind == LaneKind::Port || end.side == Side::Client,
     }
 }
 
-/// The number of the disk that the one word of a row names.
-pub fn one_disk(fields: &[u8], names: &Names) -> Option<u32>
-    ensures some { IfSome result (λ disk. SpellsFields names.now (Field.DiskName ∷ []) (words fields.now) (disk, tt)) }
-    ensures none { IfNone result ((values : ValuesOf (Field.DiskName ∷ [])) → SpellsFields names.now (Field.DiskName ∷ []) (words fields.now) values → ⊥) }
+/// The number of the lane of this kind that the one word of a row names.
+pub fn one_number(fields: &[u8], names: &Names, kind: LaneKind) -> Option<u32>
+    ensures some { IfSome result (λ number. SpellsFields names.now (Field.Named kind ∷ []) (words fields.now) (number, tt)) }
+    ensures none { IfNone result ((values : ValuesOf (Field.Named kind ∷ [])) → SpellsFields names.now (Field.Named kind ∷ []) (words fields.now) values → ⊥) }
 {
-    declared_disk(one_word(fields)?, names)
+    declared_number(one_word(fields)?, names, kind)
 }
 
 /// The lane that it names.

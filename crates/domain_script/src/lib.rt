@@ -3,6 +3,8 @@
 //! faults; each event is printed as its one line.
 #![tactic(auto)]
 
+mod addresses;
+mod declaring;
 mod digits;
 mod disk_rows;
 mod end_rows;
@@ -16,6 +18,7 @@ mod laws;
 mod names;
 mod numbers;
 mod parser;
+mod port_rows;
 mod printing;
 mod putting;
 mod rows;
@@ -23,10 +26,10 @@ mod spellings;
 mod words;
 
 pub use digits::decode_lower;
-pub use event::{DiskDecl, EndName, Event, Lane, LineFault, Name, Side};
+pub use event::{DiskDecl, EndName, Event, Lane, LineFault, Name, Piece, PortDecl, Side};
 pub use fields::LaneKind;
 pub use laws::{faulty_lines_spell_nothing, parsed_lines_are_printed, spells_at_most_one};
-pub use names::{MOST_DISKS, Names};
+pub use names::{MOST_DISKS, MOST_PORTS, Names};
 pub use numbers::number;
 pub use parser::{parse, parse_into};
 pub use printing::print;

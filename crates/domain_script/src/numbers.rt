@@ -10,13 +10,16 @@ pub const BLOCKS: Bounds = Bounds::Between {
     most: 65_536,
 };
 
-/// The slots of its descriptor ring.
-pub const RING: Bounds = Bounds::PowerBetween {
+/// The slots of a disk's descriptor ring.
+pub const DISK_RING: Bounds = Bounds::PowerBetween {
     least: 2,
     most: 256,
 };
 
-/// The entries of each queue of its channel.
+/// The slots of each ring of a port.
+pub const PORT_RING: Bounds = Bounds::PowerBetween { least: 2, most: 64 };
+
+/// The entries of each queue of a channel.
 pub const QUEUE: Bounds = Bounds::PowerBetween {
     least: 8,
     most: 256,

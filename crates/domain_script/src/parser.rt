@@ -13,9 +13,10 @@ use crate::{Event, LineFault, Names};
 
 /// The event that a line spells after the lines that were noted, or what is wrong with it: the first fault of the table
 /// that holds. A line, without its line feed, is empty or a comment, or one of the rows of a script, with one space
-/// between two words: `disk NAME BLOCKS RING QUEUE`, `write NAME BLOCK COUNT HEX`, `read NAME BLOCK COUNT`, `flush NAME`,
-/// `step END K`, `round K`, `settle`, `reset END`, `restart END`, `stop NAME`, `start NAME`, `drop END`, `tick NAME`,
-/// `inject END HEX`, `poke END AT HEX`. An END is a disk's NAME with `.c` or `.s` after it.
+/// between two words: `disk NAME BLOCKS RING QUEUE`, `net NAME ADDRESS RING QUEUE`, `write NAME BLOCK COUNT HEX`,
+/// `read NAME BLOCK COUNT`, `flush NAME`, `send NAME HEX`, `join NAME ADDRESS`, `step END K`, `round K`, `settle`,
+/// `reset END`, `restart END`, `stop NAME`, `start NAME`, `drop END`, `tick NAME`, `inject END HEX`, `poke END AT HEX`.
+/// An END is the NAME of a disk or a port with `.c` or `.s` after it.
 pub fn parse(line: &[u8], names: &Names) -> Result<Event, LineFault>
     ensures event { IfOk result (Spells line.now names.now) }
     ensures fault { IfErr result (λ fault. first_fault line.now names.now ≡ Some fault) }

@@ -1,17 +1,19 @@
 // The one canonical line of an event.
-ghost use Rattle.std.specs.Prelude.{◌≡◌, ◌≤◌, [], ◌∷◌, take, decimal};
+ghost use Rattle.std.specs.Prelude.{◌≡◌, ◌≤◌, [], ◌∷◌, length, take, decimal};
+ghost use Rattle.hex.specs.Hex.{IsBytes, encode_lower};
 ghost use Rattle.domain_script.specs.declared.event.Event.TheVariants.{Issue as issue_event};
 ghost use Rattle.domain_script.specs.declared.rows.RowKind.TheVariants as row;
-ghost use Rattle.domain_script.specs.Printed.{CanPrint, EventBytes, HasName, IsLaneNamed, disk_text, end_text, followed_by, line_text, name_text};
+ghost use Rattle.domain_script.specs.Printed.{CanPrint, EventBytes, HasName, end_text, followed_by, lane_text, line_text, name_text};
+ghost use Rattle.domain_script.specs.LaneKinds.{disk_lane, port_lane};
 ghost use Rattle.domain_script.specs.Rows.{row_of};
 ghost use Rattle.domain_script.specs.Spells.{Spells};
 ghost use Rattle.domain_script.specs.Words.{IsName};
 
 use crate::putting::{
-    put_disk, put_end, put_fill, put_lane, put_name, put_number, put_packet, put_row,
+    put_bytes, put_end, put_fill, put_lane, put_name, put_number, put_piece, put_row,
 };
 use crate::rows::RowKind;
-use crate::{DiskDecl, EndName, Event, Names, Request};
+use crate::{DiskDecl, EndName, Event, Lane, LaneKind, Names, PortDecl, Request};
 
 /// Writes the one canonical line of an event, without its line feed, and answers how many bytes it has; what the buffer
 /// has after them isn't specified. The event's disks have to be declared and its ends of the kind that its line needs,
@@ -35,8 +37,17 @@ fn put_event(event: &Event, names: &Names, out: &mut [u8; 3100]) -> usize
 {
     match event {
         Event::Blank => 0,
-        Event::Disk(disk) => put_declared(disk, out),
+        Event::Disk(disk) => put_disk(disk, out),
+        Event::Net(port) => put_port(port, out),
         Event::Issue { disk, request } => put_request(*disk, request, names, out),
+        Event::Send { port, frame } => {
+            let len = put_row_of_lane(RowKind::Send, port_lane(*port), names, out);
+            put_piece(frame, out, len)
+        }
+        Event::Join { port, address } => {
+            let len = put_row_of_lane(RowKind::Join, port_lane(*port), names, out);
+            put_bytes(address, out, len)
+        }
         Event::Settle => put_row(RowKind::Settle, out),
         Event::Step { end, count } => {
             let len = put_row_of_end(RowKind::Step, *end, names, out);
@@ -48,16 +59,13 @@ fn put_event(event: &Event, names: &Names, out: &mut [u8; 3100]) -> usize
         }
         Event::Reset { end } => put_row_of_end(RowKind::Reset, *end, names, out),
         Event::Restart { end } => put_row_of_end(RowKind::Restart, *end, names, out),
-        Event::Stop { disk } => put_row_of_disk(RowKind::Stop, *disk, names, out),
-        Event::Start { disk } => put_row_of_disk(RowKind::Start, *disk, names, out),
+        Event::Stop { disk } => put_row_of_lane(RowKind::Stop, disk_lane(*disk), names, out),
+        Event::Start { disk } => put_row_of_lane(RowKind::Start, disk_lane(*disk), names, out),
         Event::Lose { end } => put_row_of_end(RowKind::Lose, *end, names, out),
-        Event::Tick { lane } => {
-            let len = put_row(RowKind::Tick, out);
-            put_lane(*lane, names, out, len)
-        }
+        Event::Tick { lane } => put_row_of_lane(RowKind::Tick, *lane, names, out),
         Event::Inject { end, packet } => {
             let len = put_row_of_end(RowKind::Inject, *end, names, out);
-            put_packet(packet, out, len)
+            put_bytes(packet, out, len)
         }
         Event::Poke { end, at, bytes } => {
             let len = put_row_of_end(RowKind::Poke, *end, names, out);
@@ -67,8 +75,28 @@ fn put_event(event: &Event, names: &Names, out: &mut [u8; 3100]) -> usize
     }
 }
 
+/// The lane of a disk.
+fn disk_lane(number: u32) -> Lane
+    ensures { result ≡ disk_lane number }
+{
+    Lane {
+        kind: LaneKind::Disk,
+        number,
+    }
+}
+
+/// The lane of a port.
+fn port_lane(number: u32) -> Lane
+    ensures { result ≡ port_lane number }
+{
+    Lane {
+        kind: LaneKind::Port,
+        number,
+    }
+}
+
 /// Puts the declaration of a disk.
-fn put_declared(disk: &DiskDecl, out: &mut [u8; 3100]) -> usize
+fn put_disk(disk: &DiskDecl, out: &mut [u8; 3100]) -> usize
     requires { IsName disk.now.name }
     ensures text { take result out.new ≡ followed_by (row_of row.Disk).word
         (name_text disk.now.name ∷ decimal disk.now.blocks ∷ decimal disk.now.ring ∷ decimal disk.now.queue ∷ []) }
@@ -81,19 +109,35 @@ fn put_declared(disk: &DiskDecl, out: &mut [u8; 3100]) -> usize
     put_number(u64::from(disk.queue), out, len)
 }
 
-/// Puts a row's word and a disk.
-fn put_row_of_disk(kind: RowKind, disk: u32, names: &Names, out: &mut [u8; 3100]) -> usize
-    requires { HasName names.now disk }
-    ensures text { take result out.new ≡ followed_by (row_of kind).word (disk_text names.now disk ∷ []) }
+/// Puts the declaration of a port.
+fn put_port(port: &PortDecl, out: &mut [u8; 3100]) -> usize
+    requires name { IsName port.now.name }
+    requires address { length port.now.address ≡ 6 }
+    ensures text { take result out.new ≡ followed_by (row_of row.Net).word
+        (name_text port.now.name ∷ encode_lower port.now.address ∷ decimal port.now.ring ∷ decimal port.now.queue ∷ []) }
+    ensures short { result ≤ 3100 }
+    ensures bytes { IsBytes port.now.address }
+{
+    let len = put_row(RowKind::Net, out);
+    let len = put_name(&port.name, out, len);
+    let len = put_bytes(&port.address, out, len);
+    let len = put_number(u64::from(port.ring), out, len);
+    put_number(u64::from(port.queue), out, len)
+}
+
+/// Puts a row's word and a lane of a kind.
+fn put_row_of_lane(kind: RowKind, lane: Lane, names: &Names, out: &mut [u8; 3100]) -> usize
+    requires { HasName names.now lane }
+    ensures text { take result out.new ≡ followed_by (row_of kind).word (lane_text names.now lane ∷ []) }
     ensures len { result ≤ 16 }
 {
     let len = put_row(kind, out);
-    put_disk(disk, names, out, len)
+    put_lane(lane, names, out, len)
 }
 
 /// Puts a row's word and an end.
 fn put_row_of_end(kind: RowKind, end: EndName, names: &Names, out: &mut [u8; 3100]) -> usize
-    requires { IsLaneNamed names.now end.lane }
+    requires { HasName names.now end.lane }
     ensures text { take result out.new ≡ followed_by (row_of kind).word (end_text names.now end ∷ []) }
     ensures len { result ≤ 18 }
 {
@@ -116,7 +160,7 @@ fn put_request(disk: u32, request: &Request, names: &Names, out: &mut [u8; 3100]
         Request::Read { block, count } => {
             put_transfer(RowKind::Read, disk, *block, *count, names, out)
         }
-        Request::Flush => put_row_of_disk(RowKind::Flush, disk, names, out),
+        Request::Flush => put_row_of_lane(RowKind::Flush, disk_lane(disk), names, out),
     }
 }
 
@@ -129,12 +173,12 @@ fn put_transfer(
     names: &Names,
     out: &mut [u8; 3100],
 ) -> usize
-    requires { HasName names.now disk }
+    requires { HasName names.now (disk_lane disk) }
     ensures text { take result out.new ≡ followed_by (row_of kind).word
-        (disk_text names.now disk ∷ decimal block ∷ decimal count ∷ []) }
+        (lane_text names.now (disk_lane disk) ∷ decimal block ∷ decimal count ∷ []) }
     ensures len { result ≤ 98 }
 {
-    let len = put_row_of_disk(kind, disk, names, out);
+    let len = put_row_of_lane(kind, disk_lane(disk), names, out);
     let len = put_number(block, out, len);
     put_number(count, out, len)
 }

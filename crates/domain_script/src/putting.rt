@@ -1,13 +1,13 @@
 // The words of a line, put one after another into a buffer.
 ghost use Rattle.std.specs.Prelude.{◌≡◌, ◌+◌, ◌*◌, ◌≤◌, ◌∷◌, ◌++◌, length, take, decimal};
 ghost use Rattle.hex.specs.Hex.{IsBytes, encode_lower};
-ghost use Rattle.domain_script.specs.Fills.{IsFill};
-ghost use Rattle.domain_script.specs.Printed.{HasName, IsLaneNamed, disk_text, end_text, fill_text, lane_text, name_text};
+ghost use Rattle.domain_script.specs.Fills.{IsFill, IsPiece};
+ghost use Rattle.domain_script.specs.Printed.{HasName, end_text, front_text, lane_text, name_text};
 ghost use Rattle.domain_script.specs.Rows.{row_of};
 ghost use Rattle.domain_script.specs.Words.{side_text, IsName};
 
 use crate::rows::RowKind;
-use crate::{EndName, Fill, Lane, Name, Names, Side};
+use crate::{EndName, Fill, Lane, Name, Names, Piece, Side};
 use hex::encode_to_slice;
 use itoa::Buffer;
 
@@ -60,33 +60,22 @@ pub fn put_name(name: &Name, out: &mut [u8; 3100], len: usize) -> usize
     put_word(&name.bytes[..name.len as usize], out, len)
 }
 
-/// Puts the name of a declared disk.
-pub fn put_disk(disk: u32, names: &Names, out: &mut [u8; 3100], len: usize) -> usize
-    requires name { HasName names.now disk }
-    requires room { len + 9 ≤ 3100 }
-    ensures text { take result out.new ≡ take len out.old ++ 32 ∷ disk_text names.now disk }
-    ensures len { result ≤ len + 9 }
-{
-    match names.disk(disk) {
-        Some(declared) => put_name(&declared.name, out, len),
-        None => unreachable!(),
-    }
-}
-
-/// Puts the name of a declared lane: it is a disk's, since no others are declared.
-#[tactic(auto, using(crate::proofs::NamedLanes::named_number, crate::proofs::NamedLanes::named_text))]
+/// Puts the name of a declared lane.
 pub fn put_lane(lane: Lane, names: &Names, out: &mut [u8; 3100], len: usize) -> usize
-    requires name { IsLaneNamed names.now lane }
+    requires name { HasName names.now lane }
     requires room { len + 9 ≤ 3100 }
     ensures text { take result out.new ≡ take len out.old ++ 32 ∷ lane_text names.now lane }
     ensures len { result ≤ len + 9 }
 {
-    put_disk(lane.number, names, out, len)
+    match names.name(lane) {
+        Some(name) => put_name(&name, out, len),
+        None => unreachable!(),
+    }
 }
 
 /// Puts an end: its lane's name, and its side.
 pub fn put_end(end: EndName, names: &Names, out: &mut [u8; 3100], len: usize) -> usize
-    requires name { IsLaneNamed names.now end.lane }
+    requires name { HasName names.now end.lane }
     requires room { len + 11 ≤ 3100 }
     ensures text { take result out.new ≡ take len out.old ++ 32 ∷ end_text names.now end }
     ensures len { result ≤ len + 11 }
@@ -109,23 +98,33 @@ fn side_bytes(side: Side) -> &'static [u8]
 pub fn put_fill(fill: &Fill, out: &mut [u8; 3100], len: usize) -> usize
     requires bytes { IsFill fill.now }
     requires room { len + 2049 ≤ 3100 }
-    ensures text { take result out.new ≡ take len out.old ++ 32 ∷ fill_text fill.now }
+    ensures text { take result out.new ≡ take len out.old ++ 32 ∷ front_text fill.now.len fill.now.bytes }
     ensures len { result ≤ len + 2049 }
     ensures small { IsBytes (take fill.now.len fill.now.bytes) }
 {
-    out[len] = b' ';
-    put_hex(&fill.bytes[..fill.len as usize], out, len + 1)
+    put_bytes(&fill.bytes[..fill.len as usize], out, len)
 }
 
-/// Puts the bytes of a packet in hexadecimal.
-pub fn put_packet(packet: &[u8; 64], out: &mut [u8; 3100], len: usize) -> usize
-    requires { len + 129 ≤ 3100 }
-    ensures text { take result out.new ≡ take len out.old ++ 32 ∷ encode_lower packet.now }
-    ensures len { result ≤ len + 129 }
-    ensures small { IsBytes packet.now }
+/// Puts the bytes of a frame in hexadecimal.
+pub fn put_piece(piece: &Piece, out: &mut [u8; 3100], len: usize) -> usize
+    requires bytes { IsPiece piece.now }
+    requires room { len + 3081 ≤ 3100 }
+    ensures text { take result out.new ≡ take len out.old ++ 32 ∷ front_text piece.now.len piece.now.bytes }
+    ensures len { result ≤ len + 3081 }
+    ensures small { IsBytes (take piece.now.len piece.now.bytes) }
+{
+    put_bytes(&piece.bytes[..piece.len as usize], out, len)
+}
+
+/// Puts a space and bytes in hexadecimal.
+pub fn put_bytes(bytes: &[u8], out: &mut [u8; 3100], len: usize) -> usize
+    requires { len + 1 + 2 * length bytes.now ≤ 3100 }
+    ensures text { take result out.new ≡ take len out.old ++ 32 ∷ encode_lower bytes.now }
+    ensures len { result ≡ len + 1 + 2 * length bytes.now }
+    ensures small { IsBytes bytes.now }
 {
     out[len] = b' ';
-    put_hex(packet, out, len + 1)
+    put_hex(bytes, out, len + 1)
 }
 
 /// Puts bytes in hexadecimal, two digits each.

@@ -8,7 +8,8 @@ use crate::disk_rows::{disk_row, flush_row, read_row, start_row, stop_row, write
 use crate::end_rows::{lose_row, reset_row, restart_row, round_row, step_row, tick_row};
 use crate::fields::{Bounds, EndKind, Field, LaneKind};
 use crate::forging_rows::{inject_row, poke_row};
-use crate::numbers::{BLOCKS, QUEUE, RING, TURNS};
+use crate::numbers::{BLOCKS, DISK_RING, PORT_RING, QUEUE, TURNS};
+use crate::port_rows::{join_row, net_row, send_row};
 use crate::{Event, Names};
 
 /// The rows of a script.
@@ -16,6 +17,9 @@ use crate::{Event, Names};
 pub enum RowKind {
     /// `disk NAME BLOCKS RING QUEUE`
     Disk,
+
+    /// `net NAME ADDRESS RING QUEUE`
+    Net,
 
     /// `write NAME BLOCK COUNT HEX`
     Write,
@@ -25,6 +29,12 @@ pub enum RowKind {
 
     /// `flush NAME`
     Flush,
+
+    /// `send NAME HEX`
+    Send,
+
+    /// `join NAME ADDRESS`
+    Join,
 
     /// `step END K`
     Step,
@@ -61,11 +71,14 @@ pub enum RowKind {
 }
 
 /// All of them.
-const ROWS: [RowKind; 15] = [
+const ROWS: [RowKind; 18] = [
     RowKind::Disk,
+    RowKind::Net,
     RowKind::Write,
     RowKind::Read,
     RowKind::Flush,
+    RowKind::Send,
+    RowKind::Join,
     RowKind::Step,
     RowKind::Round,
     RowKind::Settle,
@@ -79,6 +92,12 @@ const ROWS: [RowKind; 15] = [
     RowKind::Poke,
 ];
 
+/// The name of a declared disk.
+const DISK: Field = Field::Named(LaneKind::Disk);
+
+/// The name of a declared port.
+const PORT: Field = Field::Named(LaneKind::Port);
+
 /// A number that the script doesn't bound.
 const ANY: Field = Field::Number(Bounds::Any);
 
@@ -90,9 +109,12 @@ impl RowKind {
     {
         match self {
             RowKind::Disk => b"disk",
+            RowKind::Net => b"net",
             RowKind::Write => b"write",
             RowKind::Read => b"read",
             RowKind::Flush => b"flush",
+            RowKind::Send => b"send",
+            RowKind::Join => b"join",
             RowKind::Step => b"step",
             RowKind::Round => b"round",
             RowKind::Settle => b"settle",
@@ -115,12 +137,20 @@ impl RowKind {
             RowKind::Disk => &[
                 Field::NewName(LaneKind::Disk),
                 Field::Number(BLOCKS),
-                Field::Number(RING),
+                Field::Number(DISK_RING),
                 Field::Number(QUEUE),
             ],
-            RowKind::Write => &[Field::DiskName, ANY, ANY, Field::Bytes],
-            RowKind::Read => &[Field::DiskName, ANY, ANY],
-            RowKind::Flush | RowKind::Stop | RowKind::Start => &[Field::DiskName],
+            RowKind::Net => &[
+                Field::NewName(LaneKind::Port),
+                Field::NewAddress,
+                Field::Number(PORT_RING),
+                Field::Number(QUEUE),
+            ],
+            RowKind::Write => &[DISK, ANY, ANY, Field::Bytes],
+            RowKind::Read => &[DISK, ANY, ANY],
+            RowKind::Flush | RowKind::Stop | RowKind::Start => &[DISK],
+            RowKind::Send => &[PORT, Field::Frame],
+            RowKind::Join => &[PORT, Field::Group],
             RowKind::Step => &[Field::End(EndKind::Any), Field::Number(TURNS)],
             RowKind::Round => &[Field::Number(TURNS)],
             RowKind::Settle => &[],
@@ -153,9 +183,12 @@ pub fn row_with_fields(word: &[u8], fields: &[u8], names: &Names, event: &mut Ev
 {
     match row_named(word)? {
         RowKind::Disk => disk_row(fields, names, event),
+        RowKind::Net => net_row(fields, names, event),
         RowKind::Write => write_row(fields, names, event),
         RowKind::Read => read_row(fields, names, event),
         RowKind::Flush => flush_row(fields, names, event),
+        RowKind::Send => send_row(fields, names, event),
+        RowKind::Join => join_row(fields, names, event),
         RowKind::Step => step_row(fields, names, event),
         RowKind::Round => round_row(fields, names, event),
         RowKind::Settle => None,

@@ -2,23 +2,36 @@ ghost use Rattle.std.specs.Prelude.{◌≡◌, ◌≢◌, ◌↔◌, ℕ, ◌/�
 ghost use Rattle.hex.specs.Hex.{decode_of, encode_lower};
 ghost use Rattle.std.specs.List.{list_all};
 ghost use Rattle.domain_script.specs.declared.event.Name.{Name as name_data};
+ghost use Rattle.domain_script.specs.declared.event.Piece.{Piece as piece_data};
 ghost use Rattle.domain_script.specs.declared.event.Side.{Side as side_data};
 ghost use Rattle.vdisk_msg.specs.declared.request.Fill.{Fill as fill_data};
-ghost use Rattle.domain_script.specs.Words.{begins_name, is_bytes, is_lower_digit, is_name, is_name_byte, is_packet, side_text, IsNameWord, SpellsFill, SpellsName, SpellsPacket};
+ghost use Rattle.domain_script.specs.Words.{begins_name, is_exactly, is_front, is_lower_digit, is_name, is_name_byte, side_text, IsNameWord, SpellsExactly, SpellsFill, SpellsFront, SpellsName, SpellsPiece};
 
 use crate::digits::decode_lower;
-use crate::{Fill, Name, Side};
+use crate::{Fill, Name, Piece, Side};
 
 /// The most bytes that a write repeats.
-const MOST_FILL: usize = 1024;
+pub const MOST_FILL: usize = 1024;
+
+/// The most bytes of a frame that is handed to a guest.
+pub const MOST_PIECE: usize = 1540;
 
 /// The bytes of a packet.
-const PACKET: usize = 64;
+pub const PACKET: usize = 64;
+
+/// The bytes of an address.
+pub const ADDRESS: usize = 6;
 
 /// The fill of a write before its word is put into it: no bytes, and all zeros after them.
 pub const NO_FILL: Fill = Fill {
     len: 0,
     bytes: [0; MOST_FILL],
+};
+
+/// The piece of a frame before its word is put into it, likewise.
+pub const NO_PIECE: Piece = Piece {
+    len: 0,
+    bytes: [0; MOST_PIECE],
 };
 
 /// The name that a word spells.
@@ -79,18 +92,19 @@ fn is_name_byte(b: u8) -> bool
     b.is_ascii_lowercase() || b.is_ascii_digit()
 }
 
-/// Whether a word spells 1 to 1,024 bytes in hexadecimal.
-pub fn is_bytes(word: &[u8]) -> bool
-    ensures { result ≡ is_bytes word.now }
+/// Whether a word spells 1 to so many bytes in hexadecimal.
+pub fn is_front(word: &[u8], most: usize) -> bool
+    ensures { result ≡ is_front most word.now }
 {
-    are_lower_digits(word) && word.len() % 2 == 0 && word.len() >= 2 && word.len() <= 2 * MOST_FILL
+    let len = word.len() / 2;
+    are_lower_digits(word) && word.len() % 2 == 0 && len >= 1 && len <= most
 }
 
-/// Whether a word spells the 64 bytes of a packet in hexadecimal.
-pub fn is_packet(word: &[u8]) -> bool
-    ensures { result ≡ is_packet word.now }
+/// Whether a word spells exactly so many bytes in hexadecimal.
+pub fn is_exactly(word: &[u8], size: usize) -> bool
+    ensures { result ≡ is_exactly size word.now }
 {
-    are_lower_digits(word) && word.len() == 2 * PACKET
+    are_lower_digits(word) && word.len() % 2 == 0 && word.len() / 2 == size
 }
 
 fn are_lower_digits(word: &[u8]) -> bool
@@ -113,21 +127,43 @@ pub fn put_fill(word: &[u8], fill: &mut Fill) -> Option<()>
     ensures some { OnSome result (SpellsFill word.now fill.new) }
     ensures none { IfNone result ((fill : fill_data) → SpellsFill word.now fill → ⊥) }
 {
-    let len = word.len() / 2;
-    if len == 0 || len > MOST_FILL {
-        return None;
-    }
-    if !decode_front(word, &mut fill.bytes) {
-        return None;
-    }
+    let len = put_front(word, MOST_FILL, &mut fill.bytes)?;
     fill.len = len as u16;
     Some(())
 }
 
+/// Puts them into a piece that was all zeros, likewise.
+pub fn put_piece(word: &[u8], piece: &mut Piece) -> Option<()>
+    requires { piece.old.bytes ≡ replicate 1540 0 }
+    ensures some { OnSome result (SpellsPiece word.now piece.new) }
+    ensures none { IfNone result ((piece : piece_data) → SpellsPiece word.now piece → ⊥) }
+{
+    let len = put_front(word, MOST_PIECE, &mut piece.bytes)?;
+    piece.len = len as u16;
+    Some(())
+}
+
+/// Puts the bytes that a word spells in hexadecimal to the front of a room of so many zeros, and answers how many they
+/// are. None where it spells none or more than the room holds; what the room then has, is not specified.
+fn put_front(word: &[u8], most: usize, room: &mut [u8]) -> Option<usize>
+    requires { room.old ≡ replicate most 0 }
+    ensures some { IfSome result (λ len. SpellsFront most word.now len room.new) }
+    ensures none { IfNone result ((len : ℕ) (bytes : List ℕ) → SpellsFront most word.now len bytes → ⊥) }
+{
+    let len = word.len() / 2;
+    if len == 0 || len > most {
+        return None;
+    }
+    if !decode_front(word, room) {
+        return None;
+    }
+    Some(len)
+}
+
 /// The packet whose 64 bytes a word spells in hexadecimal: the word is their own lower-case text.
 pub fn packet(word: &[u8]) -> Option<[u8; 64]>
-    ensures some { IfSome result (SpellsPacket word.now) }
-    ensures none { IfNone result ((packet : List ℕ) → SpellsPacket word.now packet → ⊥) }
+    ensures some { IfSome result (SpellsExactly 64 word.now) }
+    ensures none { IfNone result ((packet : List ℕ) → SpellsExactly 64 word.now packet → ⊥) }
 {
     let mut bytes = [0; PACKET];
     if decode_lower(word, &mut bytes) {
@@ -137,14 +173,27 @@ pub fn packet(word: &[u8]) -> Option<[u8; 64]>
     }
 }
 
-/// Reads a word as lower-case hexadecimal digits into the front of a buffer. False where it isn't that.
-fn decode_front(word: &[u8], out: &mut [u8]) -> bool
-    requires { length word.now / 2 ≤ length out.old }
-    ensures reads { IsTrue result → decode_of word.now ≡ Ok (take (length word.now / 2) out.new) }
-    ensures lower { IsTrue result → word.now ≡ encode_lower (take (length word.now / 2) out.new) }
-    ensures behind { IsTrue result → drop (length word.now / 2) out.new ≡ drop (length word.now / 2) out.old }
+/// The address whose six bytes a word spells, likewise.
+pub fn address(word: &[u8]) -> Option<[u8; 6]>
+    ensures some { IfSome result (SpellsExactly 6 word.now) }
+    ensures none { IfNone result ((address : List ℕ) → SpellsExactly 6 word.now address → ⊥) }
+{
+    let mut bytes = [0; ADDRESS];
+    if decode_lower(word, &mut bytes) {
+        Some(bytes)
+    } else {
+        None
+    }
+}
+
+/// Reads a word as lower-case hexadecimal digits into the front of a room. False where it isn't that.
+fn decode_front(word: &[u8], room: &mut [u8]) -> bool
+    requires { length word.now / 2 ≤ length room.old }
+    ensures reads { IsTrue result → decode_of word.now ≡ Ok (take (length word.now / 2) room.new) }
+    ensures lower { IsTrue result → word.now ≡ encode_lower (take (length word.now / 2) room.new) }
+    ensures behind { IsTrue result → drop (length word.now / 2) room.new ≡ drop (length word.now / 2) room.old }
     ensures none { result ≡ false → (bytes : List ℕ) → length bytes ≡ length word.now / 2 → decode_of word.now ≡ Ok bytes → word.now ≡ encode_lower bytes → ⊥ }
 {
     let len = word.len() / 2;
-    decode_lower(word, &mut out[..len])
+    decode_lower(word, &mut room[..len])
 }

@@ -35,14 +35,14 @@ some_ticked true two all a b sum some first second = omega (arith, sum, first re
 some_ticked false two all a b sum some first second = omega (arith, sum, second some)
 
 -- A FRONT OF TWO LISTS is one of the first, or the first and a front of the second
-record Within {E : Type 0} (part a : List E) : Type 0 where
-  rest : List E
-  is : part ++ rest ≡ a
+pub record Within {E : Type 0} (part a : List E) : Type 0 where
+  pub rest : List E
+  pub is : part ++ rest ≡ a
 
-record Beyond {E : Type 0} (part more a b : List E) : Type 0 where
-  rest : List E
-  is : part ≡ a ++ rest
-  second_is : rest ++ more ≡ b
+pub record Beyond {E : Type 0} (part more a b : List E) : Type 0 where
+  pub rest : List E
+  pub is : part ≡ a ++ rest
+  pub second_is : rest ++ more ≡ b
 
 beyond_more : {E : Type 0} (x : E) (part more a b : List E) → Beyond part more a b → Beyond (x ∷ part) more (x ∷ a) b
 beyond_more {E} x part more a b at = record { rest = at.rest; is = ap (λ (l : List E). x ∷ l) at.is; second_is = at.second_is }
@@ -54,7 +54,7 @@ one_more : {E : Type 0} (x : E) (part more a b : List E) → Within part a ⊎ B
 one_more x part more a b (inl at) = inl (within_more x part a at)
 one_more x part more a b (inr at) = inr (beyond_more x part more a b at)
 
-front_of_two : {E : Type 0} (part more a b : List E) → part ++ more ≡ a ++ b → Within part a ⊎ Beyond part more a b
+pub front_of_two : {E : Type 0} (part more a b : List E) → part ++ more ≡ a ++ b → Within part a ⊎ Beyond part more a b
 front_of_two part more [] b is = inr (record { rest = part; is = refl; second_is = is })
 front_of_two [] more (x ∷ a) b is = inl (record { rest = x ∷ a; is = refl })
 front_of_two {E} (y ∷ part) more (x ∷ a) b is =

@@ -1,17 +1,15 @@
 -- A round, its ticks and names up to a lane: they begin, go on by the next lane, and are those of all lanes after the
--- last. Rounds of a settle so far: none yet, one more, and how it ends. Where memory is wanted, what was made is a front.
+-- last. Where memory is wanted, what was made is a front.
 use Rattle.std.proofs.Common.{◌≡◌, ℕ, zero, suc, ◌+◌, ◌<◌, ◌≤◌, Bool, true, false, inl, inr, List, [], ◌∷◌, ◌++◌, length, map, take, drop, replicate, slice_get, slice_set, Some, refl, sym, ap, ap₂, ◌∙◌, subst, arith, append_assoc, append-nil, length-append, take-append-drop}
 use Rattle.std.specs.Prelude.{◌&&◌, ◌||◌, if◌then◌else◌}
 use Rattle.runs.specs.Run.{Run}
 use Rattle.lane_kinds.proofs.LaneCounts.{turns_many}
 use Rattle.lane_kinds.proofs.Places.{after_one, drop_set, drop_whole, get_set, map_both, same_first, same_next, take_length, take_most, take_one, take_set, take_set_one, take_whole, take_within}
-use Rattle.lane_kinds.proofs.RoundsMade as rounds
-use Rattle.lane_kinds.specs.Fronts.{SettleFront}
-use Rattle.lane_kinds.specs.LaneFronts.{BeginsTurn, RoundFront, TickFront, fronts_of}
+use Rattle.lane_kinds.proofs.RoundsMade.{Says}
+use Rattle.lane_kinds.specs.LaneFronts.{BeginsTurn, RoundFront, TickFront}
 use Rattle.lane_kinds.specs.Lanes.{Entries, LaneKind, MakeRound, MakeTurns, MakesTurn, StepOf, TickAll, TicksIf, all_calm, are_still, gets_tick, lanes_of, left_names, marked, round_entries, some_tick, tick_entries, turn_entries, unmarked}
-use Rattle.lane_kinds.specs.LanesMade.{GoneOn, RoundUpTo, TicksUpTo, all_true, name_of, names}
-use Rattle.lane_kinds.specs.RoundsMade as made
-use Rattle.lane_kinds.specs.Settles.{SettlePart, most_rounds}
+use Rattle.lane_kinds.specs.LanesMade.{RoundUpTo, TicksUpTo, all_true, name_of, names}
+use Rattle.lane_kinds.specs.RoundsMade.{RoundSaid, TicksMade}
 
 or_false : (b : Bool) → (b || false) ≡ b
 or_false true = refl
@@ -21,7 +19,7 @@ or_assoc : (a b c : Bool) → (a || (b || c)) ≡ ((a || b) || c)
 or_assoc true b c = refl
 or_assoc false b c = refl
 
-or_parts : (a b : Bool) → (a || b) ≡ false → (a ≡ false) × (b ≡ false)
+pub or_parts : (a b : Bool) → (a || b) ≡ false → (a ≡ false) × (b ≡ false)
 or_parts true b is = absurd (cc is)
 or_parts false b is = (refl, is)
 
@@ -103,6 +101,10 @@ module _ {S V E : Type 0} (K : LaneKind S V) (N : Entries V E) where
   pub round_quiet : (k : ℕ) (quiet : List Bool) (start : List S) (entries : List E) (now : List S) (up : RoundUpTo K N k quiet start entries now) (all : Bool) → all_true (take k quiet) ≡ all
       → are_still K up.steps ≡ all
   round_quiet k quiet start entries now up all is = marks_say up.steps ∙ ap all_true (sym up.marks) ∙ is
+
+  pub round_said : (quiet : List Bool) (start : List S) (entries : List E) (now : List S) → RoundUpTo K N (length start) quiet start entries now
+      → RoundSaid (lanes_of K N) (map (all_calm K)) (take (length start) quiet) start entries now
+  round_said quiet start entries now up = record { steps = up.steps; round = record { made = round_made quiet start entries now up; leaves = up.leaves }; marks = up.marks }
 
   pub round_many : (k : ℕ) (quiet : List Bool) (start : List S) (entries : List E) (now : List S) → RoundUpTo K N k quiet start entries now → length now ≡ length start
   round_many k quiet start entries now up = turns_many K 0 start up.steps now up.made
@@ -206,31 +208,22 @@ module _ {S V E : Type 0} (K : LaneKind S V) (N : Entries V E) where
       lane_more k had have some mark get start entries one w v s t up (sym (same_first had have k up.same_marks) ∙ now) there is ticks gets leaves less
 
   -- they are all after the last lane
-  pub record AllTicked (had : List Bool) (some : Bool) (have : List Bool) (start : List S) (entries : List E) (now : List S) : Type 0 where
-    pub ticks : TickAll K start (take (length start) had) now
-    pub leaves : entries ≡ tick_entries K N 0 start (take (length start) had)
-    pub any : some ≡ some_tick K start (take (length start) had)
-    pub marks : take (length start) have ≡ marked K start (take (length start) had)
-    pub many : length now ≡ length start
-
-  ticked_many : (lanes : List S) (marks : List Bool) (behind : List S) → TickAll K lanes marks behind → length behind ≡ length lanes
+  pub ticked_many : (lanes : List S) (marks : List Bool) (behind : List S) → TickAll K lanes marks behind → length behind ≡ length lanes
   ticked_many [] [] [] ticks = refl
   ticked_many (s ∷ lanes) (mark ∷ marks) (t ∷ behind) ticks = ap suc (ticked_many lanes marks behind ticks.1)
   ticked_many _ _ _ ticks = absurd ticks
 
-  all_ticked : (had : List Bool) (some : Bool) (have : List Bool) (start : List S) (entries : List E) (now : List S) → TicksUpTo K N (length start) had some have start entries now
-      → AllTicked had some have start entries now
-  all_ticked had some have start entries now up =
+  pub ticks_made : (had : List Bool) (some : Bool) (have : List Bool) (start : List S) (entries : List E) (now : List S) → TicksUpTo K N (length start) had some have start entries now
+      → TicksMade (lanes_of K N) (take (length start) had) some (take (length start) have) start entries now
+  ticks_made had some have start entries now up =
       let n = length start in
       let before : take n start ≡ start = take_whole start in
       let behind : take n now ≡ now = take_most now n (up.others ∙ drop_whole start) in
-      let ticks : TickAll K start (take n had) now = subst (λ (l : List S). TickAll K l (take n had) now) before (subst (λ (l : List S). TickAll K (take n start) (take n had) l) behind up.ticks) in
       record {
-        ticks = ticks;
+        ticks = subst (λ (l : List S). TickAll K l (take n had) now) before (subst (λ (l : List S). TickAll K (take n start) (take n had) l) behind up.ticks);
         leaves = up.leaves ∙ ap (λ (l : List S). tick_entries K N 0 l (take n had)) before;
         any = up.any ∙ ap (λ (l : List S). some_tick K l (take n had)) before;
         marks = up.marks ∙ ap (λ (l : List S). marked K l (take n had)) before;
-        many = ticked_many start (take n had) now ticks;
       }
 
   none_left : (j : ℕ) (get : Bool) (s : S) → get ≡ false → tick_entry j get s ≡ []
@@ -250,6 +243,20 @@ module _ {S V E : Type 0} (K : LaneKind S V) (N : Entries V E) where
   none_more j [] marks = record { is = refl; lanes_stay = refl }
   none_more j (s ∷ lanes) [] = record { is = refl; lanes_stay = refl }
   none_more j (s ∷ lanes) (had ∷ marks) = inl (record { is = refl; lanes_stay = refl })
+
+  pub front_whole : (j : ℕ) (lanes : List S) (marks : List Bool) (behind : List S) → TickAll K lanes marks behind → TickFront K N j lanes marks (tick_entries K N j lanes marks) behind
+  front_whole j [] [] [] ticks = record { is = refl; lanes_stay = refl }
+  front_whole j (s ∷ lanes) (had ∷ marks) (t ∷ behind) ticks =
+      inr (record {
+        after = t;
+        ticks = ticks.0;
+        later = tick_entries K N (j + 1) lanes marks;
+        others = behind;
+        more = front_whole (j + 1) lanes marks behind ticks.1;
+        is = refl;
+        rest = refl;
+      })
+  front_whole _ _ _ _ ticks = absurd ticks
 
   front_more : (j : ℕ) (lanes : List S) (marks : List Bool) (behind rest : List S) (more : List Bool) → TickAll K lanes marks behind
       → TickFront K N j (lanes ++ rest) (marks ++ more) (tick_entries K N j lanes marks) (behind ++ rest)
@@ -289,6 +296,10 @@ module _ {S V E : Type 0} (K : LaneKind S V) (N : Entries V E) where
   no_lanes k [] = refl
   no_lanes k (quiet ∷ marks) = refl
 
+  -- WHAT THE MARKS SAY of a round, its names and its ticks
+  pub lanes_say : Says (lanes_of K N) (map (all_calm K)) all_true (names K N 0)
+  lanes_say = record { quiet = marks_say; names = λ steps lanes. left_named 0 steps lanes; no_ticks = λ lanes marks none. no_entries 0 lanes marks none }
+
   first_zero : (j n : ℕ) → n ≡ j + 0 → n ≡ j
   first_zero j n is = omega (arith, is)
 
@@ -320,109 +331,10 @@ module _ {S V E : Type 0} (K : LaneKind S V) (N : Entries V E) where
       ∙ sym (names_both 0 k (take k quiet) (calm ∷ []) (take k lanes) (lane ∷ []) same (place_is k (length (take k lanes)) long))
       ∙ ap₂ (λ (m : List Bool) (l : List S). names K N 0 m l) (sym marks) (sym next)
 
-  -- THE ROUNDS OF A SETTLE: none yet
-  pub nothing_gone : (start : List S) (had quiet : List Bool) → take (length start) had ≡ unmarked start → GoneOn K N 0 had quiet start [] start
-  nothing_gone start had quiet fresh =
-      let Last = λ (steps : List (List V)). take (length start) quiet ≡ map (all_calm K) steps in
-      subst (λ (m : List Bool). made.GoneOn (lanes_of K N) 0 m Last start [] start) (sym fresh) (rounds.nothing_gone (lanes_of K N) start Last)
-
-  made_so : (marks : List Bool) (w : List S) (part : List E) (m : List S) (up : RoundUpTo K N (length w) marks w part m) → made.RoundMade (lanes_of K N) up.steps w part m
-  made_so marks w part m up = record { made = round_made marks w part m up; leaves = up.leaves }
-
-  -- marks of as many lanes
-  abbrev Gone : ℕ → List Bool → List Bool → List S → List E → List S → ℕ → Type 0
-  Gone count had quiet start entries now n = made.GoneOn (lanes_of K N) count (take n had) (λ steps. take n quiet ≡ map (all_calm K) steps) start entries now
-
-  module _ (count : ℕ) (had quiet : List Bool) (start : List S) (entries : List E) (w : List S) (gone : GoneOn K N count had quiet start entries w) where
-    abbrev Last : List (List V) → Type 0
-    Last steps = take (length w) quiet ≡ map (all_calm K) steps
-
-    -- one more, in which not all lanes were quiet
-    pub one_round : (marks : List Bool) (part : List E) (v : List S) → RoundUpTo K N (length w) marks w part v → all_true (take (length w) marks) ≡ false
-        → GoneOn K N (count + 1) had marks start (entries ++ part) v
-    one_round marks part v up loud =
-        subst (Gone (count + 1) had marks start (entries ++ part) v) (sym (round_many (length w) marks w part v up))
-        (rounds.one_round (lanes_of K N) count (take (length w) had) Last start entries w gone (λ steps. take (length w) marks ≡ map (all_calm K) steps) up.steps part v
-        (made_so marks w part v up) (round_quiet (length w) marks w part v up false loud) up.marks)
-
-    module _ (marks : List Bool) (part : List E) (m : List S) (up : RoundUpTo K N (length w) marks w part m) (calm : all_true (take (length w) marks) ≡ true) where
-      all_quiet : are_still K up.steps ≡ true
-      all_quiet = round_quiet (length w) marks w part m up true calm
-
-      had_are : take (length m) had ≡ take (length w) had
-      had_are = ap (λ (n : ℕ). take n had) (round_many (length w) marks w part m up)
-
-      record TicksHere (some : Bool) (have : List Bool) (later : List E) (v : List S) : Type 0 where
-        ticks : TickAll K m (take (length w) had) v
-        leaves : later ≡ tick_entries K N 0 m (take (length w) had)
-        any : some ≡ some_tick K m (take (length w) had)
-        marks_are : marked K m (take (length w) had) ≡ take (length w) have
-        many : length v ≡ length w
-
-      ticks_here : (some : Bool) (have : List Bool) (later : List E) (v : List S) → TicksUpTo K N (length m) had some have m later v → TicksHere some have later v
-      ticks_here some have later v ticks =
-          let all : AllTicked had some have m later v = all_ticked had some have m later v ticks in
-          let many : length m ≡ length w = round_many (length w) marks w part m up in
-          record {
-            ticks = subst (λ (l : List Bool). TickAll K m l v) had_are all.ticks;
-            leaves = all.leaves ∙ ap (λ (l : List Bool). tick_entries K N 0 m l) had_are;
-            any = all.any ∙ ap (λ (l : List Bool). some_tick K m l) had_are;
-            marks_are = ap (λ (l : List Bool). marked K m l) (sym had_are) ∙ sym all.marks ∙ ap (λ (n : ℕ). take n have) many;
-            many = all.many ∙ many;
-          }
-
-      -- all were, and some got a tick
-      pub one_round_ticked : (some : Bool) (have : List Bool) (later : List E) (v : List S) → TicksUpTo K N (length m) had some have m later v → some ≡ true
-          → GoneOn K N (count + 1) have marks start (entries ++ (part ++ later)) v
-      one_round_ticked some have later v ticks any =
-          let here : TicksHere some have later v = ticks_here some have later v ticks in
-          let Next = λ (steps : List (List V)). take (length w) marks ≡ map (all_calm K) steps in
-          subst (Gone (count + 1) have marks start (entries ++ (part ++ later)) v) (sym here.many)
-          (subst (λ (l : List Bool). made.GoneOn (lanes_of K N) (count + 1) l Next start (entries ++ (part ++ later)) v) here.marks_are
-          (rounds.one_round_ticked (lanes_of K N) count (take (length w) had) Last start entries w gone up.steps part m (made_so marks w part m up) all_quiet Next later v
-          (sym here.any ∙ any) here.ticks here.leaves up.marks))
-
-      -- or none did: nothing is left by the ticks, and it ends settled
-      pub no_ticks : (some : Bool) (have : List Bool) (later : List E) (v : List S) → TicksUpTo K N (length m) had some have m later v → some ≡ false → later ≡ []
-      no_ticks some have later v ticks any =
-          let here : TicksHere some have later v = ticks_here some have later v ticks in
-          here.leaves ∙ no_entries 0 m (take (length w) had) (sym here.any ∙ any)
-
-      pub settled : (some : Bool) (have : List Bool) (later : List E) (v : List S) → count < most_rounds (lanes_of K N) start → TicksUpTo K N (length m) had some have m later v → some ≡ false → m ≡ v
-          → SettlePart (lanes_of K N) start (entries ++ (part ++ (later ++ N.settled ∷ []))) v
-      settled some have later v few ticks any stays =
-          let here : TicksHere some have later v = ticks_here some have later v ticks in
-          subst (SettlePart (lanes_of K N) start (entries ++ (part ++ (later ++ N.settled ∷ [])))) stays
-          (subst (λ (l : List E). SettlePart (lanes_of K N) start (entries ++ (part ++ (l ++ N.settled ∷ []))) m) (sym (no_ticks some have later v ticks any))
-          (rounds.settled (lanes_of K N) count (take (length w) had) Last start entries w gone up.steps part m (made_so marks w part m up) all_quiet few (sym here.any ∙ any)))
-
-      -- memory is wanted among the ticks or for the answer
-      pub wants_in_ticks : (later : List E) (v : List S) → count < most_rounds (lanes_of K N) start → TickFront K N 0 m (take (length m) had) later v
-          → SettleFront (lanes_of K N) (fronts_of K N) start (entries ++ (part ++ later)) v
-      wants_in_ticks later v few front =
-          rounds.wants_in_ticks (lanes_of K N) count (take (length w) had) Last start entries w gone up.steps part m (made_so marks w part m up) all_quiet (fronts_of K N) later v few
-          (subst (λ (l : List Bool). TickFront K N 0 m l later v) had_are front)
-
-    -- in a round
-    pub wants_in_round : (later : List E) (v : List S) → count < most_rounds (lanes_of K N) start → RoundFront K N w later v → SettleFront (lanes_of K N) (fronts_of K N) start (entries ++ later) v
-    wants_in_round later v few front = rounds.wants_in_round (lanes_of K N) count (take (length w) had) Last start entries w gone (fronts_of K N) later v few front
-
-    -- THE ROUNDS RAN OUT, and the names stand after them
-    all_named : (steps : List (List V)) → Last steps → names K N 0 (take (length w) quiet) w ≡ left_names K N 0 steps w
-    all_named steps last = ap (λ (m : List Bool). names K N 0 m w) last ∙ left_named 0 steps w
-
-    pub run_out : (part : List E) → count ≡ most_rounds (lanes_of K N) start → part ≡ names K N 0 (take (length w) quiet) (take (length w) w)
-        → SettlePart (lanes_of K N) start (entries ++ part) w
-    run_out part most named =
-        rounds.run_out (lanes_of K N) count (take (length w) had) Last start entries w gone part most
-        (λ steps last. named ∙ ap (names K N 0 (take (length w) quiet)) (take_whole w) ∙ all_named steps last)
-
-    pub wants_in_names : (k : ℕ) (part : List E) → count ≡ most_rounds (lanes_of K N) start → k ≤ length w → part ≡ names K N 0 (take k quiet) (take k w)
-        → SettleFront (lanes_of K N) (fronts_of K N) start (entries ++ part) w
-    wants_in_names k part most within named =
-        let all = take (length w) quiet in
-        let unnamed = names K N k (drop k all) (drop k w) in
-        let first : part ++ unnamed ≡ names K N 0 all w =
-        ap (λ (l : List E). l ++ unnamed) (named ∙ ap (λ (m : List Bool). names K N 0 m (take k w)) (sym (take_within k (length w) quiet within)))
-        ∙ names_split k 0 k all w (place_is k k refl) in
-        rounds.wants_in_names (lanes_of K N) count (take (length w) had) Last start entries w gone (fronts_of K N) part unnamed most (λ steps last. first ∙ all_named steps last)
+  -- the names of the first lanes are a front of all
+  pub front_named : (k : ℕ) (lanes : List S) (quiet : List Bool) (part : List E) → k ≤ length lanes → part ≡ names K N 0 (take k quiet) (take k lanes)
+      → part ++ names K N k (drop k (take (length lanes) quiet)) (drop k lanes) ≡ names K N 0 (take (length lanes) quiet) lanes
+  front_named k lanes quiet part within is =
+      let all = take (length lanes) quiet in
+      ap (λ (l : List E). l ++ names K N k (drop k all) (drop k lanes)) (is ∙ ap (λ (m : List Bool). names K N 0 m (take k lanes)) (sym (take_within k (length lanes) quiet within)))
+      ∙ names_split k 0 k all lanes (place_is k k refl)

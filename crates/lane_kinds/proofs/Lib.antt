@@ -15,5 +15,10 @@ pub mod EntryRuns
 pub mod Ticked
 pub mod Places
 pub mod BothFronts
+pub mod EntriesEach
+pub mod FirstKept
 pub mod RoundsMade
 pub mod LanesMade
+pub mod BothMade
+pub mod NoneBeside
+pub mod WorldMade

@@ -5,7 +5,7 @@ use Rattle.runs.specs.Run.{Run, run_push}
 use Rattle.lane_kinds.proofs.Places.{HasLast, has_last, never_empty, same_last}
 use Rattle.lane_kinds.specs.Fronts.{Fronts, SettleFront}
 use Rattle.lane_kinds.specs.Rounds.{Rounds}
-use Rattle.lane_kinds.specs.RoundsMade.{GoneOn, RoundMade}
+use Rattle.lane_kinds.specs.RoundsMade.{GoneOn, GoneSaid, RoundMade, RoundSaid, TicksMade}
 use Rattle.lane_kinds.specs.Settles.{GoesOn, SettlePart, SettleRound, Settling, TicksBehind, begin, entries_of_rounds, most_rounds}
 
 module _ {W M R E : Type 0} (K : Rounds W M R E) where
@@ -132,3 +132,57 @@ module _ {W M R E : Type 0} (K : Rounds W M R E) where
           );
           is = ap (λ (l : List E). l ++ part) gone.leaves;
         }
+
+-- WHERE MARKS SAY which lanes were quiet: whether all were, and which names stand behind such a round; and where no lane
+-- gets a tick none leaves anything
+pub record Says {W M R E Q : Type 0} (K : Rounds W M R E) (said : R → Q) (all : Q → Bool) (named : Q → W → List E) : Type 0 where
+  pub quiet : (r : R) → K.quiet r ≡ all (said r)
+  pub names : (r : R) (w : W) → named (said r) w ≡ K.names r w
+  pub no_ticks : (w : W) (m : M) → K.some_ticks w m ≡ false → K.ticks_leave w m ≡ []
+
+module _ {W M R E Q : Type 0} (K : Rounds W M R E) (said : R → Q) (all : Q → Bool) (named : Q → W → List E) (says : Says K said all named) where
+  quiet_so : (quiet : Q) (w : W) (part : List E) (v : W) (round : RoundSaid K said quiet w part v) (b : Bool) → all quiet ≡ b → K.quiet round.steps ≡ b
+  quiet_so quiet w part v round b is = says.quiet round.steps ∙ ap all (sym round.marks) ∙ is
+
+  module _ (count : ℕ) (had : M) (quiet : Q) (start : W) (entries : List E) (w : W) (gone : GoneSaid K said count had quiet start entries w) where
+    abbrev Last : R → Type 0
+    Last steps = quiet ≡ said steps
+
+    -- ONE MORE ROUND: not all lanes were quiet, or all were and some got a tick
+    pub loud_round : (marks : Q) (part : List E) (v : W) → RoundSaid K said marks w part v → all marks ≡ false → GoneSaid K said (count + 1) had marks start (entries ++ part) v
+    loud_round marks part v round loud =
+        one_round K count had Last start entries w gone (λ steps. marks ≡ said steps) round.steps part v round.round (quiet_so marks w part v round false loud) round.marks
+
+    pub ticked_round : (marks : Q) (part : List E) (m : W) (some : Bool) (have : M) (later : List E) (v : W) → RoundSaid K said marks w part m → all marks ≡ true
+        → TicksMade K had some have m later v → some ≡ true → GoneSaid K said (count + 1) have marks start (entries ++ (part ++ later)) v
+    ticked_round marks part m some have later v round calm ticks any =
+        subst (λ (h : M). GoneSaid K said (count + 1) h marks start (entries ++ (part ++ later)) v) (sym ticks.marks)
+        (one_round_ticked K count had Last start entries w gone round.steps part m round.round (quiet_so marks w part m round true calm) (λ steps. marks ≡ said steps) later v (sym ticks.any ∙ any)
+        ticks.ticks ticks.leaves round.marks)
+
+    -- THE LAST ROUND: all were, and none got a tick
+    pub none_left : (some : Bool) (have : M) (m : W) (later : List E) (v : W) → TicksMade K had some have m later v → some ≡ false → later ≡ []
+    none_left some have m later v ticks any = ticks.leaves ∙ says.no_ticks m had (sym ticks.any ∙ any)
+
+    pub settled_round : (marks : Q) (part : List E) (m : W) (some : Bool) (have : M) (later : List E) (v : W) → count < most_rounds K start → RoundSaid K said marks w part m → all marks ≡ true
+        → TicksMade K had some have m later v → some ≡ false → m ≡ v → SettlePart K start (entries ++ (part ++ (later ++ K.settled ∷ []))) v
+    settled_round marks part m some have later v few round calm ticks any stays =
+        subst (SettlePart K start (entries ++ (part ++ (later ++ K.settled ∷ [])))) stays
+        (subst (λ (l : List E). SettlePart K start (entries ++ (part ++ (l ++ K.settled ∷ []))) m) (sym (none_left some have m later v ticks any))
+        (settled K count had Last start entries w gone round.steps part m round.round (quiet_so marks w part m round true calm) few (sym ticks.any ∙ any)))
+
+    -- MEMORY IS WANTED among the ticks or for the answer
+    pub ticks_begun : (marks : Q) (part : List E) (m : W) → RoundSaid K said marks w part m → all marks ≡ true → (F : Fronts W M E) (later : List E) (v : W) → count < most_rounds K start
+        → F.OfTicks m had later v → SettleFront K F start (entries ++ (part ++ later)) v
+    ticks_begun marks part m round calm F later v few front =
+        wants_in_ticks K count had Last start entries w gone round.steps part m round.round (quiet_so marks w part m round true calm) F later v few front
+
+    -- THE ROUNDS RAN OUT, and the names stand after them, or the first of them
+    all_named : (steps : R) → Last steps → named quiet w ≡ K.names steps w
+    all_named steps last = ap (λ (q : Q). named q w) last ∙ says.names steps w
+
+    pub named_out : (part : List E) → count ≡ most_rounds K start → part ≡ named quiet w → SettlePart K start (entries ++ part) w
+    named_out part most is = run_out K count had Last start entries w gone part most (λ steps last. is ∙ all_named steps last)
+
+    pub names_begun : (F : Fronts W M E) (part unnamed : List E) → count ≡ most_rounds K start → part ++ unnamed ≡ named quiet w → SettleFront K F start (entries ++ part) w
+    names_begun F part unnamed most is = wants_in_names K count had Last start entries w gone F part unnamed most (λ steps last. is ∙ all_named steps last)

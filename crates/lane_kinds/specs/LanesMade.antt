@@ -1,8 +1,8 @@
 -- What was made so far, lane by lane, of a round over lanes of one kind, of the ticks after it and of the names; and
--- round by round of a settle.
+-- the marks of two kinds beside each other.
 use Rattle.std.specs.Prelude.{◌≡◌, ℕ, ◌+◌, ◌≤◌, Bool, true, false, ◌&&◌, if◌then◌else◌, List, [], ◌∷◌, ◌++◌, length, map, take, drop}
-use Rattle.lane_kinds.specs.Lanes.{Entries, LaneKind, MakeTurns, TickAll, all_calm, lanes_of, marked, round_entries, some_tick, tick_entries}
-use Rattle.lane_kinds.specs.RoundsMade as rounds
+use Rattle.lane_kinds.specs.Both.{Two}
+use Rattle.lane_kinds.specs.Lanes.{Entries, LaneKind, MakeTurns, TickAll, all_calm, marked, round_entries, some_tick, tick_entries}
 
 -- whether all of these lanes were quiet
 abbrev pub all_true : List Bool → Bool
@@ -36,8 +36,12 @@ abbrev pub names : {S V E : Type 0} → LaneKind S V → Entries V E → ℕ →
 names K N k (quiet ∷ marks) (lane ∷ lanes) = name_of K N k quiet lane ++ names K N (k + 1) marks lanes
 names K N k _ _ = []
 
--- THE ROUNDS that were made and go on, so many; the one marks say which lanes had a tick, and the others which were
--- quiet in the last of them
-abbrev pub GoneOn : {S V E : Type 0} → LaneKind S V → Entries V E → ℕ → List Bool → List Bool → List S → List E → List S → Type 0
-GoneOn K N count had quiet start entries now =
-    rounds.GoneOn (lanes_of K N) count (take (length now) had) (λ steps. take (length now) quiet ≡ map (all_calm K) steps) start entries now
+-- THE MARKS OF TWO KINDS beside each other; those of as many lanes; and whether all of them were quiet
+abbrev pub Marks : Type 0
+Marks = Two (List Bool) (List Bool)
+
+abbrev pub first_marks : {S T : Type 0} → Two (List S) (List T) → Marks → Marks
+first_marks w marks = record { first = take (length w.first) marks.first; second = take (length w.second) marks.second }
+
+abbrev pub both_true : Marks → Bool
+both_true marks = all_true marks.first && all_true marks.second

@@ -8,4 +8,5 @@ pub mod LaneCounts
 pub mod LaneFronts
 pub mod RoundsMade
 pub mod LanesMade
+pub mod WorldMade
 pub mod Laws

@@ -1,7 +1,8 @@
 -- The rounds of a settle that were made and go on, so many, with what they left in the journal, over lanes of any kinds;
 -- and what is known of the last of them.
-use Rattle.std.specs.Prelude.{◌≡◌, ℕ, List, [], ◌∷◌, ◌++◌, length}
+use Rattle.std.specs.Prelude.{◌≡◌, ℕ, Bool, List, [], ◌∷◌, ◌++◌, length}
 use Rattle.runs.specs.Run.{Run}
+use Rattle.lane_kinds.specs.Both.{Two}
 use Rattle.lane_kinds.specs.Rounds.{Rounds}
 use Rattle.lane_kinds.specs.Settles.{GoesOn, SettleRound, begin, entries_of_rounds}
 
@@ -16,3 +17,25 @@ pub record GoneOn {W M R E : Type 0} (K : Rounds W M R E) (count : ℕ) (marks :
 pub record RoundMade {W M R E : Type 0} (K : Rounds W M R E) (steps : R) (w : W) (part : List E) (v : W) : Type 0 where
   pub made : K.Makes w steps v
   pub leaves : part ≡ K.leaves steps
+
+-- BY MARKS: what these say of a round, namely which lanes were quiet in it
+pub record RoundSaid {W M R E Q : Type 0} (K : Rounds W M R E) (said : R → Q) (quiet : Q) (w : W) (part : List E) (v : W) : Type 0 where
+  pub steps : R
+  pub round : RoundMade K steps w part v
+  pub marks : quiet ≡ said steps
+
+-- the ticks behind a round, where the one marks say which lanes had one before it, and the others which had one behind
+-- them; `some` says whether any got one
+pub record TicksMade {W M R E : Type 0} (K : Rounds W M R E) (had : M) (some : Bool) (have : M) (w : W) (part : List E) (v : W) : Type 0 where
+  pub ticks : K.Ticks w had v
+  pub leaves : part ≡ K.ticks_leave w had
+  pub any : some ≡ K.some_ticks w had
+  pub marks : have ≡ K.marked w had
+
+-- and of the last of the rounds that go on
+abbrev pub GoneSaid : {W M R E Q : Type 0} → Rounds W M R E → (R → Q) → ℕ → M → Q → W → List E → W → Type 0
+GoneSaid K said count had quiet start entries now = GoneOn K count had (λ steps. quiet ≡ said steps) start entries now
+
+-- of two kinds beside each other
+abbrev pub both_said : {R Q P O : Type 0} → (R → P) → (Q → O) → Two R Q → Two P O
+both_said one two steps = record { first = one steps.first; second = two steps.second }

@@ -6,7 +6,7 @@ use Rattle.ldom_entries.specs.declared.entry.Entry.TheVariants as entry
 -- Whether an entry is kept whole. What comes with a step of an end, or for each disk of a settle, may come millions of
 -- times, and what tells of a line of a script about as often as there are such lines: these are kept in a few bytes.
 -- A lost packet, a forged one and a poke, of which a line tells too, are kept as they are, as any other kind would be:
--- they need no headers of their own.
+-- they need no headers of their own. So are a port's frames, whose bytes take more than all else of them.
 abbrev pub is_whole : Entry → Bool
 is_whole (entry.Accepted disk id request) = false
 is_whole (entry.Full who) = false

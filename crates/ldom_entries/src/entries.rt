@@ -58,8 +58,8 @@ impl<'a> Entries<'a> {
         }
     }
 
-    /// Passes over entries that no user of the disks sees, until the next one is seen or is kept whole. None of those
-    /// that it passes over is handed on.
+    /// Passes over entries that no user of the disks and ports sees, until the next one is seen or is kept whole. None
+    /// of those that it passes over is handed on.
     pub fn pass_unseen(&mut self)
         ensures passed { PassesUnseen self.old self.new }
         ensures stops { BeginsSeen self.new }
@@ -67,7 +67,8 @@ impl<'a> Entries<'a> {
         while self.pass_one() {}
     }
 
-    /// Passes over the next entry, where no user of the disks may see it. Answers whether there was such a one.
+    /// Passes over the next entry, where no user of the disks and ports may see it. Answers whether there was such a
+    /// one.
     fn pass_one(&mut self) -> bool
         ensures passed { PassesUnseen self.old self.new }
         ensures shorter { IsTrue result → length self.new < length self.old }

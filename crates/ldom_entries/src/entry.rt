@@ -10,7 +10,7 @@ pub enum Who {
     End(EndName),
 }
 
-/// Why a request was refused, or a poke.
+/// Why a request was refused, or a poke, a frame or a group of a port.
 #[derive(Clone, Copy, Debug, PartialEq, Eq)]
 pub enum Why {
     /// It names no block, or more than one request may.
@@ -18,10 +18,17 @@ pub enum Why {
 
     /// It reaches past the disk's last block, or past the memory's end.
     Range,
+
+    /// A frame is shorter or longer than a frame may be.
+    Length,
+
+    /// The port is a member of as many groups as it may.
+    Groups,
 }
 
-/// What happened at one step of a run. A disk goes by its number in the order of declaration, counted from 0, a
-/// request of it by its id, likewise; an end by the lane and the side. A packet is its 64 bytes.
+/// What happened at one step of a run. A disk goes by its number in the order of declaration, counted from 0, and so
+/// does a port; a request or a frame of it by its id, likewise; an end by the lane and the side. A packet is its 64
+/// bytes.
 #[derive(Debug, Drop)]
 pub enum Entry {
     /// A guest's request was taken up.
@@ -31,15 +38,28 @@ pub enum Entry {
         request: KeptRequest,
     },
 
-    /// As many requests are pending as the ring holds, or as many packets wait for an end as its queue holds.
+    /// As many requests or frames are pending as the ring holds, or as many packets wait for an end as its queue holds.
     Full {
         who: Who,
     },
 
-    /// A request was refused, or a poke into an end's memory.
+    /// A request was refused, a frame, a group, or a poke into an end's memory.
     Refused {
         who: Who,
         why: Why,
+    },
+
+    /// A frame was handed to a port's guest.
+    Queued {
+        port: u32,
+        id: u64,
+        bytes: Bytes,
+    },
+
+    /// A port is a member of one group more.
+    Member {
+        port: u32,
+        address: [u8; 6],
     },
 
     /// The packet that had waited longest for an end was lost.
@@ -119,7 +139,7 @@ pub enum Entry {
         opens: bool,
     },
 
-    /// The client put the request with this id into its ring.
+    /// A disk's client put the request with this id into its ring, or an end of a port the frame.
     Published {
         end: EndName,
         id: u64,
@@ -163,6 +183,21 @@ pub enum Entry {
         end: EndName,
         slot: u32,
         status: u32,
+    },
+
+    /// A port's guest took a frame from the switch.
+    Frame {
+        end: EndName,
+        bytes: Bytes,
+    },
+
+    /// The switch took a frame from a port. Of the ports that it is for, each is a bit of one of two sets: those that
+    /// have it in their queue, and those whose queue was full. Both are empty where its address is that of no port.
+    Switched {
+        end: EndName,
+        out: u32,
+        full: u32,
+        bytes: Bytes,
     },
 
     /// An end was reset, maybe by a packet that it took, and so many frames were lost by that.

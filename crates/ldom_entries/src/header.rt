@@ -156,7 +156,7 @@ pub enum Header {
 }
 
 impl Header {
-    /// Whether a user of the disks may see its entry.
+    /// Whether a user of the disks and ports may see its entry.
     pub fn may_be_seen(&self) -> bool
         ensures { result ≡ may_be_seen (kind_of self.now) }
     {

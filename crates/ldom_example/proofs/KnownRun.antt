@@ -40,7 +40,7 @@ abbrev pub events : List Event
 events = Disk disk ∷ Issue 0 (Write 3 2 word) ∷ Issue 0 (Read 2 3) ∷ Settle ∷ []
 
 abbrev names : NamesState
-names = record { disks = disk ∷ []; ended = true }
+names = record { disks = disk ∷ []; ports = []; ended = true }
 
 spelled : AllSpell (script_lines script) no_names events names
 unfolding digits count_ones

@@ -2,7 +2,7 @@
 use Rattle.std.proofs.Common.{◌≡◌, ◌+◌, ◌≤◌, Bool, cond, List, length, ap, ◌∙◌}
 use Rattle.std.proofs.lemmas.List.Sums.{count_by-le-length, sum_by_push}
 use Rattle.std.specs.List.{count_by}
-use Rattle.ldom_journal.specs.Counts.{accepted_count, done_count, is_accepted, is_done, is_reset, reset_count}
+use Rattle.ldom_journal.specs.Counts.{accepted_count, done_count, frame_count, is_accepted, is_done, is_frame, is_reset, reset_count}
 use Rattle.ldom_entries.specs.JournalState.{JournalState, PutsEntry}
 use Rattle.ldom_entries.specs.declared.entry.Entry.{Entry}
 
@@ -18,6 +18,9 @@ done_more = count_more is_done
 pub resets_more : (s t : JournalState) (e : Entry) → PutsEntry s e t → reset_count t.entries ≡ reset_count s.entries + cond (is_reset e) 1 0
 resets_more = count_more is_reset
 
+pub frames_more : (s t : JournalState) (e : Entry) → PutsEntry s e t → frame_count t.entries ≡ frame_count s.entries + cond (is_frame e) 1 0
+frames_more = count_more is_frame
+
 -- no more than there are entries
 pub accepted_few : (entries : List Entry) → accepted_count entries ≤ length entries
 accepted_few = count_by-le-length is_accepted
@@ -28,4 +31,7 @@ done_few = count_by-le-length is_done
 pub resets_few : (entries : List Entry) → reset_count entries ≤ length entries
 resets_few = count_by-le-length is_reset
 
-pub ruleset counted = (accepted_more, done_more, resets_more, accepted_few, done_few, resets_few)
+pub frames_few : (entries : List Entry) → frame_count entries ≤ length entries
+frames_few = count_by-le-length is_frame
+
+pub ruleset counted = (accepted_more, done_more, resets_more, frames_more, accepted_few, done_few, resets_few, frames_few)

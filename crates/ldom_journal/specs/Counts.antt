@@ -18,6 +18,11 @@ abbrev pub is_reset : Entry → Bool
 is_reset (entry.Reset e cause packet lost) = true
 is_reset other = false
 
+-- whether a port's guest took a frame
+abbrev pub is_frame : Entry → Bool
+is_frame (entry.Frame e bytes) = true
+is_frame other = false
+
 -- how many requests were taken up
 abbrev pub accepted_count : List Entry → ℕ
 accepted_count entries = count_by is_accepted entries
@@ -29,3 +34,7 @@ done_count entries = count_by is_done entries
 -- how often an end was reset
 abbrev pub reset_count : List Entry → ℕ
 reset_count entries = count_by is_reset entries
+
+-- how many frames the guests of ports took
+abbrev pub frame_count : List Entry → ℕ
+frame_count entries = count_by is_frame entries

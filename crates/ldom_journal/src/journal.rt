@@ -1,5 +1,6 @@
 ghost use Rattle.std.specs.Prelude.{◌≡◌, ◌+◌, ◌<◌, ◌≤◌, [], ◌∷◌, ◌++◌, length, false};
-ghost use Rattle.ldom_journal.specs.Counts.{accepted_count, done_count, is_accepted, is_done, reset_count};
+ghost use Rattle.ldom_journal.specs.Counts.{accepted_count, done_count, frame_count, is_accepted, is_done, is_frame};
+ghost use Rattle.ldom_journal.specs.Counts.{reset_count};
 
 use crate::kept_entries::KeptEntries;
 use crate::reading::nth;
@@ -21,11 +22,12 @@ pub struct Journal {
     accepted: usize,
     done: usize,
     resets: usize,
+    frames: usize,
 }
 
 impl Model for Journal {
     ghost use Rattle.std.specs.Prelude.{◌≡◌};
-    ghost use Rattle.ldom_journal.specs.Counts.{accepted_count, done_count, reset_count};
+    ghost use Rattle.ldom_journal.specs.Counts.{accepted_count, done_count, frame_count, reset_count};
     ghost use Rattle.ldom_entries.specs.JournalState.{JournalState};
 
     ghost Value = { JournalState };
@@ -36,6 +38,7 @@ impl Model for Journal {
       accepted : j.accepted ≡ accepted_count j.kept.entries;
       done : j.done ≡ done_count j.kept.entries;
       resets : j.resets ≡ reset_count j.kept.entries;
+      frames : j.frames ≡ frame_count j.kept.entries;
     } };
 }
 
@@ -55,6 +58,7 @@ impl Journal {
             accepted: 0,
             done: 0,
             resets: 0,
+            frames: 0,
         }
     }
 
@@ -242,6 +246,17 @@ impl Journal {
         self.resets += 1;
     }
 
+    /// A frame that a port's guest took.
+    pub fn push_frame(&mut self, end: EndName, bytes: Bytes)
+        requires { 0 < self.old.room }
+        ensures { PutsEntry self.old (the_entry.Frame end bytes) self.new }
+    {
+        // That there are fewer than 2^63 entries is known by this call alone. So the count fits.
+        let _len = self.kept.len();
+        self.kept.push_whole(Entry::Frame { end, bytes });
+        self.frames += 1;
+    }
+
     /// As many requests are pending as the ring holds.
     fn push_full(&mut self, who: Who)
         requires { 0 < self.old.room }
@@ -310,15 +325,17 @@ impl Journal {
                 status,
                 bytes,
             } => self.push_done(disk, id, operation, status, bytes),
+            Entry::Frame { end, bytes } => self.push_frame(end, bytes),
             other => self.push_other(other),
         }
     }
 
-    /// PutsEntry an entry last that neither takes up a request nor completes one.
+    /// PutsEntry an entry last that neither takes up a request nor completes one, and isn't a frame.
     fn push_other(&mut self, entry: Entry)
         requires room { 0 < self.old.room }
         requires accepted { is_accepted entry ≡ false }
         requires done { is_done entry ≡ false }
+        requires frame { is_frame entry ≡ false }
         ensures { PutsEntry self.old entry self.new }
     {
         match entry {
@@ -406,5 +423,12 @@ impl Journal {
         ensures { result ≡ reset_count self.now.entries }
     {
         self.resets
+    }
+
+    /// How many frames the guests of ports took.
+    pub fn frames(&self) -> usize
+        ensures { result ≡ frame_count self.now.entries }
+    {
+        self.frames
     }
 }

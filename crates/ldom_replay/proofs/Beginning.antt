@@ -1,24 +1,55 @@
--- The lanes of a script's disks before anything was asked, and the image as it was attached.
-use Rattle.std.proofs.Common.{◌≡◌, ℕ, ◌+◌, List, [], ◌∷◌, length, map, refl, ap, ◌∙◌, Option, arith}
+-- The lanes of a script's disks and ports before anything was asked, and the image as it was attached.
+use Rattle.std.proofs.Common.{◌≡◌, ℕ, ◌+◌, List, [], ◌∷◌, length, map, refl, ap, sym, subst, ◌∙◌, Option, arith}
 use Rattle.disk_law.specs.ListState.{ImageState, as_image, attached}
 use Rattle.vio_io.specs.declared.store.Store.{Ghosts}
 use Rattle.domain_script.specs.NamesState.{NamesState}
-use Rattle.script_laws.specs.Replayed.{start_of}
-use Rattle.world_laws.specs.LaneState.{LaneState, Shape, fresh}
-use Rattle.world_laws.specs.World.{WorldState}
 use Rattle.domain_script.specs.declared.event.DiskDecl.{DiskDecl}
-use Rattle.world_laws.specs.Issued.{issued_on}
-use Rattle.world_parts.specs.Declared.{shapes_of}
+use Rattle.domain_script.specs.declared.event.PortDecl.{PortDecl}
+use Rattle.ldom_world.specs.world_parts.domain_laws.Domain.{DomainState, Lanes, lanes_in}
+use Rattle.ldom_world.specs.world_parts.port_model.PortState.{PortState, fresh_port}
+use Rattle.script_laws.specs.Replayed.{start_of}
+use Rattle.ldom_world.specs.world_parts.disk_model.LaneState.{LaneState, fresh}
+use Rattle.ldom_world.specs.world_parts.world_laws.World.{WorldState}
+use Rattle.ldom_world.specs.world_parts.Declared.{nets_of, shapes_of}
+use Rattle.ldom_replay.specs.NamesLanes.{HasLanes}
+use Rattle.ldom_world.specs.Steps.{Counted}
+use Rattle.ldom_world.specs.TurnsMade.{SameNumbers}
+use Rattle.ldom_world.proofs.Beginning.{none_counted}
 
--- one for each disk
-pub as_many : (first : ℕ) (disks : List DiskDecl) → length (map fresh (shapes_of first disks)) ≡ length disks
+-- one for each disk and for each port
+as_many : (first : ℕ) (disks : List DiskDecl) → length (map fresh (shapes_of first disks)) ≡ length disks
 as_many first [] = refl
 as_many first (disk ∷ disks) = omega (arith, as_many (first + disk.blocks) disks)
 
--- and no request was accepted
-pub none_issued : (shapes : List Shape) → issued_on (map fresh shapes) ≡ 0
-none_issued [] = refl
-none_issued (shape ∷ shapes) = omega (arith, none_issued shapes)
+as_many_ports : (ports : List PortDecl) → length (map fresh_port (nets_of ports)) ≡ length ports
+as_many_ports [] = refl
+as_many_ports (port ∷ ports) = omega (arith, as_many_ports ports)
+
+-- the lanes that were made for the names
+abbrev pub fresh_lanes : NamesState → Lanes
+fresh_lanes names = record { first = map fresh (shapes_of 0 names.disks); second = map fresh_port (nets_of names.ports) }
+
+pub has_all : (names : NamesState) (w : DomainState) (made : Lanes) → w.first.lanes ≡ made.first → w.second ≡ made.second
+    → made ≡ fresh_lanes names → HasLanes names w
+has_all names w made disks ports are = record {
+  disks = ap (λ (l : List LaneState). length l) (disks ∙ ap (λ (l : Lanes). l.first) are) ∙ as_many 0 names.disks;
+  ports = ap (λ (l : List PortState). length l) (ports ∙ ap (λ (l : Lanes). l.second) are) ∙ as_many_ports names.ports;
+}
+
+-- an event that ends no declarations leaves as many of each
+pub has_still : (names after : NamesState) (w v : DomainState) → after.disks ≡ names.disks → after.ports ≡ names.ports
+    → SameNumbers w v → HasLanes names w → HasLanes after v
+has_still names after w v disks ports same has = record {
+  disks = same.disks ∙ has.disks ∙ sym (ap (λ (l : List DiskDecl). length l) disks);
+  ports = same.ports ∙ has.ports ∙ sym (ap (λ (l : List PortDecl). length l) ports);
+}
+
+-- and nothing was given to them
+pub begins_counted : (names : NamesState) (w : DomainState) (made : Lanes) → w.first.lanes ≡ made.first → w.second ≡ made.second
+    → made ≡ fresh_lanes names → Counted [] w
+begins_counted names w made disks ports are =
+    none_counted (shapes_of 0 names.disks) (nets_of names.ports) w
+    (disks ∙ ap (λ (l : Lanes). l.first) are) (ports ∙ ap (λ (l : Lanes). l.second) are)
 
 -- an image that was just attached
 pub just_attached : {D : Type 0} (store : Ghosts D) (disk : D) (gives : Option (List ℕ)) → store.content disk ≡ gives → store.faults disk ≡ 0
@@ -31,12 +62,23 @@ just_attached store disk gives told_is none_failed none_called none_flushed none
     ∙ ap (λ (n : ℕ). record (attached gives) { writes = n }) none_written
 
 -- the world of both
-pub same_world : (names : NamesState) (gives : ℕ → Option (List ℕ)) (w : WorldState) (lanes : List LaneState) (i : ImageState)
-    → w.lanes ≡ lanes → w.image ≡ i → lanes ≡ map fresh (shapes_of 0 names.disks) → i ≡ (start_of names gives).image
-    → w ≡ start_of names gives
-same_world names gives w lanes i lanes_are image_is fresh_are begins =
-    ap (λ (l : List LaneState). over l w.image) (lanes_are ∙ fresh_are)
-    ∙ ap (λ (x : ImageState). over (map fresh (shapes_of 0 names.disks)) x) (image_is ∙ begins)
+pub same_world : (names : NamesState) (gives : ℕ → Option (List ℕ)) (w : DomainState) (made : Lanes) (i : ImageState)
+    → w.first.lanes ≡ made.first → w.first.image ≡ i → w.second ≡ made.second → made ≡ fresh_lanes names
+    → i ≡ (start_of names gives).first.image → w ≡ start_of names gives
+same_world names gives w made i disks image_is ports are begins =
+    ap (λ (l : List LaneState). over l w.first.image w.second) (disks ∙ ap (λ (l : Lanes). l.first) are)
+    ∙ ap (λ (x : ImageState). over fresh_disks x w.second) (image_is ∙ begins)
+    ∙ ap (λ (l : List PortState). over fresh_disks (start_of names gives).first.image l) (ports ∙ ap (λ (l : Lanes). l.second) are)
   where
-    over : List LaneState → ImageState → WorldState
-    over lanes image = record { lanes = lanes; image = image }
+    fresh_disks : List LaneState
+    fresh_disks = map fresh (shapes_of 0 names.disks)
+
+    over : List LaneState → ImageState → List PortState → DomainState
+    over lanes image ports = record { first = record { lanes = lanes; image = image }; second = ports }
+
+-- and its lanes, of both kinds
+pub same_lanes : (left : Lanes) (w : DomainState) → left.first ≡ w.first.lanes → left.second ≡ w.second → left ≡ lanes_in w
+same_lanes left w disks ports = ap (λ (l : List LaneState). both l left.second) disks ∙ ap (λ (l : List PortState). both w.first.lanes l) ports
+  where
+    both : List LaneState → List PortState → Lanes
+    both disks ports = record { first = disks; second = ports }

@@ -1,7 +1,7 @@
 -- The blocks of disks, one disk after another.
 use Rattle.std.proofs.Common.{◌≡◌, ℕ, ◌+◌, zero, suc, List, [], ◌∷◌, drop, Some, None, slice_get, refl, ap, arith}
 use Rattle.domain_script.specs.declared.event.DiskDecl.{DiskDecl}
-use Rattle.world_parts.specs.Declared.{blocks_of}
+use Rattle.ldom_world.specs.world_parts.Declared.{blocks_of}
 
 -- those of the disk with this number, and those after it
 behind_one : (disks : List DiskDecl) (k : ℕ) (disk : DiskDecl) → Some disk ≡ slice_get disks k → blocks_of (drop k disks) ≡ disk.blocks + blocks_of (drop (suc k) disks)

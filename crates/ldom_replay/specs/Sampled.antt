@@ -1,7 +1,7 @@
 -- The run of a sample script.
 use Rattle.std.specs.Prelude.{ℕ, List, Option, Some}
 use Rattle.disk_law.specs.ListState.{ImageState}
-use Rattle.world_laws.specs.LaneState.{LaneState}
+use Rattle.ldom_world.specs.world_parts.domain_laws.Domain.{Lanes}
 use Rattle.domain_script.specs.NamesState.{NamesState}
 use Rattle.ldom_sample.specs.Sample.{sample_text}
 use Rattle.ldom_entries.specs.declared.entry.Entry.{Entry}
@@ -13,7 +13,7 @@ use Rattle.script_laws.specs.Objects.{HostTells, RunLeaves, Tells}
 
 -- the text of the sample of this number was run, and `left` of it was not read
 pub record SampleReplayed {D : Type 0} (number : ℕ) (seen : D → ImageState) (gives : ℕ → Option (List ℕ)) (why : Status)
-    (lines : ℕ) (names : NamesState) (journal : List Entry) (image : Option D) (lanes : Option (List LaneState)) : Type 0 where
+    (lines : ℕ) (names : NamesState) (journal : List Entry) (image : Option D) (lanes : Option Lanes) : Type 0 where
   pub left : Option (List ℕ)
   pub replayed : Replayed seen (Some (sample_text number)) left gives why lines names journal image lanes
 

@@ -1,6 +1,6 @@
 ghost use Rattle.std.specs.Prelude.{◌≡◌, ◌≤◌};
 ghost use Rattle.domain_script.specs.Declarations.{AreDisks};
-ghost use Rattle.world_parts.specs.Declared.{blocks_of};
+ghost use Rattle.ldom_world.specs.world_parts.Declared.{blocks_of};
 
 use domain_script::{MOST_DISKS, Names};
 

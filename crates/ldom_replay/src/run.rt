@@ -2,10 +2,12 @@
 ghost use Rattle.std.specs.Prelude.{◌≡◌, ◌≢◌, ℕ, ◌*◌, ◌≤◌, ◌↔◌, List, [], ◌∷◌, true, length, map, Option, None, IfErr};
 ghost use Rattle.std.specs.Prelude.{IfOk, IfSome, IsSome, IsTrue, OnOk};
 ghost use Rattle.vio_io.specs.Given.{Gave};
-ghost use Rattle.domain_script.specs.Declarations.{AreDisks};
+ghost use Rattle.ldom_world.specs.world_parts.port_model.PortState.{fresh_port};
+ghost use Rattle.domain_script.specs.Declarations.{AreDeclared};
+ghost use Rattle.domain_script.specs.NamesState.{declared_by};
 ghost use Rattle.script_reader.specs.LinesState.{GoesOn, to_come};
 ghost use Rattle.domain_script.specs.Spells.{IsDeclared};
-ghost use Rattle.ldom_report.specs.Report.{accepted_count};
+ghost use Rattle.ldom_replay.specs.NamesLanes.{HasLanes};
 ghost use Rattle.ldom_report.specs.Stops.{stop_lines, stop_status};
 ghost use Rattle.vio_io.specs.Causes.{Fails};
 ghost use Rattle.script_laws.specs.Going.{RunsAll, RunsLines};
@@ -13,10 +15,10 @@ ghost use Rattle.script_laws.specs.Attached.{AreOpening};
 ghost use Rattle.script_laws.specs.Opening.{Opened, Opens, OpensAndStops};
 ghost use Rattle.script_laws.specs.Replayed.{Replayed, attach_status, ended_status, start_of};
 ghost use Rattle.script_laws.specs.Sized.{SizeIs};
-ghost use Rattle.world_laws.specs.Issued.{issued_on};
-ghost use Rattle.world_laws.specs.LaneState.{fresh};
+ghost use Rattle.ldom_world.specs.Steps.{Counted};
+ghost use Rattle.ldom_world.specs.world_parts.disk_model.LaneState.{fresh};
 ghost use Rattle.disk_law.specs.ListState.{as_image};
-ghost use Rattle.world_parts.specs.Declared.{bytes_needed, shapes_of};
+ghost use Rattle.ldom_world.specs.world_parts.Declared.{bytes_needed, nets_of, shapes_of};
 ghost use Rattle.domain_script.specs.ScriptEvents.{no_names};
 ghost use Rattle.domain_script.specs.Limits.{most_lines};
 
@@ -44,7 +46,7 @@ fn read_opening<S: Source>(reader: &mut Reader, source: &mut S) -> Result<Event,
     ensures goes { OnOk result (GoesOn reader.new.lines (S.left source.new)) }
     ensures ended { OnOk result (reader.new.names.ended ≡ true) }
     ensures most { reader.new.lines.number ≤ most_lines }
-    ensures disks { AreDisks reader.new.names.disks }
+    ensures limits { AreDeclared (declared_by reader.new.names) }
     ensures journal { reader.new.journal ≡ reader.old.journal }
 
     ensures stops { IfErr result (λ stop. OpensAndStops (to_come reader.old.lines (S.left source.old))
@@ -66,7 +68,7 @@ fn is_opening(event: &Event) -> bool
     ensures { IsTrue result ↔ AreOpening (event.now ∷ []) }
 {
     match event {
-        Event::Blank | Event::Disk(_) => true,
+        Event::Blank | Event::Disk(_) | Event::Net(_) => true,
         _ => false,
     }
 }
@@ -77,8 +79,8 @@ fn run_lines<S: Source, D: Store>(reader: &mut Reader, source: &mut S, world: &m
     requires goes { GoesOn reader.old.lines (S.left source.old) }
     requires few { reader.old.lines.number ≤ most_lines }
     requires ended { reader.old.names.ended ≡ true }
-    requires many { length world.old.lanes ≡ length reader.old.names.disks }
-    requires agrees { accepted_count reader.old.journal.entries ≡ issued_on world.old.lanes }
+    requires lanes { HasLanes reader.old.names world.old }
+    requires agrees { Counted reader.old.journal.entries world.old }
 
     ensures runs { RunsLines (to_come reader.old.lines (S.left source.old)) (S.left source.new) reader.old.names
         reader.old.journal.entries world.old reader.old.lines.number
@@ -111,7 +113,7 @@ pub struct Run<D: Store> {
     pub journal: Journal,
     pub image: Option<D>,
 
-    /// The lanes of the disks, where the script was run over them.
+    /// The lanes of the disks and ports, where the script was run over them.
     pub lanes: Option<Lanes>,
 }
 
@@ -182,7 +184,7 @@ fn attach<H: Host, S: Source>(
 ) -> Run<H::Disk>
     requires goes { IsSome first → GoesOn reader.lines (S.left source.old) × (reader.names.ended ≡ true) }
     requires few { reader.lines.number ≤ most_lines }
-    requires disks { AreDisks reader.names.disks }
+    requires limits { AreDeclared (declared_by reader.names) }
     requires declared { IfSome first (IsDeclared reader.names) }
     requires journal { reader.journal.entries ≡ [] }
     ensures replayed { (start : Option (List ℕ))
@@ -226,20 +228,23 @@ fn run_over<D: Store, S: Source>(
 ) -> Run<D>
     requires goes { IsSome first → GoesOn reader.lines (S.left source.old) × (reader.names.ended ≡ true) }
     requires few { reader.lines.number ≤ most_lines }
-    requires disks { AreDisks reader.names.disks }
+    requires limits { AreDeclared (declared_by reader.names) }
     requires declared { IfSome first (IsDeclared reader.names) }
     requires journal { reader.journal.entries ≡ [] }
-    requires lanes { lanes ≡ map fresh (shapes_of 0 reader.names.disks) }
-    requires few_lanes { length lanes ≤ 8 }
+    requires lanes { lanes ≡ record {
+      first = map fresh (shapes_of 0 reader.names.disks);
+      second = map fresh_port (nets_of reader.names.ports);
+    } }
+    requires few_lanes { length lanes.first ≤ 8 }
     requires none_kept { blocks.kept ≡ [] }
     ensures replayed { (start : Option (List ℕ)) (gives : ℕ → Option (List ℕ))
         → Opened start reader.lines.held (S.left source.old) first reader.names reader.lines.number
-        → as_image D.Store image ≡ (start_of reader.names gives).image
+        → as_image D.Store image ≡ (start_of reader.names gives).first.image
         → Replayed (as_image D.Store) start (S.left source.new) gives result.status
         result.lines result.names result.journal.entries result.image result.lanes }
     ensures sized { (start : Option (List ℕ)) (gives : ℕ → Option (List ℕ))
         → Opened start reader.lines.held (S.left source.old) first reader.names reader.lines.number
-        → as_image D.Store image ≡ (start_of reader.names gives).image
+        → as_image D.Store image ≡ (start_of reader.names gives).first.image
         → SizeIs D.size result.status (bytes_needed result.names.disks)
         (gives (bytes_needed result.names.disks)) result.image }
     ensures source { Fails (result.status ≡ Status.SourceFault) (S.faults source.old) (S.faults source.new) }
@@ -269,10 +274,10 @@ fn run_world<S: Source, D: Store>(
 ) -> Run<D>
     requires goes { IsSome first → GoesOn reader.lines (S.left source.old) × (reader.names.ended ≡ true) }
     requires few { reader.lines.number ≤ most_lines }
-    requires many { length world.lanes ≡ length reader.names.disks }
+    requires lanes { HasLanes reader.names world }
     requires declared { IfSome first (IsDeclared reader.names) }
     requires journal { reader.journal.entries ≡ [] }
-    requires fresh { issued_on world.lanes ≡ 0 }
+    requires agrees { Counted [] world }
     ensures replayed { (start : Option (List ℕ)) (gives : ℕ → Option (List ℕ))
         → Opened start reader.lines.held (S.left source.old) first reader.names reader.lines.number
         → world ≡ start_of reader.names gives
@@ -315,10 +320,10 @@ fn run_first<S: Source, D: Store>(
 ) -> Stop
     requires goes { IsSome first → GoesOn reader.old.lines (S.left source.old) × (reader.old.names.ended ≡ true) }
     requires few { reader.old.lines.number ≤ most_lines }
-    requires many { length world.old.lanes ≡ length reader.old.names.disks }
+    requires lanes { HasLanes reader.old.names world.old }
     requires declared { IfSome first (IsDeclared reader.old.names) }
     requires journal { reader.old.journal.entries ≡ [] }
-    requires fresh { issued_on world.old.lanes ≡ 0 }
+    requires agrees { Counted [] world.old }
     ensures runs { (start : Option (List ℕ))
         → Opened start reader.old.lines.held (S.left source.old) first reader.old.names reader.old.lines.number
         → RunsAll start (S.left source.new) reader.old.names world.old (stop_status result reader.new.lines.number)

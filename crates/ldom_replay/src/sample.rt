@@ -6,7 +6,7 @@ ghost use Rattle.vio_io.specs.Causes.{Fails};
 ghost use Rattle.ldom_words.specs.Words.{sample_count};
 ghost use Rattle.script_laws.specs.Sized.{SizeIs};
 ghost use Rattle.disk_law.specs.ListState.{as_image};
-ghost use Rattle.world_parts.specs.Declared.{bytes_needed};
+ghost use Rattle.ldom_world.specs.world_parts.Declared.{bytes_needed};
 ghost use Rattle.ldom_replay.specs.Sampled.{SampleReplayed};
 
 use crate::run::{Run, run_script};

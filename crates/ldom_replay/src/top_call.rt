@@ -6,6 +6,7 @@ ghost use Rattle.vio_io.specs.Causes.{Rose};
 ghost use Rattle.vio_io.specs.Given.{Gave};
 ghost use Rattle.domain_script.specs.declared.event.DiskDecl.{DiskDecl};
 ghost use Rattle.domain_script.specs.declared.event.Event.{Event};
+ghost use Rattle.domain_script.specs.NamesState.{declared_by};
 ghost use Rattle.disk_law.specs.Issued.{CompletesOnceInOrder};
 ghost use Rattle.gathered_text.specs.Gathered.{WroteFront};
 ghost use Rattle.ldom_report.specs.HasWords.{HasWords};
@@ -21,7 +22,7 @@ ghost use Rattle.script_laws.specs.Outcomes.{Reports, RunsScript};
 ghost use Rattle.script_laws.specs.Quiet.{IsQuietScript};
 ghost use Rattle.script_laws.specs.Stored.{flush_count, stored_count, write_count};
 ghost use Rattle.script_laws.specs.Whole.{RunsPlainly};
-ghost use Rattle.world_parts.specs.Declared.{bytes_needed};
+ghost use Rattle.ldom_world.specs.world_parts.Declared.{bytes_needed};
 ghost use Rattle.ldom_words.specs.Words.{AsksDump, AsksRun, AsksSample};
 ghost use Rattle.ldom_replay.specs.Asking.{AsksFor, AsksNoRun, AsksNoScript};
 ghost use Rattle.ldom_replay.specs.Sampled.{RunsSample};
@@ -47,8 +48,8 @@ pub struct Outcome<D: Store> {
     pub journal: Journal,
     pub image: Option<D>,
 
-    /// The lanes of the script's disks as they stand after its last step, by their numbers in the order of
-    /// declaration, where it was run over an image.
+    /// The lanes of the script's disks and ports as they stand after its last step, each kind by its numbers in the
+    /// order of declaration, where it was run over an image.
     pub lanes: Option<Lanes>,
 }
 
@@ -164,6 +165,11 @@ pub fn replay<H: Host, S: Source, K: Sink>(
     // The status is how the run ended, unless the sink failed.
     ensures ran { result.status ≢ Status.SinkFault → result.ran ≡ result.status }
 
+    // So it is of a dump, whatever the sink did; and of other words it is that they are no command.
+    ensures ran_dump { AsksDump (map string_bytes words.now) → result.ran ≡ result.status }
+    ensures ran_usage { AsksNoRun (map string_bytes words.now) → (AsksDump (map string_bytes words.now) → ⊥)
+        → result.ran ≡ Status.Usage }
+
     // A fault of the source, the host or the sink is answered only where its count rose, and each other status where it
     // didn't, but that a fault of the sink comes last. At status 0 the image never failed either.
     ensures faults { FaultsTold result.status
@@ -218,10 +224,10 @@ fn report_dump<D: Store, S: Source, K: Sink>(
 
 // Writes the report of a run as the mode shows it.
 fn report_run<D: Store, K: Sink>(mode: Mode, run: Run<D>, out: &mut K) -> Outcome<D>
-    requires words { All (HasWords run.names.disks) run.journal.entries }
+    requires words { All (HasWords (declared_by run.names)) run.journal.entries }
     requires ran { run.status ≢ Status.Usage }
     ensures reports { Reports run.status result.status (K.written out.old) (K.written out.new)
-        (report mode run.names.disks run.lines run.journal.entries run.status) }
+        (report mode (declared_by run.names) run.lines run.journal.entries run.status) }
     ensures ran { result.ran ≡ run.status }
     ensures journal { result.journal ≡ run.journal }
     ensures small { length result.journal.entries < 2 ^ 63 }
@@ -264,12 +270,12 @@ fn write_report<K: Sink>(
     status: &Status,
     out: &mut K,
 ) -> Result<(), Failed>
-    requires words { All (HasWords names.now.disks) journal.now.entries }
+    requires words { All (HasWords (declared_by names.now)) journal.now.entries }
     requires ran { status.now ≢ Status.Usage }
     ensures ok { OnOk result (Appends (K.written out.old) (K.written out.new)
-        (report mode names.now.disks lines journal.now.entries status.now)) }
+        (report mode (declared_by names.now) lines journal.now.entries status.now)) }
     ensures err { OnErr result (WroteFront (K.written out.old) (K.written out.new)
-        (report mode names.now.disks lines journal.now.entries status.now)) }
+        (report mode (declared_by names.now) lines journal.now.entries status.now)) }
     ensures unfailed { OnOk result (K.faults out.new ≡ K.faults out.old) }
     ensures count { K.faults out.old ≤ K.faults out.new }
     ensures cause { OnErr result (Rose (K.faults out.old) (K.faults out.new)) }

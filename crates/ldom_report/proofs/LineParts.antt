@@ -1,7 +1,7 @@
 -- The two parts of a line.
 use Rattle.std.proofs.Common.{◌≡◌, refl, ℕ, Bool, true, false, List, [], ◌++◌, Option, append_assoc, sym, ap, subst, ◌∙◌}
 use Rattle.std.specs.Prelude.{◌||◌, codes, if◌then◌else◌}
-use Rattle.domain_script.specs.declared.event.DiskDecl.{DiskDecl}
+use Rattle.domain_script.specs.Declarations.{Declared}
 use Rattle.gathered_text.specs.Gathered.{Gathers, WroteFront}
 use Rattle.gathered_text.proofs.GatheredText.{gathers_more, wrote_front_of_more}
 use Rattle.ldom_entries.specs.Told.{told}
@@ -30,15 +30,15 @@ where_shown : (b : Bool) (head tail : List ℕ) → (if b then head else []) ++ 
 where_shown true head tail = refl
 where_shown false head tail = refl
 
-pub two_parts : (mode : Mode) (disks : List DiskDecl) (entry : EntryRef) → may_show mode (told entry) ≡ true
-    → front_text mode disks entry ++ rest_text mode entry ≡ entry_lines mode disks (told entry)
-two_parts mode disks (shown.Whole whole) may =
-    where_shown (shows mode whole.now) (head_text mode disks whole.now) (tail_text whole.now ++ codes "\n")
+pub two_parts : (mode : Mode) (declared : Declared) (entry : EntryRef) → may_show mode (told entry) ≡ true
+    → front_text mode declared entry ++ rest_text mode entry ≡ entry_lines mode declared (told entry)
+two_parts mode declared (shown.Whole whole) may =
+    where_shown (shows mode whole.now) (head_text mode declared whole.now) (tail_text whole.now ++ codes "\n")
     ∙ ap (λ (l : List ℕ). if shows mode whole.now then l else [])
-    (sym (append_assoc (head_text mode disks whole.now) (tail_text whole.now) (codes "\n")))
-two_parts mode disks entry may =
-    sym (append_assoc (head_text mode disks (told entry)) (tail_text (told entry)) (codes "\n"))
-    ∙ ap (λ (b : Bool). if b then line_text mode disks (told entry) else [])
+    (sym (append_assoc (head_text mode declared whole.now) (tail_text whole.now) (codes "\n")))
+two_parts mode declared entry may =
+    sym (append_assoc (head_text mode declared (told entry)) (tail_text (told entry)) (codes "\n"))
+    ∙ ap (λ (b : Bool). if b then line_text mode declared (told entry) else [])
     (sym (shown_unless_whole mode (told entry) may refl))
 
 -- bytes were gathered after the first of two texts; or not even that was written

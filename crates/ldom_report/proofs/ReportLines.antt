@@ -3,7 +3,7 @@ use Rattle.std.proofs.Common.{◌≡◌, refl, ℕ, ◌+◌, ◌≤◌, Bool, tr
 use Rattle.std.specs.Prelude.{◌||◌, All, if◌then◌else◌}
 use Rattle.std.proofs.lemmas.List.{length-append}
 use Rattle.std.proofs.lemmas.List.Elements.{All-cons, All-head, All-nil, All-tail}
-use Rattle.domain_script.specs.declared.event.DiskDecl.{DiskDecl}
+use Rattle.domain_script.specs.Declarations.{Declared}
 use Rattle.ldom_entries.specs.Seen.{PassesUnseen, is_seen}
 use Rattle.ldom_entries.specs.Whole.{is_whole}
 use Rattle.ldom_entries.specs.declared.entry.Entry.{Entry}
@@ -16,20 +16,20 @@ use Rattle.ldom_report.specs.LeftOut.{LeavesOut}
 use Rattle.ldom_report.specs.Report.{last_line, usage_line, report}
 
 -- entries that the mode doesn't show have no lines
-unshown_lines : (mode : Mode) (disks : List DiskDecl) (left_out rest : List Entry) → All (λ entry. shows mode entry ≡ false) left_out
-    → report_entries mode disks (left_out ++ rest) ≡ report_entries mode disks rest
-unshown_lines mode disks [] rest unshown = refl
-unshown_lines mode disks (entry ∷ left_out) rest unshown =
+unshown_lines : (mode : Mode) (declared : Declared) (left_out rest : List Entry) → All (λ entry. shows mode entry ≡ false) left_out
+    → report_entries mode declared (left_out ++ rest) ≡ report_entries mode declared rest
+unshown_lines mode declared [] rest unshown = refl
+unshown_lines mode declared (entry ∷ left_out) rest unshown =
     let P : Entry → Type 0 = λ e. shows mode e ≡ false in
-    ap (λ (b : Bool). (if b then line_text mode disks entry else []) ++ report_entries mode disks (left_out ++ rest))
+    ap (λ (b : Bool). (if b then line_text mode declared entry else []) ++ report_entries mode declared (left_out ++ rest))
     (All-head P entry left_out unshown)
-    ∙ unshown_lines mode disks left_out rest (All-tail P entry left_out unshown)
+    ∙ unshown_lines mode declared left_out rest (All-tail P entry left_out unshown)
 
 -- so the lines of what is left are the same
-pub lines_left : (mode : Mode) (disks : List DiskDecl) (old new : List Entry) → LeavesOut mode old new
-    → report_entries mode disks old ≡ report_entries mode disks new
-lines_left mode disks old new leaves =
-    ap (report_entries mode disks) leaves.are ∙ unshown_lines mode disks leaves.left_out new leaves.unshown
+pub lines_left : (mode : Mode) (declared : Declared) (old new : List Entry) → LeavesOut mode old new
+    → report_entries mode declared old ≡ report_entries mode declared new
+lines_left mode declared old new leaves =
+    ap (report_entries mode declared) leaves.are ∙ unshown_lines mode declared leaves.left_out new leaves.unshown
 
 -- what holds of each entry holds of each that is left, and no more are left
 all_behind : (P : Entry → Type 0) (front rest : List Entry) → All P (front ++ rest) → All P rest
@@ -46,7 +46,7 @@ fewer_left mode old new leaves =
     ap (λ (l : List Entry). length l) leaves.are ∙ length-append leaves.left_out new in
     omega (arith, long)
 
--- nothing is left out; or what no user of the disks sees, in a run
+-- nothing is left out; or what no user of the disks and ports sees, in a run
 pub leaves_none : (mode : Mode) (old new : List Entry) → old ≡ new → LeavesOut mode old new
 leaves_none mode old new same =
     record { left_out = []; are = same; unshown = All-nil (λ (e : Entry). shows mode e ≡ false) }
@@ -93,30 +93,30 @@ pub ruleset leaving_out = (leaves_none, leaves_unseen, leaves_all, may_seen, may
 
 -- THE LINES OF ONE ENTRY MORE: the lines so far are written, and of the entries that are left `entry` is the first that
 -- the mode may show
-pub next_lines : (mode : Mode) (disks : List DiskDecl) (whole so_far : List ℕ) (rest left : List Entry) (entry : Entry)
-    → whole ≡ so_far ++ report_entries mode disks rest → LeavesOut mode rest (entry ∷ left)
-    → whole ≡ so_far ++ entry_lines mode disks entry ++ report_entries mode disks left
-next_lines mode disks whole so_far rest left entry is leaves =
+pub next_lines : (mode : Mode) (declared : Declared) (whole so_far : List ℕ) (rest left : List Entry) (entry : Entry)
+    → whole ≡ so_far ++ report_entries mode declared rest → LeavesOut mode rest (entry ∷ left)
+    → whole ≡ so_far ++ entry_lines mode declared entry ++ report_entries mode declared left
+next_lines mode declared whole so_far rest left entry is leaves =
     is
-    ∙ ap (λ (l : List ℕ). so_far ++ l) (lines_left mode disks rest (entry ∷ left) leaves)
-    ∙ sym (append_assoc so_far (entry_lines mode disks entry) (report_entries mode disks left))
+    ∙ ap (λ (l : List ℕ). so_far ++ l) (lines_left mode declared rest (entry ∷ left) leaves)
+    ∙ sym (append_assoc so_far (entry_lines mode declared entry) (report_entries mode declared left))
 
 -- and where none is left
-pub no_lines : (mode : Mode) (disks : List DiskDecl) (whole so_far : List ℕ) (rest : List Entry)
-    → whole ≡ so_far ++ report_entries mode disks rest → LeavesOut mode rest [] → so_far ≡ whole
-no_lines mode disks whole so_far rest is leaves =
-    sym (is ∙ ap (λ (l : List ℕ). so_far ++ l) (lines_left mode disks rest [] leaves) ∙ append-nil so_far)
+pub no_lines : (mode : Mode) (declared : Declared) (whole so_far : List ℕ) (rest : List Entry)
+    → whole ≡ so_far ++ report_entries mode declared rest → LeavesOut mode rest [] → so_far ≡ whole
+no_lines mode declared whole so_far rest is leaves =
+    sym (is ∙ ap (λ (l : List ℕ). so_far ++ l) (lines_left mode declared rest [] leaves) ∙ append-nil so_far)
 
 -- a report is the lines of its entries and its last line; that of a wrong command line has no entries
-pub report_parts : (mode : Mode) (disks : List DiskDecl) (lines : ℕ) (entries : List Entry) (status : Status) → (status ≡ Usage → entries ≡ [])
-    → report_entries mode disks entries ++ last_line lines entries status ≡ report mode disks lines entries status
-report_parts mode disks lines entries Done none = refl
-report_parts mode disks lines entries Usage none = ap (λ (l : List Entry). report_entries mode disks l ++ usage_line) (none refl)
-report_parts mode disks lines entries (Script line fault) none = refl
-report_parts mode disks lines entries SourceFault none = refl
-report_parts mode disks lines entries SinkFault none = refl
-report_parts mode disks lines entries HostFault none = refl
-report_parts mode disks lines entries StoreFault none = refl
-report_parts mode disks lines entries (ImageSize need have) none = refl
-report_parts mode disks lines entries (Limit line kind) none = refl
-report_parts mode disks lines entries NoMemory none = refl
+pub report_parts : (mode : Mode) (declared : Declared) (lines : ℕ) (entries : List Entry) (status : Status) → (status ≡ Usage → entries ≡ [])
+    → report_entries mode declared entries ++ last_line lines entries status ≡ report mode declared lines entries status
+report_parts mode declared lines entries Done none = refl
+report_parts mode declared lines entries Usage none = ap (λ (l : List Entry). report_entries mode declared l ++ usage_line) (none refl)
+report_parts mode declared lines entries (Script line fault) none = refl
+report_parts mode declared lines entries SourceFault none = refl
+report_parts mode declared lines entries SinkFault none = refl
+report_parts mode declared lines entries HostFault none = refl
+report_parts mode declared lines entries StoreFault none = refl
+report_parts mode declared lines entries (ImageSize need have) none = refl
+report_parts mode declared lines entries (Limit line kind) none = refl
+report_parts mode declared lines entries NoMemory none = refl

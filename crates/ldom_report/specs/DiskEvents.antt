@@ -12,21 +12,24 @@ use Rattle.ldom_entries.specs.declared.entry.Entry.TheVariants as entry
 use Rattle.ldom_entries.specs.declared.entry.Who.{Who}
 use Rattle.ldom_entries.specs.declared.entry.Who.TheVariants.{End, Lane}
 use Rattle.ldom_entries.specs.declared.entry.Why.{Why}
-use Rattle.ldom_entries.specs.declared.entry.Why.TheVariants.{Count, Range}
+use Rattle.ldom_entries.specs.declared.entry.Why.TheVariants.{Count, Range, Length, Groups}
 
-abbrev pub defect_of : Why → Defect
-defect_of Count = BadCount
-defect_of Range = BadRange
+-- the defect for which a request is refused; the others are why a frame or a group is
+abbrev pub defect_of : Why → Option Defect
+defect_of Count = Some BadCount
+defect_of Range = Some BadRange
+defect_of Length = None
+defect_of Groups = None
 
 -- why a request wasn't taken up
 pub data Refusal : Type 0 where
   NoRoom : Refusal
-  Defective : (why : Why) → Refusal
+  Defective : (defect : Defect) → Refusal
 
 -- what such a request is for its disk
 abbrev pub refused : Refusal → Request → ListEvent
 refused NoRoom request = Full request
-refused (Defective why) request = Refused (defect_of why) request
+refused (Defective defect) request = Refused defect request
 
 -- what an entry says of disks
 pub data Said : Type 0 where
@@ -44,10 +47,14 @@ abbrev pub not_taken : Who → Refusal → Said
 not_taken (Lane lane) refusal = not_taken_on (disk_of lane) refusal
 not_taken (End e) refusal = Nothing
 
+abbrev pub not_taken_for : Who → Option Defect → Said
+not_taken_for who None = Nothing
+not_taken_for who (Some defect) = not_taken who (Defective defect)
+
 abbrev pub said : Entry → Said
 said (entry.Accepted disk id request) = OfDisk disk (Accepted id request)
 said (entry.Full who) = not_taken who NoRoom
-said (entry.Refused who why) = not_taken who (Defective why)
+said (entry.Refused who why) = not_taken_for who (defect_of why)
 said (entry.Done disk id operation status bytes) = OfDisk disk (Done id operation status bytes.items)
 said other = Nothing
 

@@ -1,9 +1,10 @@
 -- What an entry needs so that its line can be written.
 use Rattle.std.specs.Prelude.{◌≡◌, ℕ, ◌%◌, ◌<◌, ◌≤◌, List, length, ⊤}
-use Rattle.domain_script.specs.declared.event.DiskDecl.{DiskDecl}
+use Rattle.domain_script.specs.LaneKinds.{disk_lane, port_lane}
+use Rattle.domain_script.specs.Declarations.{Declared}
 use Rattle.ldom_entries.specs.declared.entry.Entry.{Entry}
 use Rattle.ldom_entries.specs.declared.entry.Entry.TheVariants as entry
-use Rattle.ldom_report.specs.LaneEvents.{Meaning, AtWire, AtClient, AtServer, AtLane, NoRoomFor, Refuses, ChangesNothing, LeavesOver, LeavesNothing, meaning}
+use Rattle.ldom_report.specs.LaneEvents.{Meaning, AtWire, AtServer, AtLane, Publishes, AtPort, TakesFrame, Switches, NoRoomFor, Refuses, ChangesNothing, LeavesOver, LeavesNothing, meaning}
 pub use Rattle.line_words.specs.HasFault.{HasFault}
 pub use Rattle.line_words.specs.IsDeclared.{IsDeclared, IsEnd, IsLane}
 
@@ -20,16 +21,19 @@ pub record IsCompletion (operation status : ℕ) (bytes : List ℕ) : Type 0 whe
   pub blocks : operation ≡ 1 → status ≡ 0 → length bytes % 512 ≡ 0
 
 -- whom an entry is about is declared, by what it means
-abbrev pub IsNamed : List DiskDecl → Meaning → Type 0
-IsNamed disks (AtWire e event) = IsEnd disks e
-IsNamed disks (AtClient e event) = IsEnd disks e
-IsNamed disks (AtServer e event) = IsEnd disks e
-IsNamed disks (AtLane k event) = k < length disks
-IsNamed disks (NoRoomFor who) = IsDeclared disks who
-IsNamed disks (Refuses who why) = IsDeclared disks who
-IsNamed disks (ChangesNothing who) = IsDeclared disks who
-IsNamed disks (LeavesOver who) = IsDeclared disks who
-IsNamed disks LeavesNothing = ⊤
+abbrev pub IsNamed : Declared → Meaning → Type 0
+IsNamed declared (AtWire e event) = IsEnd declared e
+IsNamed declared (AtServer e event) = IsEnd declared e
+IsNamed declared (AtLane k event) = IsLane declared (disk_lane k)
+IsNamed declared (Publishes e id) = IsEnd declared e
+IsNamed declared (AtPort k gets) = IsLane declared (port_lane k)
+IsNamed declared (TakesFrame e frame) = IsEnd declared e
+IsNamed declared (Switches e frame out full) = IsEnd declared e
+IsNamed declared (NoRoomFor who) = IsDeclared declared who
+IsNamed declared (Refuses who why) = IsDeclared declared who
+IsNamed declared (ChangesNothing who) = IsDeclared declared who
+IsNamed declared (LeavesOver who) = IsDeclared declared who
+IsNamed declared LeavesNothing = ⊤
 
 -- the values of an entry have their words: all have but these
 abbrev pub HasValues : Entry → Type 0
@@ -39,5 +43,5 @@ HasValues (entry.Reset e cause packet lost) = HasFault cause
 HasValues other = ⊤
 
 -- WHAT THE ENTRY NAMES IS DECLARED, and its values have their words
-abbrev pub HasWords : List DiskDecl → Entry → Type 0
-HasWords disks entry = IsNamed disks (meaning entry) × HasValues entry
+abbrev pub HasWords : Declared → Entry → Type 0
+HasWords declared entry = IsNamed declared (meaning entry) × HasValues entry

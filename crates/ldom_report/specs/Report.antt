@@ -1,10 +1,10 @@
 -- The end line, and the whole text of a report.
 use Rattle.std.specs.Prelude.{ℕ, ◌-◌, List, [], ◌++◌, codes, decimal}
-use Rattle.domain_script.specs.declared.event.DiskDecl.{DiskDecl}
+use Rattle.domain_script.specs.Declarations.{Declared}
 use Rattle.domain_script.specs.declared.event.LineFault.{LineFault}
 use Rattle.domain_script.specs.declared.event.LineFault.TheVariants as line_fault
 use Rattle.ldom_entries.specs.declared.entry.Entry.{Entry}
-pub use Rattle.ldom_journal.specs.Counts.{is_accepted, is_done, is_reset, accepted_count, done_count, reset_count}
+pub use Rattle.ldom_journal.specs.Counts.{is_accepted, is_done, is_frame, is_reset, accepted_count, done_count, frame_count, reset_count}
 use Rattle.ldom_report.specs.declared.status.Mode.{Mode}
 use Rattle.ldom_report.specs.declared.status.LimitKind.{LimitKind}
 use Rattle.ldom_report.specs.declared.status.LimitKind.TheVariants.{Lines, Bytes, Entries}
@@ -46,9 +46,9 @@ abbrev pub counts_text : List Entry → List ℕ
 counts_text entries =
     codes " accepted=" ++ decimal (accepted_count entries) ++ codes " done=" ++ decimal (done_count entries) ++ codes " pending=" ++ decimal (accepted_count entries - done_count entries)
 
--- how often an end was reset, and that no frames were carried
+-- how often an end was reset, and how many frames the guests of ports took
 abbrev pub resets_text : List Entry → List ℕ
-resets_text entries = codes " resets=" ++ decimal (reset_count entries) ++ codes " frames=0"
+resets_text entries = codes " resets=" ++ decimal (reset_count entries) ++ codes " frames=" ++ decimal (frame_count entries)
 
 -- the line that ends each report but that of a wrong command line
 abbrev pub end_line : ℕ → List Entry → Status → List ℕ
@@ -65,6 +65,6 @@ last_line lines entries Usage = usage_line
 last_line lines entries status = end_line lines entries status
 
 -- the whole text of a report: `lines` is how many lines of the script were taken up
-abbrev pub report : Mode → List DiskDecl → ℕ → List Entry → Status → List ℕ
-report mode disks lines entries Usage = usage_line
-report mode disks lines entries status = report_entries mode disks entries ++ end_line lines entries status
+abbrev pub report : Mode → Declared → ℕ → List Entry → Status → List ℕ
+report mode declared lines entries Usage = usage_line
+report mode declared lines entries status = report_entries mode declared entries ++ end_line lines entries status

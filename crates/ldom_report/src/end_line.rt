@@ -31,7 +31,8 @@ fn push_resets(text: &mut Text, journal: &Journal)
 {
     text.push(b" resets=");
     text.push_number(journal.resets() as u64);
-    text.push(b" frames=0");
+    text.push(b" frames=");
+    text.push_number(journal.frames() as u64);
 }
 
 fn fault_bytes(fault: LineFault) -> &'static [u8]

@@ -5,6 +5,7 @@
 
 mod end_line;
 mod lines;
+mod port_lines;
 mod request_lines;
 mod status;
 mod step_lines;

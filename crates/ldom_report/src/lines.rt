@@ -3,6 +3,7 @@ ghost use Rattle.std.specs.Prelude.{◌≡◌, ◌+◌, ◌≤◌, ◌<◌, true
 ghost use Rattle.vio_io.specs.Causes.{Fails};
 ghost use Rattle.std.specs.Prelude.{All, IfSome, IsNone, OnOk, OnErr};
 ghost use Rattle.std.specs.Io.KnownBytes.{Appends};
+ghost use Rattle.domain_script.specs.NamesState.{declared_by};
 ghost use Rattle.ldom_report.specs.EntryText.{entry_lines, may_be_seen, may_show, report_entries};
 ghost use Rattle.gathered_text.specs.Gathered.{Gathers, WroteFront};
 ghost use Rattle.ldom_report.specs.HasWords.{HasWords};
@@ -18,7 +19,7 @@ use crate::step_lines::{
 };
 use crate::whole_lines::{push_whole, put_whole_rest};
 use crate::{Bytes, Entries, EntryRef, Journal, Mode, VD_OP_BREAD};
-use domain_script::Names;
+use domain_script::{LaneKind, Names};
 use gathered_text::{TEXT_ROOM, Text};
 use line_words::{LineNames, names_of_lanes, push_end, push_end_number, put_blocks};
 use vio_io::{Failed, Sink};
@@ -26,13 +27,13 @@ use vio_io::{Failed, Sink};
 /// More bytes than a line has, but for the words of a read.
 const LINE_ROOM: usize = 4096;
 
-/// Puts the line of an entry, up to the words of a read, or the bytes of a poke, and the line feed; of one that is kept
-/// whole, where the mode shows it.
+/// Puts the line of an entry, up to the words of a read, or the bytes of a poke or a frame, and the line feed; of one that
+/// is kept whole, where the mode shows it.
 fn push_front(text: &mut Text, mode: Mode, entry: &EntryRef<'_>, names: &LineNames<'_>)
-    requires words { HasWords names.now.disks (told entry.now) }
+    requires words { HasWords names.now (told entry.now) }
     requires room { length text.old + LINE_ROOM ≤ TEXT_ROOM }
     ensures room { length text.new < TEXT_ROOM }
-    ensures text { text.new ≡ text.old ++ front_text mode names.now.disks entry.now }
+    ensures text { text.new ≡ text.old ++ front_text mode names.now entry.now }
 {
     match entry {
         EntryRef::Accepted { disk, id, request } => push_accepted(text, *disk, *id, request, names),
@@ -104,7 +105,8 @@ fn put_words<K: Sink>(text: &mut Text, bytes: &Bytes, out: &mut K) -> Result<(),
     Ok(())
 }
 
-/// Puts what is left of an entry's line: the words of a read with status 0, or the bytes of a poke, and the line feed.
+/// Puts what is left of an entry's line: the words of a read with status 0, or the bytes of a poke or a frame, and the
+/// line feed.
 #[tactic(auto, unfolding(kept_requests::specs::BlockWord::blocks_text))]
 fn put_rest<K: Sink>(
     text: &mut Text,
@@ -142,12 +144,12 @@ fn put_line<K: Sink>(
     names: &LineNames<'_>,
     out: &mut K,
 ) -> Result<(), Failed>
-    requires words { HasWords names.now.disks (told entry.now) }
+    requires words { HasWords names.now (told entry.now) }
     requires may { may_show mode (told entry.now) ≡ true }
     ensures told { OnOk result (Gathers (K.written out.old) (K.written out.new) text.new
-        (text.old ++ entry_lines mode names.now.disks (told entry.now))) }
+        (text.old ++ entry_lines mode names.now (told entry.now))) }
     ensures front { OnErr result (WroteFront (K.written out.old) (K.written out.new)
-        (text.old ++ entry_lines mode names.now.disks (told entry.now))) }
+        (text.old ++ entry_lines mode names.now (told entry.now))) }
     ensures faults { Fails (IsErr result) (K.faults out.old) (K.faults out.new) }
 {
     text.make_room(LINE_ROOM, out)?;
@@ -155,7 +157,7 @@ fn put_line<K: Sink>(
     put_rest(text, mode, entry, out)
 }
 
-/// The next entry that a user of the disks may see. None where no further one is left.
+/// The next entry that a user of the disks and ports may see. None where no further one is left.
 fn next_seen<'a>(entries: &mut Entries<'a>) -> Option<EntryRef<'a>>
     ensures some { IfSome result (λ entry. PassesUnseen entries.old (told entry ∷ entries.new)) }
     ensures seen { IfSome result (λ entry. may_be_seen (told entry) ≡ true) }
@@ -186,11 +188,11 @@ fn write_lines<K: Sink>(
     names: &LineNames<'_>,
     out: &mut K,
 ) -> Result<(), Failed>
-    requires words { All (HasWords names.now.disks) journal.now.entries }
+    requires words { All (HasWords names.now) journal.now.entries }
     ensures told { OnOk result (Appends (K.written out.old) (K.written out.new)
-        (report_entries mode names.now.disks journal.now.entries)) }
+        (report_entries mode names.now journal.now.entries)) }
     ensures front { OnErr result (WroteFront (K.written out.old) (K.written out.new)
-        (report_entries mode names.now.disks journal.now.entries)) }
+        (report_entries mode names.now journal.now.entries)) }
     ensures faults { Fails (IsErr result) (K.faults out.old) (K.faults out.new) }
 {
     let mut text = Text::new();
@@ -208,13 +210,14 @@ pub fn write_text<K: Sink>(
     names: &Names,
     out: &mut K,
 ) -> Result<(), Failed>
-    requires words { All (HasWords names.now.disks) journal.now.entries }
+    requires words { All (HasWords (declared_by names.now)) journal.now.entries }
     ensures told { OnOk result (Appends (K.written out.old) (K.written out.new)
-        (report_entries mode names.now.disks journal.now.entries)) }
+        (report_entries mode (declared_by names.now) journal.now.entries)) }
     ensures front { OnErr result (WroteFront (K.written out.old) (K.written out.new)
-        (report_entries mode names.now.disks journal.now.entries)) }
+        (report_entries mode (declared_by names.now) journal.now.entries)) }
     ensures faults { Fails (IsErr result) (K.faults out.old) (K.faults out.new) }
 {
-    let lanes = names_of_lanes(names);
-    write_lines(journal, mode, &LineNames::new(names, &lanes), out)
+    let disks = names_of_lanes(names, LaneKind::Disk);
+    let ports = names_of_lanes(names, LaneKind::Port);
+    write_lines(journal, mode, &LineNames::new(names, &disks, &ports), out)
 }

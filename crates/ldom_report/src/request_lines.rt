@@ -1,11 +1,13 @@
 // The lines of requests, and of lanes as a whole, before the words of a read and the line feed.
-ghost use Rattle.std.specs.Prelude.{◌≡◌, ◌+◌, ◌≤◌, ◌<◌, ◌++◌, length, take, codes};
-ghost use Rattle.ldom_report.specs.EntryText.{disk_name, done_text, id_text, range_text, request_text, who_name, why_word};
-ghost use Rattle.ldom_report.specs.HasWords.{IsDeclared};
+ghost use Rattle.std.specs.Prelude.{◌≡◌, ◌+◌, ◌≤◌, ◌++◌, length, take, codes};
+ghost use Rattle.domain_script.specs.LaneKinds.{disk_lane};
+ghost use Rattle.ldom_report.specs.EntryText.{done_text, id_text, lane_name, range_text, request_text, who_name, why_word};
+ghost use Rattle.ldom_report.specs.HasWords.{IsDeclared, IsLane};
 
 use crate::{KeptRequest, Who, Why};
+use domain_script::{Lane, LaneKind};
 use gathered_text::{TEXT_ROOM, Text};
-use line_words::{LineNames, operation_word, push_disk, push_id, push_who, why_word};
+use line_words::{LineNames, operation_word, push_id, push_lane, push_who, why_word};
 use vdisk_msg::{Fill, Request};
 
 /// The bytes of a fill, without the zeros after them.
@@ -56,6 +58,16 @@ fn push_kept(text: &mut Text, kept: &KeptRequest)
     push_request(text, &kept.get());
 }
 
+/// The lane of a disk.
+fn disk_lane(number: u32) -> Lane
+    ensures { result ≡ disk_lane number }
+{
+    Lane {
+        kind: LaneKind::Disk,
+        number,
+    }
+}
+
 /// A request that was taken up.
 pub fn push_accepted(
     text: &mut Text,
@@ -64,32 +76,32 @@ pub fn push_accepted(
     request: &KeptRequest,
     names: &LineNames<'_>,
 )
-    requires declared { disk < length names.now.disks }
+    requires declared { IsLane names.now (disk_lane disk) }
     requires room { length text.old + 2200 ≤ TEXT_ROOM }
-    ensures text { text.new ≡ text.old ++ id_text (codes "accepted ") names.now.disks disk id
+    ensures text { text.new ≡ text.old ++ id_text (codes "accepted ") names.now (disk_lane disk) id
         ++ request_text request.now }
     ensures len { length text.new ≤ length text.old + 2200 }
 {
-    push_id(text, b"accepted ", disk, id, names);
+    push_id(text, b"accepted ", disk_lane(disk), id, names);
     push_kept(text, request);
 }
 
 /// A disk, after the kind of its entry.
 pub fn push_of_disk(text: &mut Text, kind: &[u8], disk: u32, names: &LineNames<'_>)
-    requires declared { disk < length names.now.disks }
+    requires declared { IsLane names.now (disk_lane disk) }
     requires room { length text.old + length kind.now + 16 ≤ TEXT_ROOM }
-    ensures text { text.new ≡ text.old ++ kind.now ++ disk_name names.now.disks disk }
+    ensures text { text.new ≡ text.old ++ kind.now ++ lane_name names.now (disk_lane disk) }
     ensures len { length text.new ≤ length text.old + length kind.now + 16 }
 {
     text.push(kind);
-    push_disk(text, disk, names);
+    push_lane(text, disk_lane(disk), names);
 }
 
 /// Whom an entry is about, after its kind.
 pub fn push_about(text: &mut Text, kind: &[u8], who: &Who, names: &LineNames<'_>)
-    requires declared { IsDeclared names.now.disks who.now }
+    requires declared { IsDeclared names.now who.now }
     requires room { length text.old + length kind.now + 16 ≤ TEXT_ROOM }
-    ensures text { text.new ≡ text.old ++ kind.now ++ who_name names.now.disks who.now }
+    ensures text { text.new ≡ text.old ++ kind.now ++ who_name names.now who.now }
     ensures len { length text.new ≤ length text.old + length kind.now + 16 }
 {
     text.push(kind);
@@ -97,9 +109,9 @@ pub fn push_about(text: &mut Text, kind: &[u8], who: &Who, names: &LineNames<'_>
 }
 
 pub fn push_refused(text: &mut Text, who: &Who, why: Why, names: &LineNames<'_>)
-    requires declared { IsDeclared names.now.disks who.now }
+    requires declared { IsDeclared names.now who.now }
     requires room { length text.old + 100 ≤ TEXT_ROOM }
-    ensures text { text.new ≡ text.old ++ codes "refused " ++ who_name names.now.disks who.now ++ codes " "
+    ensures text { text.new ≡ text.old ++ codes "refused " ++ who_name names.now who.now ++ codes " "
         ++ why_word why }
     ensures len { length text.new ≤ length text.old + 100 }
 {
@@ -116,14 +128,14 @@ pub fn push_done(
     status: u64,
     names: &LineNames<'_>,
 )
-    requires declared { disk < length names.now.disks }
+    requires declared { IsLane names.now (disk_lane disk) }
     requires least { 1 ≤ operation }
     requires most { operation ≤ 3 }
     requires room { length text.old + 100 ≤ TEXT_ROOM }
-    ensures text { text.new ≡ text.old ++ done_text names.now.disks disk id operation status }
+    ensures text { text.new ≡ text.old ++ done_text names.now disk id operation status }
     ensures len { length text.new ≤ length text.old + 100 }
 {
-    push_id(text, b"done ", disk, id, names);
+    push_id(text, b"done ", disk_lane(disk), id, names);
     text.push(b" ");
     text.push(operation_word(operation));
     text.push(b" ");

@@ -6,7 +6,7 @@ use domain_script::LineFault;
 /// Which entries a report shows.
 #[derive(Clone, Copy, Debug, PartialEq, Eq)]
 pub enum Mode {
-    /// Those that a user of the disks sees.
+    /// Those that a user of the disks and ports sees.
     Run,
 
     /// All of them.

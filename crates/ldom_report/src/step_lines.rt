@@ -25,9 +25,9 @@ pub fn push_packet(
     packet: &TrimmedArray<'_>,
     names: &LineNames<'_>,
 )
-    requires declared { IsEnd names.now.disks end }
+    requires declared { IsEnd names.now end }
     requires room { length text.old + length kind.now + 527 ≤ TEXT_ROOM }
-    ensures text { text.new ≡ text.old ++ bytes_text kind.now names.now.disks end packet.now }
+    ensures text { text.new ≡ text.old ++ bytes_text kind.now names.now end packet.now }
     ensures len { length text.new ≤ length text.old + length kind.now + 527 }
 {
     push_end(text, kind, end, names);
@@ -44,9 +44,9 @@ pub fn push_carried(
     opens: bool,
     names: &LineNames<'_>,
 )
-    requires declared { IsEnd names.now.disks end }
+    requires declared { IsEnd names.now end }
     requires room { length text.old + length kind.now + 600 ≤ TEXT_ROOM }
-    ensures text { text.new ≡ text.old ++ bytes_text kind.now names.now.disks end packet.now ++ opens_text opens }
+    ensures text { text.new ≡ text.old ++ bytes_text kind.now names.now end packet.now ++ opens_text opens }
     ensures len { length text.new ≤ length text.old + length kind.now + 600 }
 {
     push_packet(text, kind, end, packet, names);
@@ -54,9 +54,9 @@ pub fn push_carried(
 }
 
 pub fn push_joined(text: &mut Text, end: EndName, lost: u64, names: &LineNames<'_>)
-    requires declared { IsEnd names.now.disks end }
+    requires declared { IsEnd names.now end }
     requires room { length text.old + 100 ≤ TEXT_ROOM }
-    ensures text { text.new ≡ text.old ++ end_text (codes "joined ") names.now.disks end ++ codes " lost="
+    ensures text { text.new ≡ text.old ++ end_text (codes "joined ") names.now end ++ codes " lost="
         ++ decimal lost }
     ensures len { length text.new ≤ length text.old + 100 }
 {
@@ -72,9 +72,9 @@ pub fn push_descriptor(
     bytes: &TrimmedArray<'_>,
     names: &LineNames<'_>,
 )
-    requires declared { IsEnd names.now.disks end }
+    requires declared { IsEnd names.now end }
     requires room { length text.old + 600 ≤ TEXT_ROOM }
-    ensures text { text.new ≡ text.old ++ number_text (codes "desc ") names.now.disks end slot ++ codes " "
+    ensures text { text.new ≡ text.old ++ number_text (codes "desc ") names.now end slot ++ codes " "
         ++ encode_lower bytes.now }
     ensures len { length text.new ≤ length text.old + 600 }
 {
@@ -90,9 +90,9 @@ pub fn push_moved(
     fault: Option<CopyFault>,
     names: &LineNames<'_>,
 )
-    requires declared { IsEnd names.now.disks end }
+    requires declared { IsEnd names.now end }
     requires room { length text.old + 100 ≤ TEXT_ROOM }
-    ensures text { text.new ≡ text.old ++ moved_text names.now.disks end unit fault }
+    ensures text { text.new ≡ text.old ++ moved_text names.now end unit fault }
     ensures len { length text.new ≤ length text.old + 100 }
 {
     push_end_number(text, b"moved ", end, unit, names);
@@ -109,11 +109,11 @@ fn push_store_call(
     count: u64,
     names: &LineNames<'_>,
 )
-    requires declared { IsEnd names.now.disks end }
+    requires declared { IsEnd names.now end }
     requires least { 1 ≤ operation }
     requires most { operation ≤ 3 }
     requires room { length text.old + 100 ≤ TEXT_ROOM }
-    ensures text { text.new ≡ text.old ++ call_text names.now.disks end operation block count }
+    ensures text { text.new ≡ text.old ++ call_text names.now end operation block count }
     ensures len { length text.new ≤ length text.old + 80 }
 {
     push_end(text, b"stored ", end, names);
@@ -132,11 +132,11 @@ pub fn push_stored(
     failed: bool,
     names: &LineNames<'_>,
 )
-    requires declared { IsEnd names.now.disks end }
+    requires declared { IsEnd names.now end }
     requires least { 1 ≤ operation }
     requires most { operation ≤ 3 }
     requires room { length text.old + 100 ≤ TEXT_ROOM }
-    ensures text { text.new ≡ text.old ++ stored_text names.now.disks end operation block count failed }
+    ensures text { text.new ≡ text.old ++ stored_text names.now end operation block count failed }
     ensures len { length text.new ≤ length text.old + 100 }
 {
     push_store_call(text, end, operation, block, count, names);
@@ -145,9 +145,9 @@ pub fn push_stored(
 }
 
 pub fn push_finished(text: &mut Text, end: EndName, slot: u64, status: u64, names: &LineNames<'_>)
-    requires declared { IsEnd names.now.disks end }
+    requires declared { IsEnd names.now end }
     requires room { length text.old + 100 ≤ TEXT_ROOM }
-    ensures text { text.new ≡ text.old ++ number_text (codes "finished ") names.now.disks end slot ++ codes " "
+    ensures text { text.new ≡ text.old ++ number_text (codes "finished ") names.now end slot ++ codes " "
         ++ decimal status }
     ensures len { length text.new ≤ length text.old + 100 }
 {
@@ -191,10 +191,10 @@ fn push_took(text: &mut Text, mode: Mode, packet: &Option<TrimmedArray<'_>>)
 
 /// An end and the cause for which it was reset.
 fn push_reset_head(text: &mut Text, end: EndName, cause: Cause, names: &LineNames<'_>)
-    requires declared { IsEnd names.now.disks end }
+    requires declared { IsEnd names.now end }
     requires fault { HasFault cause }
     requires room { length text.old + 200 ≤ TEXT_ROOM }
-    ensures text { text.new ≡ text.old ++ end_text (codes "reset ") names.now.disks end ++ codes " " ++ cause_text cause }
+    ensures text { text.new ≡ text.old ++ end_text (codes "reset ") names.now end ++ codes " " ++ cause_text cause }
     ensures len { length text.new ≤ length text.old + 130 }
 {
     push_end(text, b"reset ", end, names);
@@ -213,10 +213,10 @@ pub fn push_reset(
     lost: u64,
     names: &LineNames<'_>,
 )
-    requires declared { IsEnd names.now.disks end }
+    requires declared { IsEnd names.now end }
     requires fault { HasFault cause.now }
     requires room { length text.old + 700 ≤ TEXT_ROOM }
-    ensures text { text.new ≡ text.old ++ reset_text mode names.now.disks end cause.now packet.now lost }
+    ensures text { text.new ≡ text.old ++ reset_text mode names.now end cause.now packet.now lost }
     ensures len { length text.new ≤ length text.old + 700 }
 {
     push_reset_head(text, end, *cause, names);

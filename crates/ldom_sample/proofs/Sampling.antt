@@ -1,5 +1,5 @@
 -- The sample script: its draws, and the events that its lines spell.
-use Rattle.std.proofs.Common.{◌≡◌, refl, sym, ap, subst, ◌∙◌, ℕ, zero, suc, ◌+◌, ◌*◌, ◌/◌, ◌%◌, ◌^◌, ◌<◌, ◌≤◌, Bool, true, false, List, [], ◌∷◌, ◌++◌, length, map, slice_get, Result, Ok, Err, IfOk, IfSome, append_assoc, append-nil, arith}
+use Rattle.std.proofs.Common.{◌≡◌, refl, sym, ap, subst, ◌∙◌, ℕ, zero, suc, ◌+◌, ◌*◌, ◌/◌, ◌%◌, ◌^◌, ◌<◌, ◌≤◌, Bool, true, false, List, [], ◌∷◌, ◌++◌, length, map, Some, Result, Ok, Err, IfOk, append_assoc, append-nil, arith}
 use Rattle.std.specs.Prelude.{◌==◌, nat_lt, if◌then◌else◌, decimal, replicate, take, ⊤}
 use Rattle.std.specs.Int.RustNames.{count_ones}
 use Rattle.std.specs.List.{range_with_len}
@@ -16,7 +16,11 @@ use Rattle.domain_script.specs.declared.event.DiskDecl.{DiskDecl}
 use Rattle.domain_script.specs.declared.event.EndName.{EndName}
 use Rattle.domain_script.specs.declared.event.Event.{Event}
 use Rattle.domain_script.specs.declared.event.Event.TheVariants as line
-use Rattle.domain_script.specs.NamesState.{IsDiskNamed, NamesDiffer, NamesState, noted}
+use Rattle.domain_script.specs.declared.event.Name.{Name}
+use Rattle.domain_script.specs.declared.fields.LaneKind.{LaneKind}
+use Rattle.domain_script.specs.declared.fields.LaneKind.TheVariants as lanes
+use Rattle.domain_script.specs.LaneKinds.{disk_lane, lane_at}
+use Rattle.domain_script.specs.NamesState.{NamesDiffer, NamesState, lane_name, noted}
 use Rattle.domain_script.specs.Printed.{CanPrint, EventBytes, followed_by, line_text}
 use Rattle.domain_script.specs.ScriptEvents.{AllSpell, no_names}
 use Rattle.domain_script.specs.ScriptLines.{AreShort, fed, script_lines}
@@ -108,16 +112,22 @@ pub record IsLine (ended : Bool) (event : Event) : Type 0 where
 name_is : IsName sample_disk.name
 name_is = record { word = 100 ∷ 48 ∷ []; spelled = record { letters = (refl, refl); most = omega arith; len = refl; bytes = refl } }
 
-abbrev no_disks : List DiskDecl
-no_disks = []
+-- the disk alone has a name
+only_disk : (ended : Bool) (kind : LaneKind) (k : ℕ) (name : Name) → lane_name (sample_names ended) (lane_at kind k) ≡ Some name → lane_at kind k ≡ disk_lane 0
+only_disk ended lanes.Disk zero name is = refl
+only_disk ended lanes.Disk (suc zero) name is = absurd (cc is)
+only_disk ended lanes.Disk (suc (suc k)) name is = absurd (cc is)
+only_disk ended lanes.Port zero name is = absurd (cc is)
+only_disk ended lanes.Port (suc k) name is = absurd (cc is)
 
-none_more : (k : ℕ) → IfSome (slice_get no_disks k) (λ disk. IsDiskNamed disk.name (sample_disk ∷ []) (suc k))
-none_more zero = tt
-none_more (suc k) = tt
+differ : (ended : Bool) → NamesDiffer (sample_names ended)
+differ ended a b name first second = only_disk ended a.kind a.number name first ∙ sym (only_disk ended b.kind b.number name second)
 
-differ : NamesDiffer (sample_disk ∷ [])
-differ zero = refl
-differ (suc k) = none_more k
+no_name : (kind : LaneKind) (k : ℕ) (name : Name) → lane_name no_names (lane_at kind k) ≡ Some name → ⊥
+no_name lanes.Disk zero name is = cc is
+no_name lanes.Disk (suc k) name is = cc is
+no_name lanes.Port zero name is = cc is
+no_name lanes.Port (suc k) name is = cc is
 
 -- words of at most 20 bytes make a short line
 abbrev AreWords : List (List ℕ) → Type 0
@@ -151,7 +161,7 @@ write_line ended b c w b_small c_small w_small =
     } in
     record {
       can = can;
-      spells = printed_spells (sample_names ended) (line.Issue 0 (Write b c (one_byte w))) differ can (tt, (tt, (tt, (byte_is w w_small, tt))));
+      spells = printed_spells (sample_names ended) (line.Issue 0 (Write b c (one_byte w))) (differ ended) can (tt, (tt, (tt, (byte_is w w_small, tt))));
       ends = refl;
       short = omega (
         arith,
@@ -168,7 +178,7 @@ read_line ended b c b_small c_small =
     } in
     record {
       can = can;
-      spells = printed_spells (sample_names ended) (line.Issue 0 (Read b c)) differ can (tt, (tt, (tt, tt)));
+      spells = printed_spells (sample_names ended) (line.Issue 0 (Read b c)) (differ ended) can (tt, (tt, (tt, tt)));
       ends = refl;
       short = omega (
         arith,
@@ -185,7 +195,7 @@ client_line ended k least most =
     } in
     record {
       can = can;
-      spells = printed_spells (sample_names ended) (line.Step client k) differ can (tt, (tt, tt));
+      spells = printed_spells (sample_names ended) (line.Step client k) (differ ended) can (tt, (tt, tt));
       ends = refl;
       short = omega (
         arith,
@@ -202,7 +212,7 @@ server_line ended k least most =
     } in
     record {
       can = can;
-      spells = printed_spells (sample_names ended) (line.Step server k) differ can (tt, (tt, tt));
+      spells = printed_spells (sample_names ended) (line.Step server k) (differ ended) can (tt, (tt, tt));
       ends = refl;
       short = omega (
         arith,
@@ -216,7 +226,7 @@ round_line ended k least most =
     let can : CanPrint (sample_names ended) (line.Round k) = record { fits = ((omega (arith, most), (least, most)), tt); stands = (tt, tt) } in
     record {
       can = can;
-      spells = printed_spells (sample_names ended) (line.Round k) differ can (tt, tt);
+      spells = printed_spells (sample_names ended) (line.Round k) (differ ended) can (tt, tt);
       ends = refl;
       short = omega (arith, short_line (114 ∷ 111 ∷ 117 ∷ 110 ∷ 100 ∷ []) (decimal k ∷ []) 5 (omega arith) (number_short k (omega (arith, most)), tt));
     }
@@ -224,22 +234,22 @@ round_line ended k least most =
 reset_line : (ended : Bool) → IsLine ended (line.Reset client)
 reset_line ended =
     let can : CanPrint (sample_names ended) (line.Reset client) = record { fits = ((omega arith, tt), tt); stands = (name_is, tt) } in
-    record { can = can; spells = printed_spells (sample_names ended) (line.Reset client) differ can (tt, tt); ends = refl; short = omega arith }
+    record { can = can; spells = printed_spells (sample_names ended) (line.Reset client) (differ ended) can (tt, tt); ends = refl; short = omega arith }
 
 restart_line : (ended : Bool) → IsLine ended (line.Restart server)
 restart_line ended =
-    let can : CanPrint (sample_names ended) (line.Restart server) = record { fits = ((omega arith, refl), tt); stands = (name_is, tt) } in
-    record { can = can; spells = printed_spells (sample_names ended) (line.Restart server) differ can (tt, tt); ends = refl; short = omega arith }
+    let can : CanPrint (sample_names ended) (line.Restart server) = record { fits = ((omega arith, (refl, refl)), tt); stands = (name_is, tt) } in
+    record { can = can; spells = printed_spells (sample_names ended) (line.Restart server) (differ ended) can (tt, tt); ends = refl; short = omega arith }
 
 lose_line : (ended : Bool) → IsLine ended (line.Lose client)
 lose_line ended =
     let can : CanPrint (sample_names ended) (line.Lose client) = record { fits = ((omega arith, tt), tt); stands = (name_is, tt) } in
-    record { can = can; spells = printed_spells (sample_names ended) (line.Lose client) differ can (tt, tt); ends = refl; short = omega arith }
+    record { can = can; spells = printed_spells (sample_names ended) (line.Lose client) (differ ended) can (tt, tt); ends = refl; short = omega arith }
 
 settle_line : (ended : Bool) → IsLine ended line.Settle
 settle_line ended =
     let can : CanPrint (sample_names ended) line.Settle = record { fits = tt; stands = tt } in
-    record { can = can; spells = printed_spells (sample_names ended) line.Settle differ can tt; ends = refl; short = omega arith }
+    record { can = can; spells = printed_spells (sample_names ended) line.Settle (differ ended) can tt; ends = refl; short = omega arith }
 
 -- each that is drawn is such a line
 either : (P : Event → Type 0) (b : Bool) (x y : Event) → P x → P y → P (if b then x else y)
@@ -282,15 +292,11 @@ disk_can : CanPrint no_names (line.Disk sample_disk)
 unfolding count_ones
 disk_can = record {
   fits = (name_is, ((omega arith, (omega arith, omega arith)), ((omega arith, (omega arith, omega arith, refl)), ((omega arith, (omega arith, omega arith, refl)), tt))));
-  stands = (record { open_still = refl; few = omega arith; free = tt }, (tt, (tt, (tt, tt))));
+  stands = (record { open_still = refl; few = omega arith; free = (tt, tt) }, (tt, (tt, (tt, tt))));
 }
 
 disk_spells : Spells (sample_line (line.Disk sample_disk)) no_names (line.Disk sample_disk)
-disk_spells = printed_spells no_names (line.Disk sample_disk) (λ k. none_named k) disk_can (tt, (tt, (tt, (tt, tt))))
-  where
-    none_named : (k : ℕ) → IfSome (slice_get no_disks k) (λ disk. IsDiskNamed disk.name [] k)
-    none_named zero = tt
-    none_named (suc k) = tt
+disk_spells = printed_spells no_names (line.Disk sample_disk) (λ a b name first second. absurd (no_name a.kind a.number name first)) disk_can (tt, (tt, (tt, (tt, tt))))
 
 pub can_print_disk : (names : NamesState) → names ≡ no_names → CanPrint names (line.Disk sample_disk)
 can_print_disk names none = subst (λ (s : NamesState). CanPrint s (line.Disk sample_disk)) (sym none) disk_can

@@ -29,7 +29,7 @@ abbrev pub sample_disk : DiskDecl
 sample_disk = record { name = record { len = 2; bytes = 100 ∷ 48 ∷ 0 ∷ 0 ∷ 0 ∷ 0 ∷ 0 ∷ 0 ∷ [] }; blocks = 1024; ring = 64; queue = 64 }
 
 abbrev pub sample_names : Bool → NamesState
-sample_names ended = record { disks = sample_disk ∷ []; ended = ended }
+sample_names ended = record { disks = sample_disk ∷ []; ports = []; ended = ended }
 
 abbrev pub client : EndName
 client = record { lane = disk_lane 0; side = Client }

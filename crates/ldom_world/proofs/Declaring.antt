@@ -1,10 +1,10 @@
 -- The lanes of declared disks, one after another, and the world that they make.
 use Rattle.std.proofs.Common.{◌≡◌, ℕ, zero, suc, ◌+◌, ◌*◌, ◌≤◌, Some, None, List, [], ◌∷◌, ◌++◌, length, map, take, slice_get, refl, sym, ap, subst, ◌∙◌, arith}
 use Rattle.std.proofs.lemmas.List.{length-append, take_all}
-use Rattle.disk_model.specs.LaneState.{IsShape, LaneState, Shape, fresh}
+use Rattle.world_parts.specs.disk_model.LaneState.{IsShape, LaneState, Shape, fresh}
 use Rattle.domain_script.specs.Declarations.{IsDisk}
 use Rattle.domain_script.specs.declared.event.DiskDecl.{DiskDecl}
-use Rattle.world_laws.specs.Rounds.{Each}
+use Rattle.world_parts.specs.world_laws.Rounds.{Each}
 use Rattle.lane_kinds.proofs.Places.{after_one, map_both, take_one}
 use Rattle.world_parts.specs.Declared.{LiesWithin, blocks_of, bytes_needed, shape_of, shapes_of}
 
@@ -42,9 +42,9 @@ blocks_more [] disk = omega (arith)
 blocks_more (d ∷ disks) disk = omega (arith, blocks_more disks disk)
 
 -- and among the first k
-take_more : (disks : List DiskDecl) (k : ℕ) (disk : DiskDecl) → slice_get disks k ≡ Some disk
-    → take (k + 1) disks ≡ take k disks ++ disk ∷ []
-take_more disks k disk there = ap (λ (n : ℕ). take n disks) (after_one k) ∙ take_one disks k disk there
+pub take_more : {X : Type 0} (xs : List X) (k : ℕ) (x : X) → slice_get xs k ≡ Some x
+    → take (k + 1) xs ≡ take k xs ++ x ∷ []
+take_more xs k x there = ap (λ (n : ℕ). take n xs) (after_one k) ∙ take_one xs k x there
 
 module _ (disks : List DiskDecl) (k first : ℕ) (disk : DiskDecl) where
   pub lanes_more : (lanes new : List LaneState) (lane : LaneState) → slice_get disks k ≡ Some disk
@@ -68,17 +68,17 @@ module _ (disks : List DiskDecl) (k first : ℕ) (disk : DiskDecl) where
       ap (λ (n : ℕ). n + disk.blocks) first_is ∙ sym (blocks_more (take k disks) disk)
       ∙ ap (λ (l : List DiskDecl). blocks_of l) (sym (take_more disks k disk there))
 
-pub few_lanes : (lanes new : List LaneState) (lane : LaneState) (k : ℕ) → new ≡ lanes ++ lane ∷ [] → length lanes ≡ k
+pub one_longer : {X : Type 0} (xs new : List X) (x : X) (k : ℕ) → new ≡ xs ++ x ∷ [] → length xs ≡ k
     → length new ≡ k + 1
-few_lanes lanes new lane k grew long =
-    omega (arith, ap (λ (l : List LaneState). length l) grew, length-append lanes (lane ∷ []), long)
+one_longer {X} xs new x k grew long =
+    omega (arith, ap (λ (l : List X). length l) grew, length-append xs (x ∷ []), long)
 
 -- ALL OF THEM: there are no more than these
-take_none : (disks : List DiskDecl) (k : ℕ) → slice_get disks k ≡ None → take k disks ≡ disks
+pub take_none : {X : Type 0} (xs : List X) (k : ℕ) → slice_get xs k ≡ None → take k xs ≡ xs
 take_none [] zero none = refl
 take_none [] (suc k) none = refl
-take_none (d ∷ disks) zero none = absurd (cc none)
-take_none (d ∷ disks) (suc k) none = ap (λ (l : List DiskDecl). d ∷ l) (take_none disks k none)
+take_none (x ∷ xs) zero none = absurd (cc none)
+take_none {X} (x ∷ xs) (suc k) none = ap (λ (l : List X). x ∷ l) (take_none xs k none)
 
 module _ (disks : List DiskDecl) (k : ℕ) (lanes : List LaneState) (are : lanes ≡ map fresh (shapes_of 0 (take k disks))) where
   pub no_more_lanes : slice_get disks k ≡ None → lanes ≡ map fresh (shapes_of 0 disks)

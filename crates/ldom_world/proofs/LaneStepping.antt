@@ -3,24 +3,24 @@ use Rattle.std.proofs.Common.{◌≡◌, ℕ, ◌≤◌, Bool, true, false, List
 use Rattle.std.proofs.lemmas.List.{length-take}
 use Rattle.disk_law.specs.ListState.{ImageState}
 use Rattle.disk_lane.specs.Events.{ResetsOwn, StoreAfterOf, served_event}
-use Rattle.disk_model.proofs.OwnSteps.{server_resets_own}
-use Rattle.disk_model.specs.ClientStep.{completed_slot}
-use Rattle.disk_model.specs.LaneState.{LaneState}
-use Rattle.disk_model.specs.LaneStep.{LaneStep, ResetBy, ServerOnWire, reach}
-use Rattle.channel_model.specs.Seeing.{seen}
-use Rattle.disk_model.specs.Served.{Served}
-use Rattle.disk_model.specs.ServerRule.{server_rule}
-use Rattle.channel_model.specs.WireEvent as wire
-use Rattle.channel_model.specs.WireEvent.{ByStep, Giver, giver}
-use Rattle.world_laws.specs.CalmEnds.{IsStep}
-use Rattle.world_laws.specs.World.{LaneMoves}
+use Rattle.world_parts.proofs.disk_model.OwnSteps.{server_resets_own}
+use Rattle.world_parts.specs.disk_model.ClientStep.{completed_slot}
+use Rattle.world_parts.specs.disk_model.LaneState.{LaneState}
+use Rattle.world_parts.specs.disk_model.LaneStep.{LaneStep, ResetBy, ServerOnWire, reach}
+use Rattle.world_parts.specs.channel_model.Seeing.{seen}
+use Rattle.world_parts.specs.disk_model.Served.{Served}
+use Rattle.world_parts.specs.disk_model.ServerRule.{server_rule}
+use Rattle.world_parts.specs.channel_model.WireEvent as wire
+use Rattle.world_parts.specs.channel_model.WireEvent.{ByStep, Giver, giver}
+use Rattle.world_parts.specs.lane_laws.CalmEnds.{IsStep}
+use Rattle.world_parts.specs.world_laws.World.{LaneMoves}
 use Rattle.ldc_queue.specs.declared.end.End.TheVariants.{A, B}
 use Rattle.ldom_entries.specs.JournalState.{JournalState}
 use Rattle.ldom_world.specs.Fitting.{HasRoomFor}
 use Rattle.ldom_world.specs.OneLane.{LaneSteps, Leaves}
-use Rattle.vdisk_client.specs.Calls.{client_event, front_count}
-use Rattle.vdisk_client.specs.declared.answers.ClientOut.{ClientOut}
-use Rattle.vdisk_client.specs.declared.answers.ClientOut.TheVariants as client_out
+use Rattle.disk_lane.specs.vdisk_client.Calls.{client_event, front_count}
+use Rattle.disk_lane.specs.vdisk_client.declared.answers.ClientOut.{ClientOut}
+use Rattle.disk_lane.specs.vdisk_client.declared.answers.ClientOut.TheVariants as client_out
 use Rattle.vdisk_msg.specs.Requested.{buffer_of, buffer_place}
 use Rattle.vdisk_msg.specs.Requests.{given_count}
 use Rattle.vdisk_msg.specs.declared.request.Request.{Request}

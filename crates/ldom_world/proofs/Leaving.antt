@@ -1,20 +1,20 @@
 -- What a step leaves in the journal, by its answer: the entry of its event, or none in a settle where it rests.
 use Rattle.std.proofs.Common.{◌≡◌, ℕ, Bool, true, false, ◌||◌, Some, List, [], ◌∷◌, refl, sym, ap, subst, ◌∙◌}
 use Rattle.std.specs.Prelude.{◌&&◌}
-use Rattle.disk_model.specs.DiskEvent.{Asks, DiskEvent, Off, OnWire, Switches}
-use Rattle.channel_model.specs.WireEvent as wire
-use Rattle.world_laws.specs.DiskKind.{is_calm}
-use Rattle.world_laws.specs.Settle.{OfLane, SettleEntry, entry_of}
-use Rattle.world_laws.specs.Lines.{Line}
+use Rattle.world_parts.specs.disk_model.DiskEvent.{Asks, DiskEvent, Off, OnWire, Switches}
+use Rattle.world_parts.specs.channel_model.WireEvent as wire
+use Rattle.world_parts.specs.world_laws.DiskKind.{is_calm}
+use Rattle.world_parts.specs.world_laws.Settle.{OfLane, SettleEntry, entry_of}
+use Rattle.world_parts.specs.domain_laws.Lines.{Line}
 use Rattle.ldom_entries.specs.JournalState.{JournalState, PutsEntry}
 use Rattle.world_parts.specs.WorldEvents.{world_event}
 use Rattle.ldom_entries.specs.declared.entry.Entry.{Entry}
 use Rattle.ldom_world.specs.OneLane.{Leaves, RecordedBut, Records}
 use Rattle.ldom_world.specs.Resting.{client_blocked, client_rests, left_out, server_blocked, server_rests}
-use Rattle.world_laws.specs.Issued.{next_behind}
-use Rattle.vdisk_client.specs.Calls.{client_event}
-use Rattle.vdisk_client.specs.declared.answers.ClientOut.{ClientOut}
-use Rattle.vdisk_client.specs.declared.answers.ClientOut.TheVariants as client_out
+use Rattle.world_parts.specs.world_laws.Issued.{next_behind}
+use Rattle.disk_lane.specs.vdisk_client.Calls.{client_event}
+use Rattle.disk_lane.specs.vdisk_client.declared.answers.ClientOut.{ClientOut}
+use Rattle.disk_lane.specs.vdisk_client.declared.answers.ClientOut.TheVariants as client_out
 use Rattle.disk_lane.specs.Answering.{server_event}
 use Rattle.disk_lane.specs.answers.ServerOut.{ServerOut}
 use Rattle.disk_lane.specs.answers.ServerOut.TheVariants as server_out

@@ -5,13 +5,13 @@ use Rattle.std.specs.Prelude.{OnErr, OnOk}
 use Rattle.std.proofs.lemmas.List.Sums.{count_by-le-length, sum_by_push}
 use Rattle.runs.specs.Run.{Run}
 use Rattle.disk_law.specs.ListState.{ImageState}
-use Rattle.disk_model.specs.DiskEvent.{DiskEvent}
-use Rattle.disk_model.specs.LaneState.{LaneState}
+use Rattle.world_parts.specs.disk_model.DiskEvent.{DiskEvent}
+use Rattle.world_parts.specs.disk_model.LaneState.{LaneState}
 use Rattle.ldc_queue.specs.declared.end.End.{End}
-use Rattle.world_laws.specs.Settle.{OfLane, SettleEntry}
-use Rattle.world_laws.proofs.Along.{lane_step}
-use Rattle.world_laws.specs.Lines.{Line, Nothing}
-use Rattle.world_laws.specs.World.{LaneMoves, OneMoves, WorldState, WorldStep}
+use Rattle.world_parts.specs.world_laws.Settle.{OfLane, SettleEntry}
+use Rattle.world_parts.proofs.world_laws.Along.{lane_step}
+use Rattle.world_parts.specs.domain_laws.Lines.{Line, Nothing}
+use Rattle.world_parts.specs.world_laws.World.{LaneMoves, OneMoves, WorldState, WorldStep}
 use Rattle.ldom_entries.specs.JournalState.{JournalState}
 use Rattle.world_parts.specs.WorldEvents.{world_event}
 use Rattle.ldom_report.specs.Report.{accepted_count, is_accepted}
@@ -21,9 +21,13 @@ use Rattle.ldom_world.proofs.Leaving.{entry_left, left_of, none_accepted}
 use Rattle.ldom_world.proofs.Telling.{entry_tells, none_more}
 use Rattle.ldom_world.specs.OneLane.{EndSteps, LaneSteps, RecordedBut, Records}
 use Rattle.ldom_world.specs.Resting.{left_out}
-use Rattle.world_laws.proofs.LoopKeeping.{issued_set, next_is}
-use Rattle.world_laws.specs.Issued.{issued_on, next_behind}
-use Rattle.world_parts.specs.Parts.{Adds, Fits, FitsSoFar, MakesQuietStep, MakesStep}
+use Rattle.world_parts.proofs.world_laws.LoopKeeping.{issued_set, next_is}
+use Rattle.world_parts.specs.world_laws.Issued.{issued_on, next_behind}
+use Rattle.ldom_world.specs.Steps.{MakesQuietStep, MakesStep}
+use Rattle.ldom_world.specs.TurnsMade.{SameNumbers}
+use Rattle.world_parts.specs.Parts.{Adds, Fits, FitsSoFar}
+use Rattle.world_parts.specs.domain_laws.Domain.{DomainState, DomainStep}
+use Rattle.world_parts.proofs.domain_laws.Running.{disks_run, ports_many, ports_run}
 
 -- A LANE BY ITS NUMBER
 pub there_at : (lanes : List LaneState) (k : ℕ) (s : LaneState) → k < length lanes → s ≡ get_or lanes k s
@@ -50,11 +54,23 @@ pub run_many : (w v : WorldState) (entries : List SettleEntry) → Run WorldStep
 run_many w v [] run = ap (λ (x : WorldState). length x.lanes) (sym run)
 run_many w v (x ∷ entries) run = run_many run.0 v entries run.2 ∙ step_many w x run.0 run.1
 
-pub line_many : {E : Type 0} (w v : WorldState) (line : Line) (old new : List Entry) (result : Result Unit E)
+same_numbers : (w v : DomainState) (entries : List SettleEntry) → Run DomainStep w entries v → SameNumbers w v
+same_numbers w v entries run = record {
+  disks = run_many w.first v.first entries (disks_run w entries v run);
+  ports = ports_many w.second entries v.second (ports_run w entries v run);
+}
+
+pub fits_many : (w v : DomainState) (line : Line) (old new : List Entry) → Fits w line old new v → SameNumbers w v
+fits_many w v line old new fits = same_numbers w v fits.entries fits.moves.run
+
+pub begun_many : (w v : DomainState) (line : Line) (old new : List Entry) → FitsSoFar w line old new v → SameNumbers w v
+begun_many w v line old new so_far = same_numbers w v so_far.entries so_far.begins.run
+
+pub line_many : {E : Type 0} (w v : DomainState) (line : Line) (old new : List Entry) (result : Result Unit E)
     → OnOk result (Fits w line old new v) → OnErr result (FitsSoFar w line old new v)
-    → length v.lanes ≡ length w.lanes
-line_many w v line old new (Ok done) fits so_far = run_many w v fits.entries fits.moves.run
-line_many w v line old new (Err fault) fits so_far = run_many w v so_far.entries so_far.begins.run
+    → SameNumbers w v
+line_many w v line old new (Ok done) fits so_far = fits_many w v line old new fits
+line_many w v line old new (Err fault) fits so_far = begun_many w v line old new so_far
 
 -- HOW MANY WERE ACCEPTED
 pub count_push : (old new : List Entry) (x : Entry) → new ≡ old ++ x ∷ []
@@ -152,7 +168,7 @@ module _ (k : ℕ) (event : DiskEvent) (old new : JournalState) (first : List En
 
 module _ (w v : WorldState) (k : ℕ) (e : End) (old : JournalState) (calm : Bool) (new : JournalState)
     (first : List Entry) (same : old.entries ≡ first) where
-  pub makes_step : EndSteps false k e w old calm new v → MakesStep k e w first new.entries v
+  pub makes_step : EndSteps false k e w old calm new v → MakesStep WorldStep k e w first new.entries v
   makes_step at = record {
     event = at.event;
     of_end = at.of_end;
@@ -165,7 +181,7 @@ module _ (w v : WorldState) (k : ℕ) (e : End) (old : JournalState) (calm : Boo
   step_agrees at agrees = recorded_agrees k at.event old new first same w v at.leaves.recorded at.moves agrees
 
   -- in a settle
-  pub makes_quiet_step : EndSteps true k e w old calm new v → MakesQuietStep k e w first new.entries calm v
+  pub makes_quiet_step : EndSteps true k e w old calm new v → MakesQuietStep WorldStep k e w first new.entries calm v
   makes_quiet_step at = record {
     event = at.event;
     of_end = at.of_end;

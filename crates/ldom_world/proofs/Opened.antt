@@ -1,19 +1,18 @@
 -- A world by its parts: lanes over an image, and one lane of them set; and what a line asked of that lane.
-use Rattle.std.proofs.Common.{◌≡◌, ℕ, ◌<◌, List, [], ◌∷◌, ◌++◌, length, slice_get, slice_set, get_or, Some, refl, sym, ap, subst, ◌∙◌}
+use Rattle.std.proofs.Common.{◌≡◌, ℕ, ◌<◌, List, [], ◌∷◌, ◌++◌, length, slice_get, slice_set, get_or, Some, sym, ap, subst, ◌∙◌}
 use Rattle.disk_law.specs.ListState.{ImageState}
-use Rattle.disk_model.specs.DiskEvent.{DiskEvent}
-use Rattle.disk_model.specs.LaneState.{LaneState}
-use Rattle.world_laws.specs.Settle.{OfLane, SettleEntry}
-use Rattle.world_laws.specs.Lines.{AnswersCall, AnswersOn, AnswersRequest, Asked, Call, Calls, Line, OneEntry, PartOf, OfDisk}
-use Rattle.world_laws.specs.World.{OneMoves, WorldState}
+use Rattle.world_parts.specs.disk_model.DiskEvent.{DiskEvent}
+use Rattle.world_parts.specs.disk_model.LaneState.{LaneState}
+use Rattle.world_parts.specs.world_laws.Settle.{OfLane}
+use Rattle.world_parts.specs.domain_laws.Lines.{Line}
+use Rattle.world_parts.specs.world_laws.World.{OneMoves, WorldState, WorldStep}
 use Rattle.ldom_entries.specs.declared.entry.Entry.{Entry}
 use Rattle.ldom_report.specs.Report.{accepted_count}
 use Rattle.ldom_world.proofs.Adding.{one_adds}
-use Rattle.ldom_world.proofs.Lifting.{agrees_after, one_moves, there_at}
+use Rattle.ldom_world.proofs.Lifting.{agrees_after, many_same, one_moves, there_at}
 use Rattle.ldom_world.specs.OneLane.{LaneAnswers}
-use Rattle.world_laws.specs.Issued.{issued_on}
-use Rattle.vdisk_msg.specs.declared.request.Request.{Request}
-use Rattle.world_parts.specs.Parts.{Fits}
+use Rattle.world_parts.specs.world_laws.Issued.{issued_on}
+use Rattle.ldom_world.specs.Steps.{MakesAnswer}
 
 abbrev pub over : List LaneState → ImageState → WorldState
 over lanes image = record { lanes = lanes; image = image }
@@ -54,28 +53,19 @@ module _ (w : WorldState) (lanes : List LaneState) (image : ImageState) (k : ℕ
       one_moves w (over (slice_set lanes k t) image) k s t answer.event w.image (lane_there w lanes image k s is within at)
       (answer.moves w.image) (lane_set w lanes image k t is)
 
-  answer_fits : (line : Line) (Answers : DiskEvent → Type 0)
-      → ((part : List SettleEntry) → OneEntry k Answers part → PartOf line w.lanes part (slice_set lanes k t))
-      → LaneAnswers line k Answers s x t → Fits w line old new (over (slice_set lanes k t) image)
-  answer_fits line Answers as_part answer =
-      let part = OfLane k answer.event ∷ [] in
-      record {
-        entries = part;
-        adds = one_adds line old new x (OfLane k answer.event) put_last answer.says;
-        moves = record {
-          part_of = as_part part (record { event = answer.event; answers = answer.answers; is = refl });
-          run = (over (slice_set lanes k t) image, answer_moves line Answers answer, refl);
-        };
-      }
+  pub answer_made : (line : Line) (Answers : DiskEvent → Type 0) → LaneAnswers line k Answers s x t
+      → MakesAnswer WorldStep line k Answers w old new (over (slice_set lanes k t) image)
+  answer_made line Answers answer = record {
+    event = answer.event;
+    answers = answer.answers;
+    moves = answer_moves line Answers answer;
+    adds = one_adds line old new x (OfLane k answer.event) put_last answer.says;
+  }
 
-  pub call_fits : (call : Call) → LaneAnswers (Calls (OfDisk k) call) k (AnswersCall call) s x t
-      → Fits w (Calls (OfDisk k) call) old new (over (slice_set lanes k t) image)
-  call_fits call answer = answer_fits (Calls (OfDisk k) call) (AnswersCall call)
-      (λ part one. subst (AnswersOn (OfDisk k) call) (sym one.is) (refl, one.answers)) answer
-
-  pub request_fits : (request : Request) → LaneAnswers (Asked k request) k (AnswersRequest request) s x t
-      → Fits w (Asked k request) old new (over (slice_set lanes k t) image)
-  request_fits request answer = answer_fits (Asked k request) (AnswersRequest request) (λ part one. one) answer
+  pub answer_many : (line : Line) (Answers : DiskEvent → Type 0) → LaneAnswers line k Answers s x t
+      → length (slice_set lanes k t) ≡ length w.lanes
+  answer_many line Answers answer =
+      many_same w (over (slice_set lanes k t) image) k answer.event (answer_moves line Answers answer)
 
   pub answer_agrees : (line : Line) (Answers : DiskEvent → Type 0) → LaneAnswers line k Answers s x t
       → accepted_count old ≡ issued_on w.lanes → accepted_count new ≡ issued_on (slice_set lanes k t)

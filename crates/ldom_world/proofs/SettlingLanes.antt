@@ -1,33 +1,44 @@
 -- What a lane is in a settle: its mark in a round, its tick, and its name where it is left over.
-use Rattle.std.proofs.Common.{◌≡◌, ℕ, ◌+◌, ◌<◌, Bool, true, false, Option, Some, None, List, [], ◌∷◌, ◌++◌, length, map, take, slice_get, slice_set, refl, sym, ap, ◌∙◌, subst, arith, append-nil}
-use Rattle.std.specs.Prelude.{◌&&◌, ◌||◌, ◌==◌, cond, if◌then◌else◌, not}
+use Rattle.std.proofs.Common.{◌≡◌, ℕ, ◌+◌, ◌<◌, ◌≤◌, Bool, true, false, Option, Some, List, [], ◌∷◌, ◌++◌, length, map, take, slice_get, slice_set, refl, sym, ap, ◌∙◌, subst, arith, append-nil, length-append}
+use Rattle.std.specs.Prelude.{◌&&◌, ◌||◌, cond, if◌then◌else◌, not, IsSomeAnd}
 use Rattle.runs.specs.Run.{Run}
-use Rattle.disk_model.specs.DiskEvent.{CalmTick, Calms}
-use Rattle.disk_model.specs.LaneState.{LaneState}
-use Rattle.domain_script.specs.LaneKinds.{disk_lane, disk_of}
-use Rattle.world_laws.specs.Settle.{OfLane, SettleEntry, Unsettled}
-use Rattle.world_laws.specs.DiskKind.{tick, waits_on}
-use Rattle.world_laws.specs.Ticks.{gets_tick}
-use Rattle.world_laws.specs.Lines.{AnswersCall, Calls, Line, OneEntry, Settles, Ticks, OfDisk}
-use Rattle.world_laws.specs.World.{OneMoves, WorldState, WorldStep}
-use Rattle.ldom_report.specs.LaneEvents.{ChangesNothing, Meaning, NoRoomFor, Refuses, meaning}
-use Rattle.world_parts.specs.WorldEvents.{at_disk, calm_event, if_so, meant, world_event}
-use Rattle.ldom_report.specs.Report.{accepted_count, is_accepted}
+use Rattle.world_parts.specs.disk_model.DiskEvent.{CalmTick, Calms}
+use Rattle.world_parts.specs.disk_model.LaneState.{LaneState}
+use Rattle.world_parts.proofs.domain_laws.LoopKinds.{disk_gets, port_gets}
+use Rattle.world_parts.specs.domain_laws.Domain.{DomainState, DomainStep}
+use Rattle.world_parts.specs.domain_laws.Lines.{AnswersCall, AnswersOn, AnswersPortCall, Calls, Line, LaneName, OneEntry, OnePortEntry, Settles, Ticks}
+use Rattle.world_parts.specs.port_model.NetEvent.{CalmTick as CalmPortTick, Ticked}
+use Rattle.world_parts.specs.port_model.PortState.{PortState}
+use Rattle.domain_script.specs.LaneKinds.{disk_of, lane_at, port_of}
+use Rattle.domain_script.specs.declared.event.Lane.{Lane}
+use Rattle.domain_script.specs.declared.fields.LaneKind.{LaneKind}
+use Rattle.domain_script.specs.declared.fields.LaneKind.TheVariants as kinds
+use Rattle.lane_kinds.proofs.Places.{after_one, get_within, set_same, take_set_one}
+use Rattle.lane_kinds.specs.Lanes.{gets_tick}
+use Rattle.lane_kinds.specs.LanesMade.{all_true, name_of}
 use Rattle.ldom_entries.specs.declared.entry.Entry.{Entry}
 use Rattle.ldom_entries.specs.declared.entry.Entry.TheVariants as entry
 use Rattle.ldom_entries.specs.declared.entry.Who.{Who}
 use Rattle.ldom_entries.specs.declared.entry.Who.TheVariants.{Lane as OfWhole, End as OfEnd}
-use Rattle.lane_kinds.proofs.Places.{after_one, set_same, take_set_one}
-use Rattle.world_laws.proofs.LineEntries.{one_answer}
-use Rattle.world_laws.proofs.TicksOn.{lane_gets_none, lane_gets_tick}
-use Rattle.world_laws.specs.Names.{name_of}
-use Rattle.world_laws.specs.RoundMade.{all_true}
-use Rattle.world_laws.specs.TicksMade.{LaneTicked}
-use Rattle.world_parts.specs.Parts.{Adds, Fits, FitsSoFar, PartSays}
+use Rattle.ldom_report.specs.LaneEvents.{ChangesNothing, Meaning, NoRoomFor, Refuses, meaning}
+use Rattle.ldom_report.specs.Report.{accepted_count, is_accepted}
 use Rattle.ldom_world.proofs.Adding.{none_adds, one_adds}
+use Rattle.ldom_world.proofs.KindAdding.{many_of, names_go_by, ticks_go_by}
+use Rattle.ldom_world.proofs.Lifted.{both}
 use Rattle.ldom_world.proofs.Lifting.{count_push}
-use Rattle.ldom_world.proofs.SettlingAdds.{names_go_by, ticks_go_by}
-use Rattle.ldom_world.specs.SettleParts.{Grew, NamesGoOn, TicksGoOn}
+use Rattle.ldom_world.specs.SettleParts.{Grew, NamesGoOn, OneTicked, TicksGoOn}
+use Rattle.ldom_world.specs.Steps.{Counted}
+use Rattle.ldom_world.specs.WorldKinds.{in_world}
+use Rattle.world_parts.specs.switch_laws.Ports.{waits_on as port_waits_on}
+use Rattle.switched_ports.proofs.Entries.{below_later}
+use Rattle.switched_ports.specs.States.{PortAt}
+use Rattle.world_parts.specs.port_laws.NetEndState.{unseen}
+use Rattle.world_parts.specs.world_laws.DiskKind.{tick, waits_on}
+use Rattle.world_parts.specs.world_laws.Settle.{OfLane, OfPort, SettleEntry}
+use Rattle.world_parts.specs.world_laws.World.{WorldState}
+use Rattle.world_parts.specs.Lines.{IsLaneOf, of_kind}
+use Rattle.world_parts.specs.Parts.{Adds, Fits, FitsSoFar, PartSays}
+use Rattle.world_parts.specs.WorldEvents.{calm_event, if_so, is_lane, left_over, meant, of_net, told_of, world_event}
 
 -- THE MARKS of the first lanes, with one more
 and_true : (b : Bool) → (b && true) ≡ b
@@ -54,77 +65,130 @@ waits_by true stopped running is = refl
 waits_by false true running is = is
 waits_by false false running is = is
 
--- AN ENTRY THAT ACCEPTS NOTHING leaves the count
-pub count_stays : (old new : List Entry) (e : Entry) → is_accepted e ≡ false → new ≡ old ++ e ∷ []
+-- in a world, of a disk and of a port
+pub disk_waits : (d : WorldState) (p : List PortState) (w : DomainState) → both d p ≡ w → (kind : LaneKind) (k : ℕ) (waits : Bool)
+    → kind ≡ kinds.Disk → ((s : LaneState) → slice_get d.lanes k ≡ Some s → waits ≡ waits_on s)
+    → (s : (in_world kind).Lane) → slice_get ((in_world kind).lanes w) k ≡ Some s → waits ≡ (in_world kind).kind.waits_on s
+disk_waits d p w is kind k waits disk at =
+    subst (λ (x : LaneKind). (s : (in_world x).Lane) → slice_get ((in_world x).lanes w) k ≡ Some s → waits ≡ (in_world x).kind.waits_on s)
+    (sym disk) (λ s there. at s (subst (λ (x : DomainState). slice_get x.first.lanes k ≡ Some s) (sym is) there))
+
+of_some : {X : Type 0} (P : X → Type 0) (o : Option X) (x : X) → IsSomeAnd o P → o ≡ Some x → P x
+of_some {X} P o x holds is = subst (λ (y : Option X). IsSomeAnd y P) is holds
+
+pub port_waits : (d : WorldState) (p : List PortState) (w : DomainState) → both d p ≡ w → (kind : LaneKind) (k : ℕ) (waits : Bool)
+    → kind ≡ kinds.Port → PortAt p k (λ s. waits ≡ port_waits_on s)
+    → (s : (in_world kind).Lane) → slice_get ((in_world kind).lanes w) k ≡ Some s → waits ≡ (in_world kind).kind.waits_on s
+port_waits d p w is kind k waits port at =
+    subst (λ (x : LaneKind). (s : (in_world x).Lane) → slice_get ((in_world x).lanes w) k ≡ Some s → waits ≡ (in_world x).kind.waits_on s)
+    (sym port) (λ s there. of_some (λ (x : PortState). waits ≡ port_waits_on x) (slice_get p k) s at
+    (subst (λ (x : DomainState). slice_get x.second k ≡ Some s) (sym is) there))
+
+-- A LANE OF A KIND, by its number
+pub lane_of : (w : DomainState) (lane : Lane) → IsLaneOf w lane
+    → (s : (in_world lane.kind).Lane) × (slice_get ((in_world lane.kind).lanes w) lane.number ≡ Some s)
+lane_of w lane within =
+    get_within ((in_world lane.kind).lanes w) lane.number (subst (λ (n : ℕ). lane.number < n) (many_of lane.kind w) within)
+
+-- AN ENTRY THAT ACCEPTS NOTHING leaves what the journal counts
+count_stays : (old new : List Entry) (e : Entry) → is_accepted e ≡ false → new ≡ old ++ e ∷ []
     → accepted_count new ≡ accepted_count old
 count_stays old new e none grew =
     omega (arith, count_push old new e grew, ap (λ (b : Bool). cond {A = ℕ} b 1 0) none)
 
+pub counted_stays : (old new : List Entry) (e : Entry) (w : DomainState) → Counted old w → is_accepted e ≡ false
+    → new ≡ old ++ e ∷ [] → Counted new w
+counted_stays old new e w counted none grew =
+    let longer : length old + 1 ≤ length new + 1 =
+    omega (arith, ap (λ (l : List Entry). length l) grew, length-append old (e ∷ [])) in
+    record {
+      accepted = count_stays old new e none grew ∙ counted.accepted;
+      given = below_later (length old + 1) (length new + 1) w.second longer counted.given;
+    }
+
 -- THE EVENT OF A TICK is said by the same entry in whatever line it is
-calm_no_tick : (b : Bool) (j k : ℕ) → if_so b (OfLane j (Calms CalmTick)) ≡ Some (OfLane k tick) → ⊥
-calm_no_tick true j k is = cc is
-calm_no_tick false j k is = cc is
+never_so : (b : Bool) (x y : SettleEntry) → (x ≡ y → ⊥) → if_so b x ≡ Some y → ⊥
+never_so true x y other is = other (cc is)
+never_so false x y other is = cc is
 
-calm_at : (k : ℕ) (o : Option ℕ) → at_disk k o (Calms CalmTick) ≡ Some (OfLane k tick) → ⊥
-calm_at k None is = cc is
-calm_at k (Some j) is = calm_no_tick (k == j) j k is
+tick_of_calm : (kind : LaneKind) (k : ℕ) (s : (in_world kind).Lane) (who : Who)
+    → calm_event (Calls (of_kind kind k) Ticks) who ≡ Some (told_of ((in_world kind).entries.of_lane k ((in_world kind).kind.tick s))) → ⊥
+tick_of_calm kinds.Disk k s (OfWhole lane) is = never_so (is_lane k (disk_of lane)) (OfLane k (Calms CalmTick)) (OfLane k tick) (λ same. cc same) is
+tick_of_calm kinds.Disk k s (OfEnd name) is = cc is
+tick_of_calm kinds.Port k s (OfWhole lane) is =
+    never_so (is_lane k (port_of lane)) (of_net k (CalmPortTick 0)) (of_net k (Ticked 0 (unseen s.lane.guest.session))) (λ same. cc same) is
+tick_of_calm kinds.Port k s (OfEnd name) is = cc is
 
-tick_of_calm : (k : ℕ) (who : Who) → calm_event (Calls (OfDisk k) Ticks) who ≡ Some (OfLane k tick) → ⊥
-tick_of_calm k (OfWhole lane) is = calm_at k (disk_of lane) is
-tick_of_calm k (OfEnd name) is = cc is
+tick_meant : (kind : LaneKind) (k : ℕ) (s : (in_world kind).Lane) (x : Meaning)
+    → meant (Calls (of_kind kind k) Ticks) x ≡ Some (told_of ((in_world kind).entries.of_lane k ((in_world kind).kind.tick s)))
+    → meant Settles x ≡ Some (told_of ((in_world kind).entries.of_lane k ((in_world kind).kind.tick s)))
+tick_meant kind k s (NoRoomFor (OfWhole lane)) is = absurd (cc is)
+tick_meant kind k s (NoRoomFor (OfEnd name)) is = absurd (cc is)
+tick_meant kind k s (Refuses (OfWhole lane) why) is = absurd (cc is)
+tick_meant kind k s (Refuses (OfEnd name) why) is = absurd (cc is)
+tick_meant kind k s (ChangesNothing who) is = absurd (tick_of_calm kind k s who is)
+tick_meant kind k s x is = is
 
-tick_meant : (k : ℕ) (x : Meaning) → meant (Calls (OfDisk k) Ticks) x ≡ Some (OfLane k tick)
-    → meant Settles x ≡ Some (OfLane k tick)
-tick_meant k (NoRoomFor (OfWhole lane)) is = absurd (cc is)
-tick_meant k (NoRoomFor (OfEnd name)) is = absurd (cc is)
-tick_meant k (Refuses (OfWhole lane) why) is = absurd (cc is)
-tick_meant k (Refuses (OfEnd name) why) is = absurd (cc is)
-tick_meant k (ChangesNothing who) is = absurd (tick_of_calm k who is)
-tick_meant k x is = is
-
-tick_said : (k : ℕ) (part : List Entry) → PartSays (Calls (OfDisk k) Ticks) part (OfLane k tick ∷ [])
-    → PartSays Settles part (OfLane k tick ∷ [])
-tick_said k [] says = absurd (cc says)
-tick_said k (e ∷ []) says =
-    let one : world_event (Calls (OfDisk k) Ticks) e ≡ Some (OfLane k tick) = cc says in
-    ap (λ (o : Option SettleEntry). o ∷ []) (tick_meant k (meaning e) one)
-tick_said k (e ∷ f ∷ part) says = absurd (cc says)
+said_alike : (asked other : Line) (x : SettleEntry) → ((m : Meaning) → meant asked m ≡ Some (told_of x) → meant other m ≡ Some (told_of x))
+    → (part : List Entry) → PartSays asked part (x ∷ []) → PartSays other part (x ∷ [])
+said_alike asked other x alike [] says = absurd (cc says)
+said_alike asked other x alike (e ∷ []) says =
+    let one : world_event asked e ≡ Some (told_of x) = cc says in
+    ap (λ (o : Option SettleEntry). o ∷ []) (alike (meaning e) one)
+said_alike asked other x alike (e ∷ f ∷ part) says = absurd (cc says)
 
 -- A CALL FOR A TICK of a lane that gets one is the tick of a settle
-run_of_one : (w v : WorldState) (x : SettleEntry) (entries : List SettleEntry) → entries ≡ x ∷ []
-    → Run WorldStep w entries v → WorldStep w x v
+run_of_one : (w v : DomainState) (x : SettleEntry) (entries : List SettleEntry) → entries ≡ x ∷ []
+    → Run DomainStep w entries v → DomainStep w x v
 run_of_one w v x entries is run =
-    let one : Run WorldStep w (x ∷ []) v = subst (λ (l : List SettleEntry). Run WorldStep w l v) is run in
-    subst (λ (u : WorldState). WorldStep w x u) one.2 one.1
+    let one : Run DomainStep w (x ∷ []) v = subst (λ (l : List SettleEntry). Run DomainStep w l v) is run in
+    subst (λ (u : DomainState). DomainStep w x u) one.2 one.1
 
-pub tick_grew : (k : ℕ) (w v : WorldState) (old new : List Entry) (lane : LaneState) (had : Bool)
-    → slice_get w.lanes k ≡ Some lane → gets_tick lane had ≡ true → Fits w (Calls (OfDisk k) Ticks) old new v
-    → Grew (λ es. LaneTicked k had true w es v) old new
-tick_grew k w v old new lane had there gets fits =
-    let one : OneEntry k (AnswersCall Ticks) fits.entries = one_answer k Ticks fits.entries fits.moves.part_of in
-    let moves : OneMoves w k one.event v = run_of_one w v (OfLane k one.event) fits.entries one.is fits.moves.run in
-    let ticked : LaneTicked k had true w (OfLane k one.event ∷ []) v = lane_gets_tick k had w one.event v lane there
-    gets one.answers moves in
-    let is : fits.entries ≡ OfLane k tick ∷ [] = one.is ∙ ticked.ticked.1 in
+ticked_by : (kind : LaneKind) (k : ℕ) (had : Bool) (w v : DomainState) (s : (in_world kind).Lane) (entries : List SettleEntry)
+    → slice_get ((in_world kind).lanes w) k ≡ Some s → gets_tick (in_world kind).kind s had ≡ true
+    → AnswersOn (of_kind kind k) Ticks entries → Run DomainStep w entries v → OneTicked kind k had true w v entries
+ticked_by kinds.Disk k had w v s entries there gets answers run =
+    let one : OneEntry k (AnswersCall Ticks) entries = answers in
+    subst (λ (l : List SettleEntry). OneTicked kinds.Disk k had true w v l) (sym one.is)
+    (disk_gets k had w one.event v s there gets one.answers (run_of_one w v (OfLane k one.event) entries one.is run))
+ticked_by kinds.Port k had w v s entries there gets answers run =
+    let one : OnePortEntry k (AnswersPortCall Ticks) entries = answers in
+    subst (λ (l : List SettleEntry). OneTicked kinds.Port k had true w v l) (sym one.is)
+    (port_gets k had w one.event v s there gets one.answers (run_of_one w v (OfPort k one.event) entries one.is run))
+
+tick_grew : (kind : LaneKind) (k : ℕ) (w v : DomainState) (old new : List Entry) (s : (in_world kind).Lane) (had : Bool)
+    → slice_get ((in_world kind).lanes w) k ≡ Some s → gets_tick (in_world kind).kind s had ≡ true
+    → Fits w (Calls (of_kind kind k) Ticks) old new v → Grew (OneTicked kind k had true w v) old new
+tick_grew kind k w v old new s had there gets fits =
+    let asked = Calls (of_kind kind k) Ticks in
+    let ticked : OneTicked kind k had true w v fits.entries =
+    ticked_by kind k had w v s fits.entries there gets fits.moves.part_of fits.moves.run in
+    let tick = (in_world kind).entries.of_lane k ((in_world kind).kind.tick ticked.lane) in
+    let is : fits.entries ≡ tick ∷ [] = ticked.ticked.1 in
     record {
-      entries = OfLane k tick ∷ [];
+      entries = fits.entries;
       adds = record {
         part = fits.adds.part;
         grew = fits.adds.grew;
-        says = tick_said k fits.adds.part
-            (subst (λ (l : List SettleEntry). PartSays (Calls (OfDisk k) Ticks) fits.adds.part l) is fits.adds.says);
+        says = subst (λ (l : List SettleEntry). PartSays Settles fits.adds.part l) (sym is)
+            (said_alike asked Settles tick (tick_meant kind k ticked.lane) fits.adds.part
+            (subst (λ (l : List SettleEntry). PartSays asked fits.adds.part l) is fits.adds.says));
       };
-      holds = subst (λ (l : List SettleEntry). LaneTicked k had true w l v) ticked.ticked.1 ticked;
+      holds = ticked;
     }
 
-pub none_ticked_grew : (k : ℕ) (w : WorldState) (old : List Entry) (lane : LaneState) (had : Bool)
-    → slice_get w.lanes k ≡ Some lane → gets_tick lane had ≡ false
-    → Grew (λ es. LaneTicked k had false w es w) old old
-none_ticked_grew k w old lane had there gets =
-    record { entries = []; adds = none_adds Settles old old refl; holds = lane_gets_none k had w lane there gets }
+none_ticked : (kind : LaneKind) (k : ℕ) (had : Bool) (w : DomainState) (s : (in_world kind).Lane)
+    → slice_get ((in_world kind).lanes w) k ≡ Some s → gets_tick (in_world kind).kind s had ≡ false → OneTicked kind k had false w w []
+none_ticked kind k had w s there gets = record { lane = s; there = there; gets = sym gets; ticked = (refl, refl) }
+
+none_ticked_grew : (kind : LaneKind) (k : ℕ) (w : DomainState) (old : List Entry) (s : (in_world kind).Lane) (had : Bool)
+    → slice_get ((in_world kind).lanes w) k ≡ Some s → gets_tick (in_world kind).kind s had ≡ false
+    → Grew (OneTicked kind k had false w w) old old
+none_ticked_grew kind k w old s had there gets =
+    record { entries = []; adds = none_adds Settles old old refl; holds = none_ticked kind k had w s there gets }
 
 -- where memory was wanted for it, nothing was done
-pub record Unchanged (w : WorldState) (old new : List Entry) (v : WorldState) : Type 0 where
+pub record Unchanged (w : DomainState) (old new : List Entry) (v : DomainState) : Type 0 where
   pub world_stays : v ≡ w
   pub journal_stays : new ≡ old
 
@@ -132,21 +196,21 @@ no_part : (line : Line) (part : List Entry) → map (λ (e : Entry). world_event
 no_part line [] is = refl
 no_part line (e ∷ part) is = absurd (cc is)
 
-none_begun : (w v : WorldState) (line : Line) (old new : List Entry) (entries : List SettleEntry) → entries ≡ []
-    → Adds line old new entries → Run WorldStep w entries v → Unchanged w old new v
+none_begun : (w v : DomainState) (line : Line) (old new : List Entry) (entries : List SettleEntry) → entries ≡ []
+    → Adds line old new entries → Run DomainStep w entries v → Unchanged w old new v
 none_begun w v line old new entries none adds run =
     let empty : adds.part ≡ [] = no_part line adds.part
-    (adds.says ∙ ap (λ (l : List SettleEntry). map (λ (x : SettleEntry). Some x) l) none) in
-    let stays : w ≡ v = subst (λ (l : List SettleEntry). Run WorldStep w l v) none run in
+    (adds.says ∙ ap (λ (l : List SettleEntry). map (λ (x : SettleEntry). Some (told_of x)) l) none) in
+    let stays : w ≡ v = subst (λ (l : List SettleEntry). Run DomainStep w l v) none run in
     record {
       world_stays = sym stays;
       journal_stays = adds.grew ∙ ap (λ (l : List Entry). old ++ l) empty ∙ append-nil old;
     }
 
-pub tick_wants : (k : ℕ) (w v : WorldState) (old new : List Entry) → FitsSoFar w (Calls (OfDisk k) Ticks) old new v
+pub tick_wants : (name : LaneName) (w v : DomainState) (old new : List Entry) → FitsSoFar w (Calls name Ticks) old new v
     → Unchanged w old new v
-tick_wants k w v old new so_far =
-    none_begun w v (Calls (OfDisk k) Ticks) old new so_far.entries so_far.begins.begins so_far.adds so_far.begins.run
+tick_wants name w v old new so_far =
+    none_begun w v (Calls name Ticks) old new so_far.entries so_far.begins.begins so_far.adds so_far.begins.run
 
 -- THE TICKS GO ON by a lane that gets one, and by one that gets none
 or_true : (b : Bool) → (b || true) ≡ true
@@ -157,19 +221,19 @@ or_false : (b : Bool) → (b || false) ≡ b
 or_false true = refl
 or_false false = refl
 
-pub ticked_goes_on : (k : ℕ) (w v : WorldState) (old new : List Entry) (have marks : List Bool) (lane : LaneState)
-    (mark : Bool) → slice_get w.lanes k ≡ Some lane → slice_get have k ≡ Some mark → k < length have
-    → gets_tick lane mark ≡ true → marks ≡ slice_set have k true → Fits w (Calls (OfDisk k) Ticks) old new v
-    → TicksGoOn k w have old true v marks new
-ticked_goes_on k w v old new have marks lane mark there at less gets is fits =
-    ticks_go_by k w v old new have marks mark true at (tick_grew k w v old new lane mark there gets fits) less
+pub ticked_goes_on : (kind : LaneKind) (k : ℕ) (w v : DomainState) (old new : List Entry) (have marks : List Bool) (s : (in_world kind).Lane)
+    (mark : Bool) → slice_get ((in_world kind).lanes w) k ≡ Some s → slice_get have k ≡ Some mark → k < length have
+    → gets_tick (in_world kind).kind s mark ≡ true → marks ≡ slice_set have k true → Fits w (Calls (of_kind kind k) Ticks) old new v
+    → TicksGoOn kind k w have old true v marks new
+ticked_goes_on kind k w v old new have marks s mark there at less gets is fits =
+    ticks_go_by kind k w v old new have marks mark true at (tick_grew kind k w v old new s mark there gets fits) less
     (is ∙ ap (λ (b : Bool). slice_set have k b) (sym (or_true mark)))
 
-pub unticked_goes_on : (k : ℕ) (w : WorldState) (old : List Entry) (have : List Bool) (lane : LaneState) (mark : Bool)
-    → slice_get w.lanes k ≡ Some lane → slice_get have k ≡ Some mark → k < length have
-    → gets_tick lane mark ≡ false → TicksGoOn k w have old false w have old
-unticked_goes_on k w old have lane mark there at less gets =
-    ticks_go_by k w w old old have have mark false at (none_ticked_grew k w old lane mark there gets) less
+pub unticked_goes_on : (kind : LaneKind) (k : ℕ) (w : DomainState) (old : List Entry) (have : List Bool) (s : (in_world kind).Lane) (mark : Bool)
+    → slice_get ((in_world kind).lanes w) k ≡ Some s → slice_get have k ≡ Some mark → k < length have
+    → gets_tick (in_world kind).kind s mark ≡ false → TicksGoOn kind k w have old false w have old
+unticked_goes_on kind k w old have s mark there at less gets =
+    ticks_go_by kind k w w old old have have mark false at (none_ticked_grew kind k w old s mark there gets) less
     (sym (set_same have k mark at) ∙ ap (λ (b : Bool). slice_set have k b) (sym (or_false mark)))
 
 -- THE NAMES GO ON by a lane that is left over, and by one that isn't
@@ -177,26 +241,36 @@ not_by : (b : Bool) → (if b then false else true) ≡ not b
 not_by true = refl
 not_by false = refl
 
-name_by : (k : ℕ) (calm rests : Bool) (lane : LaneState) → rests ≡ (calm && not (waits_on lane))
-    → name_of k calm lane ≡ (if rests then [] else Unsettled k ∷ [])
-name_by k calm rests lane is =
-    ap (λ (b : Bool). if calm && b then [] else Unsettled k ∷ []) (not_by (waits_on lane))
-    ∙ ap (λ (b : Bool). if b then [] else Unsettled k ∷ []) (sym is)
+left_is : (kind : LaneKind) (k : ℕ) → (in_world kind).entries.left_over k ≡ left_over kind k
+left_is kinds.Disk k = refl
+left_is kinds.Port k = refl
 
-pub named_goes_on : (k : ℕ) (w : WorldState) (calm rests : Bool) (lane : LaneState) (old new : List Entry)
-    → slice_get w.lanes k ≡ Some lane → rests ≡ (calm && not (waits_on lane)) → rests ≡ false
-    → new ≡ old ++ entry.Unsettled (OfWhole (disk_lane k)) ∷ [] → NamesGoOn k w calm old new
-named_goes_on k w calm rests lane old new there is left grew =
-    names_go_by k w old new calm lane there
+told_left : (kind : LaneKind) (k : ℕ) → told_of (left_over kind k) ≡ left_over kind k
+told_left kinds.Disk k = refl
+told_left kinds.Port k = refl
+
+name_by : (kind : LaneKind) (k : ℕ) (calm rests : Bool) (s : (in_world kind).Lane) → rests ≡ (calm && not ((in_world kind).kind.waits_on s))
+    → name_of (in_world kind).kind (in_world kind).entries k calm s ≡ (if rests then [] else left_over kind k ∷ [])
+name_by kind k calm rests s is =
+    ap (λ (b : Bool). if calm && b then [] else (in_world kind).entries.left_over k ∷ []) (not_by ((in_world kind).kind.waits_on s))
+    ∙ ap (λ (b : Bool). if b then [] else (in_world kind).entries.left_over k ∷ []) (sym is)
+    ∙ ap (λ (x : SettleEntry). if rests then [] else x ∷ []) (left_is kind k)
+
+pub named_goes_on : (kind : LaneKind) (k : ℕ) (w : DomainState) (calm rests : Bool) (s : (in_world kind).Lane) (old new : List Entry)
+    → slice_get ((in_world kind).lanes w) k ≡ Some s → rests ≡ (calm && not ((in_world kind).kind.waits_on s)) → rests ≡ false
+    → new ≡ old ++ entry.Unsettled (OfWhole (lane_at kind k)) ∷ [] → NamesGoOn kind k w calm old new
+named_goes_on kind k w calm rests s old new there is left grew =
+    names_go_by kind k w old new calm s there
     (subst (λ (l : List SettleEntry). Adds Settles old new l)
-    (sym (name_by k calm rests lane is ∙ ap (λ (b : Bool). if b then [] else Unsettled k ∷ []) left))
-    (one_adds Settles old new (entry.Unsettled (OfWhole (disk_lane k))) (Unsettled k) grew refl))
+    (sym (name_by kind k calm rests s is ∙ ap (λ (b : Bool). if b then [] else left_over kind k ∷ []) left))
+    (one_adds Settles old new (entry.Unsettled (OfWhole (lane_at kind k))) (left_over kind k) grew
+    (ap (λ (x : SettleEntry). Some x) (sym (told_left kind k)))))
 
-pub unnamed_goes_on : (k : ℕ) (w : WorldState) (calm rests : Bool) (lane : LaneState) (old : List Entry)
-    → slice_get w.lanes k ≡ Some lane → rests ≡ (calm && not (waits_on lane)) → rests ≡ true
-    → NamesGoOn k w calm old old
-unnamed_goes_on k w calm rests lane old there is left =
-    names_go_by k w old old calm lane there
+pub unnamed_goes_on : (kind : LaneKind) (k : ℕ) (w : DomainState) (calm rests : Bool) (s : (in_world kind).Lane) (old : List Entry)
+    → slice_get ((in_world kind).lanes w) k ≡ Some s → rests ≡ (calm && not ((in_world kind).kind.waits_on s)) → rests ≡ true
+    → NamesGoOn kind k w calm old old
+unnamed_goes_on kind k w calm rests s old there is left =
+    names_go_by kind k w old old calm s there
     (subst (λ (l : List SettleEntry). Adds Settles old old l)
-    (sym (name_by k calm rests lane is ∙ ap (λ (b : Bool). if b then [] else Unsettled k ∷ []) left))
+    (sym (name_by kind k calm rests s is ∙ ap (λ (b : Bool). if b then [] else left_over kind k ∷ []) left))
     (none_adds Settles old old refl))

@@ -1,17 +1,23 @@
 -- Steps of ends turn by turn: a step of one end, the two of a lane, a round, and rounds; and a front of them where
 -- memory was wanted.
-use Rattle.std.proofs.Common.{◌≡◌, ℕ, zero, suc, ◌+◌, ◌-◌, ◌<◌, Result, Ok, Err, List, [], ◌∷◌, ◌++◌, length, replicate, refl, sym, ap, subst, ◌∙◌, arith, append_assoc, append-nil}
+use Rattle.std.proofs.Common.{◌≡◌, ℕ, zero, suc, ◌+◌, ◌-◌, ◌<◌, Result, Ok, Err, List, [], ◌∷◌, ◌++◌, length, replicate, refl, sym, ap, ap₂, subst, ◌∙◌, arith, append_assoc, append-nil}
 use Rattle.std.specs.Prelude.{OnErr}
-use Rattle.runs.specs.Run.{run_append}
-use Rattle.world_laws.specs.Settle.{OfLane, SettleEntry}
-use Rattle.world_laws.specs.Lines.{AreSteps, Rounds, Steps, EndTurn, round_turns, turn, turns_of, OfDisk}
-use Rattle.world_laws.specs.World.{WorldState, WorldStep}
+use Rattle.runs.specs.Run.{Run, run_append}
+use Rattle.world_parts.specs.world_laws.Settle.{OfLane, OfPort, SettleEntry}
+use Rattle.world_parts.proofs.domain_laws.Running.{disks_run, ports_many, ports_run}
+use Rattle.world_parts.specs.domain_laws.Domain.{DomainState, DomainStep, Lanes, lanes_in}
+use Rattle.world_parts.specs.domain_laws.Lines.{AreSteps, DiskLane, EndTurn, LaneName, PortLane, Rounds, Steps, both_ends, lanes_from, round_turns, turn, turns_of}
+use Rattle.domain_script.specs.declared.fields.LaneKind.{LaneKind}
+use Rattle.domain_script.specs.declared.fields.LaneKind.TheVariants as kinds
 use Rattle.ldc_queue.specs.declared.end.End.{End}
 use Rattle.ldc_queue.specs.declared.end.End.TheVariants.{A, B}
 use Rattle.ldom_entries.specs.declared.entry.Entry.{Entry}
 use Rattle.ldom_world.proofs.Adding.{both_add, none_adds}
-use Rattle.ldom_world.specs.TurnsMade.{TurnsBegun, TurnsMade}
-use Rattle.world_parts.specs.Parts.{Fits, FitsSoFar, MakesStep}
+use Rattle.ldom_world.proofs.Lifting.{run_many}
+use Rattle.ldom_world.specs.Steps.{MakesPortStep, MakesStep}
+use Rattle.ldom_world.specs.TurnsMade.{SameNumbers, TurnsBegun, TurnsMade, kind_turns, lane_turns}
+use Rattle.world_parts.specs.Lines.{number_of_kind, of_kind}
+use Rattle.world_parts.specs.Parts.{Fits, FitsSoFar}
 
 -- what holds where memory was wanted, of a call's answer
 pub at_error : {X E : Type 0} (result : Result X E) (P : Type 0) → P → OnErr result P
@@ -27,7 +33,7 @@ both_steps (next ∷ first) second [] two steps more = absurd steps
 both_steps (next ∷ first) second (entry ∷ one) two steps more =
     (steps.0, both_steps first second one two steps.1 more)
 
-pub none_turned : (w v : WorldState) (old new : List Entry) → v ≡ w → new ≡ old → TurnsMade [] w old new v
+pub none_turned : (w v : DomainState) (old new : List Entry) → v ≡ w → new ≡ old → TurnsMade [] w old new v
 none_turned w v old new same none = record {
   entries = [];
   adds = λ line. none_adds line old new none;
@@ -35,34 +41,46 @@ none_turned w v old new same none = record {
   run = sym same;
 }
 
-pub nothing_turned : (w : WorldState) (old : List Entry) → TurnsMade [] w old old w
+pub nothing_turned : (w : DomainState) (old : List Entry) → TurnsMade [] w old old w
 nothing_turned w old = none_turned w w old old refl refl
 
-one_turned : (k : ℕ) (e : End) (w v : WorldState) (old new : List Entry) → MakesStep k e w old new v
-    → TurnsMade (turn (OfDisk k) e ∷ []) w old new v
-one_turned k e w v old new made = record {
-  entries = OfLane k made.event ∷ [];
-  adds = made.adds;
-  steps = ((refl, made.of_end), tt);
-  run = (v, made.moves, refl);
-}
+-- of a lane of this kind
+pub disk_turned : (kind : LaneKind) (k : ℕ) (e : End) (w v : DomainState) (old new : List Entry) → kind ≡ kinds.Disk
+    → MakesStep DomainStep k e w old new v → TurnsMade (turn (of_kind kind k) e ∷ []) w old new v
+disk_turned kind k e w v old new is made =
+    subst (λ (x : LaneKind). TurnsMade (turn (of_kind x k) e ∷ []) w old new v) (sym is) (record {
+      entries = OfLane k made.event ∷ [];
+      adds = made.adds;
+      steps = ((refl, made.of_end), tt);
+      run = (v, made.moves, refl);
+    })
+
+pub port_turned : (kind : LaneKind) (k : ℕ) (e : End) (w v : DomainState) (old new : List Entry) → kind ≡ kinds.Port
+    → MakesPortStep DomainStep k e w old new v → TurnsMade (turn (of_kind kind k) e ∷ []) w old new v
+port_turned kind k e w v old new is made =
+    subst (λ (x : LaneKind). TurnsMade (turn (of_kind x k) e ∷ []) w old new v) (sym is) (record {
+      entries = OfPort k made.event ∷ [];
+      adds = made.adds;
+      steps = ((refl, made.of_end), tt);
+      run = (v, made.moves, refl);
+    })
 
 -- so many turns are these, by an equation
-as_turns : (turns others : List EndTurn) (w v : WorldState) (old new : List Entry) → turns ≡ others
+as_turns : (turns others : List EndTurn) (w v : DomainState) (old new : List Entry) → turns ≡ others
     → TurnsMade turns w old new v → TurnsMade others w old new v
 as_turns turns others w v old new is made = subst (λ (l : List EndTurn). TurnsMade l w old new v) is made
 
-module _ (first second : List EndTurn) (w m v : WorldState) (old mid new : List Entry) where
+module _ (first second : List EndTurn) (w m v : DomainState) (old mid new : List Entry) where
   both_turned : TurnsMade first w old mid m → TurnsMade second m mid new v → TurnsMade (first ++ second) w old new v
   both_turned one two = record {
     entries = one.entries ++ two.entries;
     adds = λ line. both_add line old mid new one.entries two.entries (one.adds line) (two.adds line);
     steps = both_steps first second one.entries two.entries one.steps two.steps;
-    run = run_append WorldStep w m v one.entries two.entries one.run two.run;
+    run = run_append DomainStep w m v one.entries two.entries one.run two.run;
   }
 
 -- FRONTS: nothing yet, a front of what follows, and less than what there is
-pub none_begun : (turns : List EndTurn) (w v : WorldState) (old new : List Entry) → v ≡ w → new ≡ old
+pub none_begun : (turns : List EndTurn) (w v : DomainState) (old new : List Entry) → v ≡ w → new ≡ old
     → TurnsBegun turns w old new v
 none_begun turns w v old new same none = record {
   made = [];
@@ -71,7 +89,7 @@ none_begun turns w v old new same none = record {
   turned = none_turned w v old new same none;
 }
 
-begun_behind : (first second : List EndTurn) (w m v : WorldState) (old mid new : List Entry) → TurnsMade first w old mid m
+begun_behind : (first second : List EndTurn) (w m v : DomainState) (old mid new : List Entry) → TurnsMade first w old mid m
     → TurnsBegun second m mid new v → TurnsBegun (first ++ second) w old new v
 begun_behind first second w m v old mid new one two = record {
   made = first ++ two.made;
@@ -80,7 +98,7 @@ begun_behind first second w m v old mid new one two = record {
   turned = both_turned first two.made w m v old mid new one two.turned;
 }
 
-begun_before : (first second : List EndTurn) (w v : WorldState) (old new : List Entry) → TurnsBegun first w old new v
+begun_before : (first second : List EndTurn) (w v : DomainState) (old new : List Entry) → TurnsBegun first w old new v
     → TurnsBegun (first ++ second) w old new v
 begun_before first second w v old new begun = record {
   made = begun.made;
@@ -89,76 +107,121 @@ begun_before first second w v old new begun = record {
   turned = begun.turned;
 }
 
-as_begun : (turns others : List EndTurn) (w v : WorldState) (old new : List Entry) → turns ≡ others
+as_begun : (turns others : List EndTurn) (w v : DomainState) (old new : List Entry) → turns ≡ others
     → TurnsBegun turns w old new v → TurnsBegun others w old new v
 as_begun turns others w v old new is begun = subst (λ (l : List EndTurn). TurnsBegun l w old new v) is begun
 
 -- THE TWO STEPS of a lane
-pub both_ends : (k : ℕ) (w m v : WorldState) (old mid new : List Entry) → MakesStep k A w old mid m
-    → MakesStep k B m mid new v → TurnsMade (turn (OfDisk k) A ∷ turn (OfDisk k) B ∷ []) w old new v
-both_ends k w m v old mid new client server =
-    both_turned (turn (OfDisk k) A ∷ []) (turn (OfDisk k) B ∷ []) w m v old mid new (one_turned k A w m old mid client)
-    (one_turned k B m v mid new server)
+pub both_made : (lane : LaneName) (w m v : DomainState) (old mid new : List Entry) → TurnsMade (turn lane A ∷ []) w old mid m
+    → TurnsMade (turn lane B ∷ []) m mid new v → TurnsMade (turn lane A ∷ turn lane B ∷ []) w old new v
+both_made lane w m v old mid new first second =
+    both_turned (turn lane A ∷ []) (turn lane B ∷ []) w m v old mid new first second
 
-pub client_alone : (k : ℕ) (w m v : WorldState) (old mid new : List Entry) → MakesStep k A w old mid m → v ≡ m
-    → new ≡ mid → TurnsBegun (turn (OfDisk k) A ∷ turn (OfDisk k) B ∷ []) w old new v
-client_alone k w m v old mid new client same none =
-    begun_behind (turn (OfDisk k) A ∷ []) (turn (OfDisk k) B ∷ []) w m v old mid new (one_turned k A w m old mid client)
-    (none_begun (turn (OfDisk k) B ∷ []) m v mid new same none)
+pub first_alone : (lane : LaneName) (w m v : DomainState) (old mid new : List Entry) → TurnsMade (turn lane A ∷ []) w old mid m
+    → v ≡ m → new ≡ mid → TurnsBegun (turn lane A ∷ turn lane B ∷ []) w old new v
+first_alone lane w m v old mid new first same none =
+    begun_behind (turn lane A ∷ []) (turn lane B ∷ []) w m v old mid new first
+    (none_begun (turn lane B ∷ []) m v mid new same none)
 
--- A ROUND, lane by lane
-round_both : (k n more : ℕ) → round_turns k (n + more) ≡ round_turns k n ++ round_turns (k + n) more
-round_both k zero more =
-    ap (λ (i : ℕ). round_turns k i) (let is : 0 + more ≡ more = omega (arith) in is)
-    ∙ ap (λ (i : ℕ). round_turns i more) (let is : k ≡ k + 0 = omega (arith) in is)
-round_both k (suc n) more =
-    ap (λ (i : ℕ). round_turns k i) (let is : suc n + more ≡ suc (n + more) = omega (arith) in is)
-    ∙ ap (λ (l : List EndTurn). turn (OfDisk k) A ∷ turn (OfDisk k) B ∷ l)
-    (round_both (k + 1) n more
-    ∙ ap (λ (i : ℕ). round_turns (k + 1) n ++ round_turns i more)
+-- THE LANES OF A KIND in a round, one by one
+turns_join : (kind : LaneKind) (k n more : ℕ) → lane_turns kind k (n + more) ≡ lane_turns kind k n ++ lane_turns kind (k + n) more
+turns_join kind k zero more =
+    ap (λ (i : ℕ). lane_turns kind k i) (let is : 0 + more ≡ more = omega (arith) in is)
+    ∙ ap (λ (i : ℕ). lane_turns kind i more) (let is : k ≡ k + 0 = omega (arith) in is)
+turns_join kind k (suc n) more =
+    ap (λ (i : ℕ). lane_turns kind k i) (let is : suc n + more ≡ suc (n + more) = omega (arith) in is)
+    ∙ ap (λ (l : List EndTurn). turn (of_kind kind k) A ∷ turn (of_kind kind k) B ∷ l)
+    (turns_join kind (k + 1) n more
+    ∙ ap (λ (i : ℕ). lane_turns kind (k + 1) n ++ lane_turns kind i more)
     (let is : (k + 1) + n ≡ k + suc n = omega (arith) in is))
 
-round_more : (k : ℕ) → round_turns 0 k ++ turn (OfDisk k) A ∷ turn (OfDisk k) B ∷ [] ≡ round_turns 0 (k + 1)
-round_more k =
-    sym (round_both 0 k 1
-    ∙ ap (λ (i : ℕ). round_turns 0 k ++ round_turns i 1) (let is : 0 + k ≡ k = omega (arith) in is))
+module _ (kind : LaneKind) (k : ℕ) where
+  abbrev two_turns : List EndTurn
+  two_turns = turn (of_kind kind k) A ∷ turn (of_kind kind k) B ∷ []
 
-module _ (k : ℕ) (w m v : WorldState) (first old new : List Entry) where
-  pub round_turned : TurnsMade (round_turns 0 k) w first old m → TurnsMade (turn (OfDisk k) A ∷ turn (OfDisk k) B ∷ []) m old new v
-      → TurnsMade (round_turns 0 (k + 1)) w first new v
-  round_turned before both =
-      as_turns (round_turns 0 k ++ turn (OfDisk k) A ∷ turn (OfDisk k) B ∷ []) (round_turns 0 (k + 1)) w v first new (round_more k)
-      (both_turned (round_turns 0 k) (turn (OfDisk k) A ∷ turn (OfDisk k) B ∷ []) w m v first old new before both)
+  one_more_lane : lane_turns kind 0 k ++ two_turns ≡ lane_turns kind 0 (k + 1)
+  one_more_lane =
+      sym (turns_join kind 0 k 1
+      ∙ ap (λ (i : ℕ). lane_turns kind 0 k ++ lane_turns kind i 1) (let is : 0 + k ≡ k = omega (arith) in is))
 
-  pub round_wants : (many : ℕ) → k < many → TurnsMade (round_turns 0 k) w first old m
-      → TurnsBegun (turn (OfDisk k) A ∷ turn (OfDisk k) B ∷ []) m old new v → TurnsBegun (round_turns 0 many) w first new v
-  round_wants many less before begun =
-      let rest = many - (k + 1) in
-      let all : (k + 1) + rest ≡ many = omega (arith, less) in
-      as_begun (round_turns 0 (k + 1) ++ round_turns (0 + (k + 1)) rest) (round_turns 0 many) w v first new
-      (sym (round_both 0 (k + 1) rest) ∙ ap (λ (i : ℕ). round_turns 0 i) all)
-      (begun_before (round_turns 0 (k + 1)) (round_turns (0 + (k + 1)) rest) w v first new
-      (as_begun (round_turns 0 k ++ turn (OfDisk k) A ∷ turn (OfDisk k) B ∷ []) (round_turns 0 (k + 1)) w v first new (round_more k)
-      (begun_behind (round_turns 0 k) (turn (OfDisk k) A ∷ turn (OfDisk k) B ∷ []) w m v first old new before begun)))
+  module _ (w m v : DomainState) (first old new : List Entry) where
+    pub round_turned : TurnsMade (lane_turns kind 0 k) w first old m → TurnsMade two_turns m old new v
+        → TurnsMade (lane_turns kind 0 (k + 1)) w first new v
+    round_turned before both =
+        as_turns (lane_turns kind 0 k ++ two_turns) (lane_turns kind 0 (k + 1)) w v first new one_more_lane
+        (both_turned (lane_turns kind 0 k) two_turns w m v first old new before both)
 
-pub round_of_all : (n many : ℕ) (w v : WorldState) (old new : List Entry) → n ≡ many
-    → TurnsMade (round_turns 0 n) w old new v → TurnsMade (round_turns 0 many) w old new v
-round_of_all n many w v old new all turned = subst (λ (i : ℕ). TurnsMade (round_turns 0 i) w old new v) all turned
+    pub round_wants : k < number_of_kind kind w → TurnsMade (lane_turns kind 0 k) w first old m
+        → TurnsBegun two_turns m old new v → TurnsBegun (kind_turns kind w) w first new v
+    round_wants less before begun =
+        let many = number_of_kind kind w in
+        let rest = many - (k + 1) in
+        let all : (k + 1) + rest ≡ many = omega (arith, less) in
+        as_begun (lane_turns kind 0 (k + 1) ++ lane_turns kind (0 + (k + 1)) rest) (kind_turns kind w) w v first new
+        (sym (turns_join kind 0 (k + 1) rest) ∙ ap (λ (i : ℕ). lane_turns kind 0 i) all)
+        (begun_before (lane_turns kind 0 (k + 1)) (lane_turns kind (0 + (k + 1)) rest) w v first new
+        (as_begun (lane_turns kind 0 k ++ two_turns) (lane_turns kind 0 (k + 1)) w v first new one_more_lane
+        (begun_behind (lane_turns kind 0 k) two_turns w m v first old new before begun)))
 
--- ROUNDS, one after the other
-turns_both : (n more many : ℕ) → turns_of (n + more) many ≡ turns_of n many ++ turns_of more many
-turns_both zero more many = ap (λ (i : ℕ). turns_of i many) (let is : 0 + more ≡ more = omega (arith) in is)
-turns_both (suc n) more many =
-    ap (λ (i : ℕ). turns_of i many) (let is : suc n + more ≡ suc (n + more) = omega (arith) in is)
-    ∙ ap (λ (l : List EndTurn). round_turns 0 many ++ l) (turns_both n more many)
-    ∙ sym (append_assoc (round_turns 0 many) (turns_of n many) (turns_of more many))
+pub round_of_all : (kind : LaneKind) (n : ℕ) (w v : DomainState) (old new : List Entry) → n ≡ number_of_kind kind w
+    → TurnsMade (lane_turns kind 0 n) w old new v → TurnsMade (kind_turns kind w) w old new v
+round_of_all kind n w v old new all turned =
+    as_turns (lane_turns kind 0 n) (kind_turns kind w) w v old new (ap (λ (i : ℕ). lane_turns kind 0 i) all) turned
 
-turns_more : (n many : ℕ) → turns_of n many ++ round_turns 0 many ≡ turns_of (n + 1) many
-turns_more n many =
-    ap (λ (l : List EndTurn). turns_of n many ++ l) (sym (append-nil (round_turns 0 many))) ∙ sym (turns_both n 1 many)
+-- A ROUND: the disks, and behind them as many ports as there were before
+disk_lanes : (k n : ℕ) → lanes_from (of_kind kinds.Disk) k n ≡ lanes_from DiskLane k n
+disk_lanes k zero = refl
+disk_lanes k (suc n) = ap (λ (l : List LaneName). DiskLane k ∷ l) (disk_lanes (k + 1) n)
 
-rounds_so_far : (count : ℕ) (w v : WorldState) (old new : List Entry)
-    → TurnsBegun (turns_of count (length w.lanes)) w old new v → FitsSoFar w (Rounds count) old new v
+port_lanes : (k n : ℕ) → lanes_from (of_kind kinds.Port) k n ≡ lanes_from PortLane k n
+port_lanes k zero = refl
+port_lanes k (suc n) = ap (λ (l : List LaneName). PortLane k ∷ l) (port_lanes (k + 1) n)
+
+round_is : (w m : DomainState) → SameNumbers w m
+    → kind_turns kinds.Disk w ++ kind_turns kinds.Port m ≡ round_turns (lanes_in w)
+round_is w m same =
+    ap₂ (λ (a b : List LaneName). both_ends a ++ both_ends b) (disk_lanes 0 (length w.first.lanes))
+    (port_lanes 0 (length m.second) ∙ ap (λ (n : ℕ). lanes_from PortLane 0 n) same.ports)
+
+module _ (w m v : DomainState) (old mid new : List Entry) (same : SameNumbers w m) where
+  pub kinds_turned : TurnsMade (kind_turns kinds.Disk w) w old mid m → TurnsMade (kind_turns kinds.Port m) m mid new v
+      → TurnsMade (round_turns (lanes_in w)) w old new v
+  kinds_turned disks ports =
+      as_turns (kind_turns kinds.Disk w ++ kind_turns kinds.Port m) (round_turns (lanes_in w)) w v old new (round_is w m same)
+      (both_turned (kind_turns kinds.Disk w) (kind_turns kinds.Port m) w m v old mid new disks ports)
+
+  pub ports_want : TurnsMade (kind_turns kinds.Disk w) w old mid m → TurnsBegun (kind_turns kinds.Port m) m mid new v
+      → TurnsBegun (round_turns (lanes_in w)) w old new v
+  ports_want disks begun =
+      as_begun (kind_turns kinds.Disk w ++ kind_turns kinds.Port m) (round_turns (lanes_in w)) w v old new (round_is w m same)
+      (begun_behind (kind_turns kinds.Disk w) (kind_turns kinds.Port m) w m v old mid new disks begun)
+
+pub disks_want : (w v : DomainState) (old new : List Entry) → TurnsBegun (kind_turns kinds.Disk w) w old new v
+    → TurnsBegun (round_turns (lanes_in w)) w old new v
+disks_want w v old new begun =
+    as_begun (kind_turns kinds.Disk w ++ kind_turns kinds.Port w) (round_turns (lanes_in w)) w v old new
+    (round_is w w (record { disks = refl; ports = refl }))
+    (begun_before (kind_turns kinds.Disk w) (kind_turns kinds.Port w) w v old new begun)
+
+-- ROUNDS, one after the other, over as many lanes
+same_turns : (w m : DomainState) (entries : List SettleEntry) → Run DomainStep w entries m → round_turns (lanes_in m) ≡ round_turns (lanes_in w)
+same_turns w m entries run =
+    ap₂ (λ (i j : ℕ). both_ends (lanes_from DiskLane 0 i) ++ both_ends (lanes_from PortLane 0 j))
+    (run_many w.first m.first entries (disks_run w entries m run)) (ports_many w.second entries m.second (ports_run w entries m run))
+
+turns_both : (n more : ℕ) (w : Lanes) → turns_of (n + more) w ≡ turns_of n w ++ turns_of more w
+turns_both zero more w = ap (λ (i : ℕ). turns_of i w) (let is : 0 + more ≡ more = omega (arith) in is)
+turns_both (suc n) more w =
+    ap (λ (i : ℕ). turns_of i w) (let is : suc n + more ≡ suc (n + more) = omega (arith) in is)
+    ∙ ap (λ (l : List EndTurn). round_turns w ++ l) (turns_both n more w)
+    ∙ sym (append_assoc (round_turns w) (turns_of n w) (turns_of more w))
+
+turns_more : (n : ℕ) (w : Lanes) → turns_of n w ++ round_turns w ≡ turns_of (n + 1) w
+turns_more n w =
+    ap (λ (l : List EndTurn). turns_of n w ++ l) (sym (append-nil (round_turns w))) ∙ sym (turns_both n 1 w)
+
+rounds_so_far : (count : ℕ) (w v : DomainState) (old new : List Entry)
+    → TurnsBegun (turns_of count (lanes_in w)) w old new v → FitsSoFar w (Rounds count) old new v
 rounds_so_far count w v old new begun = record {
   entries = begun.turned.entries;
   adds = begun.turned.adds (Rounds count);
@@ -168,31 +231,29 @@ rounds_so_far count w v old new begun = record {
   };
 }
 
-module _ (n : ℕ) (w m v : WorldState) (first old new : List Entry) where
-  pub rounds_turned : (many now : ℕ) → now ≡ many → TurnsMade (turns_of n many) w first old m
-      → TurnsMade (round_turns 0 now) m old new v → TurnsMade (turns_of (n + 1) many) w first new v
-  rounds_turned many now same before round =
-      as_turns (turns_of n many ++ round_turns 0 many) (turns_of (n + 1) many) w v first new (turns_more n many)
-      (both_turned (turns_of n many) (round_turns 0 many) w m v first old new before
-      (subst (λ (i : ℕ). TurnsMade (round_turns 0 i) m old new v) same round))
+module _ (n : ℕ) (w m v : DomainState) (first old new : List Entry) where
+  pub rounds_turned : TurnsMade (turns_of n (lanes_in w)) w first old m → TurnsMade (round_turns (lanes_in m)) m old new v
+      → TurnsMade (turns_of (n + 1) (lanes_in w)) w first new v
+  rounds_turned before round =
+      as_turns (turns_of n (lanes_in w) ++ round_turns (lanes_in w)) (turns_of (n + 1) (lanes_in w)) w v first new (turns_more n (lanes_in w))
+      (both_turned (turns_of n (lanes_in w)) (round_turns (lanes_in w)) w m v first old new before
+      (as_turns (round_turns (lanes_in m)) (round_turns (lanes_in w)) m v old new (same_turns w m before.entries before.run) round))
 
-  pub rounds_want : (count now : ℕ) → n < count → now ≡ length w.lanes
-      → TurnsMade (turns_of n (length w.lanes)) w first old m → TurnsBegun (round_turns 0 now) m old new v
-      → FitsSoFar w (Rounds count) first new v
-  rounds_want count now less same before begun =
-      let many = length w.lanes in
+  pub rounds_want : (count : ℕ) → n < count → TurnsMade (turns_of n (lanes_in w)) w first old m
+      → TurnsBegun (round_turns (lanes_in m)) m old new v → FitsSoFar w (Rounds count) first new v
+  rounds_want count less before begun =
       let rest = count - (n + 1) in
       let all : (n + 1) + rest ≡ count = omega (arith, less) in
       rounds_so_far count w v first new
-      (as_begun (turns_of (n + 1) many ++ turns_of rest many) (turns_of count many) w v first new
-      (sym (turns_both (n + 1) rest many) ∙ ap (λ (i : ℕ). turns_of i many) all)
-      (begun_before (turns_of (n + 1) many) (turns_of rest many) w v first new
-      (as_begun (turns_of n many ++ round_turns 0 many) (turns_of (n + 1) many) w v first new (turns_more n many)
-      (begun_behind (turns_of n many) (round_turns 0 many) w m v first old new before
-      (subst (λ (i : ℕ). TurnsBegun (round_turns 0 i) m old new v) same begun)))))
+      (as_begun (turns_of (n + 1) (lanes_in w) ++ turns_of rest (lanes_in w)) (turns_of count (lanes_in w)) w v first new
+      (sym (turns_both (n + 1) rest (lanes_in w)) ∙ ap (λ (i : ℕ). turns_of i (lanes_in w)) all)
+      (begun_before (turns_of (n + 1) (lanes_in w)) (turns_of rest (lanes_in w)) w v first new
+      (as_begun (turns_of n (lanes_in w) ++ round_turns (lanes_in w)) (turns_of (n + 1) (lanes_in w)) w v first new (turns_more n (lanes_in w))
+      (begun_behind (turns_of n (lanes_in w)) (round_turns (lanes_in w)) w m v first old new before
+      (as_begun (round_turns (lanes_in m)) (round_turns (lanes_in w)) m v old new (same_turns w m before.entries before.run) begun)))))
 
-pub rounds_fit : (n count : ℕ) (w v : WorldState) (old new : List Entry) → n ≡ count
-    → TurnsMade (turns_of n (length w.lanes)) w old new v → Fits w (Rounds count) old new v
+pub rounds_fit : (n count : ℕ) (w v : DomainState) (old new : List Entry) → n ≡ count
+    → TurnsMade (turns_of n (lanes_in w)) w old new v → Fits w (Rounds count) old new v
 rounds_fit n count w v old new all turned =
     subst (λ (i : ℕ). Fits w (Rounds i) old new v) all (record {
       entries = turned.entries;
@@ -207,43 +268,43 @@ same_both (suc n) more next =
     ap (λ (i : ℕ). replicate i next) (let is : suc n + more ≡ suc (n + more) = omega (arith) in is)
     ∙ ap (λ (l : List EndTurn). next ∷ l) (same_both n more next)
 
-module _ (k : ℕ) (e : End) (n : ℕ) (w m v : WorldState) (first old new : List Entry) where
-  pub one_more_step : TurnsMade (replicate n (turn (OfDisk k) e)) w first old m → MakesStep k e m old new v
-      → TurnsMade (replicate (n + 1) (turn (OfDisk k) e)) w first new v
+module _ (lane : LaneName) (e : End) (n : ℕ) (w m v : DomainState) (first old new : List Entry) where
+  pub one_more_step : TurnsMade (replicate n (turn lane e)) w first old m → TurnsMade (turn lane e ∷ []) m old new v
+      → TurnsMade (replicate (n + 1) (turn lane e)) w first new v
   one_more_step before made =
-      as_turns (replicate n (turn (OfDisk k) e) ++ turn (OfDisk k) e ∷ []) (replicate (n + 1) (turn (OfDisk k) e)) w v first new
-      (sym (same_both n 1 (turn (OfDisk k) e)))
-      (both_turned (replicate n (turn (OfDisk k) e)) (turn (OfDisk k) e ∷ []) w m v first old new before
-      (one_turned k e m v old new made))
+      as_turns (replicate n (turn lane e) ++ turn lane e ∷ []) (replicate (n + 1) (turn lane e)) w v first new
+      (sym (same_both n 1 (turn lane e)))
+      (both_turned (replicate n (turn lane e)) (turn lane e ∷ []) w m v first old new before
+      made)
 
-  pub steps_want : (count : ℕ) → n < count → TurnsMade (replicate n (turn (OfDisk k) e)) w first old m → v ≡ m → new ≡ old
-      → FitsSoFar w (Steps (OfDisk k) e count) first new v
+  pub steps_want : (count : ℕ) → n < count → TurnsMade (replicate n (turn lane e)) w first old m → v ≡ m → new ≡ old
+      → FitsSoFar w (Steps lane e count) first new v
   steps_want count less before same none =
       let rest = count - n in
       let all : n + rest ≡ count = omega (arith, less) in
       let turned =
-      both_turned (replicate n (turn (OfDisk k) e)) [] w m v first old new before (none_turned m v old new same none) in
+      both_turned (replicate n (turn lane e)) [] w m v first old new before (none_turned m v old new same none) in
       record {
         entries = turned.entries;
-        adds = turned.adds (Steps (OfDisk k) e count);
+        adds = turned.adds (Steps lane e count);
         begins = record {
           begins = record {
-            made = replicate n (turn (OfDisk k) e) ++ [];
-            left = replicate rest (turn (OfDisk k) e);
-            turns_are = sym (ap (λ (i : ℕ). replicate i (turn (OfDisk k) e)) all) ∙ same_both n rest (turn (OfDisk k) e)
-                ∙ ap (λ (l : List EndTurn). l ++ replicate rest (turn (OfDisk k) e)) (sym (append-nil (replicate n (turn (OfDisk k) e))));
+            made = replicate n (turn lane e) ++ [];
+            left = replicate rest (turn lane e);
+            turns_are = sym (ap (λ (i : ℕ). replicate i (turn lane e)) all) ∙ same_both n rest (turn lane e)
+                ∙ ap (λ (l : List EndTurn). l ++ replicate rest (turn lane e)) (sym (append-nil (replicate n (turn lane e))));
             steps = turned.steps;
           };
           run = turned.run;
         };
       }
 
-pub steps_fit : (k : ℕ) (e : End) (n count : ℕ) (w v : WorldState) (old new : List Entry) → n ≡ count
-    → TurnsMade (replicate n (turn (OfDisk k) e)) w old new v → Fits w (Steps (OfDisk k) e count) old new v
-steps_fit k e n count w v old new all turned =
-    subst (λ (i : ℕ). Fits w (Steps (OfDisk k) e i) old new v) all (record {
+pub steps_fit : (lane : LaneName) (e : End) (n count : ℕ) (w v : DomainState) (old new : List Entry) → n ≡ count
+    → TurnsMade (replicate n (turn lane e)) w old new v → Fits w (Steps lane e count) old new v
+steps_fit lane e n count w v old new all turned =
+    subst (λ (i : ℕ). Fits w (Steps lane e i) old new v) all (record {
       entries = turned.entries;
-      adds = turned.adds (Steps (OfDisk k) e n);
+      adds = turned.adds (Steps lane e n);
       moves = record { part_of = turned.steps; run = turned.run };
     })
 

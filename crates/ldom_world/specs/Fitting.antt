@@ -1,7 +1,7 @@
 -- What a step of a client needs to put what it completes.
 use Rattle.std.specs.Prelude.{ℕ, ◌≤◌, List, length, ⊤}
-use Rattle.vdisk_client.specs.declared.answers.ClientOut.{ClientOut}
-use Rattle.vdisk_client.specs.declared.answers.ClientOut.TheVariants as out
+use Rattle.disk_lane.specs.vdisk_client.declared.answers.ClientOut.{ClientOut}
+use Rattle.disk_lane.specs.vdisk_client.declared.answers.ClientOut.TheVariants as out
 
 -- what a completion carries has this room; no other answer carries anything
 abbrev pub HasRoomFor : ClientOut → List ℕ → ℕ → Type 0

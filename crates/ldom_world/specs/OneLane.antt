@@ -2,13 +2,13 @@
 use Rattle.std.specs.Prelude.{◌≡◌, ℕ, Bool, true, false, ◌&&◌, Some}
 use Rattle.ldc_queue.specs.declared.end.End.{End}
 use Rattle.disk_law.specs.ListState.{ImageState}
-use Rattle.disk_model.specs.DiskEvent.{DiskEvent}
-use Rattle.disk_model.specs.LaneState.{LaneState}
-use Rattle.world_laws.specs.CalmEnds.{IsStep}
-use Rattle.world_laws.specs.DiskKind.{is_calm}
-use Rattle.world_laws.specs.Settle.{OfLane}
-use Rattle.world_laws.specs.Lines.{Line}
-use Rattle.world_laws.specs.World.{LaneMoves, OneMoves, WorldState}
+use Rattle.world_parts.specs.disk_model.DiskEvent.{DiskEvent}
+use Rattle.world_parts.specs.disk_model.LaneState.{LaneState}
+use Rattle.world_parts.specs.lane_laws.CalmEnds.{IsStep}
+use Rattle.world_parts.specs.world_laws.DiskKind.{is_calm}
+use Rattle.world_parts.specs.world_laws.Settle.{OfLane}
+use Rattle.world_parts.specs.domain_laws.Lines.{Line}
+use Rattle.world_parts.specs.world_laws.World.{LaneMoves, OneMoves, WorldState}
 use Rattle.ldom_entries.specs.JournalState.{JournalState, PutsEntry}
 use Rattle.world_parts.specs.WorldEvents.{world_event}
 use Rattle.ldom_entries.specs.declared.entry.Entry.{Entry}

@@ -9,12 +9,14 @@ ghost use Rattle.ldom_entries.specs.declared.entry.Entry.TheVariants as the_entr
 ghost use Rattle.ldom_entries.specs.declared.entry.Who.TheVariants as the_who;
 ghost use Rattle.ldom_world.specs.Called.{call_of};
 ghost use Rattle.ldom_world.specs.OneLane.{LaneAnswers};
-ghost use Rattle.world_laws.specs.Lines.{AnswersCall, Calls, Injects, Loses, Resets, Restarts, Starts, Stops, Ticks, OfDisk};
-ghost use Rattle.world_laws.specs.Issued.{issued_on};
-ghost use Rattle.world_parts.specs.Parts.{Fits, FitsSoFar};
+ghost use Rattle.world_parts.specs.domain_laws.Lines as script;
+ghost use Rattle.world_parts.specs.domain_laws.Lines.{AnswersCall, Calls, Injects, Loses, Resets, Restarts, Starts, Stops, Ticks};
+ghost use Rattle.ldom_world.specs.Steps.{MakesAnswer};
+ghost use Rattle.world_parts.specs.world_laws.World.{WorldStep};
+ghost use Rattle.world_parts.specs.world_laws.Issued.{issued_on};
 
+use crate::disks::Disks;
 use crate::entries::{client_of, disk_end, end_of, server_of};
-use crate::world::World;
 use disk_lane::{DiskLane, PutFault};
 use domain_script::{EndName, Lane, LaneKind, Side};
 use ldom_report::{Entry, Journal, Who};
@@ -47,7 +49,7 @@ pub enum LaneCall {
     Inject(Side, [u8; 64]),
 }
 
-impl<D: Store> World<D> {
+impl<D: Store> Disks<D> {
     /// Calls the lane of the disk with this number, once there is room for the entry.
     pub(crate) fn answer_call(
         &mut self,
@@ -57,14 +59,14 @@ impl<D: Store> World<D> {
     ) -> Result<(), NoMemory>
         requires disk { disk < length self.old.lanes }
         requires agrees { accepted_count journal.old.entries ≡ issued_on self.old.lanes }
-        ensures fits { OnOk result (Fits self.old (Calls (OfDisk disk) (call_of call)) journal.old.entries
-            journal.new.entries self.new) }
-        ensures so_far { OnErr result (FitsSoFar self.old (Calls (OfDisk disk) (call_of call)) journal.old.entries
-            journal.new.entries self.new) }
+        ensures made { OnOk result (MakesAnswer WorldStep (Calls (script.DiskLane disk) (call_of call)) disk
+            (AnswersCall (call_of call)) self.old journal.old.entries journal.new.entries self.new) }
+        ensures same { OnErr result ((self.new ≡ self.old) × (journal.new.entries ≡ journal.old.entries)) }
+        ensures many { length self.new.lanes ≡ length self.old.lanes }
         ensures agrees { accepted_count journal.new.entries ≡ issued_on self.new.lanes }
     {
         journal.reserve(1)?;
-        let entry = call_lane(&mut self.disks[disk as usize], disk, call);
+        let entry = call_lane(&mut self.lanes[disk as usize], disk, call);
         journal.push(entry);
         Ok(())
     }
@@ -72,7 +74,7 @@ impl<D: Store> World<D> {
 
 /// Calls a lane, and gives the entry of what came of it.
 fn call_lane(lane: &mut DiskLane, disk: u32, call: LaneCall) -> Entry
-    ensures answers { LaneAnswers (Calls (OfDisk disk) (call_of call)) disk (AnswersCall (call_of call)) lane.old result
+    ensures answers { LaneAnswers (Calls (script.DiskLane disk) (call_of call)) disk (AnswersCall (call_of call)) lane.old result
         lane.new }
     ensures shape { lane.new.shape ≡ lane.old.shape }
 {
@@ -88,7 +90,7 @@ fn call_lane(lane: &mut DiskLane, disk: u32, call: LaneCall) -> Entry
 }
 
 fn reset_end(lane: &mut DiskLane, disk: u32, side: Side) -> Entry
-    ensures answers { LaneAnswers (Calls (OfDisk disk) (Resets (end_of side))) disk (AnswersCall (Resets (end_of side)))
+    ensures answers { LaneAnswers (Calls (script.DiskLane disk) (Resets (end_of side))) disk (AnswersCall (Resets (end_of side)))
         lane.old result lane.new }
     ensures shape { lane.new.shape ≡ lane.old.shape }
 {
@@ -101,7 +103,7 @@ fn reset_end(lane: &mut DiskLane, disk: u32, side: Side) -> Entry
 }
 
 fn restart_server(lane: &mut DiskLane, disk: u32) -> Entry
-    ensures answers { LaneAnswers (Calls (OfDisk disk) Restarts) disk (AnswersCall Restarts) lane.old result lane.new }
+    ensures answers { LaneAnswers (Calls (script.DiskLane disk) Restarts) disk (AnswersCall Restarts) lane.old result lane.new }
     ensures shape { lane.new.shape ≡ lane.old.shape }
 {
     let end = server_of(disk);
@@ -113,7 +115,7 @@ fn restart_server(lane: &mut DiskLane, disk: u32) -> Entry
 }
 
 fn stop_server(lane: &mut DiskLane, disk: u32) -> Entry
-    ensures answers { LaneAnswers (Calls (OfDisk disk) Stops) disk (AnswersCall Stops) lane.old result lane.new }
+    ensures answers { LaneAnswers (Calls (script.DiskLane disk) Stops) disk (AnswersCall Stops) lane.old result lane.new }
     ensures shape { lane.new.shape ≡ lane.old.shape }
 {
     if lane.stop() {
@@ -124,7 +126,7 @@ fn stop_server(lane: &mut DiskLane, disk: u32) -> Entry
 }
 
 fn start_server(lane: &mut DiskLane, disk: u32) -> Entry
-    ensures answers { LaneAnswers (Calls (OfDisk disk) Starts) disk (AnswersCall Starts) lane.old result lane.new }
+    ensures answers { LaneAnswers (Calls (script.DiskLane disk) Starts) disk (AnswersCall Starts) lane.old result lane.new }
     ensures shape { lane.new.shape ≡ lane.old.shape }
 {
     if lane.start() {
@@ -135,7 +137,7 @@ fn start_server(lane: &mut DiskLane, disk: u32) -> Entry
 }
 
 fn lose_packet(lane: &mut DiskLane, disk: u32, side: Side) -> Entry
-    ensures answers { LaneAnswers (Calls (OfDisk disk) (Loses (end_of side))) disk (AnswersCall (Loses (end_of side)))
+    ensures answers { LaneAnswers (Calls (script.DiskLane disk) (Loses (end_of side))) disk (AnswersCall (Loses (end_of side)))
         lane.old result lane.new }
     ensures shape { lane.new.shape ≡ lane.old.shape }
 {
@@ -148,7 +150,7 @@ fn lose_packet(lane: &mut DiskLane, disk: u32, side: Side) -> Entry
 
 /// Ticks a client, and gives the entry: it is reset where it isn't finished.
 fn tick_client(lane: &mut DiskLane, disk: u32) -> Entry
-    ensures answers { LaneAnswers (Calls (OfDisk disk) Ticks) disk (AnswersCall Ticks) lane.old result lane.new }
+    ensures answers { LaneAnswers (Calls (script.DiskLane disk) Ticks) disk (AnswersCall Ticks) lane.old result lane.new }
     ensures shape { lane.new.shape ≡ lane.old.shape }
 {
     if lane.tick() {
@@ -160,7 +162,7 @@ fn tick_client(lane: &mut DiskLane, disk: u32) -> Entry
 
 /// Forges a packet, and gives the entry: there is no room for it, or the end isn't up, or it waits.
 fn inject_packet(lane: &mut DiskLane, disk: u32, side: Side, packet: [u8; 64]) -> Entry
-    ensures answers { LaneAnswers (Calls (OfDisk disk) (Injects (end_of side) packet)) disk
+    ensures answers { LaneAnswers (Calls (script.DiskLane disk) (Injects (end_of side) packet)) disk
         (AnswersCall (Injects (end_of side) packet)) lane.old result lane.new }
     ensures shape { lane.new.shape ≡ lane.old.shape }
 {

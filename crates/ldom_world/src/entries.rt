@@ -2,7 +2,7 @@
 
 ghost use Rattle.std.specs.Prelude.{◌≡◌, ◌≤◌, ◌<◌, ◌||◌, [], length, true};
 ghost use Rattle.disk_lane.specs.Events.{answered, served_event};
-ghost use Rattle.disk_model.specs.DiskEvent.{Off, Switches};
+ghost use Rattle.world_parts.specs.disk_model.DiskEvent.{Off, Switches};
 ghost use Rattle.domain_script.specs.declared.event.Side.TheVariants.{Client, Server};
 ghost use Rattle.domain_script.specs.LaneKinds.{disk_lane};
 ghost use Rattle.ldom_report.specs.LaneEvents.{end_of};
@@ -10,7 +10,7 @@ ghost use Rattle.ldom_world.specs.Called.{disk_end};
 ghost use Rattle.ldom_world.specs.Fitting.{HasRoomFor};
 ghost use Rattle.ldom_world.specs.OneLane.{Leaves, Records};
 ghost use Rattle.ldom_world.specs.Resting.{client_blocked, client_rests, server_blocked, server_rests};
-ghost use Rattle.vdisk_client.specs.Calls.{client_event};
+ghost use Rattle.disk_lane.specs.vdisk_client.Calls.{client_event};
 ghost use Rattle.disk_lane.specs.Answering.{server_event};
 
 use disk_lane::{ClientOut, DiskLane, End, ServerOut};
@@ -135,7 +135,7 @@ fn record_client(
 }
 
 /// These bytes, by the room that was made for them; without bytes it stays.
-fn filled(room: &mut Bytes, bytes: &[u8], alloc: Global) -> Bytes
+pub fn filled(room: &mut Bytes, bytes: &[u8], alloc: Global) -> Bytes
     requires room { length bytes.now ≤ room.old.room }
     requires empty { room.old.items ≡ [] }
     ensures bytes { result.items ≡ bytes.now }

@@ -1,22 +1,23 @@
 // Requests of guests.
 
 ghost use Rattle.std.specs.Prelude.{◌≡◌, ◌<◌, ◌-◌, ◌^◌, length, OnErr, OnOk};
-ghost use Rattle.world_laws.specs.Lines.{AnswersRequest, Asked};
+ghost use Rattle.world_parts.specs.domain_laws.Lines.{AnswersRequest, Asked};
 ghost use Rattle.ldom_report.specs.Report.{accepted_count};
 ghost use Rattle.ldom_world.specs.Called.{refused_entry};
 ghost use Rattle.ldom_world.specs.OneLane.{RecordsAnswer};
-ghost use Rattle.world_laws.specs.Issued.{issued_on};
+ghost use Rattle.world_parts.specs.world_laws.Issued.{issued_on};
 ghost use Rattle.vdisk_msg.specs.Fills.{IsRequest};
-ghost use Rattle.world_parts.specs.Parts.{Fits, FitsSoFar};
+ghost use Rattle.ldom_world.specs.Steps.{MakesAnswer};
+ghost use Rattle.world_parts.specs.world_laws.World.{WorldStep};
 
-use crate::world::World;
+use crate::disks::Disks;
 use disk_lane::{DiskLane, IssueFault};
 use domain_script::{Lane, LaneKind, Request};
 use ldom_report::{Entry, Journal, KeptRequest, Who, Why};
 use vio_bytes::NoMemory;
 use vio_io::Store;
 
-impl<D: Store> World<D> {
+impl<D: Store> Disks<D> {
     /// A guest asks its disk: the request is accepted with its id, or refused, or finds no room.
     pub(crate) fn issue(
         &mut self,
@@ -27,17 +28,17 @@ impl<D: Store> World<D> {
         requires disk { disk < length self.old.lanes }
         requires request { IsRequest request.now }
         requires agrees { accepted_count journal.old.entries ≡ issued_on self.old.lanes }
-        ensures fits { OnOk result (Fits self.old (Asked disk request.now) journal.old.entries journal.new.entries
-            self.new) }
-        ensures so_far { OnErr result (FitsSoFar self.old (Asked disk request.now) journal.old.entries
-            journal.new.entries self.new) }
+        ensures made { OnOk result (MakesAnswer WorldStep (Asked disk request.now) disk
+            (AnswersRequest request.now) self.old journal.old.entries journal.new.entries self.new) }
+        ensures same { OnErr result ((self.new ≡ self.old) × (journal.new.entries ≡ journal.old.entries)) }
+        ensures many { length self.new.lanes ≡ length self.old.lanes }
         ensures agrees { accepted_count journal.new.entries ≡ issued_on self.new.lanes }
     {
         journal.reserve(1)?;
         // That there are fewer than 2^63 entries is known by this call alone. So the ids never run out.
         let _len = journal.len();
         let kept = KeptRequest::new(self.alloc, request)?;
-        ask_lane(&mut self.disks[disk as usize], disk, request, kept, journal);
+        ask_lane(&mut self.lanes[disk as usize], disk, request, kept, journal);
         Ok(())
     }
 }

@@ -4,12 +4,19 @@
 
 mod applying;
 mod calls;
+mod disks;
 mod entries;
 mod issuing;
 mod lanes;
 mod poking;
+mod port_calls;
+mod port_entries;
+mod port_stepping;
+mod ports;
 mod settling;
 mod stepping;
+mod sums;
+mod turns;
 mod world;
 
 pub use cached_store::KeptBlocks;

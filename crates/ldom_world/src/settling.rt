@@ -1,39 +1,62 @@
 // A settle: rounds, until one in which all lanes are quiet and after which none gets a tick.
 
-ghost use Rattle.std.specs.Prelude.{◌≡◌, ◌&&◌, ◌*◌, ◌<◌, ◌≤◌, ◌^◌, length, not, slice_get, slice_set, take, Some, IfOk, OnErr, OnOk};
-ghost use Rattle.disk_model.specs.LaneState.{LaneState};
-ghost use Rattle.world_laws.specs.Settle.{most_rounds, pending_on};
-ghost use Rattle.world_laws.specs.DiskKind.{waits_on};
-ghost use Rattle.world_laws.specs.Ticks.{gets_tick};
-ghost use Rattle.world_laws.specs.Lines.{Settles};
-ghost use Rattle.ldom_report.specs.Report.{accepted_count};
-ghost use Rattle.ldom_world.specs.SettleParts.{NamesAdd, NamesAddFront, NamesGoOn, RoundAdds, RoundAddsFront};
-ghost use Rattle.ldom_world.specs.SettleParts.{RoundBreaks, RoundGoesOn, TicksAdd, TicksAddFront, TicksGoOn};
-ghost use Rattle.ldom_world.specs.SettleParts.{TurnBreaks, TurnGoesOn};
-ghost use Rattle.world_laws.specs.Issued.{issued_on};
-ghost use Rattle.world_laws.specs.RoundMade.{all_true};
+ghost use Rattle.std.specs.Prelude.{◌≡◌, ◌&&◌, ◌<◌, ◌≤◌, length, not, replicate, slice_get, slice_set, take, Some, IfOk, OnErr, OnOk};
+ghost use Rattle.world_parts.specs.domain_laws.Going.{most_rounds};
+ghost use Rattle.world_parts.specs.domain_laws.Lines.{Settles};
+ghost use Rattle.world_parts.specs.domain_laws.RoundMade.{all_quiet};
+ghost use Rattle.lane_kinds.specs.Lanes.{gets_tick};
+ghost use Rattle.lane_kinds.specs.LanesMade.{all_true};
+ghost use Rattle.ldom_world.specs.SettleParts.{LaneNamesAdd, LaneNamesAddFront, LanesAdd, LanesAddFront, LaneTicksAdd};
+ghost use Rattle.ldom_world.specs.SettleParts.{LaneTicksAddFront, marks_of, NamesAdd, NamesAddFront, NamesGoOn};
+ghost use Rattle.ldom_world.specs.SettleParts.{RoundAdds, RoundAddsFront, RoundBreaks, RoundGoesOn};
+ghost use Rattle.ldom_world.specs.SettleParts.{TicksAdd, TicksAddFront, TicksGoOn, TurnBreaks, TurnGoesOn};
+ghost use Rattle.ldom_world.specs.Steps.{Counted};
+ghost use Rattle.ldom_world.specs.TurnsMade.{SameNumbers};
+ghost use Rattle.ldom_world.specs.WorldKinds.{in_world};
+ghost use Rattle.world_parts.specs.Lines.{IsLaneOf, number_of_kind};
 ghost use Rattle.world_parts.specs.Parts.{Fits, FitsSoFar};
 
 use crate::calls::LaneCall;
 use crate::world::World;
-use disk_lane::DiskLane;
-use domain_script::{Lane, LaneKind, MOST_DISKS, Side};
+use domain_script::{Lane, LaneKind, Side};
 use ldom_report::{Entry, Journal, Who};
 use vio_bytes::NoMemory;
 use vio_io::Store;
+
+/// The most lanes of each kind.
+const MOST_LANES: usize = 8;
+
+/// A mark for each lane, of both kinds.
+#[derive(Drop)]
+pub struct LaneMarks {
+    pub disks: [bool; MOST_LANES],
+    pub ports: [bool; MOST_LANES],
+}
+
+impl LaneMarks {
+    /// The same mark for all.
+    fn all(mark: bool) -> Self
+        ensures { marks_of result ≡ record { first = replicate 8 mark; second = replicate 8 mark } }
+    {
+        LaneMarks {
+            disks: [mark; MOST_LANES],
+            ports: [mark; MOST_LANES],
+        }
+    }
+}
 
 impl<D: Store> World<D> {
     /// Makes rounds until all lanes rest, and ticks those that rest unfinished, once each. Where the most rounds are
     /// made without that, the lanes that are left over are named.
     #[tactic(auto, using(crate::proofs::SettlingAdds::rounds_begin))]
     pub(crate) fn settle(&mut self, journal: &mut Journal) -> Result<(), NoMemory>
-        requires agrees { accepted_count journal.old.entries ≡ issued_on self.old.lanes }
+        requires agrees { Counted journal.old.entries self.old }
         ensures fits { OnOk result (Fits self.old (Settles) journal.old.entries journal.new.entries self.new) }
         ensures so_far { OnErr result (FitsSoFar self.old (Settles) journal.old.entries journal.new.entries self.new) }
-        ensures agrees { accepted_count journal.new.entries ≡ issued_on self.new.lanes }
+        ensures agrees { Counted journal.new.entries self.new }
     {
-        let mut had = [false; MOST_DISKS];
-        let mut quiet = [true; MOST_DISKS];
+        let mut had = LaneMarks::all(false);
+        let mut quiet = LaneMarks::all(true);
         for _ in 0..self.most_rounds() {
             if self.settle_turn(&mut had, &mut quiet, journal)? {
                 return Ok(());
@@ -47,16 +70,16 @@ impl<D: Store> World<D> {
     #[tactic(auto, using(crate::proofs::SettlingAdds::turn_is_loud, crate::proofs::SettlingAdds::turn_ticks))]
     fn settle_turn(
         &mut self,
-        had: &mut [bool; MOST_DISKS],
-        quiet: &mut [bool; MOST_DISKS],
+        had: &mut LaneMarks,
+        quiet: &mut LaneMarks,
         journal: &mut Journal,
     ) -> Result<bool, NoMemory>
-        requires agrees { accepted_count journal.old.entries ≡ issued_on self.old.lanes }
-        ensures turned { IfOk result (λ ended. TurnGoesOn ended self.old had.old quiet.old journal.old.entries self.new
-            had.new quiet.new journal.new.entries) }
-        ensures breaks { OnErr result (TurnBreaks self.old had.old quiet.old journal.old.entries self.new
-            journal.new.entries) }
-        ensures agrees { accepted_count journal.new.entries ≡ issued_on self.new.lanes }
+        requires agrees { Counted journal.old.entries self.old }
+        ensures turned { IfOk result (λ ended. TurnGoesOn ended self.old (marks_of had.old) (marks_of quiet.old)
+            journal.old.entries self.new (marks_of had.new) (marks_of quiet.new) journal.new.entries) }
+        ensures breaks { OnErr result (TurnBreaks self.old (marks_of had.old) (marks_of quiet.old)
+            journal.old.entries self.new journal.new.entries) }
+        ensures agrees { Counted journal.new.entries self.new }
     {
         if !self.settle_round(quiet, journal)? {
             return Ok(false);
@@ -69,191 +92,230 @@ impl<D: Store> World<D> {
         Ok(true)
     }
 
-    /// One round, whose steps that idle leave no entry. Tells whether all lanes were quiet in it, and marks those that
-    /// were.
-    #[tactic(auto, using(crate::proofs::SettlingAdds::round_adds_none, crate::proofs::SettlingAdds::round_of_all))]
+    /// One round over all lanes, whose steps that idle leave no entry. Tells whether all lanes were quiet in it, and
+    /// marks those that were.
     fn settle_round(
         &mut self,
-        quiet: &mut [bool; MOST_DISKS],
+        quiet: &mut LaneMarks,
         journal: &mut Journal,
     ) -> Result<bool, NoMemory>
-        requires agrees { accepted_count journal.old.entries ≡ issued_on self.old.lanes }
-        ensures made { OnOk result (RoundAdds (length self.old.lanes) self.old quiet.new self.new journal.old.entries
+        requires agrees { Counted journal.old.entries self.old }
+        ensures made { OnOk result (RoundAdds self.old (marks_of quiet.new) self.new journal.old.entries
             journal.new.entries) }
-        ensures calm { IfOk result (λ calm. all_true (take (length self.old.lanes) quiet.new) ≡ calm) }
+        ensures calm { IfOk result (λ calm. all_quiet self.old (marks_of quiet.new) ≡ calm) }
         ensures begun { OnErr result (RoundAddsFront self.old self.new journal.old.entries journal.new.entries) }
-        ensures agrees { accepted_count journal.new.entries ≡ issued_on self.new.lanes }
+        ensures agrees { Counted journal.new.entries self.new }
+    {
+        let disks = self.round_of(LaneKind::Disk, &mut quiet.disks, journal)?;
+        let ports = self.round_of(LaneKind::Port, &mut quiet.ports, journal)?;
+        Ok(disks && ports)
+    }
+
+    /// The steps of all lanes of a kind in a round.
+    #[tactic(auto, using(crate::proofs::KindAdding::round_adds_none, crate::proofs::KindAdding::round_of_all))]
+    fn round_of(
+        &mut self,
+        kind: LaneKind,
+        quiet: &mut [bool; MOST_LANES],
+        journal: &mut Journal,
+    ) -> Result<bool, NoMemory>
+        requires agrees { Counted journal.old.entries self.old }
+        ensures made { OnOk result (LanesAdd kind (number_of_kind kind self.old) self.old quiet.new self.new
+            journal.old.entries journal.new.entries) }
+        ensures calm { IfOk result (λ calm. all_true (take (number_of_kind kind self.old) quiet.new) ≡ calm) }
+        ensures begun { OnErr result (LanesAddFront kind self.old self.new journal.old.entries journal.new.entries) }
+        ensures many { SameNumbers self.old self.new }
+        ensures agrees { Counted journal.new.entries self.new }
     {
         let mut all = true;
-        for disk in 0..self.disk_count() {
-            let calm = self.round_of(disk, quiet, journal)?;
+        for number in 0..self.count_of(kind) {
+            let calm = self.round_of_lane(Lane { kind, number }, quiet, journal)?;
             all &= calm;
         }
         Ok(all)
     }
 
     /// The two steps of one lane in a round. Tells whether it was quiet, and marks it so.
-    #[tactic(auto, using(crate::proofs::SettlingAdds::lane_wants, crate::proofs::SettlingAdds::server_wants))]
-    fn round_of(
+    #[tactic(auto, using(crate::proofs::KindAdding::lane_wants, crate::proofs::KindAdding::second_wants))]
+    fn round_of_lane(
         &mut self,
-        disk: u32,
-        quiet: &mut [bool; MOST_DISKS],
+        lane: Lane,
+        quiet: &mut [bool; MOST_LANES],
         journal: &mut Journal,
     ) -> Result<bool, NoMemory>
-        requires disk { disk < length self.old.lanes }
-        requires place { disk < length quiet.old }
-        requires agrees { accepted_count journal.old.entries ≡ issued_on self.old.lanes }
-        ensures made { OnOk result (RoundGoesOn disk self.old quiet.old journal.old.entries self.new quiet.new
+        requires lane { IsLaneOf self.old lane }
+        requires place { lane.number < length quiet.old }
+        requires agrees { Counted journal.old.entries self.old }
+        ensures made { OnOk result (RoundGoesOn lane.kind lane.number self.old quiet.old journal.old.entries self.new
+            quiet.new journal.new.entries) }
+        ensures begun { OnErr result (RoundBreaks lane.kind lane.number self.old quiet.old journal.old.entries self.new
             journal.new.entries) }
-        ensures begun { OnErr result (RoundBreaks disk self.old quiet.old journal.old.entries self.new
-            journal.new.entries) }
-        ensures marked { IfOk result (λ calm. quiet.new ≡ slice_set quiet.old disk calm) }
-        ensures many { length self.new.lanes ≡ length self.old.lanes }
-        ensures agrees { accepted_count journal.new.entries ≡ issued_on self.new.lanes }
+        ensures marked { IfOk result (λ calm. quiet.new ≡ slice_set quiet.old lane.number calm) }
+        ensures many { SameNumbers self.old self.new }
+        ensures agrees { Counted journal.new.entries self.new }
     {
-        let client = self.quiet_step(disk, Side::Client, journal)?;
-        let server = self.quiet_step(disk, Side::Server, journal)?;
+        let client = self.quiet_step(lane, Side::Client, journal)?;
+        let server = self.quiet_step(lane, Side::Server, journal)?;
         let calm = client && server;
-        quiet[disk as usize] = calm;
+        quiet[lane.number as usize] = calm;
         Ok(calm)
     }
 
-    /// Ticks each lane that isn't finished, whose server runs, and that had none in this settle, and tells whether there
-    /// was one.
-    #[tactic(auto, using(crate::proofs::SettlingAdds::ticks_add_none, crate::proofs::SettlingAdds::ticks_of_all, crate::proofs::SettlingAdds::ticks_add_front))]
-    fn tick_lanes(
+    /// Ticks each lane that isn't finished, that isn't a disk's whose server is stopped, and that had none in this
+    /// settle. Tells whether there was one.
+    fn tick_lanes(&mut self, had: &mut LaneMarks, journal: &mut Journal) -> Result<bool, NoMemory>
+        requires agrees { Counted journal.old.entries self.old }
+        ensures ticked { IfOk result (λ some. TicksAdd self.old (marks_of had.old) some (marks_of had.new) self.new
+            journal.old.entries journal.new.entries) }
+        ensures begun { OnErr result (TicksAddFront self.old (marks_of had.old) self.new journal.old.entries
+            journal.new.entries) }
+        ensures agrees { Counted journal.new.entries self.new }
+    {
+        let disks = self.ticks_of(LaneKind::Disk, &mut had.disks, journal)?;
+        let ports = self.ticks_of(LaneKind::Port, &mut had.ports, journal)?;
+        Ok(disks || ports)
+    }
+
+    /// The ticks of all lanes of a kind.
+    #[tactic(auto, using(crate::proofs::KindAdding::ticks_add_none, crate::proofs::KindAdding::ticks_of_all))]
+    fn ticks_of(
         &mut self,
-        had: &mut [bool; MOST_DISKS],
+        kind: LaneKind,
+        had: &mut [bool; MOST_LANES],
         journal: &mut Journal,
     ) -> Result<bool, NoMemory>
-        requires agrees { accepted_count journal.old.entries ≡ issued_on self.old.lanes }
-        ensures ticked { IfOk result (λ some. TicksAdd (length self.old.lanes) self.old had.old some had.new self.new
-            journal.old.entries journal.new.entries) }
-        ensures begun { OnErr result (TicksAddFront self.old had.old self.new journal.old.entries
+        requires agrees { Counted journal.old.entries self.old }
+        ensures ticked { IfOk result (λ some. LaneTicksAdd kind (number_of_kind kind self.old) self.old had.old some
+            had.new self.new journal.old.entries journal.new.entries) }
+        ensures begun { OnErr result (LaneTicksAddFront kind self.old had.old self.new journal.old.entries
             journal.new.entries) }
-        ensures agrees { accepted_count journal.new.entries ≡ issued_on self.new.lanes }
+        ensures agrees { Counted journal.new.entries self.new }
     {
         let mut some = false;
-        for disk in 0..self.disk_count() {
-            let ticked = self.tick_of(disk, had, journal)?;
+        for number in 0..self.count_of(kind) {
+            let ticked = self.tick_of(Lane { kind, number }, had, journal)?;
             some |= ticked;
         }
         Ok(some)
     }
 
     /// Ticks one lane where it is its turn, and tells whether it was.
-    #[tactic(auto, using(crate::proofs::SettlingLanes::tick_wants))]
+    #[tactic(auto, using(crate::proofs::SettlingLanes::tick_wants, crate::proofs::Lifting::fits_many))]
     fn tick_of(
         &mut self,
-        disk: u32,
-        had: &mut [bool; MOST_DISKS],
+        lane: Lane,
+        had: &mut [bool; MOST_LANES],
         journal: &mut Journal,
     ) -> Result<bool, NoMemory>
-        requires disk { disk < length self.old.lanes }
-        requires place { disk < length had.old }
-        requires agrees { accepted_count journal.old.entries ≡ issued_on self.old.lanes }
-        ensures ticked { IfOk result (λ ticked. TicksGoOn disk self.old had.old journal.old.entries ticked self.new
-            had.new journal.new.entries) }
+        requires lane { IsLaneOf self.old lane }
+        requires place { lane.number < length had.old }
+        requires agrees { Counted journal.old.entries self.old }
+        ensures ticked { IfOk result (λ ticked. TicksGoOn lane.kind lane.number self.old had.old journal.old.entries
+            ticked self.new had.new journal.new.entries) }
         ensures same { OnErr result ((self.new ≡ self.old) × (journal.new.entries ≡ journal.old.entries)) }
         ensures same_marks { OnErr result (had.new ≡ had.old) }
-        ensures many { length self.new.lanes ≡ length self.old.lanes }
-        ensures agrees { accepted_count journal.new.entries ≡ issued_on self.new.lanes }
+        ensures many { SameNumbers self.old self.new }
+        ensures agrees { Counted journal.new.entries self.new }
     {
-        if !self.gets_tick(disk, had[disk as usize]) {
+        if !self.gets_tick(lane, had[lane.number as usize]) {
             return Ok(false);
         }
-        self.answer_call(disk, LaneCall::Tick, journal)?;
-        had[disk as usize] = true;
+        self.call_on(lane, LaneCall::Tick, journal)?;
+        had[lane.number as usize] = true;
         Ok(true)
     }
 
     /// Names each lane that wasn't quiet in the last round, or isn't finished though its server runs.
-    #[tactic(auto, using(crate::proofs::SettlingAdds::names_add_none, crate::proofs::SettlingAdds::names_of_all))]
-    fn name_left(&self, quiet: &[bool; MOST_DISKS], journal: &mut Journal) -> Result<(), NoMemory>
-        ensures named { OnOk result (NamesAdd (length self.now.lanes) self.now quiet.now journal.old.entries
+    fn name_left(&self, quiet: &LaneMarks, journal: &mut Journal) -> Result<(), NoMemory>
+        requires agrees { Counted journal.old.entries self.now }
+        ensures named { OnOk result (NamesAdd self.now (marks_of quiet.now) journal.old.entries
             journal.new.entries) }
-        ensures begun { OnErr result (NamesAddFront self.now (length self.now.lanes) quiet.now journal.old.entries
+        ensures begun { OnErr result (NamesAddFront self.now (marks_of quiet.now) journal.old.entries
             journal.new.entries) }
-        ensures accepted { accepted_count journal.new.entries ≡ accepted_count journal.old.entries }
+        ensures agrees { Counted journal.new.entries self.now }
     {
-        for disk in 0..self.disk_count() {
-            self.name_lane(disk, quiet[disk as usize], journal)?;
+        self.names_of(LaneKind::Disk, &quiet.disks, journal)?;
+        self.names_of(LaneKind::Port, &quiet.ports, journal)
+    }
+
+    /// The names of all lanes of a kind that are left over.
+    #[tactic(auto, using(crate::proofs::KindAdding::names_add_none, crate::proofs::KindAdding::names_of_all))]
+    fn names_of(
+        &self,
+        kind: LaneKind,
+        quiet: &[bool; MOST_LANES],
+        journal: &mut Journal,
+    ) -> Result<(), NoMemory>
+        requires agrees { Counted journal.old.entries self.now }
+        ensures named { OnOk result (LaneNamesAdd kind (number_of_kind kind self.now) self.now quiet.now
+            journal.old.entries journal.new.entries) }
+        ensures begun { OnErr result (LaneNamesAddFront kind self.now (number_of_kind kind self.now) quiet.now
+            journal.old.entries journal.new.entries) }
+        ensures agrees { Counted journal.new.entries self.now }
+    {
+        for number in 0..self.count_of(kind) {
+            self.name(Lane { kind, number }, quiet[number as usize], journal)?;
         }
         Ok(())
     }
 
     /// Names one lane where it is left over.
-    #[tactic(auto, using(crate::proofs::SettlingLanes::count_stays))]
-    fn name_lane(&self, disk: u32, calm: bool, journal: &mut Journal) -> Result<(), NoMemory>
-        requires disk { disk < length self.now.lanes }
-        ensures named { OnOk result (NamesGoOn disk self.now calm journal.old.entries journal.new.entries) }
+    fn name(&self, lane: Lane, calm: bool, journal: &mut Journal) -> Result<(), NoMemory>
+        requires lane { IsLaneOf self.now lane }
+        requires agrees { Counted journal.old.entries self.now }
+        ensures named { OnOk result (NamesGoOn lane.kind lane.number self.now calm journal.old.entries
+            journal.new.entries) }
         ensures same { OnErr result (journal.new.entries ≡ journal.old.entries) }
-        ensures accepted { accepted_count journal.new.entries ≡ accepted_count journal.old.entries }
+        ensures agrees { Counted journal.new.entries self.now }
     {
-        if self.rests(disk, calm) {
+        if self.rests(lane, calm) {
             return Ok(());
         }
         journal.reserve(1)?;
         journal.push(Entry::Unsettled {
-            who: Who::Lane(Lane {
-                kind: LaneKind::Disk,
-                number: disk,
-            }),
+            who: Who::Lane(lane),
         });
         Ok(())
     }
 
     /// Whether a lane gets a tick, where `had` says whether it had one before.
-    fn gets_tick(&self, disk: u32, had: bool) -> bool
-        requires disk { disk < length self.now.lanes }
-        ensures { (lane : LaneState) → slice_get self.now.lanes disk ≡ Some lane → result ≡ gets_tick lane had }
+    fn gets_tick(&self, lane: Lane, had: bool) -> bool
+        requires lane { IsLaneOf self.now lane }
+        ensures { (s : (in_world lane.kind).Lane) → slice_get ((in_world lane.kind).lanes self.now) lane.number ≡ Some s
+            → result ≡ gets_tick (in_world lane.kind).kind s had }
     {
-        !had && self.waits(disk)
+        !had && self.waits(lane)
     }
 
     /// Whether nothing is left to do on a lane, where `calm` says whether it was quiet in the last round.
-    fn rests(&self, disk: u32, calm: bool) -> bool
-        requires disk { disk < length self.now.lanes }
-        ensures { (lane : LaneState) → slice_get self.now.lanes disk ≡ Some lane
-            → result ≡ (calm && not (waits_on lane)) }
+    fn rests(&self, lane: Lane, calm: bool) -> bool
+        requires lane { IsLaneOf self.now lane }
+        ensures { (s : (in_world lane.kind).Lane) → slice_get ((in_world lane.kind).lanes self.now) lane.number ≡ Some s
+            → result ≡ (calm && not ((in_world lane.kind).kind.waits_on s)) }
     {
-        calm && !self.waits(disk)
+        calm && !self.waits(lane)
     }
 
-    /// Whether a lane isn't finished though its server runs.
-    fn waits(&self, disk: u32) -> bool
-        requires disk { disk < length self.now.lanes }
-        ensures { (lane : LaneState) → slice_get self.now.lanes disk ≡ Some lane → result ≡ waits_on lane }
+    /// Whether a lane isn't finished, nor a disk's whose server is stopped.
+    fn waits(&self, lane: Lane) -> bool
+        requires lane { IsLaneOf self.now lane }
+        ensures { (s : (in_world lane.kind).Lane) → slice_get ((in_world lane.kind).lanes self.now) lane.number ≡ Some s
+            → result ≡ (in_world lane.kind).kind.waits_on s }
     {
-        waits_on(&self.disks[disk as usize])
+        match lane.kind {
+            LaneKind::Disk => self.disks.waits(lane.number),
+            LaneKind::Port => self.ports.waits(lane.number),
+        }
     }
 
-    /// How many rounds a settle may make: 4,096 and 64 for each pending request.
+    /// How many rounds a settle may make: 4,096, and 64 for each pending request and frame.
     fn most_rounds(&self) -> u64
-        ensures most { result ≡ most_rounds self.now.lanes }
-        ensures few { length self.now.lanes ≤ 8 }
+        ensures most { result ≡ most_rounds self.now }
+        ensures few { length self.now.first.lanes ≤ 8 }
+        ensures few_ports { length self.now.second ≤ 8 }
     {
-        4096 + 64 * pending_on(&self.disks)
+        // That there are at most eight ports is known by this call alone.
+        let _ports = self.port_count();
+        4096 + 64 * (self.disks.pending() + self.ports.pending())
     }
-}
-
-/// Whether a lane isn't finished though its server runs.
-#[tactic(auto, using(crate::proofs::SettlingLanes::waits_by))]
-fn waits_on(lane: &DiskLane) -> bool
-    ensures { result ≡ waits_on lane.now }
-{
-    !lane.finished() && lane.running()
-}
-
-/// How many requests are pending on these lanes.
-fn pending_on(lanes: &[DiskLane]) -> u64
-    requires few { length lanes.now ≤ 8 }
-    ensures sum { result ≡ pending_on lanes.now }
-    ensures small { result ≤ 8 * 2 ^ 32 }
-{
-    let mut pending = 0;
-    for lane in lanes {
-        pending += u64::from(lane.pending());
-    }
-    pending
 }

@@ -1,21 +1,19 @@
-// Steps of the lanes' ends, and rounds.
+// Steps of the ends of disks.
 
-ghost use Rattle.std.specs.Prelude.{◌≡◌, ◌*◌, ◌+◌, ◌<◌, ◌≤◌, [], ◌∷◌, length, replicate, IfOk, OnErr, OnOk};
-ghost use Rattle.disk_law.specs.ListState.{ImageState};
-ghost use Rattle.world_laws.specs.Lines.{OfDisk, Rounds, Steps, both_ends, round_turns};
+ghost use Rattle.std.specs.Prelude.{◌≡◌, ◌<◌, ◌≤◌, [], length, IfOk, OnErr, OnOk};
+ghost use Rattle.disk_law.specs.ListState.{as_image, ImageState};
 ghost use Rattle.ldc_queue.specs.declared.end.End.TheVariants.{A, B};
 ghost use Rattle.ldom_report.specs.LaneEvents.{end_of};
 ghost use Rattle.ldom_report.specs.Report.{accepted_count};
 ghost use Rattle.ldom_world.specs.OneLane.{EndSteps, LaneSteps};
-ghost use Rattle.ldom_world.specs.TurnsMade.{TurnsBegun, TurnsMade};
-ghost use Rattle.world_laws.specs.Issued.{issued_on};
-ghost use Rattle.vdisk_client.specs.Calls.{front_count};
-ghost use Rattle.disk_law.specs.ListState.{as_image};
+ghost use Rattle.ldom_world.specs.Steps.{MakesQuietStep, MakesStep};
+ghost use Rattle.disk_lane.specs.vdisk_client.Calls.{front_count};
+ghost use Rattle.world_parts.specs.world_laws.Issued.{issued_on};
+ghost use Rattle.world_parts.specs.world_laws.World.{WorldStep};
 ghost use Rattle.world_parts.specs.Declared.{LiesWithin};
-ghost use Rattle.world_parts.specs.Parts.{Fits, FitsSoFar, MakesQuietStep, MakesStep};
 
+use crate::disks::Disks;
 use crate::entries::{leave_client, leave_server};
-use crate::world::World;
 use disk_lane::{ClientOut, DiskLane, ServerOut};
 use domain_script::Side;
 use ldom_report::{Bytes, Journal};
@@ -23,83 +21,17 @@ use std::alloc::Global;
 use vio_bytes::NoMemory;
 use vio_io::Store;
 
-impl<D: Store> World<D> {
-    /// So many steps of an end of the disk with this number.
-    #[tactic(auto, using(crate::proofs::Turning::steps_on))]
-    pub(crate) fn steps(
+impl<D: Store> Disks<D> {
+    /// One step of an end of the disk with this number, once there is room for its entry.
+    pub(crate) fn step(
         &mut self,
         disk: u32,
         side: Side,
-        count: u32,
         journal: &mut Journal,
     ) -> Result<(), NoMemory>
         requires disk { disk < length self.old.lanes }
         requires agrees { accepted_count journal.old.entries ≡ issued_on self.old.lanes }
-        ensures fits { OnOk result (Fits self.old (Steps (OfDisk disk) (end_of side) count) journal.old.entries
-            journal.new.entries self.new) }
-        ensures so_far { OnErr result (FitsSoFar self.old (Steps (OfDisk disk) (end_of side) count) journal.old.entries
-            journal.new.entries self.new) }
-        ensures agrees { accepted_count journal.new.entries ≡ issued_on self.new.lanes }
-    {
-        for _ in 0..count {
-            self.step(disk, side, journal)?;
-        }
-        Ok(())
-    }
-
-    /// So many rounds: in each, every lane in order makes a step of its client and then one of its server.
-    #[tactic(auto, using(crate::proofs::Turning::rounds_on))]
-    pub(crate) fn rounds(&mut self, count: u32, journal: &mut Journal) -> Result<(), NoMemory>
-        requires agrees { accepted_count journal.old.entries ≡ issued_on self.old.lanes }
-        ensures fits { OnOk result (Fits self.old (Rounds count) journal.old.entries journal.new.entries self.new) }
-        ensures so_far { OnErr result (FitsSoFar self.old (Rounds count) journal.old.entries journal.new.entries
-            self.new) }
-        ensures agrees { accepted_count journal.new.entries ≡ issued_on self.new.lanes }
-    {
-        for _ in 0..count {
-            self.round(journal)?;
-        }
-        Ok(())
-    }
-
-    // One round over all lanes.
-    #[tactic(auto, using(crate::proofs::Turning::round_on))]
-    fn round(&mut self, journal: &mut Journal) -> Result<(), NoMemory>
-        requires agrees { accepted_count journal.old.entries ≡ issued_on self.old.lanes }
-        ensures made { OnOk result (TurnsMade (round_turns 0 (length self.old.lanes)) self.old journal.old.entries
-            journal.new.entries self.new) }
-        ensures begun { OnErr result (TurnsBegun (round_turns 0 (length self.old.lanes)) self.old
-            journal.old.entries journal.new.entries self.new) }
-        ensures many { length self.new.lanes ≡ length self.old.lanes }
-        ensures agrees { accepted_count journal.new.entries ≡ issued_on self.new.lanes }
-    {
-        for disk in 0..self.disk_count() {
-            self.step_both(disk, journal)?;
-        }
-        Ok(())
-    }
-
-    // A step of a lane's client, and then one of its server.
-    fn step_both(&mut self, disk: u32, journal: &mut Journal) -> Result<(), NoMemory>
-        requires disk { disk < length self.old.lanes }
-        requires agrees { accepted_count journal.old.entries ≡ issued_on self.old.lanes }
-        ensures made { OnOk result (TurnsMade (both_ends (OfDisk disk ∷ [])) self.old journal.old.entries
-            journal.new.entries self.new) }
-        ensures begun { OnErr result (TurnsBegun (both_ends (OfDisk disk ∷ [])) self.old journal.old.entries
-            journal.new.entries self.new) }
-        ensures many { length self.new.lanes ≡ length self.old.lanes }
-        ensures agrees { accepted_count journal.new.entries ≡ issued_on self.new.lanes }
-    {
-        self.step(disk, Side::Client, journal)?;
-        self.step(disk, Side::Server, journal)?;
-        Ok(())
-    }
-
-    /// One step of an end of the disk with this number, once there is room for its entry.
-    fn step(&mut self, disk: u32, side: Side, journal: &mut Journal) -> Result<(), NoMemory>
-        requires disk { disk < length self.old.lanes }
-        requires agrees { accepted_count journal.old.entries ≡ issued_on self.old.lanes }
-        ensures made { OnOk result (MakesStep disk (end_of side) self.old journal.old.entries journal.new.entries
+        ensures made { OnOk result (MakesStep WorldStep disk (end_of side) self.old journal.old.entries journal.new.entries
             self.new) }
         ensures same { OnErr result ((self.new ≡ self.old) × (journal.new.entries ≡ journal.old.entries)) }
         ensures many { length self.new.lanes ≡ length self.old.lanes }
@@ -120,7 +52,7 @@ impl<D: Store> World<D> {
     ) -> Result<bool, NoMemory>
         requires disk { disk < length self.old.lanes }
         requires agrees { accepted_count journal.old.entries ≡ issued_on self.old.lanes }
-        ensures made { IfOk result (λ calm. MakesQuietStep disk (end_of side) self.old journal.old.entries
+        ensures made { IfOk result (λ calm. MakesQuietStep WorldStep disk (end_of side) self.old journal.old.entries
             journal.new.entries calm self.new) }
         ensures same { OnErr result ((self.new ≡ self.old) × (journal.new.entries ≡ journal.old.entries)) }
         ensures many { length self.new.lanes ≡ length self.old.lanes }
@@ -163,7 +95,7 @@ impl<D: Store> World<D> {
             self.new) }
         ensures same { OnErr result ((self.new ≡ self.old) × (journal.new ≡ journal.old)) }
     {
-        let lane = &mut self.disks[disk as usize];
+        let lane = &mut self.lanes[disk as usize];
         client_step(lane, disk, in_settle, &mut self.room, self.alloc, journal)
     }
 
@@ -172,7 +104,7 @@ impl<D: Store> World<D> {
         requires ready { 0 < journal.old.room }
         ensures { EndSteps in_settle disk B self.old journal.old result journal.new self.new }
     {
-        let lane = &mut self.disks[disk as usize];
+        let lane = &mut self.lanes[disk as usize];
         server_step(lane, disk, in_settle, &mut self.image, journal)
     }
 }
@@ -203,7 +135,7 @@ fn client_step(
 }
 
 /// Makes room for so many bytes, if there isn't yet.
-fn make_room(room: &mut Bytes, least: usize, alloc: Global) -> Result<(), NoMemory>
+pub(crate) fn make_room(room: &mut Bytes, least: usize, alloc: Global) -> Result<(), NoMemory>
     requires empty { room.old.items ≡ [] }
     ensures made { OnOk result (least ≤ room.new.room) }
     ensures empty { room.new.items ≡ [] }

@@ -1,16 +1,17 @@
 ghost use Rattle.std.specs.Prelude.{◌≡◌, ◌≤◌, ◌<◌, ◌↔◌, [], IfErr, IfOk, IsTrue, length, map};
-ghost use Rattle.disk_model.specs.LaneState.{fresh};
-ghost use Rattle.domain_script.specs.Declarations.{AreDisks};
+ghost use Rattle.world_parts.specs.disk_model.LaneState.{fresh};
+ghost use Rattle.world_parts.specs.port_model.PortState.{fresh_port};
+ghost use Rattle.domain_script.specs.Declarations.{AreDisks, ArePorts};
 ghost use Rattle.vio_io.specs.Causes.{last_count};
-ghost use Rattle.world_laws.specs.Rounds.{Each};
+ghost use Rattle.world_parts.specs.world_laws.Rounds.{Each};
 ghost use Rattle.disk_law.specs.ListState.{as_image};
-ghost use Rattle.world_parts.specs.Declared.{LiesWithin, bytes_needed, shapes_of, world_of};
+ghost use Rattle.world_parts.specs.Declared.{LiesWithin, bytes_needed, nets_of, shapes_of, world_of};
 
+use crate::disks::Disks;
 use crate::lanes::Lanes;
-use cached_store::{Cached, KeptBlocks};
-use disk_lane::DiskLane;
+use crate::ports::PortLanes;
+use cached_store::KeptBlocks;
 use domain_script::Names;
-use ldom_report::Bytes;
 use std::alloc::Global;
 use std::marker::Model;
 use vio_bytes::NoMemory;
@@ -19,43 +20,31 @@ use vio_io::Store;
 /// How many blocks of an image are kept.
 const MOST_KEPT: usize = 64;
 
-/// The lanes of a script, a list of each kind by their numbers in the order of declaration: of disks alone as yet. And
-/// the image that all disks are served from, behind a cache of its blocks: each disk is a region of it, one after
-/// another.
+/// The lanes of a script, a list of each kind by their numbers in the order of declaration.
 #[derive(Drop)]
 pub struct World<D: Store> {
-    pub(crate) alloc: Global,
-    pub(crate) disks: Vec<DiskLane>,
-    pub(crate) image: Cached<D>,
-
-    /// Room for what the next completion carries.
-    pub(crate) room: Bytes,
+    pub(crate) disks: Disks<D>,
+    pub(crate) ports: PortLanes,
 }
 
 impl<D: Store> Model for World<D> {
-    ghost use Rattle.std.specs.Prelude.{[], ◌≡◌, ◌≤◌, length};
-    ghost use Rattle.world_laws.specs.Rounds.{Each};
-    ghost use Rattle.world_laws.specs.World.{WorldState};
-    ghost use Rattle.ldom_world.specs.CachedImage.{cached_image};
-    ghost use Rattle.world_parts.specs.Declared.{LiesWithin};
+    ghost use Rattle.world_parts.specs.domain_laws.Domain.{DomainState};
 
-    ghost Value = { WorldState };
+    ghost Value = { DomainState };
 
-    ghost view = { λ w. record {
-      lanes = w.disks.items;
-      image = cached_image D.Store w.image;
-    } };
-
-    ghost invariant = { λ w. (length w.disks.items ≤ 8) × Each (LiesWithin (D.size w.image.inner)) w.disks.items
-        × (w.room.items ≡ []) };
+    ghost view = { λ w. record { first = w.disks; second = w.ports } };
 }
 
 /// The lanes of these declarations, before anything was asked, and room for the blocks that are kept of their image: all
 /// the memory that a world wants as it is made.
 pub fn room_for(alloc: Global, names: &Names) -> Result<(Lanes, KeptBlocks), NoMemory>
-    requires { AreDisks names.now.disks }
-    ensures lanes { IfOk result (λ room. room.0 ≡ map fresh (shapes_of 0 names.now.disks)) }
-    ensures few { IfOk result (λ room. length room.0 ≤ 8) }
+    requires disks { AreDisks names.now.disks }
+    requires ports { ArePorts names.now.ports }
+    ensures lanes { IfOk result (λ room. room.0 ≡ record {
+      first = map fresh (shapes_of 0 names.now.disks);
+      second = map fresh_port (nets_of names.now.ports);
+    }) }
+    ensures few { IfOk result (λ room. length room.0.first ≤ 8) }
     ensures blocks { IfOk result (λ room. room.1 ≡ record { kept = []; most = 64 }) }
 {
     let lanes = Lanes::new(alloc, names)?;
@@ -68,8 +57,9 @@ impl<D: Store> World<D> {
     /// another. Where memory is wanted the image is given back.
     pub fn new(alloc: Global, names: &Names, image: D) -> Result<Self, (NoMemory, D)>
         requires disks { AreDisks names.now.disks }
+        requires ports { ArePorts names.now.ports }
         requires image { bytes_needed names.now.disks ≤ D.size image }
-        ensures made { IfOk result (λ w. w ≡ world_of names.now.disks
+        ensures made { IfOk result (λ w. w ≡ world_of names.now.disks (nets_of names.now.ports)
             (as_image D.Store image)) }
         ensures given_back { IfErr result (λ e. e.1 ≡ image) }
     {
@@ -82,52 +72,58 @@ impl<D: Store> World<D> {
     /// The world of these lanes, at most eight, over an image that holds the disks of all, of which no block is kept yet.
     /// It takes no memory.
     pub fn over(alloc: Global, lanes: Lanes, blocks: KeptBlocks, image: D) -> Self
-        requires few { length lanes ≤ 8 }
+        requires few { length lanes.first ≤ 8 }
         requires none_kept { blocks.kept ≡ [] }
-        requires image { Each (LiesWithin (D.size image)) lanes }
-        ensures lanes { result.lanes ≡ lanes }
-        ensures image { result.image ≡ as_image D.Store image }
+        requires image { Each (LiesWithin (D.size image)) lanes.first }
+        ensures lanes { result.first.lanes ≡ lanes.first }
+        ensures image { result.first.image ≡ as_image D.Store image }
+        ensures ports { result.second ≡ lanes.second }
     {
+        let Lanes { disks, ports } = lanes;
         World {
-            alloc,
-            disks: lanes.disks,
-            image: Cached::over(blocks, image),
-            room: Bytes::empty(alloc),
+            disks: Disks::over(alloc, disks, blocks, image),
+            ports: PortLanes::over(alloc, ports),
         }
     }
 
     /// How many disks there are.
     pub(crate) fn disk_count(&self) -> u32
-        ensures count { result ≡ length self.now.lanes }
-        ensures few { length self.now.lanes ≤ 8 }
+        ensures count { result ≡ length self.now.first.lanes }
+        ensures few { length self.now.first.lanes ≤ 8 }
     {
-        self.disks.len() as u32
+        self.disks.count()
+    }
+
+    /// How many ports there are.
+    pub(crate) fn port_count(&self) -> u32
+        ensures count { result ≡ length self.now.second }
+        ensures few { length self.now.second ≤ 8 }
+    {
+        self.ports.count()
     }
 
     /// Whether the image ever failed.
     pub fn faulty(&self) -> bool
-        ensures { IsTrue result ↔ (0 < self.now.image.faults) }
+        ensures { IsTrue result ↔ (0 < self.now.first.image.faults) }
     {
-        self.image.faulty()
+        self.disks.faulty()
     }
 
     /// The image, and the lanes as they stand. Its bytes and its faults are what the lanes saw, and it got each write and
     /// each flush. It was called at most as often as they asked, where no count can have stopped: it may be spared reads.
     pub fn finish(self) -> (D, Lanes)
-        ensures content { D.content result.0 ≡ self.image.told }
-        ensures faults { D.faults result.0 ≡ self.image.faults }
-        ensures flushes { D.flushes result.0 ≡ self.image.flushes }
-        ensures writes { D.writes result.0 ≡ self.image.writes }
-        ensures calls { self.image.calls < last_count → D.calls result.0 ≤ self.image.calls }
-        ensures lanes { result.1 ≡ self.lanes }
-        ensures size { Each (LiesWithin (D.size result.0)) self.lanes }
+        ensures content { D.content result.0 ≡ self.first.image.told }
+        ensures faults { D.faults result.0 ≡ self.first.image.faults }
+        ensures flushes { D.flushes result.0 ≡ self.first.image.flushes }
+        ensures writes { D.writes result.0 ≡ self.first.image.writes }
+        ensures calls { self.first.image.calls < last_count → D.calls result.0 ≤ self.first.image.calls }
+        ensures lanes { result.1.first ≡ self.first.lanes }
+        ensures ports { result.1.second ≡ self.second }
+        ensures size { Each (LiesWithin (D.size result.0)) self.first.lanes }
     {
-        let World {
-            alloc: _,
-            disks,
-            image,
-            room: _,
-        } = self;
-        (image.into_inner(), Lanes { disks })
+        let World { disks, ports } = self;
+        let (image, disks) = disks.finish();
+        let ports = ports.finish();
+        (image, Lanes { disks, ports })
     }
 }

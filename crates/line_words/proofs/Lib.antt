@@ -1,3 +1,3 @@
-mod DiskNames
+mod NamedLanes
 mod HexText
 mod PaddedArrays

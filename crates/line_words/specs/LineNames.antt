@@ -1,42 +1,46 @@
 -- The names in an entry's line, and what begins with its kind and a name.
-use Rattle.std.specs.Prelude.{ℕ, List, [], ◌++◌, take, slice_get, Option, Some, None, codes, decimal}
+use Rattle.std.specs.Prelude.{ℕ, List, [], ◌++◌, map, take, slice_get, Option, Some, None, codes, decimal}
 use Rattle.domain_script.specs.declared.event.DiskDecl.{DiskDecl}
 use Rattle.domain_script.specs.declared.event.EndName.{EndName}
 use Rattle.domain_script.specs.declared.event.Lane.{Lane}
-use Rattle.domain_script.specs.LaneKinds.{disk_of}
-use Rattle.domain_script.specs.Printed.{option_text}
+use Rattle.domain_script.specs.declared.event.Name.{Name}
+use Rattle.domain_script.specs.declared.event.PortDecl.{PortDecl}
+use Rattle.domain_script.specs.declared.fields.LaneKind.{LaneKind}
+use Rattle.domain_script.specs.declared.fields.LaneKind.TheVariants as lanes
+use Rattle.domain_script.specs.Declarations.{Declared}
 use Rattle.ldom_entries.specs.declared.entry.Who.{Who}
 use Rattle.ldom_entries.specs.declared.entry.Who.TheVariants.{Lane as OfLane, End as OfEnd}
 use Rattle.line_words.specs.LineWords.{side_text}
 
--- a disk's name, nothing where there is no disk
-abbrev pub declared_name : Option DiskDecl → List ℕ
-declared_name (Some disk) = take disk.name.len disk.name.bytes
-declared_name None = []
+-- a name's bytes, nothing where there is no name
+abbrev pub name_text : Option Name → List ℕ
+name_text (Some name) = take name.len name.bytes
+name_text None = []
 
--- the name of the disk with this number, in the order of declaration
-abbrev pub disk_name : List DiskDecl → ℕ → List ℕ
-disk_name disks k = declared_name (slice_get disks k)
+-- the names of the lanes of a kind
+abbrev pub names_of : LaneKind → Declared → List Name
+names_of lanes.Disk declared = map (λ (disk : DiskDecl). disk.name) declared.disks
+names_of lanes.Port declared = map (λ (port : PortDecl). port.name) declared.ports
 
--- the name of a lane, and that of an end
-abbrev pub lane_name : List DiskDecl → Lane → List ℕ
-lane_name disks lane = option_text (disk_name disks) (disk_of lane)
+-- the name of a lane, by its kind and its number in the order of declaration; and that of an end
+abbrev pub lane_name : Declared → Lane → List ℕ
+lane_name declared lane = name_text (slice_get (names_of lane.kind declared) lane.number)
 
-abbrev pub end_name : List DiskDecl → EndName → List ℕ
-end_name disks e = lane_name disks e.lane ++ side_text e.side
+abbrev pub end_name : Declared → EndName → List ℕ
+end_name declared e = lane_name declared e.lane ++ side_text e.side
 
 -- the name of whom an entry is about
-abbrev pub who_name : List DiskDecl → Who → List ℕ
-who_name disks (OfLane lane) = lane_name disks lane
-who_name disks (OfEnd e) = end_name disks e
+abbrev pub who_name : Declared → Who → List ℕ
+who_name declared (OfLane lane) = lane_name declared lane
+who_name declared (OfEnd e) = end_name declared e
 
--- the kind of a request's entry, its disk and its id
-abbrev pub id_text : List ℕ → List DiskDecl → ℕ → ℕ → List ℕ
-id_text kind disks disk id = kind ++ disk_name disks disk ++ codes " " ++ decimal id
+-- the kind of a request's or a frame's entry, its lane and its id
+abbrev pub id_text : List ℕ → Declared → Lane → ℕ → List ℕ
+id_text kind declared lane id = kind ++ lane_name declared lane ++ codes " " ++ decimal id
 
 -- the kind of an entry and its end; and a number after them
-abbrev pub end_text : List ℕ → List DiskDecl → EndName → List ℕ
-end_text kind disks e = kind ++ end_name disks e
+abbrev pub end_text : List ℕ → Declared → EndName → List ℕ
+end_text kind declared e = kind ++ end_name declared e
 
-abbrev pub number_text : List ℕ → List DiskDecl → EndName → ℕ → List ℕ
-number_text kind disks e n = end_text kind disks e ++ codes " " ++ decimal n
+abbrev pub number_text : List ℕ → Declared → EndName → ℕ → List ℕ
+number_text kind declared e n = end_text kind declared e ++ codes " " ++ decimal n

@@ -6,17 +6,19 @@ use Rattle.vio_tag.specs.CauseText.{copy_word}
 use Rattle.domain_script.specs.declared.event.Side.{Side}
 use Rattle.domain_script.specs.declared.event.Side.TheVariants.{Client, Server}
 use Rattle.ldom_entries.specs.declared.entry.Why.{Why}
-use Rattle.ldom_entries.specs.declared.entry.Why.TheVariants.{Count, Range}
+use Rattle.ldom_entries.specs.declared.entry.Why.TheVariants.{Count, Range, Length, Groups}
 
 -- what stands after a lane's name for an end: `.c` is the client's, `.s` the server's
 abbrev pub side_text : Side → List ℕ
 side_text Client = codes ".c"
 side_text Server = codes ".s"
 
--- why a request was refused
+-- why a request was refused, or a poke, a frame or a group
 abbrev pub why_word : Why → List ℕ
 why_word Count = codes "count"
 why_word Range = codes "range"
+why_word Length = codes "length"
+why_word Groups = codes "groups"
 
 -- 1 reads, 2 writes, 3 flushes
 abbrev pub operation_word : ℕ → List ℕ

@@ -16,6 +16,6 @@ pub use block_words::put_blocks;
 pub use bytes_text::put_bytes;
 pub use cause_text::push_reset_cause;
 pub use lane_names::LaneNames;
-pub use line_names::{push_disk, push_end, push_end_number, push_id, push_who};
+pub use line_names::{push_end, push_end_number, push_id, push_lane, push_who};
 pub use short_names::{LineNames, names_of_lanes};
 pub use words::{failed_word, fault_word, opens_word, operation_word, side_word, why_word};

@@ -1,36 +1,27 @@
 // The names in an entry's line.
-ghost use Rattle.std.specs.Prelude.{◌≡◌, ◌+◌, ◌≤◌, ◌<◌, ◌++◌, length};
+ghost use Rattle.std.specs.Prelude.{◌≡◌, ◌+◌, ◌≤◌, ◌++◌, length};
 ghost use Rattle.line_words.specs.IsDeclared.{IsDeclared, IsEnd, IsLane};
-ghost use Rattle.line_words.specs.LineNames.{disk_name, end_name, end_text, id_text, lane_name, number_text, who_name};
+ghost use Rattle.line_words.specs.LineNames.{end_name, end_text, id_text, lane_name, number_text, who_name};
 
 use crate::LineNames;
 use domain_script::{EndName, Lane};
 use gathered_text::{TEXT_ROOM, Text};
 use ldom_entries::Who;
 
-/// The name of a disk.
-pub fn push_disk(text: &mut Text, disk: u32, names: &LineNames<'_>)
-    requires declared { disk < length names.now.disks }
+/// The name of a lane.
+pub fn push_lane(text: &mut Text, lane: Lane, names: &LineNames<'_>)
+    requires declared { IsLane names.now lane }
     requires room { length text.old + 16 ≤ TEXT_ROOM }
-    ensures text { text.new ≡ text.old ++ disk_name names.now.disks disk }
-    ensures len { length text.new ≤ length text.old + 16 }
-{
-    text.push_short(names.of_disk(disk).lane());
-}
-
-fn push_lane(text: &mut Text, lane: Lane, names: &LineNames<'_>)
-    requires declared { IsLane names.now.disks lane }
-    requires room { length text.old + 16 ≤ TEXT_ROOM }
-    ensures text { text.new ≡ text.old ++ lane_name names.now.disks lane }
+    ensures text { text.new ≡ text.old ++ lane_name names.now lane }
     ensures len { length text.new ≤ length text.old + 16 }
 {
     text.push_short(names.of_lane(lane).lane());
 }
 
 fn push_end_name(text: &mut Text, end: EndName, names: &LineNames<'_>)
-    requires declared { IsEnd names.now.disks end }
+    requires declared { IsEnd names.now end }
     requires room { length text.old + 16 ≤ TEXT_ROOM }
-    ensures text { text.new ≡ text.old ++ end_name names.now.disks end }
+    ensures text { text.new ≡ text.old ++ end_name names.now end }
     ensures len { length text.new ≤ length text.old + 16 }
 {
     text.push_short(names.of_lane(end.lane).end(end.side));
@@ -38,9 +29,9 @@ fn push_end_name(text: &mut Text, end: EndName, names: &LineNames<'_>)
 
 /// The name of whom an entry is about.
 pub fn push_who(text: &mut Text, who: &Who, names: &LineNames<'_>)
-    requires declared { IsDeclared names.now.disks who.now }
+    requires declared { IsDeclared names.now who.now }
     requires room { length text.old + 16 ≤ TEXT_ROOM }
-    ensures text { text.new ≡ text.old ++ who_name names.now.disks who.now }
+    ensures text { text.new ≡ text.old ++ who_name names.now who.now }
     ensures len { length text.new ≤ length text.old + 16 }
 {
     match who {
@@ -49,24 +40,24 @@ pub fn push_who(text: &mut Text, who: &Who, names: &LineNames<'_>)
     }
 }
 
-/// The disk and the id of a request, after the kind of its entry.
-pub fn push_id(text: &mut Text, kind: &[u8], disk: u32, id: u64, names: &LineNames<'_>)
-    requires declared { disk < length names.now.disks }
+/// The lane and the id of a request or a frame, after the kind of its entry.
+pub fn push_id(text: &mut Text, kind: &[u8], lane: Lane, id: u64, names: &LineNames<'_>)
+    requires declared { IsLane names.now lane }
     requires room { length text.old + length kind.now + 37 ≤ TEXT_ROOM }
-    ensures text { text.new ≡ text.old ++ id_text kind.now names.now.disks disk id }
+    ensures text { text.new ≡ text.old ++ id_text kind.now names.now lane id }
     ensures len { length text.new ≤ length text.old + length kind.now + 37 }
 {
     text.push(kind);
-    push_disk(text, disk, names);
+    push_lane(text, lane, names);
     text.push(b" ");
     text.push_number(id);
 }
 
 /// An end, after the kind of its entry.
 pub fn push_end(text: &mut Text, kind: &[u8], end: EndName, names: &LineNames<'_>)
-    requires declared { IsEnd names.now.disks end }
+    requires declared { IsEnd names.now end }
     requires room { length text.old + length kind.now + 16 ≤ TEXT_ROOM }
-    ensures text { text.new ≡ text.old ++ end_text kind.now names.now.disks end }
+    ensures text { text.new ≡ text.old ++ end_text kind.now names.now end }
     ensures len { length text.new ≤ length text.old + length kind.now + 16 }
 {
     text.push(kind);
@@ -81,9 +72,9 @@ pub fn push_end_number(
     number: u64,
     names: &LineNames<'_>,
 )
-    requires declared { IsEnd names.now.disks end }
+    requires declared { IsEnd names.now end }
     requires room { length text.old + length kind.now + 37 ≤ TEXT_ROOM }
-    ensures text { text.new ≡ text.old ++ number_text kind.now names.now.disks end number }
+    ensures text { text.new ≡ text.old ++ number_text kind.now names.now end number }
     ensures len { length text.new ≤ length text.old + length kind.now + 37 }
 {
     push_end(text, kind, end, names);

@@ -1,11 +1,15 @@
 // The names of lanes and ends as lines put them.
-ghost use Rattle.std.specs.Prelude.{◌≡◌, ◌<◌, ◌≤◌, length, take};
-ghost use Rattle.line_words.specs.LaneNames.{lane_names};
+ghost use Rattle.std.specs.Prelude.{◌≡◌, ◌≤◌, length, slice_get, take};
+ghost use Rattle.domain_script.specs.Declarations.{number_of_kind};
+ghost use Rattle.domain_script.specs.LaneKinds.{lane_at};
+ghost use Rattle.domain_script.specs.NamesState.{declared_by};
+ghost use Rattle.domain_script.specs.declared.fields.LaneKind.TheVariants as the_kind;
 ghost use Rattle.line_words.specs.IsDeclared.{IsLane};
-ghost use Rattle.line_words.specs.LineNames.{disk_name, lane_name};
+ghost use Rattle.line_words.specs.LaneNames.{lane_names};
+ghost use Rattle.line_words.specs.LineNames.{lane_name, names_of};
 
 use crate::LaneNames;
-use domain_script::{Lane, Name, Names};
+use domain_script::{Lane, LaneKind, Name, Names};
 use std::marker::Model;
 
 fn name_bytes(name: &Name) -> &[u8]
@@ -15,79 +19,105 @@ fn name_bytes(name: &Name) -> &[u8]
     &name.bytes[..usize::from(name.len).min(8)]
 }
 
-/// The names of a disk's lane; no bytes for that of a disk which isn't declared.
-fn lane_names(names: &Names, disk: u32) -> LaneNames
-    ensures names { result ≡ disk_name names.now.disks disk }
-    ensures few { length names.now.disks ≤ 8 }
+/// The name of a lane. None exactly where the lane isn't declared.
+fn name_of(names: &Names, kind: LaneKind, number: u32) -> Option<Name>
+    ensures name { result ≡ slice_get (names_of kind (declared_by names.now)) number }
+    ensures few { number_of_kind kind (declared_by names.now) ≤ 8 }
 {
-    match names.disk(disk) {
-        Some(disk) => LaneNames::new(name_bytes(&disk.name)),
+    match kind {
+        LaneKind::Disk => Some(names.disk(number)?.name),
+        LaneKind::Port => Some(names.port(number)?.name),
+    }
+}
+
+/// The names of a lane and its ends; no bytes for that of a lane which isn't declared.
+fn names_at(names: &Names, kind: LaneKind, number: u32) -> LaneNames
+    ensures names { result ≡ lane_name (declared_by names.now) (lane_at kind number) }
+    ensures few { number_of_kind kind (declared_by names.now) ≤ 8 }
+{
+    match name_of(names, kind, number) {
+        Some(name) => LaneNames::new(name_bytes(&name)),
         None => LaneNames::new(b""),
     }
 }
 
-/// The names of the lanes of a script's disks.
-pub fn names_of_lanes(names: &Names) -> [LaneNames; 8]
-    ensures lanes { result ≡ lane_names names.now.disks }
-    ensures few { length names.now.disks ≤ 8 }
+/// The names of the lanes of this kind that a script declares.
+pub fn names_of_lanes(names: &Names, kind: LaneKind) -> [LaneNames; 8]
+    ensures lanes { result ≡ lane_names kind (declared_by names.now) }
+    ensures few { number_of_kind kind (declared_by names.now) ≤ 8 }
 {
     [
-        lane_names(names, 0),
-        lane_names(names, 1),
-        lane_names(names, 2),
-        lane_names(names, 3),
-        lane_names(names, 4),
-        lane_names(names, 5),
-        lane_names(names, 6),
-        lane_names(names, 7),
+        names_at(names, kind, 0),
+        names_at(names, kind, 1),
+        names_at(names, kind, 2),
+        names_at(names, kind, 3),
+        names_at(names, kind, 4),
+        names_at(names, kind, 5),
+        names_at(names, kind, 6),
+        names_at(names, kind, 7),
     ]
 }
 
-/// The names that a script declares, and beside them those of its lanes and ends as lines put them: they are made once
-/// for many lines. A clause sees what is declared.
+/// The names of lanes and ends as lines put them: they are made once for many lines. A clause sees what is declared.
 #[derive(Drop)]
 pub struct LineNames<'a> {
     names: &'a Names,
-    lanes: &'a [LaneNames],
+    disks: &'a [LaneNames],
+    ports: &'a [LaneNames],
 }
 
 impl<'a> Model for LineNames<'a> {
     ghost use Rattle.std.specs.Prelude.{◌≡◌, ◌≤◌, length};
-    ghost use Rattle.domain_script.specs.NamesState.{NamesState};
+    ghost use Rattle.domain_script.specs.Declarations.{Declared};
+    ghost use Rattle.domain_script.specs.NamesState.{declared_by};
+    ghost use Rattle.domain_script.specs.declared.fields.LaneKind.TheVariants as the_kind;
     ghost use Rattle.line_words.specs.LaneNames.{lane_names};
 
-    ghost Value = { NamesState };
+    ghost Value = { Declared };
 
-    ghost view = { λ n. n.names.now };
+    ghost view = { λ n. declared_by n.names.now };
 
-    ghost invariant = { λ n. (length n.names.now.disks ≤ 8) × (n.lanes.now ≡ lane_names n.names.now.disks) };
+    ghost invariant = { λ n. record {
+      few_disks : length n.names.now.disks ≤ 8;
+      few_ports : length n.names.now.ports ≤ 8;
+      disks : n.disks.now ≡ lane_names the_kind.Disk (declared_by n.names.now);
+      ports : n.ports.now ≡ lane_names the_kind.Port (declared_by n.names.now);
+    } };
 }
 
 impl<'a> LineNames<'a> {
-    /// The names of a script, and those of its lanes.
-    pub fn new(names: &'a Names, lanes: &'a [LaneNames]) -> Self
-        requires few { length names.now.disks ≤ 8 }
-        requires lanes { lanes.now ≡ lane_names names.now.disks }
-        ensures { result ≡ names.now }
+    /// The names of a script's lanes, those of disks and those of ports.
+    pub fn new(names: &'a Names, disks: &'a [LaneNames], ports: &'a [LaneNames]) -> Self
+        requires few_disks { length names.now.disks ≤ 8 }
+        requires few_ports { length names.now.ports ≤ 8 }
+        requires disks { disks.now ≡ lane_names the_kind.Disk (declared_by names.now) }
+        requires ports { ports.now ≡ lane_names the_kind.Port (declared_by names.now) }
+        ensures { result ≡ declared_by names.now }
     {
-        LineNames { names, lanes }
+        LineNames {
+            names,
+            disks,
+            ports,
+        }
     }
 
-    /// The names of a disk's lane.
-    #[tactic(auto, using(crate::proofs::DiskNames::name_at))]
-    pub fn of_disk(&self, disk: u32) -> &'a LaneNames
-        requires { disk < length self.now.disks }
-        ensures { result.now ≡ disk_name self.now.disks disk }
+    /// The names of the lanes of a kind.
+    fn of_kind(&self, kind: LaneKind) -> &'a [LaneNames]
+        ensures lanes { result.now ≡ lane_names kind self.now }
+        ensures few { number_of_kind kind self.now ≤ 8 }
     {
-        &self.lanes[disk as usize]
+        match kind {
+            LaneKind::Disk => self.disks,
+            LaneKind::Port => self.ports,
+        }
     }
 
-    /// The names of a declared lane: it is a disk's, since no others are declared.
-    #[tactic(auto, using(crate::proofs::DiskNames::declared_number, crate::proofs::DiskNames::declared_name))]
+    /// The names of a declared lane.
+    #[tactic(auto, using(crate::proofs::NamedLanes::name_at))]
     pub fn of_lane(&self, lane: Lane) -> &'a LaneNames
-        requires { IsLane self.now.disks lane }
-        ensures { result.now ≡ lane_name self.now.disks lane }
+        requires { IsLane self.now lane }
+        ensures { result.now ≡ lane_name self.now lane }
     {
-        self.of_disk(lane.number)
+        &self.of_kind(lane.kind)[lane.number as usize]
     }
 }

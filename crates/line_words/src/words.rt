@@ -20,14 +20,16 @@ pub fn side_word(side: Side) -> &'static [u8]
     }
 }
 
-/// Why a request was refused.
+/// Why a request was refused, or a poke, a frame or a group.
 pub fn why_word(why: Why) -> &'static [u8]
     ensures bytes { result.now ≡ why_word why }
-    ensures short { length result.now ≤ 5 }
+    ensures short { length result.now ≤ 6 }
 {
     match why {
         Why::Count => b"count",
         Why::Range => b"range",
+        Why::Length => b"length",
+        Why::Groups => b"groups",
     }
 }
 

@@ -1,6 +1,6 @@
 -- What an event of a port leaves of its wire: forging isn't undone, no step of an end forges or loses anything, and a calm one leaves the wire
 -- as it was. And what a frame that the switch puts into the out queue adds to what remains.
-use Rattle.std.proofs.Common.{◌≡◌, ℕ, ◌+◌, ◌-◌, ◌≤◌, Bool, false, Option, Some, None, List, [], ◌∷◌, ◌++◌, length, refl, sym, subst, ap, ◌∙◌, arith, length-append}
+use Rattle.std.proofs.Common.{◌≡◌, ℕ, ◌+◌, ◌≤◌, Bool, false, Option, Some, None, List, [], ◌∷◌, ◌++◌, length, refl, sym, subst, ap, ◌∙◌, arith, length-append}
 use Rattle.ldc_link.specs.declared.phase.Role.TheVariants.{Initiator, Responder}
 use Rattle.ldc_queue.specs.declared.end.ChannelState.{ChannelState}
 use Rattle.ldc_queue.specs.declared.end.ChannelState.TheVariants.{Down, Resetting, Up}
@@ -20,7 +20,8 @@ use Rattle.port_laws.proofs.PortCounts.{before_wire, wire_event}
 use Rattle.port_laws.proofs.RingEvents.{acts_up}
 use Rattle.port_laws.proofs.RingRuns.{was_clean}
 
-port_wire : (s : PortState) (event : NetEvent) (t : PortState) → PortStep s (OnLane event) t → t.lane.wire ≡ moved_on s.lane.wire (on_wire event)
+-- THE WIRE after an event of its lane
+pub port_wire : (s : PortState) (event : NetEvent) (t : PortState) → PortStep s (OnLane event) t → t.lane.wire ≡ moved_on s.lane.wire (on_wire event)
 port_wire s event t step = wire_event (before event s).lane event t.lane step.1 ∙ ap (λ (w : WireLog). moved_on w (on_wire event)) (before_wire event s)
 
 -- FORGING

@@ -1,19 +1,21 @@
 -- The answer of a settle among the entries of a journal: one that leaves nothing over, or some that name lanes. What stands
 -- before it are entries of lanes, and no part of a line begins with a name.
-use Rattle.std.proofs.Common.{◌≡◌, ◌⊎◌, inl, inr, ℕ, ◌≤◌, Bool, true, false, Some, List, [], ◌∷◌, ◌++◌, length, map, refl, sym, ap, ◌∙◌, subst, arith}
+use Rattle.std.proofs.Common.{◌≡◌, ◌⊎◌, inl, inr, ◌≤◌, Bool, true, false, Some, List, [], ◌∷◌, ◌++◌, length, map, refl, sym, ap, ◌∙◌, subst, arith}
 use Rattle.std.specs.Prelude.{⊤}
-use Rattle.channel_model.specs.WireEvent.{Declines}
-use Rattle.disk_model.specs.DiskEvent.{Asks, Calms, Full, OnWire, Refused}
-use Rattle.disk_model.specs.LaneState.{LaneState}
+use Rattle.world_parts.specs.disk_model.DiskEvent.{DiskEvent}
 use Rattle.ldom_entries.specs.declared.entry.Entry.{Entry}
-use Rattle.ldom_report.specs.DiskEvents.{defect_of}
-use Rattle.ldom_report.specs.LaneEvents.{AtClient, AtLane, AtServer, AtWire, ChangesNothing, LeavesNothing, LeavesOver, Meaning, NoRoomFor, Refuses, meaning}
-use Rattle.world_laws.specs.Lines.{BeginsPart, Line, PartOf}
-use Rattle.world_laws.specs.Settle.{OfLane, OfPort, SettleEntry, SettlePart, Settled, Unsettled, UnsettledPort}
-use Rattle.world_parts.proofs.Meanings.{Holds, disk_has, entry_has, lane_of, left_has, who_has, wire_has}
+use Rattle.ldom_report.specs.LaneEvents.{AtLane, AtPort, AtServer, AtWire, ChangesNothing, LeavesNothing, LeavesOver, Meaning, NoRoomFor, Publishes, Refuses, Switches, TakesFrame, meaning}
+use Rattle.lane_kinds.specs.Settles.{SettlePart}
+use Rattle.world_parts.specs.port_model.PortState.{OnLane, Receives}
+use Rattle.world_parts.specs.switch_laws.Events.{OnPort, Switched}
+use Rattle.world_parts.specs.world_laws.Settle.{OfLane, OfPort, SettleEntry, Settled, Unsettled, UnsettledPort}
+use Rattle.world_parts.proofs.domain_laws.LineEntries.{EachEntry}
+use Rattle.world_parts.specs.domain_laws.Domain.{Lanes, lanes}
+use Rattle.world_parts.specs.domain_laws.Lines.{BeginsPart, Line, PartOf}
+use Rattle.world_parts.proofs.Meanings.{AllOf, Holds, all_events, all_left, entry_has}
 use Rattle.world_parts.specs.Parts.{PartSays}
-use Rattle.world_parts.specs.WorldEvents.{world_event}
-use Rattle.script_laws.proofs.Entries.{IsOfLane, LeavesNone}
+use Rattle.world_parts.specs.WorldEvents.{told_of, world_event}
+use Rattle.script_laws.proofs.Entries.{IsName, IsOfLane, LeavesNone}
 use Rattle.script_laws.proofs.LineEntries.{begins_last, part_is}
 use Rattle.script_laws.proofs.SettleEntries.{AreOfLanes, NamesLast, SettledLast, lanes_alone, out_last, settled_last}
 
@@ -35,28 +37,41 @@ Tells x Settled = (is_end x ≡ true) × (is_name x ≡ false)
 Tells x (Unsettled k) = (is_end x ≡ true) × (is_name x ≡ true)
 Tells x (UnsettledPort k) = (is_end x ≡ true) × (is_name x ≡ true)
 
+abbrev Any : DiskEvent → Type 0
+Any event = ⊤
+
+-- a meaning that belongs to no answer and names no lane
+of_events : (x : Meaning) → is_end x ≡ false → is_name x ≡ false → AllOf Any x → Holds (Tells x) x
+of_events x end name all =
+    all_events (Tells x) Any (record { of_disk = λ k event any. (end, name); of_port = λ k event. (end, name) }) x all
+
 tells : (x : Meaning) → Holds (Tells x) x
-tells (AtWire e event) = wire_has (Tells (AtWire e event)) e.lane event (λ k. (refl, refl))
-tells (AtClient e event) = disk_has (Tells (AtClient e event)) e.lane event (λ k. (refl, refl))
-tells (AtServer e event) = disk_has (Tells (AtServer e event)) e.lane event (λ k. (refl, refl))
-tells (AtLane k event) = (refl, refl)
-tells (NoRoomFor who) = (
-  λ request. who_has (Tells (NoRoomFor who)) who (Asks (Full request)) (λ k. (refl, refl)),
-  λ d. disk_has (Tells (NoRoomFor who)) (lane_of who) (OnWire (Declines d)) (λ k. (refl, refl)),
-)
-tells (Refuses who why) = (
-  λ request. who_has (Tells (Refuses who why)) who (Asks (Refused (defect_of why) request)) (λ k. (refl, refl)),
-  λ d. disk_has (Tells (Refuses who why)) (lane_of who) (OnWire (Declines d)) (λ k. (refl, refl)),
-)
-tells (ChangesNothing who) = (
-  λ calm. disk_has (Tells (ChangesNothing who)) (lane_of who) (Calms calm) (λ k. (refl, refl)),
-  λ d. disk_has (Tells (ChangesNothing who)) (lane_of who) (OnWire (Declines d)) (λ k. (refl, refl)),
-)
-tells (LeavesOver who) = left_has (Tells (LeavesOver who)) who (λ k. (refl, refl))
+tells (AtWire e event) = of_events (AtWire e event) refl refl tt
+tells (AtServer e event) = of_events (AtServer e event) refl refl tt
+tells (AtLane k event) = of_events (AtLane k event) refl refl tt
+tells (AtPort k gets) = of_events (AtPort k gets) refl refl tt
+tells (Publishes e id) = of_events (Publishes e id) refl refl tt
+tells (TakesFrame e frame) = of_events (TakesFrame e frame) refl refl tt
+tells (Switches e frame out full) = of_events (Switches e frame out full) refl refl tt
+tells (NoRoomFor who) = of_events (NoRoomFor who) refl refl (λ request. tt, λ d. tt)
+tells (Refuses who why) = of_events (Refuses who why) refl refl (λ defect request. tt, λ d. tt)
+tells (ChangesNothing who) = of_events (ChangesNothing who) refl refl (λ calm. tt, λ d. tt)
+tells (LeavesOver who) = all_left (Tells (LeavesOver who)) who (λ k. (refl, refl)) (λ k. (refl, refl))
 tells LeavesNothing = (refl, refl)
 
-entry_tells : (asked : Line) (e : Entry) (m : SettleEntry) → world_event asked e ≡ Some m → Tells (meaning e) m
-entry_tells asked e m is = entry_has (Tells (meaning e)) asked e m (tells (meaning e)) is
+-- and so by the entry of which it is told
+of_real : (x : Meaning) (m : SettleEntry) → Tells x (told_of m) → Tells x m
+of_real x (OfPort k (OnPort (OnLane event))) told = told
+of_real x (OfPort k (OnPort (Receives frame))) told = told
+of_real x (OfPort k (Switched frame out full)) told = told
+of_real x m told = told
+
+entry_tells : (asked : Line) (e : Entry) (m : SettleEntry) → world_event asked e ≡ Some (told_of m) → Tells (meaning e) m
+entry_tells asked e m is =
+    of_real (meaning e) m (entry_has (Tells (meaning e)) asked e (told_of m) (tells (meaning e)) is)
+
+abbrev AreSaid : Line → List Entry → List SettleEntry → Type 0
+AreSaid line part entries = map (world_event line) part ≡ map (λ (x : SettleEntry). Some (told_of x)) entries
 
 -- UP TO THE ANSWER, which is the last of these entries
 abbrev AreNames : List Entry → Type 0
@@ -155,20 +170,19 @@ as_up_to [] answer = absurd answer
 as_up_to (e ∷ es) answer = inl answer
 
 up_to : (line : Line) (part : List Entry) (front answer : List SettleEntry)
-    → map (world_event line) part ≡ map Some (front ++ answer) → AreOfLanes front
-    → ((rest : List Entry) → map (world_event line) rest ≡ map Some answer → IsAnswer rest) → UpToAnswer part
+    → AreSaid line part (front ++ answer) → AreOfLanes front
+    → ((rest : List Entry) → AreSaid line rest answer → IsAnswer rest) → UpToAnswer part
 up_to line part [] answer says of_lanes answers = as_up_to part (answers part says)
 up_to line [] (m ∷ front) answer says of_lanes answers = absurd (cc says)
 up_to line (x ∷ part) (m ∷ front) answer says of_lanes answers =
-    let is : world_event line x ≡ Some m = cc says in
-    let others : map (world_event line) part ≡ map Some (front ++ answer) = cc says in
+    let is : world_event line x ≡ Some (told_of m) = cc says in
+    let others : AreSaid line part (front ++ answer) = cc says in
     inr (
       lane_end (meaning x) m of_lanes.0 (entry_tells line x m is),
       up_to line part front answer others of_lanes.1 answers,
     )
 
-settled_answer : (line : Line) (part : List Entry) → map (world_event line) part ≡ map Some (Settled ∷ [])
-    → IsAnswer part
+settled_answer : (line : Line) (part : List Entry) → AreSaid line part (Settled ∷ []) → IsAnswer part
 settled_answer line [] says = absurd (cc says)
 settled_answer line (x ∷ []) says =
     let is : world_event line x ≡ Some Settled = cc says in
@@ -176,36 +190,43 @@ settled_answer line (x ∷ []) says =
     (told.0, inl (told.1, refl))
 settled_answer line (x ∷ y ∷ part) says = absurd (cc says)
 
-are_names : (line : Line) (part : List Entry) (names : List ℕ)
-    → map (world_event line) part ≡ map Some (map Unsettled names) → AreNames part
-are_names line [] names says = tt
-are_names line (x ∷ part) [] says = absurd (cc says)
-are_names line (x ∷ part) (k ∷ names) says =
-    let is : world_event line x ≡ Some (Unsettled k) = cc says in
-    let others : map (world_event line) part ≡ map Some (map Unsettled names) = cc says in
-    ((entry_tells line x (Unsettled k) is).1, are_names line part names others)
+name_end : (x : Meaning) (m : SettleEntry) → IsName m → Tells x m → (is_end x ≡ true) × (is_name x ≡ true)
+name_end x (Unsettled k) name told = told
+name_end x (UnsettledPort k) name told = told
+name_end x _ name told = absurd name
 
-names_answer : (line : Line) (names : List ℕ) → 1 ≤ length names → (part : List Entry)
-    → map (world_event line) part ≡ map Some (map Unsettled names) → IsAnswer part
-names_answer line [] some part says = absurd (omega (arith, some))
-names_answer line (k ∷ names) some [] says = absurd (cc says)
-names_answer line (k ∷ names) some (x ∷ part) says =
-    let is : world_event line x ≡ Some (Unsettled k) = cc says in
-    let others : map (world_event line) part ≡ map Some (map Unsettled names) = cc says in
-    let told = entry_tells line x (Unsettled k) is in
-    (told.0, inr (told.1, are_names line part names others))
+are_names : (line : Line) (part : List Entry) (names : List SettleEntry) → EachEntry IsName names
+    → AreSaid line part names → AreNames part
+are_names line [] names are says = tt
+are_names line (x ∷ part) [] are says = absurd (cc says)
+are_names line (x ∷ part) (m ∷ names) are says =
+    let is : world_event line x ≡ Some (told_of m) = cc says in
+    let others : AreSaid line part names = cc says in
+    ((name_end (meaning x) m are.0 (entry_tells line x m is)).1, are_names line part names are.1 others)
+
+names_answer : (line : Line) (names : List SettleEntry) → EachEntry IsName names → 1 ≤ length names → (part : List Entry)
+    → AreSaid line part names → IsAnswer part
+names_answer line [] are some part says = absurd (omega (arith, some))
+names_answer line (m ∷ names) are some [] says = absurd (cc says)
+names_answer line (m ∷ names) are some (x ∷ part) says =
+    let is : world_event line x ≡ Some (told_of m) = cc says in
+    let others : AreSaid line part names = cc says in
+    let told = name_end (meaning x) m are.0 (entry_tells line x m is) in
+    (told.0, inr (told.1, are_names line part names are.1 others))
 
 pub up_to_settled : (line : Line) (part : List Entry) (entries : List SettleEntry) → PartSays line part entries
     → SettledLast entries → UpToAnswer part
 up_to_settled line part entries says last =
-    up_to line part last.front (Settled ∷ []) (says ∙ ap (λ (l : List SettleEntry). map Some l) last.is) last.of_lanes
+    up_to line part last.front (Settled ∷ [])
+    (says ∙ ap (λ (l : List SettleEntry). map (λ (x : SettleEntry). Some (told_of x)) l) last.is) last.of_lanes
     (settled_answer line)
 
 pub up_to_names : (line : Line) (part : List Entry) (entries : List SettleEntry) → PartSays line part entries
     → (last : NamesLast entries) → 1 ≤ length last.names → UpToAnswer part
 up_to_names line part entries says last some =
-    up_to line part last.front (map Unsettled last.names) (says ∙ ap (λ (l : List SettleEntry). map Some l) last.is)
-    last.of_lanes (names_answer line last.names some)
+    up_to line part last.front last.names
+    (says ∙ ap (λ (l : List SettleEntry). map (λ (x : SettleEntry). Some (told_of x)) l) last.is)
+    last.of_lanes (names_answer line last.names last.are some)
 
 -- A PART BEGINS WITH NO NAME
 abbrev BeginsWithNone : List SettleEntry → Type 0
@@ -214,14 +235,15 @@ BeginsWithNone (m ∷ entries) = LeavesNone m
 
 lane_first : (m : SettleEntry) → IsOfLane m → LeavesNone m
 lane_first (OfLane k event) of_lane = tt
+lane_first (OfPort k event) of_lane = tt
 lane_first _ of_lane = absurd of_lane
 
 settled_begins : (front : List SettleEntry) → AreOfLanes front → BeginsWithNone (front ++ Settled ∷ [])
 settled_begins [] of_lanes = tt
 settled_begins (m ∷ front) of_lanes = lane_first m of_lanes.0
 
-names_begin : (front : List SettleEntry) (names : List ℕ) → AreOfLanes front → (1 ≤ length names → 1 ≤ length front)
-    → BeginsWithNone (front ++ map Unsettled names)
+names_begin : (front names : List SettleEntry) → AreOfLanes front → (1 ≤ length names → 1 ≤ length front)
+    → BeginsWithNone (front ++ names)
 names_begin [] [] of_lanes some = tt
 names_begin [] (k ∷ names) of_lanes some = absurd (omega (arith, some (omega (arith))))
 names_begin (m ∷ front) names of_lanes some = lane_first m of_lanes.0
@@ -232,29 +254,29 @@ by_names entries last = subst BeginsWithNone (sym last.is) (names_begin last.fro
 by_settled : (entries : List SettleEntry) → SettledLast entries → BeginsWithNone entries
 by_settled entries last = subst BeginsWithNone (sym last.is) (settled_begins last.front last.of_lanes)
 
-by_kind : (lanes : List LaneState) (entries : List SettleEntry) (behind : List LaneState)
-    → SettlePart lanes entries behind ⊎ AreOfLanes entries → BeginsWithNone entries
-by_kind lanes entries behind (inl (inl settles)) = by_settled entries (settled_last lanes entries behind settles)
-by_kind lanes entries behind (inl (inr out)) = by_names entries (out_last lanes entries behind out)
-by_kind lanes entries behind (inr of_lanes) = by_names entries (lanes_alone entries of_lanes)
+by_kind : (w : Lanes) (entries : List SettleEntry) (behind : Lanes)
+    → SettlePart lanes w entries behind ⊎ AreOfLanes entries → BeginsWithNone entries
+by_kind w entries behind (inl (inl settles)) = by_settled entries (settled_last w entries behind settles)
+by_kind w entries behind (inl (inr out)) = by_names entries (out_last w entries behind out)
+by_kind w entries behind (inr of_lanes) = by_names entries (lanes_alone entries of_lanes)
 
 unnamed : (line : Line) (part : List Entry) (entries : List SettleEntry) (rest : List Entry) → PartSays line part entries
     → BeginsWithNone entries → BeginsUnnamed rest → BeginsUnnamed (part ++ rest)
 unnamed line [] entries rest says begins more = more
 unnamed line (x ∷ part) [] rest says begins more = absurd (cc says)
 unnamed line (x ∷ part) (m ∷ entries) rest says begins more =
-    let is : world_event line x ≡ Some m = cc says in
+    let is : world_event line x ≡ Some (told_of m) = cc says in
     unnamed_end (meaning x) m begins (entry_tells line x m is)
 
-pub whole_unnamed : (line : Line) (part : List Entry) (entries : List SettleEntry) (lanes behind : List LaneState)
-    (rest : List Entry) → PartSays line part entries → PartOf line lanes entries behind → BeginsUnnamed rest
+pub whole_unnamed : (line : Line) (part : List Entry) (entries : List SettleEntry) (w behind : Lanes)
+    (rest : List Entry) → PartSays line part entries → PartOf line w entries behind → BeginsUnnamed rest
     → BeginsUnnamed (part ++ rest)
-whole_unnamed line part entries lanes behind rest says of_line more =
+whole_unnamed line part entries w behind rest says of_line more =
     unnamed line part entries rest says
-    (by_kind lanes entries behind (part_is line lanes entries behind of_line)) more
+    (by_kind w entries behind (part_is line w entries behind of_line)) more
 
-pub begun_unnamed : (line : Line) (part : List Entry) (entries : List SettleEntry) (lanes behind : List LaneState)
-    (rest : List Entry) → PartSays line part entries → BeginsPart line lanes entries behind → BeginsUnnamed rest
+pub begun_unnamed : (line : Line) (part : List Entry) (entries : List SettleEntry) (w behind : Lanes)
+    (rest : List Entry) → PartSays line part entries → BeginsPart line w entries behind → BeginsUnnamed rest
     → BeginsUnnamed (part ++ rest)
-begun_unnamed line part entries lanes behind rest says begins more =
-    unnamed line part entries rest says (by_names entries (begins_last line lanes entries behind begins)) more
+begun_unnamed line part entries w behind rest says begins more =
+    unnamed line part entries rest says (by_names entries (begins_last line w entries behind begins)) more

@@ -8,10 +8,13 @@ use Rattle.disk_law.specs.ListState.{ImageState}
 use Rattle.domain_script.specs.declared.event.Event.{Event}
 use Rattle.domain_script.specs.declared.event.Event.TheVariants as line
 use Rattle.script_reader.specs.LinesState.{LinesState, to_come}
-use Rattle.domain_script.specs.NamesState.{NamesState, noted}
+use Rattle.domain_script.specs.Declarations.{Declared}
+use Rattle.domain_script.specs.declared.event.DiskDecl.{DiskDecl}
+use Rattle.domain_script.specs.declared.event.PortDecl.{PortDecl}
+use Rattle.domain_script.specs.NamesState.{NamesState, declared_by, noted}
 use Rattle.domain_script.specs.Spells.{Spells}
 use Rattle.domain_script.proofs.ScriptLemmas.{taken-append}
-use Rattle.domain_script.proofs.Spelling.{declared_first}
+use Rattle.domain_script.proofs.Spelling.{declared_first, port_declared_first}
 use Rattle.ldom_entries.specs.declared.entry.Entry.{Entry}
 use Rattle.ldom_report.specs.declared.status.Status.{Status}
 use Rattle.ldom_report.specs.declared.status.Status.TheVariants as status
@@ -30,9 +33,8 @@ use Rattle.script_laws.specs.LanesStand.{LanesStand}
 use Rattle.script_laws.specs.Script.{ReadSoFar}
 use Rattle.domain_script.specs.ScriptEvents.{AllSpell, no_names}
 use Rattle.world_parts.specs.Script.{BeginBelow, FitsScript, ScriptParts, all_lines, entries_in, events_in, events_of, journal_of}
-use Rattle.disk_model.specs.LaneState.{LaneState}
-use Rattle.world_laws.specs.World.{WorldState}
-use Rattle.script_laws.proofs.LineCases.{none_begun, noted_disks, silent, stays_ended}
+use Rattle.world_parts.specs.domain_laws.Domain.{DomainState, Lanes, lanes_in}
+use Rattle.script_laws.proofs.LineCases.{none_begun, noted_disks, noted_ports, silent, stays_ended}
 use Rattle.script_laws.proofs.LineLists.{all_behind, behind_ends, behind_lines, below_both, below_push, by_readers, entries_push, events_behind, events_both, journal_behind, whole_ends}
 use Rattle.script_laws.proofs.ReadLemmas.{opening_halves, other_line, read_none}
 use Rattle.script_laws.proofs.RunLemmas.{keeps_same, line_starts, line_step}
@@ -57,6 +59,24 @@ same_disks (x ∷ xs) before after (e ∷ es) ended spell =
       | inr same ↦ same
     ]
 
+same_ports : (texts : List (List ℕ)) (before after : NamesState) (events : List Event) → before.ended ≡ true → AllSpell texts before events after
+    → after.ports ≡ before.ports
+same_ports [] before after [] ended spell = ap (λ (n : NamesState). n.ports) spell
+same_ports [] before after (e ∷ es) ended spell = absurd spell
+same_ports (x ∷ xs) before after [] ended spell = absurd spell
+same_ports (x ∷ xs) before after (e ∷ es) ended spell =
+    same_ports xs (noted before e) after es (stays_ended before e ended) spell.1 ∙ elim (noted_ports before e) [
+      | inl declares ↦
+          let spells : Spells x before (line.Net declares.0) = subst (λ (n : Event). Spells x before n) declares.1 spell.0 in
+          absurd (cc (ended, (port_declared_first x before declares.0 spells).open_still))
+      | inr same ↦ same
+    ]
+
+same_declared : (before after : NamesState) → after.disks ≡ before.disks → after.ports ≡ before.ports → declared_by after ≡ declared_by before
+same_declared before after disks ports =
+    ap (λ (d : List DiskDecl). declared_by (record { disks = d; ports = after.ports; ended = after.ended })) disks
+    ∙ ap (λ (p : List PortDecl). declared_by (record { disks = before.disks; ports = p; ended = before.ended })) ports
+
 -- before a line was read, what is to come is what the source has left
 pub from_start : (lines : LinesState) (left : Option (List ℕ)) → lines.held ≡ [] → to_come lines left ≡ left
 from_start lines None none = refl
@@ -75,7 +95,7 @@ opening_entries : (events : List Event) → entries_in (opening_lines events) �
 opening_entries [] = refl
 opening_entries (event ∷ events) = opening_entries events
 
-opening_run : (s : WorldState) (events : List Event) → AreOpening events → Run EventStep s (opening_lines events) s
+opening_run : (s : DomainState) (events : List Event) → AreOpening events → Run EventStep s (opening_lines events) s
 opening_run s [] are = refl
 opening_run s (event ∷ events) are = (s, silent s event are.0, opening_run s events are.1)
 
@@ -112,17 +132,17 @@ declared_parts opening = record { whole = opening_lines opening; cut = None }
 abbrev pub begun_parts : List Event → Event → List Entry → ScriptParts
 begun_parts opening event part = record { whole = opening_lines opening; cut = Some (event, part) }
 
-declared_fit : (s : WorldState) (opening : List Event) → AreOpening opening
+declared_fit : (s : DomainState) (opening : List Event) → AreOpening opening
     → FitsScript 0 s (declared_parts opening) s
 declared_fit s opening are =
     record { middle = s; run = opening_run s opening are; last = refl; begin_below = opening_below opening }
 
-none_start : (s : WorldState) (opening : List Event) (event : Event) → AreOpening opening
+none_start : (s : DomainState) (opening : List Event) (event : Event) → AreOpening opening
     → FitsScript 0 s (begun_parts opening event []) s
 none_start s opening event are = record {
   middle = s;
   run = opening_run s opening are;
-  last = record { entries = []; says = refl; begins = record { begins = none_begun event s.lanes; run = refl } };
+  last = record { entries = []; says = refl; begins = record { begins = none_begun event (lanes_in s); run = refl } };
   begin_below = first_below opening event [];
 }
 
@@ -168,7 +188,7 @@ stopped_behind start now held event names count why opens all all_is entries sto
 }
 
 -- THE FIRST EVENT that isn't a declaration, and the lines after it
-module _ (start rest now : Option (List ℕ)) (event : Event) (names after : NamesState) (s m t : WorldState)
+module _ (start rest now : Option (List ℕ)) (event : Event) (names after : NamesState) (s m t : DomainState)
     (journal new : List Entry) (number lines : ℕ) (why : Status) (readers : IsReaders why)
     (opens : Opens start rest event names number) (fits : Fits s (line_of event) [] journal m)
     (runs : RunsLines rest now names journal m number why after new t lines) where
@@ -229,13 +249,14 @@ module _ (start rest now : Option (List ℕ)) (event : Event) (names after : Nam
           fits = all_fit;
           ends = behind_ends front runs.parts why readers runs.ends;
         };
-        disks = same_disks runs.read.texts names after (events_of runs.parts) opens.ended runs.read.spell;
+        declared = same_declared names after (same_disks runs.read.texts names after (events_of runs.parts) opens.ended runs.read.spell)
+            (same_ports runs.read.texts names after (events_of runs.parts) opens.ended runs.read.spell);
         attached = λ _ are. not_opening opens.opening event (other_line event opens.other)
             (opening_halves (opens.opening ++ event ∷ []) (events_of runs.parts) (subst AreOpening events_are are)).0;
       }
 
 -- memory was wanted in the midst of that first event
-pub runs_first_cut : (start now : Option (List ℕ)) (held : List ℕ) (event : Event) (names : NamesState) (s t : WorldState) (journal : List Entry) (number : ℕ)
+pub runs_first_cut : (start now : Option (List ℕ)) (held : List ℕ) (event : Event) (names : NamesState) (s t : DomainState) (journal : List Entry) (number : ℕ)
     → Opens start (prepend_known held now) event names number → FitsSoFar s (line_of event) [] journal t → RunsAll start now names s status.NoMemory names journal t number
 runs_first_cut start now held event names s t journal number opens fits =
     let are : events_of (begun_parts opens.opening event fits.adds.part) ≡ opens.opening ++ event ∷ [] =
@@ -254,7 +275,7 @@ runs_first_cut start now held event names s t journal number opens fits =
         };
         ends = tt;
       };
-      disks = refl;
+      declared = refl;
       attached = λ _ opening. not_opening opens.opening event (other_line event opens.other) (subst AreOpening are opening);
     }
 
@@ -268,12 +289,12 @@ declared_stopped start now why ended names lines opens stop counted =
     stopped_as start now why ended opens.opening (events_of (declared_parts opens.opening)) names 0 0 lines
     (opening_events opens.opening) opens.stopped stop counted
 
-pub runs_none_more : (start now : Option (List ℕ)) (names : NamesState) (s : WorldState) (lines : ℕ) → OpensAndStops start now status.Done names lines → RunsAll start now names s status.Done names [] s lines
+pub runs_none_more : (start now : Option (List ℕ)) (names : NamesState) (s : DomainState) (lines : ℕ) → OpensAndStops start now status.Done names lines → RunsAll start now names s status.Done names [] s lines
 runs_none_more start now names s lines opens = record {
   parts = declared_parts opens.opening;
   stopped = declared_stopped start now status.Done status.Done names lines opens opens.stopped.stop opens.stopped.lines_are;
   journal_is = record { is = opening_entries opens.opening; fits = declared_fit s opens.opening opens.are; ends = refl };
-  disks = refl;
+  declared = refl;
   attached = λ other. absurd (other refl);
 }
 
@@ -293,7 +314,7 @@ ended_stop why faulty names left now held count entries readers = ended_as (λ (
 ended_count : (why : Status) (faulty : Bool) (count : ℕ) → IsReaders why → counted_lines why count ≡ counted_lines (ended_status why faulty) count
 ended_count why faulty count readers = ended_as (λ (w : Status). counted_lines why count ≡ counted_lines w count) why faulty readers (λ is. is) refl
 
-ended_journal : (why : Status) (faulty : Bool) (s t : WorldState) (parts : ScriptParts) (journal : List Entry) → IsReaders why
+ended_journal : (why : Status) (faulty : Bool) (s t : DomainState) (parts : ScriptParts) (journal : List Entry) → IsReaders why
     → JournalIs (ending why) s parts journal t → JournalIs (ending (ended_status why faulty)) s parts journal t
 ended_journal why faulty s t parts journal readers =
     ended_as (λ (w : Status). JournalIs (ending w) s parts journal t) why faulty readers (λ is. is)
@@ -323,12 +344,12 @@ ended_image image why faulty events rest journal readers =
     done false = refl
 
 -- and its lanes
-ended_lanes : {D : Type 0} (image : D) (why : Status) (faulty : Bool) (lanes : List LaneState) (t : WorldState) → IsReaders why → lanes ≡ t.lanes
+ended_lanes : {D : Type 0} (image : D) (why : Status) (faulty : Bool) (lanes : Lanes) (t : DomainState) → IsReaders why → lanes ≡ lanes_in t
     → LanesStand (ended_status why faulty) (Some image) (Some lanes) t
 ended_lanes image why faulty lanes t readers left =
     by_readers (λ (w : Status). LanesStand (ended_status w faulty) (Some image) (Some lanes) t) (done faulty) (λ at fault. same) same (λ at kind. same) same why readers
   where
-    same : Some lanes ≡ Some t.lanes
+    same : Some lanes ≡ Some (lanes_in t)
     same = ap Some left
 
     done : (faulty : Bool) → LanesStand (ended_status status.Done faulty) (Some image) (Some lanes) t
@@ -336,7 +357,7 @@ ended_lanes image why faulty lanes t readers left =
     done false = same
 
 -- a run that ended in its declarations has neither
-opening_lanes : (D : Type 0) (why : Status) (t : WorldState) → IsReaders why → LanesStand {D = D} why None None t
+opening_lanes : (D : Type 0) (why : Status) (t : DomainState) → IsReaders why → LanesStand {D = D} why None None t
 opening_lanes D why t readers = by_readers (λ (w : Status). LanesStand {D = D} w None None t) refl (λ at fault. refl) refl (λ at kind. refl) refl why readers
 
 opening_image : (D : Type 0) (why : Status) (events : List Event) (rest : Option (List ℕ)) → IsReaders why → why ≢ status.Done → AreOpening events → ImageStands {D = D} why events rest [] None
@@ -349,7 +370,7 @@ opening_faults image why faults readers =
     by_readers (λ (w : Status). w ≢ status.Done → FaultsAre w image faults) (λ other. absurd (other refl)) (λ at fault other. tt) (λ other. tt) (λ at kind other. tt) (λ other. tt) why readers
 
 -- nor has one whose image couldn't be attached, or for whose lanes there was no memory
-refused_lanes : (D : Type 0) (fault : AttachFault) (t : WorldState) → LanesStand {D = D} (attach_status fault) None None t
+refused_lanes : (D : Type 0) (fault : AttachFault) (t : DomainState) → LanesStand {D = D} (attach_status fault) None None t
 refused_lanes D Failed t = refl
 refused_lanes D Memory t = refl
 
@@ -400,11 +421,11 @@ nothing_between seen image is = record {
 
 module _ {D : Type 0} (seen : D → ImageState) (start now : Option (List ℕ)) (gives : ℕ → Option (List ℕ)) where
   -- A RUN in a world that ended
-  pub replayed_of : (why : Status) (faulty : Bool) (names after : NamesState) (s t : WorldState) (journal : List Entry) (lines : ℕ) (image : D) (lanes : List LaneState) → IsReaders why → RunsAll start now names s why after journal t lines → s ≡ start_of names gives
-      → StandsBehind (seen image) t.image → lanes ≡ t.lanes → (IsTrue faulty ↔ (0 < t.image.faults))
+  pub replayed_of : (why : Status) (faulty : Bool) (names after : NamesState) (s t : DomainState) (journal : List Entry) (lines : ℕ) (image : D) (lanes : Lanes) → IsReaders why → RunsAll start now names s why after journal t lines → s ≡ start_of names gives
+      → StandsBehind (seen image) t.first.image → lanes ≡ lanes_in t → (IsTrue faulty ↔ (0 < t.first.image.faults))
       → Replayed seen start now gives (ended_status why faulty) lines after journal (Some image) (Some lanes)
   replayed_of why faulty names after s t journal lines image lanes readers runs begins told left tells =
-      let begin : s ≡ start_of after gives = begins ∙ ap (λ (disks : List _). start_of (record { disks = disks; ended = true }) gives) (sym runs.disks) in
+      let begin : s ≡ start_of after gives = begins ∙ ap (λ (d : Declared). start_of (record { disks = d.disks; ports = d.ports; ended = true }) gives) (sym runs.declared) in
       record {
         parts = runs.parts;
         stopped = stopped_as start now why (ended_status why faulty) (events_of runs.parts) (events_of runs.parts) after (length journal) (length journal) lines refl runs.stopped
@@ -412,9 +433,9 @@ module _ {D : Type 0} (seen : D → ImageState) (start now : Option (List ℕ)) 
             (runs.stopped.lines_are ∙ ended_count why faulty runs.stopped.count readers);
         final = t;
         journal_is = ended_journal why faulty (start_of after gives) t runs.parts journal readers
-            (subst (λ (x : WorldState). JournalIs (ending why) x runs.parts journal t) begin runs.journal_is);
+            (subst (λ (x : DomainState). JournalIs (ending why) x runs.parts journal t) begin runs.journal_is);
         image_is = told;
-        faults_are = ended_faults image why faulty t.image.faults readers tells;
+        faults_are = ended_faults image why faulty t.first.image.faults readers tells;
         image_stands = ended_image image why faulty (events_of runs.parts) runs.stopped.left journal readers runs.attached;
         lanes_stand = ended_lanes image why faulty lanes t readers left;
       }
@@ -431,7 +452,7 @@ module _ {D : Type 0} (seen : D → ImageState) (start now : Option (List ℕ)) 
       ends = whole_ends (opening_lines opens.opening) why readers;
     };
     image_is = tt;
-    faults_are = opening_faults None why (start_of names gives).image.faults readers other;
+    faults_are = opening_faults None why (start_of names gives).first.image.faults readers other;
     image_stands = opening_image D why (events_of (declared_parts opens.opening)) opens.stopped.left readers other
         (subst AreOpening (sym (opening_events opens.opening)) opens.are);
     lanes_stand = opening_lanes D why (start_of names gives) readers;
@@ -454,7 +475,7 @@ module _ {D : Type 0} (seen : D → ImageState) (start now : Option (List ℕ)) 
           ends = refused_ends fault parts (opening_entries opened.opening);
         };
         image_is = tt;
-        faults_are = refused_faults {D = D} fault None (start_of names gives).image.faults;
+        faults_are = refused_faults {D = D} fault None (start_of names gives).first.image.faults;
         image_stands = refused_image D fault (events_of parts) opened.stopped.left
             (declared_attaches opened.opening opened.stopped.left opened.are opened.stopped.stop.0);
         lanes_stand = refused_lanes D fault (start_of names gives);
@@ -472,14 +493,14 @@ module _ {D : Type 0} (seen : D → ImageState) (start now : Option (List ℕ)) 
           ends = refused_ends fault parts (first_entries opened.opening event []);
         };
         image_is = tt;
-        faults_are = refused_faults {D = D} fault None (start_of names gives).image.faults;
+        faults_are = refused_faults {D = D} fault None (start_of names gives).first.image.faults;
         image_stands = refused_image D fault (events_of parts) (prepend_known held now)
             (begun_attaches opened.opening event (prepend_known held now) opened.are (other_line event opened.other));
         lanes_stand = refused_lanes D fault (start_of names gives);
       }
 
   -- one whose image is too short
-  pub replayed_short : (need have : ℕ) (held : List ℕ) (first : Option Event) (names : NamesState) (lines : ℕ) (image : D) → seen image ≡ (start_of names gives).image
+  pub replayed_short : (need have : ℕ) (held : List ℕ) (first : Option Event) (names : NamesState) (lines : ℕ) (image : D) → seen image ≡ (start_of names gives).first.image
       → Opened start held now first names lines → Replayed seen start now gives (status.ImageSize need have) lines names [] (Some image) None
   replayed_short need have held None names lines image told opened =
       let parts : ScriptParts = declared_parts opened.opening in
@@ -492,7 +513,7 @@ module _ {D : Type 0} (seen : D → ImageState) (start now : Option (List ℕ)) 
           fits = declared_fit (start_of names gives) opened.opening opened.are;
           ends = opening_entries opened.opening;
         };
-        image_is = nothing_between (seen image) (start_of names gives).image told;
+        image_is = nothing_between (seen image) (start_of names gives).first.image told;
         faults_are = tt;
         image_stands = (refl, declared_attaches opened.opening opened.stopped.left opened.are opened.stopped.stop.0);
         lanes_stand = refl;
@@ -508,7 +529,7 @@ module _ {D : Type 0} (seen : D → ImageState) (start now : Option (List ℕ)) 
           fits = none_start (start_of names gives) opened.opening event opened.are;
           ends = first_entries opened.opening event [];
         };
-        image_is = nothing_between (seen image) (start_of names gives).image told;
+        image_is = nothing_between (seen image) (start_of names gives).first.image told;
         faults_are = tt;
         image_stands = (refl, begun_attaches opened.opening event (prepend_known held now) opened.are (other_line event opened.other));
         lanes_stand = refl;
@@ -528,7 +549,7 @@ module _ {D : Type 0} (seen : D → ImageState) (start now : Option (List ℕ)) 
   }
 
   -- the same run, its parts said otherwise
-  pub replayed_as : (why ended : Status) (lines number : ℕ) (names now_named : NamesState) (journal entries : List Entry) (image disk : Option D) (stand left : Option (List LaneState))
+  pub replayed_as : (why ended : Status) (lines number : ℕ) (names now_named : NamesState) (journal entries : List Entry) (image disk : Option D) (stand left : Option Lanes)
       → ended ≡ why → number ≡ lines → now_named ≡ names → entries ≡ journal → disk ≡ image → left ≡ stand
       → Replayed seen start now gives why lines names journal image stand → Replayed seen start now gives ended number now_named entries disk left
   replayed_as why ended lines number names now_named journal entries image disk stand left status_is lines_are names_are journal_is image_is lanes_are replayed =
@@ -537,4 +558,4 @@ module _ {D : Type 0} (seen : D → ImageState) (start now : Option (List ℕ)) 
       (subst (λ (n : NamesState). Replayed seen start now gives why lines n entries disk left) (sym names_are)
       (subst (λ (l : List Entry). Replayed seen start now gives why lines names l disk left) (sym journal_is)
       (subst (λ (d : Option D). Replayed seen start now gives why lines names journal d left) (sym image_is)
-      (subst (λ (o : Option (List LaneState)). Replayed seen start now gives why lines names journal image o) (sym lanes_are) replayed)))))
+      (subst (λ (o : Option Lanes). Replayed seen start now gives why lines names journal image o) (sym lanes_are) replayed)))))

@@ -1,11 +1,11 @@
 -- A clean script is run to its end, where memory suffices and no count rose.
 use Rattle.std.proofs.Common.{◌≡◌, ◌≢◌, inl, inr, ℕ, ◌*◌, ◌<◌, replicate, ◌≤◌, List, [], ◌∷◌, ◌++◌, length, refl, sym, ◌∙◌, ap, subst, arith, length-append, Option, Some, None, IfSome}
+use Rattle.world_parts.specs.domain_laws.Domain.{Lanes}
 use Rattle.std.specs.Prelude.{◌==◌, if◌then◌else◌, Bool, true, false, IsSome}
 use Rattle.std.specs.Io.KnownBytes.{prepend_known}
 use Rattle.std.specs.Str.{bytes_eq}
 use Rattle.std.proofs.lemmas.Slice.Eq.{bytes_eq-Decides}
 use Rattle.vio_io.specs.Causes.{Rose}
-use Rattle.disk_model.specs.LaneState.{LaneState}
 use Rattle.domain_script.specs.declared.event.Event.{Event}
 use Rattle.domain_script.specs.declared.event.LineFault.{LineFault}
 use Rattle.domain_script.specs.Faults.{first_fault}
@@ -86,7 +86,7 @@ no_fewer bytes (Some rest) texts names after events all taken read spelled =
     let behind = rest_spells texts (script_lines rest) no_names names after events all read (subst (λ (l : List (List ℕ)). AllSpell l no_names all after) taken.0 spelled) in
     blocks_stay (script_lines rest) names after behind.0 behind.1
 
-module _ {D : Type 0} (seen : D → ImageState) (script behind : Option (List ℕ)) (gives : ℕ → Option (List ℕ)) (ran : Status) (lines : ℕ) (names : NamesState) (journal : List Entry) (image : Option D) (lanes : Option (List LaneState)) (run : Replayed seen script behind gives ran lines names journal image lanes)
+module _ {D : Type 0} (seen : D → ImageState) (script behind : Option (List ℕ)) (gives : ℕ → Option (List ℕ)) (ran : Status) (lines : ℕ) (names : NamesState) (journal : List Entry) (image : Option D) (lanes : Option Lanes) (run : Replayed seen script behind gives ran lines names journal image lanes)
     (why : Status) (old new : Option (List ℕ)) (text bytes : List ℕ) (reports : Reports ran why old new text) (known : script ≡ Some bytes) (clean : IsCleanScript bytes)
     (source : ran ≡ status.SourceFault → ⊥) (host : ran ≡ status.HostFault → ⊥) (sink : why ≡ status.SinkFault → ran ≢ status.SinkFault → ⊥) (store : IfSome image (λ disk. (seen disk).faults ≡ 0))
     (size : D → ℕ) (sized : SizeIs size ran (512 * blocks_of names.disks) (gives (512 * blocks_of names.disks)) image) (name : List ℕ) (zeros : name ≡ 45 ∷ [] → (n : ℕ) → gives n ≡ Some (replicate n 0))
@@ -123,7 +123,7 @@ module _ {D : Type 0} (seen : D → ImageState) (script behind : Option (List �
   by_ran status.HostFault ended is replayed = absurd (host ended)
   by_ran (status.ImageSize need have) ended is replayed = absurd (never_short need have ended)
   by_ran status.StoreFault ended is replayed =
-      absurd (store_works image replayed.final.image replayed.faults_are.0 replayed.image_is store replayed.faults_are.1)
+      absurd (store_works image replayed.final.first.image replayed.faults_are.0 replayed.image_is store replayed.faults_are.1)
   by_ran (status.Script at fault) ended is replayed =
       let left : Option (List ℕ) = prepend_known replayed.stopped.held behind in
       let faulty : IsFaulty replayed.stopped.left left names fault = replayed.stopped.stop.0.3 in

@@ -1,15 +1,18 @@
 -- A script's journal, line by line, as its world of lanes reads it; and the world that declared disks make.
-use Rattle.std.proofs.Common.{◌≡◌, ◌≤◌, List, [], ◌∷◌, ◌++◌, length, map, Option, Some, IfSome, refl, sym, ap, ◌∙◌, subst}
+use Rattle.std.proofs.Common.{◌≡◌, ◌≤◌, List, [], ◌∷◌, ◌++◌, length, map, Option, Some, IfSome, refl, sym, ap, ◌∙◌}
 use Rattle.std.specs.List.{cons_option, filter_map}
 use Rattle.runs.specs.Run.{Run}
 use Rattle.disk_law.specs.ListState.{ImageState}
 use Rattle.domain_script.specs.Declarations.{AreDisks}
 use Rattle.domain_script.specs.declared.event.DiskDecl.{DiskDecl}
 use Rattle.domain_script.specs.declared.event.Event.{Event}
-use Rattle.world_laws.specs.Settle.{SettleEntry}
-use Rattle.world_laws.specs.Lines as world
-use Rattle.world_laws.specs.World.{IsWorld, WorldState}
-use Rattle.world_parts.specs.WorldEvents.{world_event}
+use Rattle.world_parts.specs.world_laws.Settle.{SettleEntry}
+use Rattle.world_parts.specs.world_laws.World.{IsWorld}
+use Rattle.world_parts.specs.domain_laws.Domain.{DomainState}
+use Rattle.world_parts.specs.domain_laws.Lines as world
+use Rattle.lane_kinds.proofs.Places.{map_both}
+use Rattle.world_parts.specs.WorldEvents.{told_of, world_event}
+use Rattle.script_laws.proofs.Untold.{all_told}
 use Rattle.ldom_entries.specs.declared.entry.Entry.{Entry}
 use Rattle.script_laws.specs.Told.{told, told_by}
 use Rattle.script_laws.proofs.DiskShapes.{are_shapes, holds_all}
@@ -18,40 +21,41 @@ use Rattle.world_parts.specs.Lines.{EventStep, line_of}
 use Rattle.world_parts.specs.Parts.{PartSays}
 
 -- WHAT A PART SAYS is all that it tells
-mapped_kept : {X Y : Type 0} (f : X → Option Y) (xs : List X) (ys : List Y) → map f xs ≡ map Some ys
-    → filter_map f xs ≡ ys
-mapped_kept {X} {Y} f [] [] is = refl
-mapped_kept {X} {Y} f (x ∷ xs) (y ∷ ys) is =
-    let first : f x ≡ Some y = cc is in
-    let others : map f xs ≡ map Some ys = cc is in
+mapped_kept : {X Y : Type 0} (f : X → Option Y) (g : Y → Y) (xs : List X) (ys : List Y)
+    → map f xs ≡ map (λ (y : Y). Some (g y)) ys → filter_map f xs ≡ map g ys
+mapped_kept {X} {Y} f g [] [] is = refl
+mapped_kept {X} {Y} f g (x ∷ xs) (y ∷ ys) is =
+    let first : f x ≡ Some (g y) = cc is in
+    let others : map f xs ≡ map (λ (y : Y). Some (g y)) ys = cc is in
     ap (λ (o : Option Y). cons_option o (filter_map f xs)) first
-    ∙ ap (λ (l : List Y). y ∷ l) (mapped_kept f xs ys others)
-mapped_kept {X} {Y} f [] (y ∷ ys) is = absurd (cc is)
-mapped_kept {X} {Y} f (x ∷ xs) [] is = absurd (cc is)
+    ∙ ap (λ (l : List Y). g y ∷ l) (mapped_kept f g xs ys others)
+mapped_kept {X} {Y} f g [] (y ∷ ys) is = absurd (cc is)
+mapped_kept {X} {Y} f g (x ∷ xs) [] is = absurd (cc is)
 
 pub says_told : (line : Event × List Entry) (entries : List SettleEntry) → PartSays (line_of line.0) line.1 entries
-    → told_by line ≡ entries
-says_told line entries says = mapped_kept (world_event (line_of line.0)) line.1 entries says
+    → told_by line ≡ all_told entries
+says_told line entries says = mapped_kept (world_event (line_of line.0)) told_of line.1 entries says
 
--- A LINE with its part, as one of the world's
-abbrev pub as_told : Event × List Entry → world.Line × List SettleEntry
-as_told line = (line_of line.0, told_by line)
+-- LINES with their parts, as those of the world: what they tell is told of the parts of these
+pub record AsLines (w : DomainState) (lines : List (Event × List Entry)) (v : DomainState) : Type 0 where
+  pub real : List (world.Line × List SettleEntry)
+  pub run : Run world.LineStep w real v
+  pub told_is : told lines ≡ all_told (world.entries_of_lines real)
 
-pub line_told : (w : WorldState) (line : Event × List Entry) (v : WorldState) → EventStep w line v
-    → world.LineStep w (as_told line) v
-line_told w line v step =
-    subst (λ (part : List SettleEntry). world.LineMoves w (line_of line.0) part v)
-    (sym (says_told line step.entries step.says)) step.moves
-
-pub lines_told : (w : WorldState) (lines : List (Event × List Entry)) (v : WorldState) → Run EventStep w lines v
-    → Run world.LineStep w (map as_told lines) v
-lines_told w [] v run = run
-lines_told w (line ∷ lines) v run = (run.0, line_told w line run.0 run.1, lines_told run.0 lines v run.2)
-
--- and all of them: their parts, one after the other
-pub told_is : (lines : List (Event × List Entry)) → told lines ≡ world.entries_of_lines (map as_told lines)
-told_is [] = refl
-told_is (line ∷ lines) = ap (λ (l : List SettleEntry). told_by line ++ l) (told_is lines)
+pub as_lines : (w : DomainState) (lines : List (Event × List Entry)) (v : DomainState) → Run EventStep w lines v
+    → AsLines w lines v
+as_lines w [] v run = record { real = []; run = run; told_is = refl }
+as_lines w (line ∷ lines) v run =
+    let step = run.1 in
+    let rest : AsLines run.0 lines v = as_lines run.0 lines v run.2 in
+    let later : List SettleEntry = world.entries_of_lines rest.real in
+    record {
+      real = (line_of line.0, step.entries) ∷ rest.real;
+      run = (run.0, step.moves, rest.run);
+      told_is = ap (λ (l : List SettleEntry). l ++ told lines) (says_told line step.entries step.says)
+          ∙ ap (λ (l : List SettleEntry). all_told step.entries ++ l) rest.told_is
+          ∙ sym (map_both told_of step.entries later);
+    }
 
 -- THE WORLD of declared disks, whether its image tells its bytes or not
 pub declared_world : (disks : List DiskDecl) (image : ImageState) → AreDisks disks

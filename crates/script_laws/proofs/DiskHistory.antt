@@ -5,15 +5,15 @@ use Rattle.std.specs.List.{cons_option, filter_map}
 use Rattle.vdisk_msg.specs.declared.request.Request.{Request}
 use Rattle.disk_law.specs.Issued.{CompletesNext, CompletesOnceInOrder, completed, issued}
 use Rattle.disk_law.specs.ListStep as plain
-use Rattle.disk_model.specs.DiskEvent.{DiskEvent}
+use Rattle.world_parts.specs.disk_model.DiskEvent.{DiskEvent}
 use Rattle.domain_script.specs.declared.event.Event.{Event}
 use Rattle.domain_script.specs.declared.event.Event.TheVariants as line
-use Rattle.world_laws.specs.Along.{event_at, happened}
-use Rattle.world_laws.specs.Settle.{OfLane, SettleEntry}
+use Rattle.world_parts.specs.world_laws.Along.{event_at, happened}
+use Rattle.world_parts.specs.world_laws.Settle.{OfLane, SettleEntry}
 use Rattle.ldom_report.specs.DiskEvents.{Defective, NoRoom, Refusal, Said, disk_event, history, refused, refused_for, request_asked, said_of}
 use Rattle.ldom_entries.specs.declared.entry.Entry.{Entry}
-use Rattle.world_laws.proofs.Filtered.{ComesOf, comes_of, filter_both, one_more}
-use Rattle.world_laws.specs.Requests.{request_event, requests_of}
+use Rattle.world_parts.proofs.world_laws.Filtered.{ComesOf, comes_of, filter_both, one_more}
+use Rattle.world_parts.specs.world_laws.Requests.{request_event, requests_of}
 use Rattle.script_laws.proofs.EntryKinds.{Kind, SaysNothing, kept, kind_of}
 use Rattle.script_laws.proofs.Tellings.{Telling, entries_told, means_of, seen_at}
 

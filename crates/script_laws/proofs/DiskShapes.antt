@@ -1,9 +1,9 @@
 -- The shapes of declared disks.
 use Rattle.std.proofs.Common.{◌≡◌, ℕ, zero, suc, ◌+◌, ◌*◌, ◌≤◌, Option, Some, None, IfSome, List, [], ◌∷◌, length, map, slice_get, refl, ap, arith}
-use Rattle.disk_model.specs.LaneState.{IsShape, LaneState, Shape, fresh}
+use Rattle.world_parts.specs.disk_model.LaneState.{IsShape, LaneState, Shape, fresh}
 use Rattle.domain_script.specs.declared.event.DiskDecl.{DiskDecl}
 use Rattle.domain_script.specs.Declarations.{AreDisks, IsDisk}
-use Rattle.world_laws.specs.World.{AreShapes, blocks_in}
+use Rattle.world_parts.specs.world_laws.World.{AreShapes, blocks_in}
 use Rattle.world_parts.specs.Declared.{blocks_of, bytes_needed, shape_of, shapes_of}
 
 is_shape : (first : ℕ) (disk : DiskDecl) → IsDisk disk → IsShape (shape_of first disk)

@@ -6,13 +6,13 @@ use Rattle.runs.specs.Lawful.{Lawful, log_of}
 use Rattle.vdisk_msg.specs.declared.request.Request.{Request}
 use Rattle.disk_law.specs.ListStep as plain
 use Rattle.disk_law.specs.ListStep.{Carries}
-use Rattle.lane_laws.specs.DiskLog.{DiskLog, after}
-use Rattle.disk_model.specs.DiskEvent.{Accepted, Asks, Calms, Desc, DiskEvent, Done, Finished, Full, Misplaced, Moved, OnWire, Published, Refused, Stored, Switches, Works}
-use Rattle.world_laws.proofs.Counted.{count_more}
-use Rattle.world_laws.proofs.LawFacts.{clean_before}
-use Rattle.world_laws.specs.Failures.{is_failed_done}
-use Rattle.world_laws.specs.Requests.{requests_of}
-use Rattle.world_laws.specs.Statuses.{CarriesAsAsked, StatusAt, TellsStore}
+use Rattle.world_parts.specs.lane_laws.DiskLog.{DiskLog, after}
+use Rattle.world_parts.specs.disk_model.DiskEvent.{Accepted, Asks, Calms, Desc, DiskEvent, Done, Finished, Full, Misplaced, Moved, OnWire, Published, Refused, Stored, Switches, Works}
+use Rattle.world_parts.proofs.world_laws.Counted.{count_more}
+use Rattle.world_parts.proofs.world_laws.LawFacts.{clean_before}
+use Rattle.world_parts.specs.world_laws.Failures.{is_failed_done}
+use Rattle.world_parts.specs.world_laws.Requests.{requests_of}
+use Rattle.world_parts.specs.world_laws.Statuses.{CarriesAsAsked, StatusAt, TellsStore}
 use Rattle.script_laws.proofs.EntryKinds.{kept}
 use Rattle.script_laws.specs.Failures.{SucceedsOrFails, has_failed}
 

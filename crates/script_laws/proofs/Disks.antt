@@ -2,21 +2,23 @@
 use Rattle.std.proofs.Common.{◌≡◌, ℕ, ◌≤◌, false, List, ◌∷◌, ◌++◌, length, slice_get, Some, IfSome, ap, ◌∙◌, subst}
 use Rattle.runs.specs.Run.{Run}
 use Rattle.disk_law.specs.ListState.{ImageState}
-use Rattle.disk_model.specs.DiskEvent.{Done, Works}
-use Rattle.disk_model.specs.LaneState.{IsShape, LaneState, Shape, fresh}
-use Rattle.disk_model.specs.LaneStep.{LaneStep}
+use Rattle.world_parts.specs.disk_model.DiskEvent.{Done, Works}
+use Rattle.world_parts.specs.disk_model.LaneState.{IsShape, LaneState, Shape, fresh}
+use Rattle.world_parts.specs.disk_model.LaneStep.{LaneStep}
 use Rattle.domain_script.specs.Declarations.{AreDisks}
 use Rattle.domain_script.specs.declared.event.DiskDecl.{DiskDecl}
-use Rattle.world_laws.specs.Along.{happened}
-use Rattle.lane_laws.specs.Headline.{CompletionShows}
-use Rattle.lane_laws.specs.ImageStep.{region_of}
-use Rattle.world_laws.specs.Settle.{OfLane, SettleEntry}
-use Rattle.world_laws.specs.Sums.{IsUnforged}
-use Rattle.world_laws.proofs.Along.{lane_at, lanes_run, shape_at}
-use Rattle.world_laws.proofs.LaneLists.{each_there}
-use Rattle.world_laws.specs.World.{IsWorld, WorldState, WorldStep}
-use Rattle.channel_model.specs.WireLog.{WireLog}
-use Rattle.world_laws.proofs.Forging.{forged_by_events}
+use Rattle.world_parts.specs.world_laws.Along.{happened}
+use Rattle.world_parts.specs.lane_laws.Headline.{CompletionShows}
+use Rattle.world_parts.specs.lane_laws.ImageStep.{region_of}
+use Rattle.world_parts.specs.world_laws.Settle.{OfLane, SettleEntry}
+use Rattle.world_parts.specs.world_laws.Sums.{IsUnforged}
+use Rattle.world_parts.proofs.world_laws.Along.{lane_at, lanes_run, shape_at}
+use Rattle.world_parts.proofs.world_laws.LaneLists.{each_there}
+use Rattle.world_parts.specs.world_laws.World.{IsWorld, WorldStep, fresh_world}
+use Rattle.world_parts.specs.domain_laws.Domain.{DomainState}
+use Rattle.world_parts.specs.port_model.NetLaneState.{NetShape}
+use Rattle.world_parts.specs.channel_model.WireLog.{WireLog}
+use Rattle.world_parts.proofs.world_laws.Forging.{forged_by_events}
 use Rattle.script_laws.proofs.Failing.{fails_by_events}
 use Rattle.script_laws.proofs.FinishedBy.{finished_by}
 use Rattle.script_laws.proofs.Leading.{Leads}
@@ -30,12 +32,12 @@ use Rattle.script_laws.specs.Lanes.{LaneStands}
 use Rattle.script_laws.specs.Settled.{IsFinishedBy}
 use Rattle.script_laws.specs.Told.{log_at}
 use Rattle.script_laws.proofs.DiskShapes.{are_shapes}
-use Rattle.world_laws.proofs.WorldLaws.{lanes_well}
-use Rattle.world_laws.specs.Failures.{NeverFailed}
-use Rattle.world_laws.proofs.Contents.{own_all, own_holds}
-use Rattle.world_laws.proofs.Fronts.{front_completion}
-use Rattle.world_parts.specs.Declared.{bytes_needed, shapes_of, world_of}
-use Rattle.world_laws.proofs.WorldWords.{lane_agrees, lane_lawful}
+use Rattle.world_parts.proofs.world_laws.WorldLaws.{lanes_well}
+use Rattle.world_parts.specs.world_laws.Failures.{NeverFailed}
+use Rattle.world_parts.proofs.world_laws.Contents.{own_all, own_holds}
+use Rattle.world_parts.proofs.world_laws.Fronts.{front_completion}
+use Rattle.world_parts.specs.Declared.{bytes_needed, shapes_of}
+use Rattle.world_parts.proofs.world_laws.WorldWords.{lane_agrees, lane_lawful}
 
 -- BEHIND A SETTLE
 finishes : (disks : List DiskDecl) (image : ImageState) (x : ℕ) (shape : Shape) → AreDisks disks
@@ -54,22 +56,22 @@ finishes disks image x shape are of_shape before of clean runs =
     finished_by shape (happened x before) s (shape_at 0 shapes x shape shapes_are of_shape) run
     (of.finished x s lane.1 unforged (agrees.stopped ∙ runs))
 
-module _ (disks : List DiskDecl) (image : ImageState) (are : AreDisks disks)
+module _ (disks : List DiskDecl) (nets : List NetShape) (image : ImageState) (are : AreDisks disks)
     (long : IfSome image.told (λ bytes. bytes_needed disks ≤ length bytes)) (entries : List SettleEntry)
-    (v : WorldState) (leads : Leads disks image entries v) (x : ℕ) (shape : Shape) (s : LaneState)
-    (of_shape : slice_get (shapes_of 0 disks) x ≡ Some shape) (there : slice_get v.lanes x ≡ Some s) where
+    (v : DomainState) (leads : Leads disks nets image entries v) (x : ℕ) (shape : Shape) (s : LaneState)
+    (of_shape : slice_get (shapes_of 0 disks) x ≡ Some shape) (there : slice_get v.first.lanes x ≡ Some s) where
   world : IsWorld (shapes_of 0 disks) image
   world = declared_world disks image are long
 
   lane_run : Run LaneStep (fresh shape) (happened x entries) s
-  lane_run = (lanes_run (shapes_of 0 disks) image entries v leads.run).each x shape s of_shape there
+  lane_run = (lanes_run (shapes_of 0 disks) image entries v.first leads.run).each x shape s of_shape there
 
   is_shape : IsShape shape
   is_shape = shape_at 0 (shapes_of 0 disks) x shape (are_shapes 0 disks are) of_shape
 
   stands : LaneStands shape x entries s
   stands = record {
-    lawful = lane_lawful (shapes_of 0 disks) image entries v x shape (are_shapes 0 disks are) leads.run of_shape;
+    lawful = lane_lawful (shapes_of 0 disks) image entries v.first x shape (are_shapes 0 disks are) leads.run of_shape;
     now = stands_at shape (happened x entries) s is_shape lane_run;
     always = λ before behind is.
         moment shape x before behind s is_shape
@@ -83,7 +85,8 @@ module _ (disks : List DiskDecl) (image : ImageState) (are : AreDisks disks)
       → CompletionShows (region_of shape first) (log_at shape x before) status bytes
   completion first told unforged well before id operation status bytes behind is =
       front_completion (shapes_of 0 disks) image first x shape world told of_shape before id operation status bytes
-      behind v s (subst (λ (l : List SettleEntry). Run WorldStep (world_of disks image) l v) is leads.run) there
+      behind v.first s
+      (subst (λ (l : List SettleEntry). Run WorldStep (fresh_world (shapes_of 0 disks) image) l v.first) is leads.run) there
       unforged well
 
   reads : (first : List ℕ) → image.told ≡ Some first → IsUnforged s → s.failed ≡ false → ReadsShow shape x first entries
@@ -94,20 +97,20 @@ module _ (disks : List DiskDecl) (image : ImageState) (are : AreDisks disks)
         (completion first told unforged well before id operation status bytes behind is);
   }
 
-  holds : (first bytes : List ℕ) → image.told ≡ Some first → v.image.told ≡ Some bytes → IsUnforged s
+  holds : (first bytes : List ℕ) → image.told ≡ Some first → v.first.image.told ≡ Some bytes → IsUnforged s
       → s.failed ≡ false → DiskHolds shape x first entries bytes
   holds first bytes told now unforged well = record {
-    holds = own_holds (shapes_of 0 disks) image first x shape world told of_shape entries v s bytes leads.run there
+    holds = own_holds (shapes_of 0 disks) image first x shape world told of_shape entries v.first s bytes leads.run there
         unforged well now;
-    all = own_all (shapes_of 0 disks) image first x shape world told of_shape entries v s bytes leads.run there unforged
+    all = own_all (shapes_of 0 disks) image first x shape world told of_shape entries v.first s bytes leads.run there unforged
         well now;
   }
 
-  unfailed : v.image.faults ≡ 0 → s.failed ≡ false
+  unfailed : v.first.image.faults ≡ 0 → s.failed ≡ false
   unfailed none =
-      each_there NeverFailed v.lanes x s (lanes_well (shapes_of 0 disks) image entries v leads.run none) there
+      each_there NeverFailed v.first.lanes x s (lanes_well (shapes_of 0 disks) image entries v.first leads.run none) there
 
-  pub of_disk : OfDisk shape x image entries s v.image
+  pub of_disk : OfDisk shape x image entries s v.first.image
   of_disk = record {
     stands = stands;
     finishes = λ before behind is. finishes disks image x shape are of_shape before (leads.finished before behind is);

@@ -1,12 +1,13 @@
 -- Conditions on entries: those of lanes; and those that aren't the answer of a settle, or name no lane that is left over.
-use Rattle.std.proofs.Common.{ℕ, List, [], ◌∷◌, map}
+use Rattle.std.proofs.Common.{List, [], ◌∷◌}
 use Rattle.std.specs.Prelude.{⊤}
-use Rattle.world_laws.proofs.LineEntries.{EachEntry}
-use Rattle.world_laws.specs.Settle.{OfLane, SettleEntry, Settled, Unsettled, UnsettledPort}
+use Rattle.world_parts.specs.world_laws.Settle.{OfLane, OfPort, SettleEntry, Settled, Unsettled, UnsettledPort}
+use Rattle.world_parts.proofs.domain_laws.LineEntries.{EachEntry}
 
 -- an event of a lane
 abbrev pub IsOfLane : SettleEntry → Type 0
 IsOfLane (OfLane k event) = ⊤
+IsOfLane (OfPort k event) = ⊤
 IsOfLane _ = ⊥
 
 -- no lane is left over by it
@@ -14,6 +15,12 @@ abbrev pub LeavesNone : SettleEntry → Type 0
 LeavesNone (Unsettled k) = ⊥
 LeavesNone (UnsettledPort k) = ⊥
 LeavesNone _ = ⊤
+
+-- it names a lane that is left over
+abbrev pub IsName : SettleEntry → Type 0
+IsName (Unsettled k) = ⊤
+IsName (UnsettledPort k) = ⊤
+IsName _ = ⊥
 
 -- it doesn't say that all is settled
 abbrev pub NotSettled : SettleEntry → Type 0
@@ -23,6 +30,7 @@ NotSettled _ = ⊤
 -- events of lanes leave no disk over, and don't say so
 lane_leaves : (entry : SettleEntry) → IsOfLane entry → LeavesNone entry
 lane_leaves (OfLane k event) is = tt
+lane_leaves (OfPort k event) is = tt
 lane_leaves _ is = absurd is
 
 pub lanes_leave : (part : List SettleEntry) → EachEntry IsOfLane part → EachEntry LeavesNone part
@@ -31,6 +39,7 @@ lanes_leave (entry ∷ part) each = (lane_leaves entry each.0, lanes_leave part 
 
 lane_unsettled : (entry : SettleEntry) → IsOfLane entry → NotSettled entry
 lane_unsettled (OfLane k event) is = tt
+lane_unsettled (OfPort k event) is = tt
 lane_unsettled _ is = absurd is
 
 pub lanes_unsettled : (part : List SettleEntry) → EachEntry IsOfLane part → EachEntry NotSettled part
@@ -38,6 +47,11 @@ lanes_unsettled [] each = tt
 lanes_unsettled (entry ∷ part) each = (lane_unsettled entry each.0, lanes_unsettled part each.1)
 
 -- nor do names
-pub names_unsettled : (names : List ℕ) → EachEntry NotSettled (map Unsettled names)
-names_unsettled [] = tt
-names_unsettled (k ∷ names) = (tt, names_unsettled names)
+name_unsettled : (entry : SettleEntry) → IsName entry → NotSettled entry
+name_unsettled (Unsettled k) is = tt
+name_unsettled (UnsettledPort k) is = tt
+name_unsettled _ is = absurd is
+
+pub names_unsettled : (names : List SettleEntry) → EachEntry IsName names → EachEntry NotSettled names
+names_unsettled [] each = tt
+names_unsettled (entry ∷ names) each = (name_unsettled entry each.0, names_unsettled names each.1)

@@ -1,13 +1,13 @@
 -- A disk's state says whether a call of its store failed, and so do its events.
 use Rattle.std.proofs.Common.{◌≡◌, ◌↔◌, false, List, [], ◌∷◌, refl, sym, ap, ◌∙◌}
 use Rattle.runs.specs.Run.{Run}
-use Rattle.disk_model.specs.DiskEvent.{Asks, DiskEvent, OnWire, Calms, Stored, Switches, Works}
-use Rattle.disk_model.specs.LaneState.{LaneState, Shape, fresh}
-use Rattle.disk_model.specs.LaneStep.{LaneStep}
-use Rattle.lane_laws.proofs.FailedRuns.{failed_before, stored_well}
+use Rattle.world_parts.specs.disk_model.DiskEvent.{Asks, DiskEvent, OnWire, Calms, Stored, Switches, Works}
+use Rattle.world_parts.specs.disk_model.LaneState.{LaneState, Shape, fresh}
+use Rattle.world_parts.specs.disk_model.LaneStep.{LaneStep}
+use Rattle.world_parts.proofs.lane_laws.FailedRuns.{failed_before, stored_well}
 use Rattle.script_laws.specs.Contents.{NoStoreFailed}
-use Rattle.world_laws.proofs.FailedStays.{failed_stays}
-use Rattle.world_laws.specs.Failures.{is_failed_store}
+use Rattle.world_parts.proofs.world_laws.FailedStays.{failed_stays}
+use Rattle.world_parts.specs.world_laws.Failures.{is_failed_store}
 
 -- ONE EVENT
 event_well : (s : LaneState) (event : DiskEvent) (t : LaneState) → LaneStep s event t → t.failed ≡ false

@@ -3,18 +3,18 @@ use Rattle.std.proofs.Common.{◌≡◌, ℕ, ◌-◌, ◌≤◌, Bool, true, fa
 use Rattle.std.specs.Prelude.{◌&&◌, is_some}
 use Rattle.runs.specs.Lawful.{log_of, run_lawful}
 use Rattle.runs.specs.Run.{Run}
-use Rattle.disk_model.specs.ClientState.{ClientSession, is_finished, is_nothing}
-use Rattle.disk_model.specs.DiskEvent.{DiskEvent}
-use Rattle.disk_model.specs.LaneState.{IsShape, LaneState, Shape, fresh}
-use Rattle.disk_model.specs.LaneStep.{LaneStep}
-use Rattle.lane_laws.proofs.AgreementRuns.{run_agrees}
-use Rattle.lane_laws.proofs.CarriedRuns.{AllStand, all_step, fresh_all}
-use Rattle.lane_laws.proofs.StandingRuns.{pending_is}
-use Rattle.lane_laws.specs.Agreement.{AgreesWithLog, ClientAgrees}
-use Rattle.lane_laws.specs.DiskLog.{DiskLog, after, nothing_yet}
-use Rattle.lane_laws.specs.RequestLaws.{CarriesAt}
-use Rattle.lane_laws.specs.Standing.{RequestsStand}
-use Rattle.lane_laws.specs.WorkLog.{ClientCounts}
+use Rattle.world_parts.specs.disk_model.ClientState.{ClientSession, is_finished, is_nothing}
+use Rattle.world_parts.specs.disk_model.DiskEvent.{DiskEvent}
+use Rattle.world_parts.specs.disk_model.LaneState.{IsShape, LaneState, Shape, fresh}
+use Rattle.world_parts.specs.disk_model.LaneStep.{LaneStep}
+use Rattle.world_parts.proofs.lane_laws.AgreementRuns.{run_agrees}
+use Rattle.world_parts.proofs.lane_laws.CarriedRuns.{AllStand, all_step, fresh_all}
+use Rattle.world_parts.proofs.lane_laws.StandingRuns.{pending_is}
+use Rattle.world_parts.specs.lane_laws.Agreement.{AgreesWithLog, ClientAgrees}
+use Rattle.world_parts.specs.lane_laws.DiskLog.{DiskLog, after, nothing_yet}
+use Rattle.world_parts.specs.lane_laws.RequestLaws.{CarriesAt}
+use Rattle.world_parts.specs.lane_laws.Standing.{RequestsStand}
+use Rattle.world_parts.specs.lane_laws.WorkLog.{ClientCounts}
 use Rattle.script_laws.specs.Settled.{IsFinishedBy}
 use Rattle.vdisk_msg.specs.declared.request.Request.{Request}
 

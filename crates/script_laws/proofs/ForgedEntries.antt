@@ -1,18 +1,20 @@
 -- A journal that forges a disk nowhere tells its lane of nothing that forges.
-use Rattle.std.proofs.Common.{◌≡◌, ℕ, ◌==◌, if◌then◌else◌, Bool, true, false, Option, Some, None, option_map, List, [], ◌∷◌, ◌++◌, refl}
+use Rattle.std.proofs.Common.{◌≡◌, ℕ, ◌==◌, if◌then◌else◌, Bool, true, false, List, [], ◌∷◌, ◌++◌, refl}
 use Rattle.std.proofs.lemmas.Bool.{eqb-true}
-use Rattle.channel_model.specs.WireEvent.{Declines, Injected, Poked, WireEvent}
-use Rattle.disk_model.specs.DiskEvent.{Asks, Calms, DiskEvent, Full, OnWire, Refused}
-use Rattle.domain_script.specs.LaneKinds.{disk_of}
+use Rattle.world_parts.specs.channel_model.WireEvent.{Injected, Poked, WireEvent}
+use Rattle.world_parts.specs.disk_model.DiskEvent.{DiskEvent, OnWire}
+use Rattle.domain_script.specs.declared.fields.LaneKind.{LaneKind}
+use Rattle.domain_script.specs.declared.fields.LaneKind.TheVariants as kinds
+use Rattle.domain_script.specs.LaneKinds.{if_disk}
 use Rattle.ldom_entries.specs.declared.entry.Entry.{Entry}
 use Rattle.ldom_entries.specs.declared.entry.Entry.TheVariants as entry
-use Rattle.ldom_report.specs.DiskEvents.{defect_of}
-use Rattle.ldom_report.specs.LaneEvents.{AtClient, AtLane, AtServer, AtWire, ChangesNothing, LeavesNothing, LeavesOver, Meaning, NoRoomFor, Refuses, meaning}
-use Rattle.world_laws.specs.Along.{event_at, happened}
-use Rattle.world_laws.specs.Forged.{NobodyForges, forges}
-use Rattle.world_laws.specs.Settle.{OfLane, SettleEntry}
-use Rattle.world_parts.proofs.Meanings.{Has, Holds, disk_has, entry_has, lane_of, left_has, who_has, wire_has}
+use Rattle.ldom_report.specs.LaneEvents.{AtLane, AtPort, AtServer, AtWire, ChangesNothing, LeavesNothing, LeavesOver, Meaning, NoRoomFor, Publishes, Refuses, Switches, TakesFrame, meaning}
+use Rattle.world_parts.specs.world_laws.Along.{event_at, happened}
+use Rattle.world_parts.specs.world_laws.Forged.{NobodyForges, forges}
+use Rattle.world_parts.specs.world_laws.Settle.{OfLane, SettleEntry}
+use Rattle.world_parts.proofs.Meanings.{AllOf, Holds, all_events, all_left, entry_has}
 use Rattle.world_parts.specs.Lines.{line_of}
+use Rattle.world_parts.specs.WorldEvents.{wire_by}
 use Rattle.script_laws.specs.Forged.{IsOther, IsUnforged, forged_disk}
 use Rattle.script_laws.proofs.Tellings.{Telling, entries_told, means_of}
 
@@ -31,13 +33,20 @@ unless : (b : Bool) (event : DiskEvent) → (b ≡ true → ⊥) → NobodyForge
 unless true event other = absurd (other refl)
 unless false event other = tt
 
-of_other : (x : ℕ) (event : WireEvent) (o : Option ℕ) → IsOther x o → Has (Leaves x) (option_map (λ k. OfLane k (OnWire event)) o)
-of_other x event None other = tt
-of_other x event (Some k) other = unless (k == x) (OnWire event) (λ same. other (eqb-true k x same))
+-- on the wire of a lane that isn't the disk x
+of_other : (x : ℕ) (event : WireEvent) (kind : LaneKind) (n : ℕ) → IsOther x (if_disk kind n) → Leaves x (wire_by kind n event)
+of_other x event kinds.Disk n other = unless (n == x) (OnWire event) (λ same. other (eqb-true n x same))
+of_other x event kinds.Port n other = tt
+
+abbrev ForgesNone : DiskEvent → Type 0
+ForgesNone event = forges event ≡ false
+
+of_events : (x : ℕ) (m : Meaning) → AllOf ForgesNone m → Holds (Leaves x) m
+of_events x m all =
+    all_events (Leaves x) ForgesNone (record { of_disk = λ k event none. leaves x k event none; of_port = λ k event. tt }) m all
 
 -- no event but one on the wire forges
 abbrev aside : Meaning → Bool
-aside (AtClient e event) = forges event
 aside (AtServer e event) = forges event
 aside (AtLane k event) = forges event
 aside _ = false
@@ -48,26 +57,19 @@ never_aside _ = refl
 
 -- BY WHAT AN ENTRY MEANS
 means_leaves : (x : ℕ) (m : Meaning) → aside m ≡ false → IsOther x (forged_disk m) → Holds (Leaves x) m
-means_leaves x (AtWire e (Injected d packet)) none other = of_other x (Injected d packet) (disk_of e.lane) other
-means_leaves x (AtWire e (Poked d at bytes)) none other = of_other x (Poked d at bytes) (disk_of e.lane) other
-means_leaves x (AtWire e event) none other = wire_has (Leaves x) e.lane event (λ k. leaves x k (OnWire event) refl)
-means_leaves x (AtClient e event) none other = disk_has (Leaves x) e.lane event (λ k. leaves x k event none)
-means_leaves x (AtServer e event) none other = disk_has (Leaves x) e.lane event (λ k. leaves x k event none)
-means_leaves x (AtLane k event) none other = leaves x k event none
-means_leaves x (NoRoomFor who) none other = (
-  λ request. who_has (Leaves x) who (Asks (Full request)) (λ k. leaves x k (Asks (Full request)) refl),
-  λ d. disk_has (Leaves x) (lane_of who) (OnWire (Declines d)) (λ k. leaves x k (OnWire (Declines d)) refl),
-)
-means_leaves x (Refuses who why) none other = (
-  λ request. who_has (Leaves x) who (Asks (Refused (defect_of why) request))
-      (λ k. leaves x k (Asks (Refused (defect_of why) request)) refl),
-  λ d. disk_has (Leaves x) (lane_of who) (OnWire (Declines d)) (λ k. leaves x k (OnWire (Declines d)) refl),
-)
-means_leaves x (ChangesNothing who) none other = (
-  λ calm. disk_has (Leaves x) (lane_of who) (Calms calm) (λ k. leaves x k (Calms calm) refl),
-  λ d. disk_has (Leaves x) (lane_of who) (OnWire (Declines d)) (λ k. leaves x k (OnWire (Declines d)) refl),
-)
-means_leaves x (LeavesOver who) none other = left_has (Leaves x) who (λ k. tt)
+means_leaves x (AtWire e (Injected d packet)) none other = of_other x (Injected d packet) e.lane.kind e.lane.number other
+means_leaves x (AtWire e (Poked d at bytes)) none other = of_other x (Poked d at bytes) e.lane.kind e.lane.number other
+means_leaves x (AtWire e event) none other = of_events x (AtWire e event) refl
+means_leaves x (AtServer e event) none other = of_events x (AtServer e event) none
+means_leaves x (AtLane k event) none other = of_events x (AtLane k event) none
+means_leaves x (AtPort k gets) none other = of_events x (AtPort k gets) tt
+means_leaves x (Publishes e id) none other = of_events x (Publishes e id) refl
+means_leaves x (TakesFrame e frame) none other = of_events x (TakesFrame e frame) tt
+means_leaves x (Switches e frame out full) none other = of_events x (Switches e frame out full) tt
+means_leaves x (NoRoomFor who) none other = of_events x (NoRoomFor who) (λ request. refl, λ d. refl)
+means_leaves x (Refuses who why) none other = of_events x (Refuses who why) (λ defect request. refl, λ d. refl)
+means_leaves x (ChangesNothing who) none other = of_events x (ChangesNothing who) (λ calm. refl, λ d. refl)
+means_leaves x (LeavesOver who) none other = all_left (Leaves x) who (λ k. tt) (λ k. tt)
 means_leaves x LeavesNothing none other = tt
 
 both_leave : (one two : List DiskEvent) → NobodyForges one → NobodyForges two → NobodyForges (one ++ two)

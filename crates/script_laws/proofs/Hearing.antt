@@ -2,15 +2,15 @@
 use Rattle.std.proofs.Common.{◌≡◌, false, List, sym, subst}
 use Rattle.runs.specs.Lawful.{log_of}
 use Rattle.runs.specs.Run.{Run}
-use Rattle.lane_laws.specs.DiskLog.{after, nothing_yet}
-use Rattle.disk_model.specs.DiskEvent.{DiskEvent}
-use Rattle.disk_model.specs.LaneState.{IsShape, LaneState, Shape, fresh}
-use Rattle.disk_model.specs.LaneStep.{LaneStep}
-use Rattle.lane_laws.proofs.LaneCores.{transcript_is}
-use Rattle.lane_laws.proofs.HeardFront.{heard_messages, heard_packets}
-use Rattle.lane_laws.specs.LaneTranscripts.{transcript_behind}
-use Rattle.channel_model.specs.TranscriptLog.{TranscriptLog}
-use Rattle.channel_model.specs.WireAt.{IsUp}
+use Rattle.world_parts.specs.lane_laws.DiskLog.{after, nothing_yet}
+use Rattle.world_parts.specs.disk_model.DiskEvent.{DiskEvent}
+use Rattle.world_parts.specs.disk_model.LaneState.{IsShape, LaneState, Shape, fresh}
+use Rattle.world_parts.specs.disk_model.LaneStep.{LaneStep}
+use Rattle.world_parts.proofs.lane_laws.LaneCores.{transcript_is}
+use Rattle.world_parts.proofs.lane_laws.HeardFront.{heard_messages, heard_packets}
+use Rattle.world_parts.specs.lane_laws.LaneTranscripts.{transcript_behind}
+use Rattle.world_parts.specs.channel_model.TranscriptLog.{TranscriptLog}
+use Rattle.world_parts.specs.channel_model.WireAt.{IsUp}
 use Rattle.ldc_queue.specs.declared.end.End.{End}
 use Rattle.script_laws.specs.Lanes.{HearsAFront}
 

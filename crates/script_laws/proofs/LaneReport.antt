@@ -1,5 +1,5 @@
--- What a report tells of the entries of a journal, and of those of lanes: their lines, the ids of completions, and how
--- many resets there were.
+-- What a report tells of the entries of a journal, and of those of disks: their lines, the ids of completions, how many
+-- resets there were, and how many frames guests took: none of those of disks.
 use Rattle.std.proofs.Common.{◌≡◌, ℕ, ◌+◌, List, [], ◌∷◌, ◌++◌, length, sym, ◌∙◌, ap, arith, length-append}
 use Rattle.std.specs.Prelude.{codes}
 use Rattle.std.specs.List.{flat_map}
@@ -9,20 +9,20 @@ use Rattle.std.proofs.lemmas.List.Sums.{sum_by-append}
 use Rattle.ldc_queue.specs.declared.end.End.{End}
 use Rattle.ldc_queue.specs.declared.end.End.TheVariants.{A, B}
 use Rattle.vdisk_msg.specs.Requests.{BadCount, BadRange, Defect}
-use Rattle.channel_model.specs.WireEvent.{Reset}
+use Rattle.world_parts.specs.channel_model.WireEvent.{Reset}
 use Rattle.disk_law.proofs.Counted.{completed-append}
 use Rattle.disk_law.specs.Issued.{completed}
 use Rattle.disk_law.specs.ListStep as plain
-use Rattle.disk_model.specs.DiskEvent.{Asks, Done, Full, OnWire, Refused, Works}
+use Rattle.world_parts.specs.disk_model.DiskEvent.{Asks, Done, Full, OnWire, Refused, Works}
 use Rattle.domain_script.specs.declared.event.DiskDecl.{DiskDecl}
 use Rattle.domain_script.specs.LaneKinds.{disk_lane}
 use Rattle.domain_script.specs.declared.event.Side.{Side}
 use Rattle.domain_script.specs.declared.event.Side.TheVariants.{Client, Server}
-use Rattle.world_laws.specs.Settle.{OfLane, SettleEntry, Settled, Unsettled}
+use Rattle.world_parts.specs.world_laws.Settle.{OfLane, SettleEntry, Settled, Unsettled}
 use Rattle.kept_requests.specs.Bytes.{filled}
 use Rattle.ldom_report.specs.DiskEvents.{said, said_of_any, whole_history}
 use Rattle.ldom_report.specs.EntryText.{entry_lines, line_text, report_entries}
-use Rattle.ldom_report.specs.Report.{accepted_count, done_count, reset_count}
+use Rattle.ldom_report.specs.Report.{accepted_count, done_count, frame_count, reset_count}
 use Rattle.ldom_entries.specs.declared.entry.Entry.{Entry}
 use Rattle.ldom_entries.specs.declared.entry.Entry.TheVariants as entry
 use Rattle.ldom_entries.specs.declared.entry.Who.TheVariants.{Lane as OfWhole}
@@ -30,7 +30,8 @@ use Rattle.ldom_entries.specs.declared.entry.Why.{Why}
 use Rattle.ldom_entries.specs.declared.entry.Why.TheVariants.{Count, Range}
 use Rattle.ldom_report.specs.declared.status.Mode.TheVariants as mode
 use Rattle.script_laws.specs.Completed.{completed_ids}
-use Rattle.world_laws.specs.Accepted.{accepted_in}
+use Rattle.script_laws.specs.PlainRun.{one_disk}
+use Rattle.world_parts.specs.world_laws.Accepted.{accepted_in}
 
 -- THE LINE of an entry of a lane in the report of a run
 abbrev pub side_of : End → Side
@@ -42,7 +43,7 @@ why_of BadCount = Count
 why_of BadRange = Range
 
 abbrev pub run_line : DiskDecl → Entry → List ℕ
-run_line disk e = line_text mode.Run (disk ∷ []) e
+run_line disk e = line_text mode.Run (one_disk disk) e
 
 abbrev pub lane_text : DiskDecl → SettleEntry → List ℕ
 lane_text disk (OfLane k (Asks (Full request))) = run_line disk (entry.Full (OfWhole (disk_lane k)))
@@ -81,13 +82,15 @@ pub record Told : Type 0 where
   pub ids : List ℕ
   pub done : ℕ
   pub resets : ℕ
+  pub frames : ℕ
 
 abbrev pub told_part : DiskDecl → List Entry → Told
 told_part disk part = record {
-  text = report_entries mode.Run (disk ∷ []) part;
+  text = report_entries mode.Run (one_disk disk) part;
   ids = completed_ids part;
   done = done_count part;
   resets = reset_count part;
+  frames = frame_count part;
 }
 
 abbrev pub told_lanes : DiskDecl → List SettleEntry → Told
@@ -96,6 +99,7 @@ told_lanes disk entries = record {
   ids = ids_in entries;
   done = length (ids_in entries);
   resets = resets_in entries;
+  frames = 0;
 }
 
 -- a part of a journal tells the same as entries of lanes
@@ -110,6 +114,7 @@ joined s t = record {
   ids = s.ids ++ t.ids;
   done = s.done + t.done;
   resets = s.resets + t.resets;
+  frames = s.frames + t.frames;
 }
 
 ids_append : (one two : List Entry) → completed_ids (one ++ two) ≡ completed_ids one ++ completed_ids two
@@ -120,11 +125,12 @@ ids_append one two =
 parts_joined : (disk : DiskDecl) (one two : List Entry)
     → told_part disk (one ++ two) ≡ joined (told_part disk one) (told_part disk two)
 parts_joined disk one two =
-    let text = flat_map-append (entry_lines mode.Run (disk ∷ [])) one two in
+    let text = flat_map-append (entry_lines mode.Run (one_disk disk)) one two in
     let ids = ids_append one two in
     let done : done_count (one ++ two) ≡ done_count one + done_count two = sum_by-append _ one two in
     let resets : reset_count (one ++ two) ≡ reset_count one + reset_count two = sum_by-append _ one two in
-    λ i. record { text = text i; ids = ids i; done = done i; resets = resets i }
+    let frames : frame_count (one ++ two) ≡ frame_count one + frame_count two = sum_by-append _ one two in
+    λ i. record { text = text i; ids = ids i; done = done i; resets = resets i; frames = frames i }
 
 pub texts_append : (disk : DiskDecl) (one two : List SettleEntry)
     → texts disk (one ++ two) ≡ texts disk one ++ texts disk two
@@ -145,7 +151,7 @@ lanes_joined disk one two =
     let done : length (ids_in (one ++ two)) ≡ length (ids_in one) + length (ids_in two) =
     ap (λ (l : List ℕ). length l) ids ∙ length-append (ids_in one) (ids_in two) in
     let resets = resets_append one two in
-    λ i. record { text = text i; ids = ids i; done = done i; resets = resets i }
+    λ i. record { text = text i; ids = ids i; done = done i; resets = resets i; frames = 0 }
 
 pub told_append : (disk : DiskDecl) (xs ys others more : List SettleEntry) → told_lanes disk xs ≡ told_lanes disk ys
     → told_lanes disk others ≡ told_lanes disk more → told_lanes disk (xs ++ others) ≡ told_lanes disk (ys ++ more)

@@ -1,184 +1,216 @@
 -- Where a settle of a script's lines leaves a disk over: the rounds ran out, and the disk moved in them or waits.
-use Rattle.std.proofs.Common.{◌≡◌, ◌⊎◌, inl, inr, ℕ, ◌+◌, ◌*◌, ◌≤◌, List, [], ◌∷◌, ◌++◌, length, slice_get, Some, true, refl, sym, ap, ◌∙◌, subst, arith, append_assoc}
+use Rattle.std.proofs.Common.{◌≡◌, ◌⊎◌, inl, inr, ℕ, ◌+◌, ◌*◌, ◌≤◌, true, List, [], ◌∷◌, ◌++◌, length, slice_get, Some, sym, ap, ◌∙◌, subst, arith}
+use Rattle.std.specs.Prelude.{⊤}
 use Rattle.runs.specs.Run.{Run}
 use Rattle.disk_law.specs.ListState.{ImageState}
-use Rattle.disk_model.specs.LaneState.{LaneState, Shape}
-use Rattle.domain_script.specs.Declarations.{AreDisks}
+use Rattle.world_parts.specs.disk_model.DiskEvent.{DiskEvent}
+use Rattle.world_parts.specs.disk_model.LaneState.{LaneState, Shape}
+use Rattle.world_parts.specs.disk_model.LaneStep.{LaneStep}
 use Rattle.domain_script.specs.declared.event.DiskDecl.{DiskDecl}
 use Rattle.domain_script.specs.declared.event.Event.{Event}
 use Rattle.domain_script.specs.declared.event.Event.TheVariants.{Settle}
+use Rattle.lane_kinds.proofs.EntryRuns.{names_each}
+use Rattle.lane_kinds.proofs.Places.{map_both}
 use Rattle.lane_kinds.proofs.Stuck.{sum_both}
-use Rattle.lane_kinds.specs.Fronts.{NamesFront}
-use Rattle.world_laws.proofs.Along.{lane_at, shape_at}
-use Rattle.world_laws.proofs.LeftLanes.{left_why, moved_left}
-use Rattle.world_laws.proofs.LineEntries.{each_in, rounds_each}
-use Rattle.world_laws.proofs.Moving.{ends, moves_on, rounds_move_lanes}
-use Rattle.world_laws.proofs.Pending.{world_pending}
-use Rattle.world_laws.proofs.Stuck.{made_move}
-use Rattle.world_laws.specs.Along.{LanesMove, happened}
-use Rattle.world_laws.specs.Begun.{SettleFront}
-use Rattle.world_laws.specs.Moves.{IsLeftOver, MovedIn, moves, moves_in}
-use Rattle.world_laws.specs.Requests.{pending_of}
-use Rattle.world_laws.specs.DiskKind.{waits_on}
-use Rattle.world_laws.specs.Settle.{GoesOn, RunsOut, SettleEntry, SettlePart, SettleRound, Settled, Settling, Unsettled, begin, disks, entries_of_rounds, left_over, most_rounds, pending_on}
+use Rattle.lane_kinds.specs.Both.{Two}
+use Rattle.lane_kinds.specs.Fronts.{SettleFront}
+use Rattle.lane_kinds.specs.Lanes.{sum_of}
+use Rattle.lane_kinds.specs.Settles.{SettlePart, begin, entries_of_rounds, most_rounds}
+use Rattle.world_parts.specs.port_model.NetLaneState.{NetShape}
+use Rattle.world_parts.specs.switch_laws.Events.{SwitchEvent}
+use Rattle.world_parts.specs.switch_laws.Ports.{pending, ports}
+use Rattle.world_parts.proofs.world_laws.Along.{lane_at, shape_at}
+use Rattle.world_parts.proofs.world_laws.LeftLanes.{Named, moved_left, moved_right, named}
+use Rattle.world_parts.proofs.world_laws.Moving.{moves_on}
+use Rattle.world_parts.proofs.world_laws.Pending.{world_pending}
+use Rattle.world_parts.specs.world_laws.Along.{LanesMove, happened}
+use Rattle.world_parts.specs.world_laws.DiskKind.{waits_on}
+use Rattle.world_parts.specs.world_laws.Moves.{IsLeftOver, MovedIn}
+use Rattle.world_parts.specs.world_laws.Requests.{pending_of}
+use Rattle.world_parts.specs.world_laws.Rounds.{LaneRound}
+use Rattle.world_parts.specs.world_laws.Settle.{OfLane, SettleEntry, Unsettled, UnsettledPort, disks, pending_on, round_entries}
+use Rattle.world_parts.proofs.domain_laws.Counting.{made_move}
+use Rattle.world_parts.proofs.domain_laws.DiskParts.{disks_end as names_move, rounds_move_disks}
+use Rattle.world_parts.proofs.domain_laws.LineEntries.{AllRound, EachEntry, each_in}
+use Rattle.world_parts.specs.domain_laws.Counts.{moves, moves_in}
+use Rattle.world_parts.specs.domain_laws.Domain.{Lanes, lanes, lanes_in, port_entries, switch}
+use Rattle.world_parts.specs.domain_laws.Lines.{fronts}
 use Rattle.ldom_entries.specs.declared.entry.Entry.{Entry}
 use Rattle.script_laws.proofs.DiskShapes.{are_shapes, many_shapes}
-use Rattle.script_laws.proofs.Entries.{IsOfLane}
+use Rattle.script_laws.proofs.Entries.{IsName}
 use Rattle.script_laws.proofs.LedLanes.{led_run, told_run}
-use Rattle.script_laws.proofs.Places.{InEither, no_place, place_in}
-use Rattle.script_laws.proofs.SettleEntries.{SettledLast, settle_front, settled_last}
+use Rattle.script_laws.proofs.Places.{InEither, place_in}
+use Rattle.script_laws.proofs.ReachedLanes.{AreLanes}
+use Rattle.script_laws.proofs.NamesAt.{LastRound, NamesAt, last_round, names_at}
 use Rattle.script_laws.proofs.SettleLines.{EachSettles, SettlesBehind}
 use Rattle.script_laws.proofs.TicksNeeded.{waits_by}
 use Rattle.script_laws.proofs.TicksStand.{MovedTo, moved_to}
+use Rattle.script_laws.proofs.Untold.{Untold, all_told, real_unsettled, told_happened, told_moves, untold}
 use Rattle.script_laws.specs.Settled.{LeftWhereBusy, RunsOutIn, WaitsBy}
 use Rattle.script_laws.specs.Told.{log_at, told, told_by}
 use Rattle.world_parts.specs.Declared.{shapes_of}
+use Rattle.world_parts.specs.WorldEvents.{told_of}
 
--- AFTER SO MUCH OF A PART, where it names this lane
-pub record LeftAt (x : ℕ) (start : List LaneState) (so_far : List SettleEntry) (behind : List LaneState) : Type 0 where
-  pub moved : most_rounds start ≤ moves_in so_far
-  pub why : IsLeftOver x so_far behind
-  pub leads : LanesMove 0 start so_far behind
+-- AFTER SO MUCH OF A PART, where it names this disk
+pub record LeftAt (x : ℕ) (start : Lanes) (so_far : List SettleEntry) (behind : Lanes) : Type 0 where
+  pub why : IsLeftOver x so_far behind.first
+  pub leads : LanesMove 0 start.first so_far behind.first
 
 enough : (most made rounds all later : ℕ) → made ≡ most → made ≤ rounds → all ≡ rounds + later → most ≤ all
 enough most made rounds all later is less sum = omega (arith, is, less, sum)
 
-further : (x : ℕ) (one later : List SettleEntry) (behind : List LaneState) → IsLeftOver x one behind
-    → IsLeftOver x (one ++ later) behind
-further x one later behind (inl moved) = inl (moved_left x one later moved)
-further x one later behind (inr waits) = inr waits
+-- A NAME of a disk is among those of disks
+abbrev IsPortName : SettleEntry → Type 0
+IsPortName (UnsettledPort k) = ⊤
+IsPortName _ = ⊥
 
--- ROUNDS that ran out, and then names
-module _ (start : List LaneState) (rounds : List SettleRound) (last : SettleRound) (now : Settling)
-    (run : Run GoesOn (begin start) (rounds ++ last ∷ []) now)
-    (most : length (rounds ++ last ∷ []) ≡ most_rounds start) where
-  abbrev all : List SettleEntry
-  all = entries_of_rounds (rounds ++ last ∷ [])
+port_names : (r : List (List SwitchEvent)) (w : Lanes) → EachEntry IsPortName (switch.names r w.second)
+port_names r w = names_each ports port_entries IsPortName (λ k. tt) 0 r w.second
 
-  in_names : (x : ℕ) (named unnamed later rest : List SettleEntry)
-      → named ++ unnamed ≡ left_over 0 last.steps now.lanes → named ≡ later ++ Unsettled x ∷ rest
-      → LeftAt x start (all ++ later) now.lanes
-  in_names x named unnamed later rest are is =
-      let split : left_over 0 last.steps now.lanes ≡ later ++ Unsettled x ∷ (rest ++ unnamed) =
-      sym are ∙ ap (λ (l : List SettleEntry). l ++ unnamed) is ∙ append_assoc later (Unsettled x ∷ rest) unnamed in
-      record {
-        moved = enough (most_rounds start) (length (rounds ++ last ∷ [])) (moves_in all) (moves_in (all ++ later))
-            (moves_in later) most (made_move (begin start) (rounds ++ last ∷ []) now run) (sum_both moves all later);
-        why = further x all later now.lanes
-            (left_why (begin start) rounds last now now.lanes x later (rest ++ unnamed) run split);
-        leads = moves_on 0 start now.lanes now.lanes all later
-            (rounds_move_lanes (begin start) (rounds ++ last ∷ []) now run)
-            (ends.names last.steps now.lanes later (Unsettled x ∷ (rest ++ unnamed)) (sym split));
-      }
+of_disks_alone : (x : ℕ) (r : Two (List LaneRound) (List (List SwitchEvent))) (w : Lanes) (later rest : List SettleEntry)
+    → InEither (disks.names r.first w.first) (switch.names r.second w.second) later (Unsettled x) rest
+    → (more : List SettleEntry) × (disks.names r.first w.first ≡ later ++ Unsettled x ∷ more)
+of_disks_alone x r w later rest (inl at) = (at.rest, at.is)
+of_disks_alone x r w later rest (inr at) =
+    absurd (each_in IsPortName (switch.names r.second w.second) at.later (Unsettled x) rest at.is (port_names r.second w))
 
-  by_place : (x : ℕ) (named unnamed so_far rest : List SettleEntry)
-      → named ++ unnamed ≡ left_over 0 last.steps now.lanes → InEither all named so_far (Unsettled x) rest
-      → LeftAt x start so_far now.lanes
-  by_place x named unnamed so_far rest are (inl at) =
-      absurd
-      (each_in IsOfLane all so_far (Unsettled x) at.rest at.is
-      (rounds_each IsOfLane (λ k e event step. tt) (λ k. tt) (begin start) (rounds ++ last ∷ []) now run))
-  by_place x named unnamed so_far rest are (inr at) =
-      subst (λ (l : List SettleEntry). LeftAt x start l now.lanes) (sym at.before_is)
-      (in_names x named unnamed at.later rest are at.is)
+-- WHERE A PART NAMES A LANE, so many rounds moved
+pub name_at : (start : Lanes) (part : List SettleEntry) (behind : Lanes)
+    → SettlePart lanes start part behind ⊎ SettleFront lanes fronts start part behind → (entry : SettleEntry) → IsName entry
+    → (so_far rest : List SettleEntry) → part ≡ so_far ++ entry ∷ rest → most_rounds lanes start ≤ moves_in so_far
+name_at start part behind goes entry name so_far rest is =
+    let at : NamesAt start so_far entry behind = names_at start part behind goes entry name so_far rest is in
+    let rounds : List AllRound = at.rounds ++ at.last ∷ [] in
+    let all : List SettleEntry = entries_of_rounds rounds in
+    subst (λ (l : List SettleEntry). most_rounds lanes start ≤ moves_in l) (sym at.so_far_is)
+    (enough (most_rounds lanes start) (length rounds) (moves_in all) (moves_in (all ++ at.later)) (moves_in at.later) at.most
+    (made_move (begin lanes start) rounds at.now at.run) (sum_both moves all at.later))
 
--- A WHOLE SETTLE, and a front of one
-nothing_more : (names : List SettleEntry) → names ++ [] ≡ names
-nothing_more [] = refl
-nothing_more (name ∷ names) = ap (λ (l : List SettleEntry). name ∷ l) (nothing_more names)
+-- and the disk moved in the last of them, or waits
+left_why : (x : ℕ) (steps : Two (List LaneRound) (List (List SwitchEvent))) (so_far : List SettleEntry) (behind : List LaneState)
+    → LastRound steps so_far → Named 0 x steps.first behind → IsLeftOver x so_far behind
+left_why x steps so_far behind last (inl moved) =
+    inl
+    (subst (MovedIn x) (sym last.is)
+    (moved_right x last.earlier (lanes.leaves steps ++ last.later)
+    (moved_left x (lanes.leaves steps) last.later
+    (moved_left x (round_entries 0 steps.first) (switch.leaves steps.second) moved))))
+left_why x steps so_far behind last (inr at) =
+    let number : at.index ≡ x = omega (arith, at.is) in
+    inr (record {
+      lane = at.lane;
+      there = subst (λ (i : ℕ). slice_get behind i ≡ Some at.lane) number at.there;
+      waits = at.waits;
+    })
 
-out_left : (start : List LaneState) (part : List SettleEntry) (behind : List LaneState)
-    (out : RunsOut start part behind) (x : ℕ) (so_far rest : List SettleEntry) → part ≡ so_far ++ Unsettled x ∷ rest
-    → LeftAt x start so_far behind
-out_left start part behind out x so_far rest is =
-    let all : List SettleEntry = entries_of_rounds (out.rounds ++ out.last ∷ []) in
-    let names : List SettleEntry = left_over 0 out.last.steps behind in
-    let over : left_over 0 out.last.steps out.now.lanes ≡ names =
-    ap (λ (l : List LaneState). left_over 0 out.last.steps l) (sym out.lanes) in
-    subst (λ (l : List LaneState). LeftAt x start so_far l) (sym out.lanes)
-    (by_place start out.rounds out.last out.now out.run out.most x names [] so_far rest (nothing_more names ∙ sym over)
-    (place_in all names so_far (Unsettled x) rest (sym out.is ∙ is)))
+pub left_at : (start : Lanes) (part : List SettleEntry) (behind : Lanes)
+    → SettlePart lanes start part behind ⊎ SettleFront lanes fronts start part behind → (x : ℕ)
+    (so_far rest : List SettleEntry) → part ≡ so_far ++ Unsettled x ∷ rest → LeftAt x start so_far behind
+left_at start part behind goes x so_far rest is =
+    let at : NamesAt start so_far (Unsettled x) behind = names_at start part behind goes (Unsettled x) tt so_far rest is in
+    let steps = at.last.steps in
+    let now : Lanes = at.now.lanes in
+    let rounds : List AllRound = at.rounds ++ at.last ∷ [] in
+    let own = of_disks_alone x steps now at.later at.more
+    (place_in (disks.names steps.first now.first) (switch.names steps.second now.second) at.later (Unsettled x) at.more
+    at.names) in
+    subst (λ (l : Lanes). LeftAt x start so_far l) (sym at.lanes_are) (record {
+      why = left_why x steps so_far now.first (last_round start so_far (Unsettled x) behind at)
+          (named 0 x steps.first now.first at.later own.0 own.1);
+      leads = subst (λ (l : List SettleEntry). LanesMove 0 start.first l now.first) (sym at.so_far_is)
+          (moves_on 0 start.first now.first now.first (entries_of_rounds rounds) at.later
+          (rounds_move_disks (begin lanes start) rounds at.now at.run)
+          (names_move.names steps now at.later (Unsettled x ∷ at.more) (sym at.names)));
+    })
 
-begun_left : (start : List LaneState) (part : List SettleEntry) (behind : List LaneState)
-    (at : SettleFront start part behind) → length at.rounds ≡ most_rounds start
-    → NamesFront disks at.rounds at.now at.later behind → (x : ℕ) (so_far rest : List SettleEntry)
-    → part ≡ so_far ++ Unsettled x ∷ rest → LeftAt x start so_far behind
-begun_left start part behind at most front x so_far rest is =
-    let rounds : List SettleRound = front.before ++ front.last ∷ [] in
-    let same : entries_of_rounds at.rounds ≡ entries_of_rounds rounds =
-    ap (λ (l : List SettleRound). entries_of_rounds l) front.is_last in
-    let place : entries_of_rounds rounds ++ at.later ≡ so_far ++ Unsettled x ∷ rest =
-    sym (ap (λ (l : List SettleEntry). l ++ at.later) same) ∙ sym at.is ∙ is in
-    subst (λ (l : List LaneState). LeftAt x start so_far l) (sym front.lanes)
-    (by_place start front.before front.last at.now
-    (subst (λ (l : List SettleRound). Run GoesOn (begin start) l at.now) front.is_last at.run)
-    (sym (ap (λ (l : List SettleRound). length l) front.is_last) ∙ most) x at.later front.unnamed so_far rest front.is
-    (place_in (entries_of_rounds rounds) at.later so_far (Unsettled x) rest place))
+-- AS IT IS TOLD
+told_moved : (x : ℕ) (part : List SettleEntry) → MovedIn x part → MovedIn x (all_told part)
+told_moved x part at = record {
+  before = all_told at.before;
+  event = at.event;
+  later = all_told at.later;
+  is = ap all_told at.is ∙ map_both told_of at.before (OfLane x at.event ∷ at.later);
+  loud = at.loud;
+}
 
-no_lane : (part so_far rest : List SettleEntry) (x : ℕ) → SettledLast part → part ≡ so_far ++ Unsettled x ∷ rest → ⊥
-no_lane part so_far rest x last is =
-    by_side (place_in last.front (Settled ∷ []) so_far (Unsettled x) rest (sym last.is ∙ is))
-  where
-    not_the_answer : (later : List SettleEntry) → Settled ∷ [] ≡ later ++ Unsettled x ∷ rest → ⊥
-    not_the_answer [] same = cc same
-    not_the_answer (entry ∷ later) same =
-        let none : [] ≡ later ++ Unsettled x ∷ rest = cc same in
-        no_place later (Unsettled x) rest none
-
-    by_side : InEither last.front (Settled ∷ []) so_far (Unsettled x) rest → ⊥
-    by_side (inl at) = each_in IsOfLane last.front so_far (Unsettled x) at.rest at.is last.of_lanes
-    by_side (inr at) = not_the_answer at.later at.is
-
-pub left_at : (start : List LaneState) (part : List SettleEntry) (behind : List LaneState)
-    → SettlePart start part behind ⊎ SettleFront start part behind → (x : ℕ) (so_far rest : List SettleEntry)
-    → part ≡ so_far ++ Unsettled x ∷ rest → LeftAt x start so_far behind
-left_at start part behind (inl (inl settles)) x so_far rest is =
-    absurd (no_lane part so_far rest x (settled_last start part behind settles) is)
-left_at start part behind (inl (inr out)) x so_far rest is = out_left start part behind out x so_far rest is
-left_at start part behind (inr at) x so_far rest is = elim at.front [
-  | inl few ↦ absurd (each_in IsOfLane part so_far (Unsettled x) rest is (settle_front start part behind at few.0))
-  | inr all ↦ begun_left start part behind at all.0 all.1 x so_far rest is
-]
+most_is : (p q r m n : ℕ) → 4096 + 64 * (p + q) ≤ m → p ≡ r → n ≡ m → 4096 + 64 * (r + q) ≤ n
+most_is p q r m n most one two = omega (arith, most, one, two)
 
 -- OF A SCRIPT'S LINES
-module _ (disks : List DiskDecl) (image : ImageState) (are : AreDisks disks) where
+module _ (disks : List DiskDecl) (nets : List NetShape) (image : ImageState) (are : AreLanes disks nets) where
   abbrev shapes : List Shape
   shapes = shapes_of 0 disks
 
-  pub rounds_ran_out : (before : List (Event × List Entry)) (part so_far : List SettleEntry) (x : ℕ)
-      (rest : List SettleEntry) → SettlesBehind disks image before part → part ≡ so_far ++ Unsettled x ∷ rest
-      → RunsOutIn (length disks) (told before) so_far
-  rounds_ran_out before part so_far x rest of is =
-      let left : LeftAt x of.at.lanes so_far of.behind = left_at of.at.lanes part of.behind of.goes x so_far rest is in
-      let pending : pending_on of.at.lanes ≡ pending_of 0 (length disks) (told before) =
-      world_pending shapes image (told before) of.at (are_shapes 0 disks are) (told_run disks image before of.at of.run)
+  -- the name among the real entries, and why it is left over
+  record LeftIn (before : List (Event × List Entry)) (part so_far : List SettleEntry) (x : ℕ)
+      (of : SettlesBehind disks nets image before part) : Type 0 where
+    past : List SettleEntry
+    past_is : so_far ≡ all_told past
+    left : LeftAt x (lanes_in of.at) past of.behind
+
+  left_in : (before : List (Event × List Entry)) (part so_far : List SettleEntry) (x : ℕ)
+      (rest : List SettleEntry) (of : SettlesBehind disks nets image before part) → part ≡ so_far ++ Unsettled x ∷ rest
+      → LeftIn before part so_far x of
+  left_in before part so_far x rest of is =
+      let at : Untold of.real so_far (Unsettled x) rest = untold of.real so_far (Unsettled x) rest (sym of.told_is ∙ is) in
+      let real : of.real ≡ at.past ++ Unsettled x ∷ at.rest =
+      at.is ∙ ap (λ (e : SettleEntry). at.past ++ e ∷ at.rest) (real_unsettled x at.real at.real_is) in
+      record {
+        past = at.past;
+        past_is = at.past_is;
+        left = left_at (lanes_in of.at) of.real of.behind of.goes x at.past at.rest real;
+      }
+
+  -- of any lane that is named
+  pub rounds_ran_out : (before : List (Event × List Entry)) (part so_far : List SettleEntry) (entry : SettleEntry)
+      (rest : List SettleEntry) → IsName entry → ((x : SettleEntry) → entry ≡ told_of x → x ≡ entry)
+      → SettlesBehind disks nets image before part → part ≡ so_far ++ entry ∷ rest → RunsOutIn disks nets image before so_far
+  rounds_ran_out before part so_far entry rest name as_real of is =
+      let at : Untold of.real so_far entry rest = untold of.real so_far entry rest (sym of.told_is ∙ is) in
+      let real : of.real ≡ at.past ++ entry ∷ at.rest =
+      at.is ∙ ap (λ (e : SettleEntry). at.past ++ e ∷ at.rest) (as_real at.real at.real_is) in
+      let requests : pending_on of.at.first.lanes ≡ pending_of 0 (length disks) (told before) =
+      world_pending shapes image (told before) of.at.first (are_shapes 0 disks are.disks_are)
+      (told_run disks nets image before of.at of.run)
       ∙ ap (λ (n : ℕ). pending_of 0 n (told before)) (many_shapes 0 disks) in
-      subst (λ (n : ℕ). 4096 + 64 * n ≤ moves_in so_far) pending left.moved
+      record {
+        at = of.at;
+        run = of.run;
+        requests = requests;
+        most = most_is (pending_on of.at.first.lanes) (sum_of pending of.at.second) (pending_of 0 (length disks) (told before))
+            (moves_in at.past) (moves_in so_far) (name_at (lanes_in of.at) of.real of.behind of.goes entry name at.past at.rest real) requests
+            (ap (λ (l : List SettleEntry). moves_in l) at.past_is ∙ told_moves at.past);
+      }
 
   module _ (x : ℕ) (shape : Shape) (of_shape : slice_get shapes x ≡ Some shape) where
     busy_at : (before : List (Event × List Entry)) (part so_far rest : List SettleEntry)
-        → SettlesBehind disks image before part → part ≡ so_far ++ Unsettled x ∷ rest
+        → SettlesBehind disks nets image before part → part ≡ so_far ++ Unsettled x ∷ rest
         → MovedIn x so_far ⊎ WaitsBy (log_at shape x (told before ++ so_far))
     busy_at before part so_far rest of is =
-        let left : LeftAt x of.at.lanes so_far of.behind = left_at of.at.lanes part of.behind of.goes x so_far rest is in
-        by_why left.why left.leads
+        let at : LeftIn before part so_far x of = left_in before part so_far x rest of is in
+        subst (λ (l : List SettleEntry). MovedIn x l ⊎ WaitsBy (log_at shape x (told before ++ l))) (sym at.past_is)
+        (by_why at.past at.left.why at.left.leads)
       where
-        by_why : IsLeftOver x so_far of.behind → LanesMove 0 of.at.lanes so_far of.behind
-            → MovedIn x so_far ⊎ WaitsBy (log_at shape x (told before ++ so_far))
-        by_why (inl moved) leads = inl moved
-        by_why (inr waits) leads =
-            let lane = lane_at shapes image (told before) of.at x shape (told_run disks image before of.at of.run)
-            of_shape in
-            let m : MovedTo x so_far lane.0 of.behind = moved_to of.at.lanes so_far of.behind x lane.0 leads lane.1 in
+        by_why : (past : List SettleEntry) → IsLeftOver x past of.behind.first
+            → LanesMove 0 of.at.first.lanes past of.behind.first
+            → MovedIn x (all_told past) ⊎ WaitsBy (log_at shape x (told before ++ all_told past))
+        by_why past (inl moved) leads = inl (told_moved x past moved)
+        by_why past (inr waits) leads =
+            let lane = lane_at shapes image (told before) of.at.first x shape
+            (told_run disks nets image before of.at of.run) of_shape in
+            let m : MovedTo x past lane.0 of.behind.first =
+            moved_to of.at.first.lanes past of.behind.first x lane.0 leads lane.1 in
             let both : Some waits.lane ≡ Some m.lane = sym waits.there ∙ m.there in
             let same : waits.lane ≡ m.lane = cc both in
+            let all : List SettleEntry = told before ++ all_told past in
             inr
-            (waits_by shape (happened x (told before ++ so_far)) m.lane
-            (shape_at 0 shapes x shape (are_shapes 0 disks are) of_shape)
-            (led_run disks image x shape of_shape before of.at of.run lane.0 lane.1 so_far m.lane m.run)
+            (waits_by shape (happened x all) m.lane
+            (shape_at 0 shapes x shape (are_shapes 0 disks are.disks_are) of_shape)
+            (led_run disks nets image x shape of_shape before of.at of.run lane.0 lane.1 (all_told past) m.lane
+            (subst (λ (l : List DiskEvent). Run LaneStep lane.0 l m.lane) (sym (told_happened x past)) m.run))
             (subst (λ (l : LaneState). waits_on l ≡ true) same waits.waits))
 
-    pub left_where_busy : (lines : List (Event × List Entry)) → EachSettles disks image lines
+    pub left_where_busy : (lines : List (Event × List Entry)) → EachSettles disks nets image lines
         → LeftWhereBusy shape x lines
     left_where_busy lines each before part behind so_far rest is place =
         busy_at before (told_by (Settle, part)) so_far rest (each before part behind is) place

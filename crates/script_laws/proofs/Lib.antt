@@ -1,4 +1,7 @@
 pub mod EntryKinds
+pub mod PortWords
+pub mod ReadPorts
+pub mod Untold
 pub mod Tellings
 pub mod DiskShapes
 pub mod Through
@@ -30,6 +33,7 @@ pub mod Settling
 pub mod SettleLines
 pub mod Leading
 pub mod Disks
+pub mod PortsAlong
 pub mod HeadlineLaw
 pub mod Undisturbed
 pub mod LaneReport
@@ -57,3 +61,13 @@ pub mod Stillness
 pub mod SettledStill
 pub mod AnswerEntries
 pub mod OneCut
+pub mod CalmRounds
+pub mod PortLogs
+pub mod PortStill
+pub mod PortRounds
+pub mod LeftNames
+pub mod NamesAt
+pub mod PortsSettle
+pub mod RoundSteps
+pub mod ExactNames
+pub mod NamedExactly

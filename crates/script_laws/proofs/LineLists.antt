@@ -12,7 +12,7 @@ use Rattle.ldom_report.specs.Stops.{IsReaders}
 use Rattle.world_parts.specs.Endings.{EndsSo, ending}
 use Rattle.world_parts.specs.Lines.{EventStep}
 use Rattle.world_parts.specs.Script.{BeginBelow, FitsScript, LastStarts, ScriptParts, all_lines, entries_in, events_in, events_of, journal_of, with_last}
-use Rattle.world_laws.specs.World.{WorldState}
+use Rattle.world_parts.specs.domain_laws.Domain.{DomainState}
 use Rattle.runs.specs.Run.{Run}
 
 -- ONE AFTER ANOTHER
@@ -49,17 +49,17 @@ pub journal_behind : (lines : List (Event × List Entry)) (parts : ScriptParts)
 journal_behind lines parts = ap entries_in (all_behind lines parts) ∙ entries_both lines (all_lines parts)
 
 -- where none was cut off the whole lines are all
-pub record RanWhole (entries : ℕ) (s : WorldState) (parts : ScriptParts) (t : WorldState) : Type 0 where
+pub record RanWhole (entries : ℕ) (s : DomainState) (parts : ScriptParts) (t : DomainState) : Type 0 where
   pub run : Run EventStep s parts.whole t
   pub lines_are : all_lines parts ≡ parts.whole
 
-pub ran_whole : (entries : ℕ) (s : WorldState) (parts : ScriptParts) (t : WorldState) → parts.cut ≡ None
+pub ran_whole : (entries : ℕ) (s : DomainState) (parts : ScriptParts) (t : DomainState) → parts.cut ≡ None
     → FitsScript entries s parts t → RanWhole entries s parts t
 ran_whole entries s parts t none fits =
     let last : t ≡ fits.middle =
     subst (λ (cut : Option (Event × List Entry)). LastStarts fits.middle cut t) none fits.last in
     record {
-      run = subst (λ (x : WorldState). Run EventStep s parts.whole x) (sym last) fits.run;
+      run = subst (λ (x : DomainState). Run EventStep s parts.whole x) (sym last) fits.run;
       lines_are = ap (λ (cut : Option (Event × List Entry)). with_last parts.whole cut) none;
     }
 

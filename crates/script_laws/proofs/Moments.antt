@@ -2,20 +2,20 @@
 use Rattle.std.proofs.Common.{◌≡◌, ℕ, false, List, ◌++◌, ap, ◌∙◌, subst}
 use Rattle.runs.specs.Lawful.{log_of}
 use Rattle.runs.specs.Run.{Run, run_split}
-use Rattle.disk_model.specs.DiskEvent.{DiskEvent}
-use Rattle.lane_laws.specs.DiskLog.{after, nothing_yet}
-use Rattle.disk_model.specs.LaneState.{IsShape, LaneState, Shape, fresh}
-use Rattle.disk_model.specs.LaneStep.{LaneStep}
-use Rattle.channel_model.specs.WireLog.{WireLog}
-use Rattle.lane_laws.proofs.AgreementRuns.{run_agrees}
-use Rattle.lane_laws.proofs.CountsTurn.{counts_in_turn}
-use Rattle.lane_laws.proofs.NearOrder.{near_in_order}
-use Rattle.lane_laws.proofs.OneSession.{one_session}
-use Rattle.lane_laws.proofs.SlotsAlong.{run_order}
-use Rattle.lane_laws.proofs.HeardFront.{both_up}
-use Rattle.world_laws.proofs.Moving.{happened_both}
-use Rattle.world_laws.specs.Along.{happened}
-use Rattle.world_laws.specs.Settle.{SettleEntry}
+use Rattle.world_parts.specs.disk_model.DiskEvent.{DiskEvent}
+use Rattle.world_parts.specs.lane_laws.DiskLog.{after, nothing_yet}
+use Rattle.world_parts.specs.disk_model.LaneState.{IsShape, LaneState, Shape, fresh}
+use Rattle.world_parts.specs.disk_model.LaneStep.{LaneStep}
+use Rattle.world_parts.specs.channel_model.WireLog.{WireLog}
+use Rattle.world_parts.proofs.lane_laws.AgreementRuns.{run_agrees}
+use Rattle.world_parts.proofs.lane_laws.CountsTurn.{counts_in_turn}
+use Rattle.world_parts.proofs.lane_laws.NearOrder.{near_in_order}
+use Rattle.world_parts.proofs.lane_laws.OneSession.{one_session}
+use Rattle.world_parts.proofs.lane_laws.SlotsAlong.{run_order}
+use Rattle.world_parts.proofs.lane_laws.HeardFront.{both_up}
+use Rattle.world_parts.proofs.world_laws.Moving.{happened_both}
+use Rattle.world_parts.specs.world_laws.Along.{happened}
+use Rattle.world_parts.specs.world_laws.Settle.{SettleEntry}
 use Rattle.script_laws.proofs.Hearing.{hears_a_front}
 use Rattle.script_laws.specs.Lanes.{Moment, StandsAt, StandsUnforged}
 

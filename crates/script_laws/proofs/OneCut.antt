@@ -1,28 +1,28 @@
 -- A journal cuts into the parts of its lines in one way: the part of a line has so many entries, or ends in the answer
 -- of a settle or in names, and no part begins with a name.
-use Rattle.std.proofs.Common.{◌≡◌, ◌⊎◌, inl, inr, ℕ, ◌≤◌, Option, Some, None, List, [], ◌∷◌, ◌++◌, length, map, replicate, refl, sym, ap, ◌∙◌, subst, arith, append-nil}
+use Rattle.std.proofs.Common.{◌≡◌, ◌⊎◌, inl, inr, ℕ, zero, suc, ◌≤◌, Option, Some, None, List, [], ◌∷◌, ◌++◌, length, replicate, refl, sym, ap, ap₂, ◌∙◌, subst, arith, append-nil}
 use Rattle.std.proofs.lemmas.List.{append_cancel_left, length-map}
 use Rattle.runs.specs.Run.{Run, run_push}
 use Rattle.disk_law.specs.ListState.{ImageState}
-use Rattle.disk_model.specs.DiskEvent.{DiskEvent}
-use Rattle.disk_model.specs.LaneState.{LaneState}
 use Rattle.domain_script.specs.Declarations.{AreDisks}
 use Rattle.domain_script.specs.declared.event.DiskDecl.{DiskDecl}
 use Rattle.domain_script.specs.declared.event.Event.{Event}
-use Rattle.world_laws.proofs.Along.{lanes_run, lines_run}
-use Rattle.world_laws.specs.Settle.{SettleEntry, SettlePart}
-use Rattle.world_laws.specs.Lines.{AreSteps, Asked, Calls, Line, Nothing, OneEntry, PartOf, Rounds, Steps, EndTurn, entries_of_lines, turn, turns_of}
-use Rattle.world_laws.specs.Lines as world
-use Rattle.world_laws.specs.World.{WorldState}
-use Rattle.world_parts.specs.WorldEvents.{world_event}
+use Rattle.lane_kinds.specs.Lanes.{EachOf}
+use Rattle.lane_kinds.specs.Settles.{SettlePart}
+use Rattle.world_parts.specs.port_model.NetLaneState.{IsNetShape, NetShape}
+use Rattle.world_parts.specs.world_laws.Settle.{SettleEntry}
+use Rattle.world_parts.proofs.domain_laws.LineEntries.{AreSoMany, by_answer}
+use Rattle.world_parts.proofs.domain_laws.ScriptEntries.{fresh_many, lines_run, many_kept}
+use Rattle.world_parts.specs.domain_laws.Domain.{DomainState, Lanes, lanes, lanes_in}
+use Rattle.world_parts.specs.domain_laws.Lines.{AreSteps, Asked, Calls, DiskLane, EndTurn, Joins, Line, Nothing, PartOf, PortLane, Rounds, Sends, Steps, both_ends, entries_of_lines, lanes_from, round_turns, turn, turns_of}
+use Rattle.world_parts.specs.domain_laws.Lines as world
+use Rattle.world_parts.specs.WorldEvents.{told_of, world_event}
 use Rattle.ldom_entries.specs.declared.entry.Entry.{Entry}
 use Rattle.script_laws.proofs.AnswerEntries.{BeginsUnnamed, UpToAnswer, begun_unnamed, one_front, up_to_names, up_to_settled, whole_unnamed}
-use Rattle.script_laws.proofs.ReachedLanes.{AreReached}
-use Rattle.script_laws.proofs.DeclaredWorlds.{as_told, lines_told}
-use Rattle.script_laws.proofs.DiskShapes.{many_shapes}
-use Rattle.world_laws.proofs.LineEntries.{by_answer}
+use Rattle.script_laws.proofs.ReachedLanes.{AreLanes, AreReachedFew}
+use Rattle.script_laws.proofs.DeclaredWorlds.{AsLines, as_lines}
 use Rattle.script_laws.proofs.SettleEntries.{NamesLast, SettledLast, out_last, settled_last, some_left}
-use Rattle.script_laws.proofs.Settling.{reached_lines}
+use Rattle.script_laws.proofs.Settling.{reached_events}
 use Rattle.world_parts.specs.Declared.{shapes_of, world_of}
 use Rattle.world_parts.specs.Lines.{EventStep, LineStarts, line_of}
 use Rattle.world_parts.specs.Parts.{PartSays}
@@ -39,13 +39,34 @@ same_front {X} (x ∷ p) (y ∷ q) j k long is =
     ap (λ (z : X). z ∷ p) first ∙ ap (λ (l : List X). y ∷ l) (same_front p q j k (omega (arith, long)) others)
 
 -- THE PART OF A LINE has so many entries, by the number of lanes; that of a settle ends with its answer, or with names
-abbrev part_size : Line → ℕ → Option ℕ
-part_size Nothing many = Some 0
-part_size (Asked k request) many = Some 1
-part_size (Steps k e count) many = Some (length (replicate count (turn k e)))
-part_size (Rounds count) many = Some (length (turns_of count many))
-part_size world.Settles many = None
-part_size (Calls k call) many = Some 1
+abbrev part_size : Line → Lanes → Option ℕ
+part_size Nothing w = Some 0
+part_size (Asked k request) w = Some 1
+part_size (Sends k frame) w = Some 1
+part_size (Joins k address) w = Some 1
+part_size (Steps lane e count) w = Some (length (replicate count (turn lane e)))
+part_size (Rounds count) w = Some (length (turns_of count w))
+part_size world.Settles w = None
+part_size (Calls lane call) w = Some 1
+
+-- which is the same for as many lanes of each kind
+same_turns : (w u : Lanes) → length w.first ≡ length u.first → length w.second ≡ length u.second → round_turns w ≡ round_turns u
+same_turns w u one two =
+    ap₂ (λ (n m : ℕ). both_ends (lanes_from DiskLane 0 n) ++ both_ends (lanes_from PortLane 0 m)) one two
+
+same_rounds : (count : ℕ) (w u : Lanes) → round_turns w ≡ round_turns u → turns_of count w ≡ turns_of count u
+same_rounds zero w u same = refl
+same_rounds (suc count) w u same = ap₂ (λ (a b : List EndTurn). a ++ b) same (same_rounds count w u same)
+
+same_size : (line : Line) (w u : Lanes) → round_turns w ≡ round_turns u → part_size line w ≡ part_size line u
+same_size (Rounds count) w u same = ap (λ (l : List EndTurn). Some (length l)) (same_rounds count w u same)
+same_size Nothing w u same = refl
+same_size (Asked k request) w u same = refl
+same_size (Sends k frame) w u same = refl
+same_size (Joins k address) w u same = refl
+same_size (Steps lane e count) w u same = refl
+same_size world.Settles w u same = refl
+same_size (Calls lane call) w u same = refl
 
 record SomeNamed (part : List SettleEntry) : Type 0 where
   last : NamesLast part
@@ -61,31 +82,31 @@ as_turns (next ∷ turns) (entry ∷ part) are = let rest = as_turns turns part 
 as_turns [] (entry ∷ part) are = absurd are
 as_turns (next ∷ turns) [] are = absurd are
 
-one_long : (k : ℕ) (Answers : DiskEvent → Type 0) (part : List SettleEntry) → OneEntry k Answers part → length part ≡ 1
-one_long k Answers part one = ap (λ (l : List SettleEntry). length l) one.is
+settle_delimited : (w : Lanes) (part : List SettleEntry) (behind : Lanes) → AreReachedFew w
+    → SettlePart lanes w part behind → SettledLast part ⊎ SomeNamed part
+settle_delimited w part behind at (inl settles) = inl (settled_last w part behind settles)
+settle_delimited w part behind at (inr out) =
+    inr (record { last = out_last w part behind out; some = some_left w part behind out at.reached })
 
-settle_delimited : (lanes : List LaneState) (part : List SettleEntry) (behind : List LaneState) → AreReached lanes
-    → SettlePart lanes part behind → SettledLast part ⊎ SomeNamed part
-settle_delimited lanes part behind at (inl settles) = inl (settled_last lanes part behind settles)
-settle_delimited lanes part behind at (inr out) =
-    inr (record { last = out_last lanes part behind out; some = some_left lanes part behind out at.reached })
-
-delimited : (line : Line) (lanes : List LaneState) (part : List SettleEntry) (behind : List LaneState) → AreReached lanes
-    → PartOf line lanes part behind → IsDelimited (part_size line (length lanes)) part
-delimited Nothing lanes part behind at is = ap (λ (l : List SettleEntry). length l) is
-delimited (Asked k request) lanes part behind at is = one_long k _ part is
-delimited (Steps k e count) lanes part behind at is = as_turns (replicate count (turn k e)) part is
-delimited (Rounds count) lanes part behind at is = as_turns (turns_of count (length lanes)) part is
-delimited world.Settles lanes part behind at is = settle_delimited lanes part behind at is
-delimited (Calls lane call) lanes part behind at is =
-    by_answer (λ (l : List SettleEntry). length l ≡ 1) lane call part (λ k event same answers. refl) is
+delimited : (line : Line) (w : Lanes) (part : List SettleEntry) (behind : Lanes) → AreReachedFew w
+    → PartOf line w part behind → IsDelimited (part_size line w) part
+delimited Nothing w part behind at is = ap (λ (l : List SettleEntry). length l) is
+delimited (Asked k request) w part behind at one = ap (λ (l : List SettleEntry). length l) one.is
+delimited (Sends k frame) w part behind at one = ap (λ (l : List SettleEntry). length l) one.is
+delimited (Joins k address) w part behind at one = ap (λ (l : List SettleEntry). length l) one.is
+delimited (Steps lane e count) w part behind at is = as_turns (replicate count (turn lane e)) part is
+delimited (Rounds count) w part behind at is = as_turns (turns_of count w) part is
+delimited world.Settles w part behind at is = settle_delimited w part behind at is
+delimited (Calls lane call) w part behind at is =
+    by_answer (λ (l : List SettleEntry). length l ≡ 1) lane call part (λ k event same answers. refl)
+    (λ k event same answers. refl) is
 
 -- ITS ENTRIES are as many, or the answer stands last among them
 says_long : (line : Line) (part : List Entry) (entries : List SettleEntry) → PartSays line part entries
     → length part ≡ length entries
 says_long line part entries says =
     sym (length-map part (world_event line)) ∙ ap (λ (l : List (Option SettleEntry)). length l) says
-    ∙ length-map entries Some
+    ∙ length-map entries (λ (x : SettleEntry). Some (told_of x))
 
 up_to_answer : (line : Line) (part : List Entry) (entries : List SettleEntry) → PartSays line part entries
     → SettledLast entries ⊎ SomeNamed entries → UpToAnswer part
@@ -120,60 +141,67 @@ first_last line lines None = refl
 first_last line lines (Some last) = refl
 
 -- what is left of the lines begins with no name
-begun_first : (m : WorldState) (line : Event × List Entry) (v : WorldState) → LineStarts m line v
+begun_first : (m : DomainState) (line : Event × List Entry) (v : DomainState) → LineStarts m line v
     → BeginsUnnamed (line.1 ++ [])
 begun_first m line v starts =
-    begun_unnamed (line_of line.0) line.1 starts.entries m.lanes v.lanes [] starts.says starts.begins.begins tt
+    begun_unnamed (line_of line.0) line.1 starts.entries (lanes_in m) (lanes_in v) [] starts.says starts.begins.begins tt
 
-lines_unnamed : (w m v : WorldState) (xs : List (Event × List Entry)) (cut : Option (Event × List Entry))
+lines_unnamed : (w m v : DomainState) (xs : List (Event × List Entry)) (cut : Option (Event × List Entry))
     → Run EventStep w xs m → LastStarts m cut v → BeginsUnnamed (entries_in (with_last xs cut))
 lines_unnamed w m v [] None run last = tt
 lines_unnamed w m v [] (Some line) run last = begun_first m line v last
 lines_unnamed w m v (x ∷ xs) cut run last =
     let step = run.1 in
     subst (λ (l : List (Event × List Entry)). BeginsUnnamed (entries_in l)) (sym (first_last x xs cut))
-    (whole_unnamed (line_of x.0) x.1 step.entries w.lanes run.0.lanes (entries_in (with_last xs cut)) step.says
+    (whole_unnamed (line_of x.0) x.1 step.entries (lanes_in w) (lanes_in run.0) (entries_in (with_last xs cut)) step.says
     step.moves.part_of (lines_unnamed run.0 m v xs cut run.2 last))
 
 -- LINES over the same disks
-module _ (disks : List DiskDecl) (image : ImageState) (are : AreDisks disks) (few : length disks ≤ 8) where
+module _ (disks : List DiskDecl) (nets : List NetShape) (image : ImageState) (are : AreLanes disks nets) where
   -- where some lines led
-  pub record IsLed (w : WorldState) : Type 0 where
+  pub record IsLed (w : DomainState) : Type 0 where
     before : List (Event × List Entry)
-    run : Run EventStep (world_of disks image) before w
+    run : Run EventStep (world_of disks nets image) before w
 
-  led_on : (w : WorldState) (line : Event × List Entry) (v : WorldState) → IsLed w → EventStep w line v → IsLed v
+  led_on : (w : DomainState) (line : Event × List Entry) (v : DomainState) → IsLed w → EventStep w line v → IsLed v
   led_on w line v at step = record {
     before = at.before ++ line ∷ [];
-    run = run_push EventStep (world_of disks image) w v at.before line at.run step;
+    run = run_push EventStep (world_of disks nets image) w v at.before line at.run step;
   }
 
-  reached_there : (w : WorldState) → IsLed w → AreReached w.lanes
-  reached_there w at =
-      reached_lines disks image are few (map as_told at.before) w
-      (lines_told (world_of disks image) at.before w at.run)
+  reached_there : (w : DomainState) → IsLed w → AreReachedFew (lanes_in w)
+  reached_there w at = reached_events disks nets image are at.before w at.run
 
-  many_there : (w : WorldState) → IsLed w → length w.lanes ≡ length disks
+  many_there : (w : DomainState) → IsLed w → AreSoMany (length (shapes_of 0 disks)) (length nets) (lanes_in w)
   many_there w at =
-      let told : List (Line × List SettleEntry) = map as_told at.before in
-      (lanes_run (shapes_of 0 disks) image (entries_of_lines told) w
-      (lines_run (world_of disks image) told w (lines_told (world_of disks image) at.before w at.run))).many
-      ∙ many_shapes 0 disks
+      let start : DomainState = world_of disks nets image in
+      let real : AsLines start at.before w = as_lines start at.before w at.run in
+      many_kept (length (shapes_of 0 disks)) (length nets) start (entries_of_lines real.real) w
+      (lines_run start real.real w real.run) (fresh_many (shapes_of 0 disks) image nets)
 
-  there_delimited : (w : WorldState) (event : Event) (part : List Entry) (v : WorldState) → IsLed w
-      → (step : EventStep w (event, part) v) → IsDelimited (part_size (line_of event) (length disks)) step.entries
+  -- as many in each world that they led to
+  same_there : (w u : DomainState) → IsLed w → IsLed u → round_turns (lanes_in w) ≡ round_turns (lanes_in u)
+  same_there w u led also =
+      let one = many_there w led in
+      let two = many_there u also in
+      same_turns (lanes_in w) (lanes_in u) (one.of_first ∙ sym two.of_first) (one.of_second ∙ sym two.of_second)
+
+  there_delimited : (w : DomainState) (event : Event) (part : List Entry) (v : DomainState) → IsLed w
+      → (step : EventStep w (event, part) v) → IsDelimited (part_size (line_of event) (lanes_in w)) step.entries
   there_delimited w event part v at step =
-      subst (λ (n : ℕ). IsDelimited (part_size (line_of event) n) step.entries) (many_there w at)
-      (delimited (line_of event) w.lanes step.entries v.lanes (reached_there w at) step.moves.part_of)
+      delimited (line_of event) (lanes_in w) step.entries (lanes_in v) (reached_there w at) step.moves.part_of
 
-  same_part : (w u v x : WorldState) (event : Event) (p q j k : List Entry) → IsLed w → IsLed u
+  same_part : (w u v x : DomainState) (event : Event) (p q j k : List Entry) → IsLed w → IsLed u
       → EventStep w (event, p) v → EventStep u (event, q) x → BeginsUnnamed j → BeginsUnnamed k → p ++ j ≡ q ++ k → p ≡ q
   same_part w u v x event p q j k led also one two here there is =
-      one_part (part_size (line_of event) (length disks)) (line_of event) one.entries two.entries p q j k
-      (there_delimited w event p v led one) (there_delimited u event q x also two) one.says two.says here there is
+      one_part (part_size (line_of event) (lanes_in w)) (line_of event) one.entries two.entries p q j k
+      (there_delimited w event p v led one)
+      (subst (λ (n : Option ℕ). IsDelimited n two.entries)
+      (same_size (line_of event) (lanes_in u) (lanes_in w) (same_there u w also led)) (there_delimited u event q x also two))
+      one.says two.says here there is
 
   -- a line first of both lists
-  module _ (w u v x : WorldState) (line other : Event × List Entry) (lines others : List (Event × List Entry))
+  module _ (w u v x : DomainState) (line other : Event × List Entry) (lines others : List (Event × List Entry))
       (led : IsLed w) (also : IsLed u) (one : EventStep w line v) (two : EventStep u other x)
       (here : BeginsUnnamed (entries_in lines)) (there : BeginsUnnamed (entries_in others))
       (events : line.0 ∷ events_in lines ≡ other.0 ∷ events_in others)
@@ -198,7 +226,7 @@ module _ (disks : List DiskDecl) (image : ImageState) (are : AreDisks disks) (fe
         append_cancel_left line.1 (entries_in lines) (entries_in others)
         (entries ∙ ap (λ (l : List Entry). l ++ entries_in others) (sym first_part))
 
-  same_lines : (w u m n v z : WorldState) (xs ys : List (Event × List Entry)) (c d : Option (Event × List Entry))
+  same_lines : (w u m n v z : DomainState) (xs ys : List (Event × List Entry)) (c d : Option (Event × List Entry))
       → IsLed w → IsLed u → Run EventStep w xs m → Run EventStep u ys n → LastStarts m c v → LastStarts n d z
       → events_in (with_last xs c) ≡ events_in (with_last ys d)
       → entries_in (with_last xs c) ≡ entries_in (with_last ys d) → with_last xs c ≡ with_last ys d
@@ -231,12 +259,14 @@ module _ (disks : List DiskDecl) (image : ImageState) (are : AreDisks disks) (fe
       front ∙ ap (λ (l : Event × List Entry). l ∷ with_last xs c) same
       ∙ ap (λ (l : List (Event × List Entry)). y ∷ l) rest ∙ sym second
 
-pub one_cut : (disks : List DiskDecl) (image : ImageState) (parts others : ScriptParts) (v u : WorldState)
-    → AreDisks disks → length disks ≤ 8
-    → FitsScript 0 (world_of disks image) parts v → FitsScript 0 (world_of disks image) others u
+pub one_cut : (disks : List DiskDecl) (nets : List NetShape) (image : ImageState) (parts others : ScriptParts)
+    (v u : DomainState) → AreDisks disks → length disks ≤ 8 → EachOf IsNetShape nets → length nets ≤ 8
+    → FitsScript 0 (world_of disks nets image) parts v → FitsScript 0 (world_of disks nets image) others u
     → events_of parts ≡ events_of others → journal_of parts ≡ journal_of others → all_lines parts ≡ all_lines others
-one_cut disks image parts others v u are few fits also events journal =
-    let start : WorldState = world_of disks image in
-    same_lines disks image are few start start fits.middle also.middle v u parts.whole others.whole parts.cut others.cut
+one_cut disks nets image parts others v u disks_are few_disks nets_are few_nets fits also events journal =
+    let start : DomainState = world_of disks nets image in
+    let are : AreLanes disks nets =
+    record { disks_are = disks_are; few_disks = few_disks; nets_are = nets_are; few_nets = few_nets } in
+    same_lines disks nets image are start start fits.middle also.middle v u parts.whole others.whole parts.cut others.cut
     (record { before = []; run = refl }) (record { before = []; run = refl }) fits.run also.run fits.last also.last
     events journal

@@ -1,7 +1,7 @@
 -- Where an element of two lists, one after the other, stands; and where an entry of a script's lines does.
 use Rattle.std.proofs.Common.{◌≡◌, ◌⊎◌, inl, inr, List, [], ◌∷◌, ◌++◌, refl, sym, ap, ◌∙◌, subst, append_assoc}
-use Rattle.world_laws.specs.Settle.{SettleEntry}
-use Rattle.world_laws.specs.Lines.{Line, entries_of_lines}
+use Rattle.world_parts.specs.world_laws.Settle.{SettleEntry}
+use Rattle.world_parts.specs.domain_laws.Lines.{Line, entries_of_lines}
 
 pub no_place : {X : Type 0} (before : List X) (x : X) (behind : List X) → [] ≡ before ++ x ∷ behind → ⊥
 no_place {X} [] x behind is = absurd (cc is)

@@ -8,12 +8,12 @@ use Rattle.std.proofs.lemmas.List.{append-nil}
 use Rattle.vdisk_msg.specs.declared.request.Request.{Request}
 use Rattle.vdisk_msg.specs.declared.request.Request.TheVariants.{Flush, Read, Write}
 use Rattle.vdisk_msg.specs.Requests.{BadCount, BadRange, Defect, defect, operation_of}
-use Rattle.disk_model.specs.DiskEvent.{Asks, Full, Refused}
+use Rattle.world_parts.specs.disk_model.DiskEvent.{Asks, Full, Refused}
 use Rattle.domain_script.specs.declared.event.DiskDecl.{DiskDecl}
 use Rattle.domain_script.specs.declared.event.Event.{Event}
 use Rattle.domain_script.specs.declared.event.Event.TheVariants as event
 use Rattle.domain_script.specs.LaneKinds.{disk_lane}
-use Rattle.world_laws.specs.Settle.{OfLane, SettleEntry, Settled}
+use Rattle.world_parts.specs.world_laws.Settle.{OfLane, SettleEntry, Settled}
 use Rattle.kept_requests.specs.BlockWord.{blocks_text}
 use Rattle.kept_requests.specs.Bytes.{filled}
 use Rattle.ldom_entries.specs.declared.entry.Entry.TheVariants as entry
@@ -23,7 +23,8 @@ use Rattle.script_laws.proofs.LaneReport.{ids_in, ids_in_append, lane_ids, lane_
 use Rattle.script_laws.specs.PlainRun.{Plain, asked, complete, complete_all, done_line, name_text, plain_line, plain_run, refusal_line, settled}
 use Rattle.world_parts.specs.Declared.{shape_of}
 use Rattle.world_parts.specs.Lines.{line_of}
-use Rattle.world_laws.specs.Plain as lanes
+use Rattle.world_parts.specs.world_laws.Plain as lanes
+use Rattle.world_parts.specs.domain_laws.PlainLines as plain_lines
 
 -- THE PLAIN LIST OF REQUESTS: all but the text
 abbrev pub listed : Plain → lanes.Plain
@@ -190,14 +191,14 @@ settle_grows disk p =
 
 -- EACH LINE, as the line of lanes that it is
 line_same : (disk : DiskDecl) (p : Plain) (e : Event)
-    → listed (plain_line disk p e) ≡ lanes.plain_line (shape_of 0 disk) (listed p) (line_of e)
+    → listed (plain_line disk p e) ≡ plain_lines.plain_line (shape_of 0 disk) (listed p) (line_of e)
 line_same disk p (event.Issue number request) =
     asked_same disk p request (defect disk.blocks request) (nat_le disk.ring (length p.waiting))
 line_same disk p event.Settle = all_same disk p p.waiting
 line_same disk p _ = refl
 
 line_grows : (disk : DiskDecl) (p : Plain) (e : Event)
-    → Grows disk p (lanes.plain_shows (shape_of 0 disk) (listed p) (line_of e)) (plain_line disk p e)
+    → Grows disk p (plain_lines.plain_shows (shape_of 0 disk) (listed p) (line_of e)) (plain_line disk p e)
 line_grows disk p (event.Issue number request) =
     asked_grows disk p request (defect disk.blocks request) (nat_le disk.ring (length p.waiting))
 line_grows disk p event.Settle = settle_grows disk p
@@ -205,23 +206,23 @@ line_grows disk p _ = grows_still disk p p refl refl
 
 -- LINES one after another
 pub run_same : (disk : DiskDecl) (p : Plain) (events : List Event)
-    → listed (plain_run disk p events) ≡ lanes.plain_run (shape_of 0 disk) (listed p) (map line_of events)
+    → listed (plain_run disk p events) ≡ plain_lines.plain_run (shape_of 0 disk) (listed p) (map line_of events)
 run_same disk p [] = refl
 run_same disk p (e ∷ events) =
     run_same disk (plain_line disk p e) events
-    ∙ ap (λ (l : lanes.Plain). lanes.plain_run (shape_of 0 disk) l (map line_of events)) (line_same disk p e)
+    ∙ ap (λ (l : lanes.Plain). plain_lines.plain_run (shape_of 0 disk) l (map line_of events)) (line_same disk p e)
 
 pub run_grows : (disk : DiskDecl) (p : Plain) (events : List Event)
-    → Grows disk p (lanes.plain_journal (shape_of 0 disk) (listed p) (map line_of events)) (plain_run disk p events)
+    → Grows disk p (plain_lines.plain_journal (shape_of 0 disk) (listed p) (map line_of events)) (plain_run disk p events)
 run_grows disk p [] = grows_still disk p p refl refl
 run_grows disk p (e ∷ events) =
     let next = plain_line disk p e in
     let shape = shape_of 0 disk in
     let end = plain_run disk next events in
     let lines = map line_of events in
-    let listed_next : lanes.Plain = lanes.plain_line shape (listed p) (line_of e) in
-    let rest : Grows disk next (lanes.plain_journal shape listed_next lines) end =
-    subst (λ (l : lanes.Plain). Grows disk next (lanes.plain_journal shape l lines) end) (line_same disk p e)
+    let listed_next : lanes.Plain = plain_lines.plain_line shape (listed p) (line_of e) in
+    let rest : Grows disk next (plain_lines.plain_journal shape listed_next lines) end =
+    subst (λ (l : lanes.Plain). Grows disk next (plain_lines.plain_journal shape l lines) end) (line_same disk p e)
     (run_grows disk next events) in
-    grows_on disk p next end (lanes.plain_shows shape (listed p) (line_of e))
-    (lanes.plain_journal shape listed_next lines) (line_grows disk p e) rest
+    grows_on disk p next end (plain_lines.plain_shows shape (listed p) (line_of e))
+    (plain_lines.plain_journal shape listed_next lines) (line_grows disk p e) rest

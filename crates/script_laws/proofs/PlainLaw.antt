@@ -6,12 +6,14 @@ use Rattle.disk_law.specs.ListState.{ImageState}
 use Rattle.domain_script.specs.Declarations.{IsDisk}
 use Rattle.domain_script.specs.declared.event.DiskDecl.{DiskDecl}
 use Rattle.domain_script.specs.declared.event.Event.{Event}
-use Rattle.world_laws.specs.Settle.{SettleEntry}
-use Rattle.world_laws.proofs.Along.{lines_run}
-use Rattle.world_laws.specs.Lines.{Line, LineStep, entries_of_lines}
-use Rattle.world_laws.specs.World.{WorldState, fresh_world}
+use Rattle.world_parts.specs.world_laws.Settle.{SettleEntry}
+use Rattle.world_parts.specs.world_laws.World.{WorldState}
+use Rattle.world_parts.proofs.domain_laws.Running.{disks_run}
+use Rattle.world_parts.proofs.domain_laws.ScriptEntries.{lines_run}
+use Rattle.world_parts.specs.domain_laws.Domain.{DomainState, fresh_domain}
+use Rattle.world_parts.specs.domain_laws.Lines.{Line, LineStep, entries_of_lines}
 use Rattle.ldom_report.specs.EntryText.{report_entries}
-use Rattle.ldom_report.specs.Report.{accepted_count, done_count, end_line, report, reset_count}
+use Rattle.ldom_report.specs.Report.{accepted_count, done_count, end_line, frame_count, report, reset_count}
 use Rattle.ldom_entries.specs.declared.entry.Entry.{Entry}
 use Rattle.ldom_report.specs.declared.status.Mode.TheVariants as mode
 use Rattle.ldom_report.specs.declared.status.Status.TheVariants as status
@@ -20,25 +22,26 @@ use Rattle.script_laws.proofs.LaneReport.{SaysSame, Told, ids_in, told_lanes, to
 use Rattle.script_laws.proofs.PlainGrows.{Grows, ids_below, listed, run_grows, run_same}
 use Rattle.script_laws.proofs.LineLists.{RanWhole, ran_whole}
 use Rattle.script_laws.proofs.QuietLanes.{disk_front, disk_shape, quiet_events}
-use Rattle.script_laws.proofs.ThroughLanes.{ThroughLanes, all_shown, through_lanes}
-use Rattle.script_laws.specs.PlainRun.{Plain, plain_content, plain_ids, plain_run, plain_text, untouched}
+use Rattle.script_laws.proofs.ThroughLanes.{ThroughLanes, all_shown, of_disks, through_lanes}
+use Rattle.script_laws.specs.PlainRun.{Plain, one_disk, plain_content, plain_ids, plain_run, plain_text, untouched}
 use Rattle.script_laws.specs.Quiet.{IsQuiet}
 use Rattle.script_laws.specs.Completed.{completed_ids}
 use Rattle.world_parts.specs.Declared.{shape_of, world_of}
 use Rattle.world_parts.specs.Lines.{line_of}
 use Rattle.world_parts.specs.Script.{FitsScript, ScriptParts, entries_in, events_in, events_of, journal_of}
-use Rattle.world_laws.proofs.NoFaults.{lines_before}
-use Rattle.world_laws.proofs.QuietLines.{quiet_lines}
-use Rattle.world_laws.specs.Plain as lanes
-use Rattle.world_laws.specs.Quiet as quiet_world
-use Rattle.world_laws.specs.Quiet.{IsPlain, RunsPlainly, RunsQuietly, lines_of, shown_of}
-use Rattle.world_laws.proofs.Counting.{world_counts}
-use Rattle.world_laws.specs.Accepted.{accepted_in, next_ids}
+use Rattle.world_parts.proofs.domain_laws.QuietLines.{lines_before, quiet_lines}
+use Rattle.world_parts.specs.domain_laws.PlainLines as plain_lines
+use Rattle.world_parts.specs.domain_laws.Quiet as quiet_world
+use Rattle.world_parts.specs.domain_laws.Quiet.{RunsPlainly, RunsQuietly, lines_of, shown_of}
+use Rattle.world_parts.specs.world_laws.Plain as lanes
+use Rattle.world_parts.specs.world_laws.Quiet.{IsPlain}
+use Rattle.world_parts.proofs.world_laws.Counting.{world_counts}
+use Rattle.world_parts.specs.world_laws.Accepted.{accepted_in, next_ids}
 
 -- WHAT A QUIET SCRIPT COMES TO: the report's text, the image's bytes and the completed ids are those of the plain run
 pub record PlainLaw (disk : DiskDecl) (content : List ℕ) (events : List Event) (journal : List Entry) (v : WorldState)
     : Type 0 where
-  pub text : report mode.Run (disk ∷ []) (length events) journal status.Done ≡ plain_text disk content events
+  pub text : report mode.Run (one_disk disk) (length events) journal status.Done ≡ plain_text disk content events
   pub told : v.image.told ≡ Some (plain_content disk content events)
   pub ids : completed_ids journal ≡ plain_ids disk content events
 
@@ -48,39 +51,41 @@ ran disk content events = plain_run disk (untouched content) events
 
 -- THE PLAIN RUN has what the journal tells: its lines, its counts and its ids
 record Tells (disk : DiskDecl) (journal : List Entry) (v : WorldState) (p : Plain) : Type 0 where
-  text : report_entries mode.Run (disk ∷ []) journal ≡ p.text
+  text : report_entries mode.Run (one_disk disk) journal ≡ p.text
   ids : completed_ids journal ≡ ids_below p
   done : done_count journal ≡ p.completed
   accepted : accepted_count journal ≡ p.completed + length p.waiting
   resets : reset_count journal ≡ 0
+  frames : frame_count journal ≡ 0
   told : v.image.told ≡ Some p.content
 
 -- and what lines of lanes show
 record ShowsPlain (disk : DiskDecl) (content : List ℕ) (events : List Event) (lines : List (Line × List SettleEntry))
     (v : WorldState) : Type 0 where
-  shows : shown_of lines ≡ lanes.plain_journal (shape_of 0 disk) (lanes.untouched content) (map line_of events)
+  shows : shown_of lines ≡ plain_lines.plain_journal (shape_of 0 disk) (lanes.untouched content) (map line_of events)
   ends : IsPlain (listed (ran disk content events)) v
 
 shows_plain : (disk : DiskDecl) (content : List ℕ) (events : List Event) (lines : List (Line × List SettleEntry))
-    (v : WorldState) → lines_of lines ≡ map line_of events → RunsPlainly (shape_of 0 disk) content lines v
-    → ShowsPlain disk content events lines v
+    (v : DomainState) → lines_of lines ≡ map line_of events → RunsPlainly (shape_of 0 disk) content lines v
+    → ShowsPlain disk content events lines v.first
 shows_plain disk content events lines v are runs =
     let shape = shape_of 0 disk in
     let start = lanes.untouched content in
-    let end = ap (lanes.plain_run shape start) are ∙ sym (run_same disk (untouched content) events) in
+    let end = ap (plain_lines.plain_run shape start) are ∙ sym (run_same disk (untouched content) events) in
     record {
-      shows = runs.shows ∙ ap (lanes.plain_journal shape start) are;
-      ends = subst (λ (l : lanes.Plain). IsPlain l v) end runs.ends;
+      shows = runs.shows ∙ ap (plain_lines.plain_journal shape start) are;
+      ends = subst (λ (l : lanes.Plain). IsPlain l v.first) end runs.ends;
     }
 
 -- the next id of the one lane counts what was accepted
-accepted_all : (disk : DiskDecl) (image : ImageState) (lines : List (Line × List SettleEntry)) (v : WorldState)
-    (p : lanes.Plain) → IsDisk disk → Run LineStep (fresh_world (shape_of 0 disk ∷ []) image) lines v → IsPlain p v
+accepted_all : (disk : DiskDecl) (image : ImageState) (lines : List (Line × List SettleEntry)) (v : DomainState)
+    (p : lanes.Plain) → IsDisk disk → Run LineStep (fresh_domain (shape_of 0 disk ∷ []) image []) lines v → IsPlain p v.first
     → accepted_in (entries_of_lines lines) ≡ p.completed + length p.waiting
 accepted_all disk image lines v p is run plain =
     let shape = shape_of 0 disk in
-    let entries_run = lines_run (fresh_world (shape ∷ []) image) lines v run in
-    let sum = world_counts (shape ∷ []) image (entries_of_lines lines) v (disk_shape disk is, refl, tt) entries_run in
+    let start = fresh_domain (shape ∷ []) image [] in
+    let entries_run = disks_run start (entries_of_lines lines) v (lines_run start lines v run) in
+    let sum = world_counts (shape ∷ []) image (entries_of_lines lines) v.first (disk_shape disk is, refl, tt) entries_run in
     let ids = ap next_ids plain.lanes in
     let accepted = plain.accepted in
     omega (arith, sum, ids, accepted)
@@ -106,6 +111,7 @@ tells_plain disk content events journal lines v says shows accepted =
       done = ap (λ (t : Told). t.done) told ∙ long;
       accepted = says.1 ∙ accepted;
       resets = ap (λ (t : Told). t.resets) told ∙ grows.resets;
+      frames = ap (λ (t : Told). t.frames) told;
       told = shows.ends.told;
     }
 
@@ -114,7 +120,7 @@ told_plain : (disk : DiskDecl) (content : List ℕ) (events : List Event) (journ
 told_plain disk content events journal v tells =
     let p = ran disk content events in
     let lines = length events in
-    let ends = ends_agree journal p lines tells.done tells.accepted tells.resets in
+    let ends = ends_agree journal p lines tells.done tells.accepted tells.resets tells.frames in
     record {
       text = ap (λ (l : List ℕ). l ++ end_line lines journal status.Done) tells.text
           ∙ ap (λ (l : List ℕ). p.text ++ l) ends;
@@ -123,14 +129,14 @@ told_plain disk content events journal v tells =
     }
 
 -- A QUIET SCRIPT whose journal fits, over an image that tells its bytes, is long enough and never failed
-pub plain_law : (disk : DiskDecl) (image : ImageState) (content : List ℕ) (parts : ScriptParts) (v : WorldState)
+pub plain_law : (disk : DiskDecl) (image : ImageState) (content : List ℕ) (parts : ScriptParts) (v : DomainState)
     → IsDisk disk → image.told ≡ Some content → 512 * disk.blocks ≤ length content → IsQuiet disk (events_of parts)
-    → parts.cut ≡ None → FitsScript 0 (world_of (disk ∷ []) image) parts v → v.image.faults ≡ 0
-    → PlainLaw disk content (events_of parts) (journal_of parts) v
+    → parts.cut ≡ None → FitsScript 0 (world_of (disk ∷ []) [] image) parts v → v.first.image.faults ≡ 0
+    → PlainLaw disk content (events_of parts) (journal_of parts) v.first
 plain_law disk image content parts v is told holds quiet none_cut fits well =
     let shape = shape_of 0 disk in
     let events : List Event = events_of parts in
-    let w : WorldState = world_of (disk ∷ []) image in
+    let w : DomainState = world_of (disk ∷ []) [] image in
     let whole : RanWhole 0 w parts v = ran_whole 0 w parts v none_cut fits in
     let calm = subst (λ (l : List (Event × List Entry)). quiet_world.AreQuiet (map line_of (events_in l))) whole.lines_are
     (quiet_events disk events quiet) in
@@ -145,8 +151,8 @@ plain_law disk image content parts v is told holds quiet none_cut fits well =
     let shows = shows_plain disk content events through.lanes v are plainly in
     let says : SaysSame disk (journal_of parts) (entries_of_lines through.lanes) =
     subst (λ (l : List (Event × List Entry)). SaysSame disk (entries_in l) (entries_of_lines through.lanes))
-    (sym whole.lines_are) (through.same disk) in
+    (sym whole.lines_are) (through.same disk (of_disks (shape ∷ []) image through.lanes v through.run)) in
     let p = listed (ran disk content events) in
     let accepted = accepted_all disk image through.lanes v p is through.run shows.ends in
-    let tells = tells_plain disk content events (journal_of parts) through.lanes v says shows accepted in
-    told_plain disk content events (journal_of parts) v tells
+    let tells = tells_plain disk content events (journal_of parts) through.lanes v.first says shows accepted in
+    told_plain disk content events (journal_of parts) v.first tells

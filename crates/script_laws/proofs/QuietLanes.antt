@@ -1,7 +1,7 @@
 -- The lines of a quiet script are quiet lines of a lane, whose disk begins the image.
 use Rattle.std.proofs.Common.{◌≡◌, ℕ, ◌*◌, ◌≤◌, List, [], ◌∷◌, length, map, refl, Some}
 use Rattle.disk_law.specs.ListState.{ImageState}
-use Rattle.disk_model.specs.LaneState.{IsShape}
+use Rattle.world_parts.specs.disk_model.LaneState.{IsShape}
 use Rattle.domain_script.specs.Declarations.{IsDisk}
 use Rattle.domain_script.specs.declared.event.DiskDecl.{DiskDecl}
 use Rattle.domain_script.specs.declared.event.Event.{Event}
@@ -9,8 +9,8 @@ use Rattle.domain_script.specs.declared.event.Event.TheVariants as event
 use Rattle.script_laws.specs.Quiet.{AreQuiet, IsQuiet}
 use Rattle.world_parts.specs.Declared.{shape_of}
 use Rattle.world_parts.specs.Lines.{line_of}
-use Rattle.world_laws.specs.Quiet as quiet_world
-use Rattle.world_laws.specs.Quiet.{IsFront}
+use Rattle.world_parts.specs.domain_laws.Quiet as quiet_world
+use Rattle.world_parts.specs.world_laws.Quiet.{IsFront}
 
 -- THE DISK begins its image
 pub disk_shape : (disk : DiskDecl) → IsDisk disk → IsShape (shape_of 0 disk)

@@ -1,20 +1,23 @@
 -- A script, line after line.
-use Rattle.std.proofs.Common.{◌≡◌, ℕ, ◌+◌, ◌≤◌, List, [], ◌∷◌, ◌++◌, length, sym, ◌∙◌, ap, subst, length-append, arith, Bool, true, false, IsTrue, Option, inl, inr, refl}
+use Rattle.std.proofs.Common.{◌≡◌, ℕ, ◌+◌, ◌<◌, ◌≤◌, List, [], ◌∷◌, ◌++◌, length, sym, ◌∙◌, ap, subst, length-append, arith, Bool, true, false, IsTrue, Option, inl, inr, refl}
 use Rattle.domain_script.specs.declared.event.DiskDecl.{DiskDecl}
 use Rattle.domain_script.specs.declared.event.Event.{Event}
 use Rattle.domain_script.specs.declared.event.Event.TheVariants as line
-use Rattle.domain_script.specs.Declarations.{AreDisks}
-use Rattle.domain_script.specs.NamesState.{NamesState, noted}
+use Rattle.domain_script.specs.declared.event.PortDecl.{PortDecl}
+use Rattle.domain_script.specs.Declarations.{AreDeclared, AreDisks, addresses}
+use Rattle.domain_script.specs.Firsts.{AllDiffer}
+use Rattle.domain_script.specs.NamesState.{NamesState, declared_by, noted}
 use Rattle.domain_script.specs.Spells.{Spells}
-use Rattle.domain_script.proofs.Disks.{are_disks_push}
+use Rattle.domain_script.proofs.Disks.{are_disks_push, are_ports_push}
+use Rattle.domain_script.proofs.Firsts.{differ_push}
 use Rattle.domain_script.proofs.ScriptLemmas.{taken_more, taken_none}
-use Rattle.domain_script.proofs.Spelling.{declared_first}
+use Rattle.domain_script.proofs.Spelling.{Declares, DeclaresPort, declared_first, port_declared_first}
 use Rattle.script_laws.specs.Attached.{AreOpening, is_opening}
 use Rattle.script_laws.specs.Opening.{Opens}
 use Rattle.script_laws.specs.Reading.{ReadsEvent}
 use Rattle.domain_script.specs.ScriptEvents.{AllSpell, no_names}
 use Rattle.script_laws.specs.Script.{ReadSoFar}
-use Rattle.script_laws.proofs.LineCases.{ends, noted_disks, stays_ended}
+use Rattle.script_laws.proofs.LineCases.{ends, noted_disks, noted_ports, stays_ended}
 
 pub spell_more : (texts : List (List ℕ)) (text : List ℕ) (first names after : NamesState) (events : List Event) (event : Event) → AllSpell texts first events names → Spells text names event → after ≡ noted names event
     → AllSpell (texts ++ text ∷ []) first (events ++ event ∷ []) after
@@ -92,39 +95,77 @@ same_disks rest left event names after reads ended = ap (λ (n : NamesState). n.
   | inr same ↦ same
 ]
 
--- each disk that a script declares is within the limits
-disks_noted : (text : List ℕ) (event : Event) (names : NamesState) → Spells text names event → AreDisks names.disks → AreDisks (noted names event).disks
-disks_noted text event names spelled are = elim (noted_disks names event) [
+pub same_ports : (rest left : Option (List ℕ)) (event : Event) (names after : NamesState) → ReadsEvent rest left names event after → names.ended ≡ true → after.ports ≡ names.ports
+same_ports rest left event names after reads ended = ap (λ (n : NamesState). n.ports) reads.noted_is ∙ elim (noted_ports names event) [
   | inl declares ↦
-      let spells : Spells text names (line.Disk declares.0) = subst (λ (e : Event). Spells text names e) declares.1 spelled in
-      subst (λ (e : Event). AreDisks (noted names e).disks) (sym declares.1) (are_disks_push names.disks declares.0 are (declared_first text names declares.0 spells).limits)
-  | inr same ↦ subst AreDisks (sym same) are
+      let spells : Spells reads.text names (line.Net declares.0) = subst (λ (e : Event). Spells reads.text names e) declares.1 reads.spells in
+      absurd (cc (ended, (port_declared_first reads.text names declares.0 spells).open_still))
+  | inr same ↦ same
 ]
 
-pub are_disks : (texts : List (List ℕ)) (names after : NamesState) (events : List Event) → AreDisks names.disks → AllSpell texts names events after → AreDisks after.disks
-are_disks [] names after [] are spell = subst (λ (n : NamesState). AreDisks n.disks) (sym spell) are
-are_disks [] names after (e ∷ es) are spell = absurd spell
-are_disks (x ∷ xs) names after [] are spell = absurd spell
-are_disks (x ∷ xs) names after (e ∷ es) are spell = are_disks xs (noted names e) after es (disks_noted x e names spell.0 are) spell.1
+-- WHAT A SCRIPT DECLARES: one more disk, one more port
+one_more : (few : ℕ) (more : ℕ) → few < 8 → more ≡ few + 1 → more ≤ 8
+one_more few more less is = omega (arith, less, is)
 
--- and there are at most eight
-few_noted : (text : List ℕ) (event : Event) (names : NamesState) → Spells text names event → length names.disks ≤ 8 → length (noted names event).disks ≤ 8
-few_noted text event names spelled few = elim (noted_disks names event) [
+disk_noted : (names : NamesState) (disk : DiskDecl) → AreDeclared (declared_by names) → Declares names disk → AreDeclared (declared_by (noted names (line.Disk disk)))
+disk_noted names disk are declares = record {
+  disks = are_disks_push names.disks disk are.disks declares.limits;
+  few_disks = one_more (length names.disks) (length (names.disks ++ disk ∷ [])) declares.few (length-append names.disks (disk ∷ []));
+  ports = are.ports;
+  few_ports = are.few_ports;
+  differ = are.differ;
+}
+
+addresses_push : (ports : List PortDecl) (port : PortDecl) → addresses (ports ++ port ∷ []) ≡ addresses ports ++ port.address ∷ []
+addresses_push [] port = refl
+addresses_push (p ∷ ports) port = ap (λ (l : List (List ℕ)). p.address ∷ l) (addresses_push ports port)
+
+port_noted : (names : NamesState) (port : PortDecl) → AreDeclared (declared_by names) → DeclaresPort names port → AreDeclared (declared_by (noted names (line.Net port)))
+port_noted names port are declares = record {
+  disks = are.disks;
+  few_disks = are.few_disks;
+  ports = are_ports_push names.ports port are.ports declares.limits;
+  few_ports = one_more (length names.ports) (length (names.ports ++ port ∷ [])) declares.few (length-append names.ports (port ∷ []));
+  differ = subst AllDiffer (sym (addresses_push names.ports port)) (differ_push (addresses names.ports) port.address are.differ declares.free_address);
+}
+
+none_noted : (names : NamesState) (event : Event) → (noted names event).disks ≡ names.disks → (noted names event).ports ≡ names.ports
+    → AreDeclared (declared_by names) → AreDeclared (declared_by (noted names event))
+none_noted names event disks ports are =
+    subst (λ (d : List DiskDecl). AreDeclared (record { disks = d; ports = (noted names event).ports })) (sym disks)
+    (subst (λ (p : List PortDecl). AreDeclared (record { disks = names.disks; ports = p })) (sym ports) are)
+
+all_noted : (text : List ℕ) (event : Event) (names : NamesState) → Spells text names event → AreDeclared (declared_by names) → AreDeclared (declared_by (noted names event))
+all_noted text event names spelled are = elim (noted_disks names event) [
   | inl declares ↦
       let spells : Spells text names (line.Disk declares.0) = subst (λ (e : Event). Spells text names e) declares.1 spelled in
-      subst (λ (e : Event). length (noted names e).disks ≤ 8) (sym declares.1)
-      (omega (arith, length-append names.disks (declares.0 ∷ []), (declared_first text names declares.0 spells).few))
-  | inr same ↦ omega (arith, few, ap (λ (l : List DiskDecl). length l) same)
+      subst (λ (e : Event). AreDeclared (declared_by (noted names e))) (sym declares.1)
+      (disk_noted names declares.0 are (declared_first text names declares.0 spells))
+  | inr disks ↦
+      elim (noted_ports names event) [
+        | inl declares ↦
+            let spells : Spells text names (line.Net declares.0) = subst (λ (e : Event). Spells text names e) declares.1 spelled in
+            subst (λ (e : Event). AreDeclared (declared_by (noted names e))) (sym declares.1)
+            (port_noted names declares.0 are (port_declared_first text names declares.0 spells))
+        | inr ports ↦ none_noted names event disks ports are
+      ]
 ]
 
-pub few_disks : (texts : List (List ℕ)) (names after : NamesState) (events : List Event) → length names.disks ≤ 8 → AllSpell texts names events after → length after.disks ≤ 8
-few_disks [] names after [] few spell = subst (λ (n : NamesState). length n.disks ≤ 8) (sym spell) few
-few_disks [] names after (e ∷ es) few spell = absurd spell
-few_disks (x ∷ xs) names after [] few spell = absurd spell
-few_disks (x ∷ xs) names after (e ∷ es) few spell = few_disks xs (noted names e) after es (few_noted x e names spell.0 few) spell.1
+pub are_declared : (texts : List (List ℕ)) (names after : NamesState) (events : List Event) → AreDeclared (declared_by names) → AllSpell texts names events after → AreDeclared (declared_by after)
+are_declared [] names after [] are spell = subst (λ (n : NamesState). AreDeclared (declared_by n)) (sym spell) are
+are_declared [] names after (e ∷ es) are spell = absurd spell
+are_declared (x ∷ xs) names after [] are spell = absurd spell
+are_declared (x ∷ xs) names after (e ∷ es) are spell = are_declared xs (noted names e) after es (all_noted x e names spell.0 are) spell.1
+
+-- nothing yet
+pub none_declared : AreDeclared (declared_by no_names)
+none_declared = record { disks = tt; few_disks = omega arith; ports = tt; few_ports = omega arith; differ = λ j k x first second. absurd (cc first) }
+
+pub read_declared : (start left : Option (List ℕ)) (events : List Event) (names : NamesState) (count : ℕ) → ReadSoFar start left events names count → AreDeclared (declared_by names)
+read_declared start left events names count read = are_declared read.texts no_names names events none_declared read.spell
 
 pub read_few : (start left : Option (List ℕ)) (events : List Event) (names : NamesState) (count : ℕ) → ReadSoFar start left events names count → length names.disks ≤ 8
-read_few start left events names count read = few_disks read.texts no_names names events (omega arith) read.spell
+read_few start left events names count read = (read_declared start left events names count read).few_disks
 
 pub read_disks : (start left : Option (List ℕ)) (events : List Event) (names : NamesState) (count : ℕ) → ReadSoFar start left events names count → AreDisks names.disks
-read_disks start left events names count read = are_disks read.texts no_names names events tt read.spell
+read_disks start left events names count read = (read_declared start left events names count read).disks

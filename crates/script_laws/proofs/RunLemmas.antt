@@ -15,17 +15,17 @@ use Rattle.world_parts.specs.Lines.{LineStarts, EventStep, line_of}
 use Rattle.world_parts.specs.Parts.{Fits, FitsSoFar}
 use Rattle.ldom_report.specs.LinesEnd.{counted_lines}
 use Rattle.script_laws.specs.Reading.{ReadsEvent, StopsAt}
-use Rattle.world_laws.specs.World.{WorldState}
+use Rattle.world_parts.specs.domain_laws.Domain.{DomainState}
 use Rattle.world_parts.specs.Script.{BeginBelow, entries_in, events_in}
 use Rattle.domain_script.proofs.ScriptLemmas.{short-append, takes-append, takes_none}
 use Rattle.script_laws.proofs.LineLists.{below_push, entries_push, events_both, whole_ends}
 use Rattle.script_laws.proofs.ReadLemmas.{spell_more}
 
 -- the part of a line that was run, and of one that began
-pub line_step : (m : WorldState) (event : Event) (mid new : List Entry) (t : WorldState) → (fits : Fits m (line_of event) mid new t) → EventStep m (event, fits.adds.part) t
+pub line_step : (m : DomainState) (event : Event) (mid new : List Entry) (t : DomainState) → (fits : Fits m (line_of event) mid new t) → EventStep m (event, fits.adds.part) t
 line_step m event mid new t fits = record { entries = fits.entries; says = fits.adds.says; moves = fits.moves }
 
-pub line_starts : (m : WorldState) (event : Event) (mid new : List Entry) (t : WorldState) → (fits : FitsSoFar m (line_of event) mid new t) → LineStarts m (event, fits.adds.part) t
+pub line_starts : (m : DomainState) (event : Event) (mid new : List Entry) (t : DomainState) → (fits : FitsSoFar m (line_of event) mid new t) → LineStarts m (event, fits.adds.part) t
 line_starts m event mid new t fits = record { entries = fits.entries; says = fits.adds.says; begins = fits.begins }
 
 -- no line was read yet
@@ -46,8 +46,8 @@ on_more start rest left before names after number count next events all event re
 }
 
 -- the lines that were run so far
-pub record RunsSoFar (start : Option (List ℕ)) (before : NamesState) (old : List Entry) (s : WorldState) (number : ℕ)
-    (rest : Option (List ℕ)) (names : NamesState) (new : List Entry) (t : WorldState) (count : ℕ) : Type 0 where
+pub record RunsSoFar (start : Option (List ℕ)) (before : NamesState) (old : List Entry) (s : DomainState) (number : ℕ)
+    (rest : Option (List ℕ)) (names : NamesState) (new : List Entry) (t : DomainState) (count : ℕ) : Type 0 where
   pub lines : List (Event × List Entry)
   pub read : ReadsOn start rest before number (events_in lines) names
   pub grew : new ≡ old ++ entries_in lines
@@ -55,7 +55,7 @@ pub record RunsSoFar (start : Option (List ℕ)) (before : NamesState) (old : Li
   pub below : BeginBelow (length old) lines
   pub counts : count ≡ number + length read.texts
 
-pub runs_none : (start : Option (List ℕ)) (names : NamesState) (old : List Entry) (s : WorldState) (number : ℕ) → number ≤ 20000
+pub runs_none : (start : Option (List ℕ)) (names : NamesState) (old : List Entry) (s : DomainState) (number : ℕ) → number ≤ 20000
     → RunsSoFar start names old s number start names old s number
 runs_none start names old s number few = record {
   lines = [];
@@ -81,7 +81,7 @@ module _ (lines : List (Event × List Entry)) (event : Event) (part : List Entry
       grew ∙ ap (λ (l : List Entry). l ++ part) so_far ∙ append_assoc old (entries_in lines) part
       ∙ ap (λ (l : List Entry). old ++ l) (sym (entries_push lines (event, part)))
 
-pub runs_more : (start rest left : Option (List ℕ)) (before names after : NamesState) (old mid new : List Entry) (s m t : WorldState)
+pub runs_more : (start rest left : Option (List ℕ)) (before names after : NamesState) (old mid new : List Entry) (s m t : DomainState)
     (number count next : ℕ) (event : Event) → RunsSoFar start before old s number rest names mid m count → ReadsEvent rest left names event after
     → next ≡ count + 1 → next ≤ 20000 → length mid < 2000000 → Fits m (line_of event) mid new t → RunsSoFar start before old s number left after new t next
 runs_more start rest left before names after old mid new s m t number count next event so_far reads is few below fits = record {
@@ -97,7 +97,7 @@ runs_more start rest left before names after old mid new s m t number count next
 }
 
 -- no further line is taken up
-pub runs_stop : (start rest now : Option (List ℕ)) (held : List ℕ) (before names after : NamesState) (old new : List Entry) (s t : WorldState)
+pub runs_stop : (start rest now : Option (List ℕ)) (held : List ℕ) (before names after : NamesState) (old new : List Entry) (s t : DomainState)
     (number count lines : ℕ) (why : Status) → IsReaders why → RunsSoFar start before old s number rest names new t count → StopsAt why rest held now names count (length new)
     → lines ≡ counted_lines why count → after ≡ names → RunsLines start now before old s number why after new t lines
 runs_stop start rest now held before names after old new s t number count lines why readers so_far stop is same =
@@ -118,7 +118,7 @@ keeps_same None = tt
 keeps_same (Some bytes) = refl
 
 -- memory was wanted in the midst of a line
-pub runs_cut : (start rest now : Option (List ℕ)) (held : List ℕ) (before names after : NamesState) (old mid new : List Entry) (s m t : WorldState)
+pub runs_cut : (start rest now : Option (List ℕ)) (held : List ℕ) (before names after : NamesState) (old mid new : List Entry) (s m t : DomainState)
     (number count next : ℕ) (event : Event) → RunsSoFar start before old s number rest names mid m count
     → ReadsEvent rest (prepend_known held now) names event after → next ≡ count + 1 → next ≤ 20000 → length mid < 2000000 → FitsSoFar m (line_of event) mid new t
     → RunsLines start now before old s number status.NoMemory after new t next

@@ -1,26 +1,39 @@
 -- The part of a settle: events of lanes, and then its answer, or names of lanes that are left over; and a front of it.
-use Rattle.std.proofs.Common.{◌≡◌, inl, inr, ℕ, ◌+◌, ◌*◌, ◌<◌, ◌≤◌, Bool, true, false, List, [], ◌∷◌, ◌++◌, length, map, refl, sym, ap, ◌∙◌, arith, append-nil}
+use Rattle.std.proofs.Common.{◌≡◌, inl, inr, ℕ, ◌+◌, ◌*◌, ◌<◌, ◌≤◌, Bool, true, false, List, [], ◌∷◌, ◌++◌, length, map, refl, sym, ap, ◌∙◌, arith, append-nil, length-append}
 use Rattle.std.proofs.lemmas.List.{length-map}
 use Rattle.std.specs.Prelude.{◌&&◌, if◌then◌else◌}
 use Rattle.runs.specs.Run.{Run}
-use Rattle.disk_model.specs.LaneState.{LaneState}
-use Rattle.disk_model.specs.Reached.{IsReached}
-use Rattle.channel_model.specs.WireEvent.{Blocked}
-use Rattle.disk_model.specs.DiskEvent.{OnWire}
-use Rattle.lane_kinds.specs.Fronts.{NamesFront}
-use Rattle.world_laws.proofs.LineEntries.{EachEntry, each_in, few_each, rounds_each, settled_each}
-use Rattle.world_laws.proofs.Naming.{out_names}
-use Rattle.world_laws.proofs.Stuck.{made_move}
-use Rattle.world_laws.specs.Begun.{SettleFront}
-use Rattle.world_laws.specs.DiskKind.{waits_on}
-use Rattle.world_laws.specs.Moves.{moves, moves_in}
-use Rattle.world_laws.specs.Rounds.{Each, LaneRound, is_quiet}
-use Rattle.world_laws.specs.Settle.{GoesOn, OfLane, RunsOut, SettleEntry, SettleRound, Settled, Settles, Settling, Unsettled, begin, disks, entries_of_rounds, left_over, most_rounds, round_entries}
-use Rattle.script_laws.proofs.Entries.{IsOfLane}
+use Rattle.world_parts.specs.channel_model.WireEvent.{Blocked}
+use Rattle.world_parts.specs.disk_model.DiskEvent.{OnWire}
+use Rattle.lane_kinds.proofs.EntriesEach.{first_each}
+use Rattle.lane_kinds.proofs.EntryRuns.{names_each}
+use Rattle.lane_kinds.specs.Both.{Two}
+use Rattle.lane_kinds.specs.Fronts.{NamesFront, SettleFront}
+use Rattle.lane_kinds.specs.Lanes.{Entries, LaneKind, all_calm, left_names}
+use Rattle.lane_kinds.specs.Settles.{GoesOn, RunsOut, Settles, begin, entries_of_rounds, most_rounds}
+use Rattle.world_parts.specs.switch_laws.Events.{SwitchEvent}
+use Rattle.world_parts.specs.switch_laws.Ports.{ports}
+use Rattle.world_parts.specs.world_laws.DiskKind.{disk_kind}
+use Rattle.world_parts.specs.world_laws.Rounds.{LaneRound}
+use Rattle.world_parts.specs.world_laws.Settle.{OfLane, OfPort, SettleEntry, Settled, Unsettled, UnsettledPort, disk_entries, disks}
+use Rattle.world_parts.proofs.domain_laws.Counting.{made_move, some_named}
+use Rattle.world_parts.proofs.domain_laws.LineEntries.{AllRound, AllSettling, EachEntry, StepsHave, TicksHave, each_as, each_both, each_in, few_each, rounds_each, settled_each}
+use Rattle.world_parts.specs.domain_laws.Counts.{is_blocked, moves, moves_in}
+use Rattle.world_parts.specs.domain_laws.Domain.{Lanes, lanes, port_entries, switch}
+use Rattle.world_parts.specs.domain_laws.Lines.{fronts}
+use Rattle.world_parts.specs.domain_laws.Settling.{AreReached}
+use Rattle.script_laws.proofs.Entries.{IsName, IsOfLane}
 use Rattle.script_laws.proofs.Places.{InEither, no_place, place_in}
+use Rattle.script_laws.specs.Settled.{EndsUnsettled}
 
 abbrev pub AreOfLanes : List SettleEntry → Type 0
 AreOfLanes part = EachEntry IsOfLane part
+
+pub lane_steps : StepsHave IsOfLane
+lane_steps = record { of_disk = λ k e event step. tt; of_port = λ k e event step. tt }
+
+pub lane_ticks : TicksHave IsOfLane
+lane_ticks = record { of_disk = λ k. tt; of_port = λ k s. tt }
 
 -- A SETTLE THAT ENDS SETTLED
 pub record SettledLast (part : List SettleEntry) : Type 0 where
@@ -28,12 +41,12 @@ pub record SettledLast (part : List SettleEntry) : Type 0 where
   pub is : part ≡ front ++ Settled ∷ []
   pub of_lanes : AreOfLanes front
 
-pub settled_last : (start : List LaneState) (part : List SettleEntry) (behind : List LaneState)
-    → Settles start part behind → SettledLast part
+pub settled_last : (start : Lanes) (part : List SettleEntry) (behind : Lanes) → Settles lanes start part behind
+    → SettledLast part
 settled_last start part behind at = record {
-  front = entries_of_rounds at.rounds ++ round_entries 0 at.steps;
+  front = entries_of_rounds at.rounds ++ lanes.leaves at.steps;
   is = at.is;
-  of_lanes = settled_each IsOfLane (λ k e event step. tt) (λ k. tt) start part behind at;
+  of_lanes = settled_each IsOfLane lane_steps lane_ticks start part behind at;
 }
 
 -- its answer stands last, and nowhere else
@@ -56,9 +69,10 @@ none_behind part before later at is =
 -- EVENTS OF LANES, AND THEN NAMES; where there are any, so are there events
 pub record NamesLast (part : List SettleEntry) : Type 0 where
   pub front : List SettleEntry
-  pub names : List ℕ
-  pub is : part ≡ front ++ map Unsettled names
+  pub names : List SettleEntry
+  pub is : part ≡ front ++ names
   pub of_lanes : AreOfLanes front
+  pub are : EachEntry IsName names
   pub some : 1 ≤ length names → 1 ≤ length front
 
 pub lanes_alone : (part : List SettleEntry) → AreOfLanes part → NamesLast part
@@ -67,37 +81,41 @@ lanes_alone part of_lanes = record {
   names = [];
   is = sym (append-nil part);
   of_lanes = of_lanes;
+  are = tt;
   some = λ one. absurd (omega (arith, one));
 }
 
 -- the lanes that are left over are names
-first_name : (k : ℕ) (rests : Bool) (later : List SettleEntry) → (ks : List ℕ) × (later ≡ map Unsettled ks)
-    → (ks : List ℕ) × ((if rests then [] else Unsettled k ∷ []) ++ later ≡ map Unsettled ks)
-first_name k true later more = more
-first_name k false later more = (k ∷ more.0, ap (λ (l : List SettleEntry). Unsettled k ∷ l) more.1)
+all_names : (r : Two (List LaneRound) (List (List SwitchEvent))) (w : Lanes) → EachEntry IsName (lanes.names r w)
+all_names r w =
+    each_both IsName (disks.names r.first w.first) (switch.names r.second w.second)
+    (names_each disk_kind disk_entries IsName (λ k. tt) 0 r.first w.first)
+    (names_each ports port_entries IsName (λ k. tt) 0 r.second w.second)
 
-pub names_are : (k : ℕ) (rounds : List LaneRound) (lanes : List LaneState)
-    → (ks : List ℕ) × (left_over k rounds lanes ≡ map Unsettled ks)
-names_are k [] lanes = ([], refl)
-names_are k (r ∷ rounds) [] = ([], refl)
-names_are k (r ∷ rounds) (s ∷ lanes) =
-    first_name k (is_quiet r && (if waits_on s then false else true)) (left_over (k + 1) rounds lanes)
-    (names_are (k + 1) rounds lanes)
+-- by their numbers
+module _ {S V : Type 0} (K : LaneKind S V) (N : Entries V SettleEntry) where
+  abbrev Numbers : List SettleEntry → Type 0
+  Numbers later = (ks : List ℕ) × (later ≡ map N.left_over ks)
 
-pub first_names : (part more : List SettleEntry) (ks : List ℕ) → part ++ more ≡ map Unsettled ks
-    → (js : List ℕ) × (part ≡ map Unsettled js)
-first_names [] more ks is = ([], refl)
-first_names (entry ∷ part) more [] is = absurd (cc is)
-first_names (entry ∷ part) more (k ∷ ks) is =
-    let here : entry ≡ Unsettled k = cc is in
-    let rest : part ++ more ≡ map Unsettled ks = cc is in
-    let later = first_names part more ks rest in (
-      k ∷ later.0,
-      ap (λ (e : SettleEntry). e ∷ part) here ∙ ap (λ (l : List SettleEntry). Unsettled k ∷ l) later.1,
-    )
+  first_name : (k : ℕ) (rests : Bool) (later : List SettleEntry) → Numbers later
+      → Numbers ((if rests then [] else N.left_over k ∷ []) ++ later)
+  first_name k true later more = more
+  first_name k false later more = (k ∷ more.0, ap (λ (l : List SettleEntry). N.left_over k ∷ l) more.1)
+
+  names_are : (k : ℕ) (turns : List (List V)) (w : List S) → Numbers (left_names K N k turns w)
+  names_are k [] w = ([], refl)
+  names_are k (r ∷ turns) [] = ([], refl)
+  names_are k (r ∷ turns) (s ∷ w) =
+      first_name k (all_calm K r && (if K.waits_on s then false else true)) (left_names K N (k + 1) turns w)
+      (names_are (k + 1) turns w)
 
 -- ROUNDS that were made leave an event each
+either_one : (c : Bool) → (if c then 0 else 1) ≤ 1
+either_one true = omega (arith)
+either_one false = omega (arith)
+
 one_move : (entry : SettleEntry) → moves entry ≤ 1
+one_move (OfPort j event) = either_one (is_blocked event)
 one_move (OfLane j (OnWire (Blocked e))) = omega (arith)
 one_move (OfLane j event) = omega (arith)
 one_move _ = omega (arith)
@@ -106,7 +124,7 @@ moves_most : (part : List SettleEntry) → moves_in part ≤ length part
 moves_most [] = omega (arith)
 moves_most (entry ∷ part) = let one = one_move entry in let rest = moves_most part in omega (arith, one, rest)
 
-pub rounds_long : (w : Settling) (rounds : List SettleRound) (v : Settling) → Run GoesOn w rounds v
+pub rounds_long : (w : AllSettling) (rounds : List AllRound) (v : AllSettling) → Run (GoesOn lanes) w rounds v
     → length rounds ≤ length (entries_of_rounds rounds)
 rounds_long w rounds v run =
     let moved = made_move w rounds v run in
@@ -117,53 +135,74 @@ at_least_one : (n most all : ℕ) → n ≡ 4096 + 64 * most → n ≤ all → 1
 at_least_one n most all is less = omega (arith, is, less)
 
 -- A SETTLE THAT RAN OUT of rounds, and names one lane at least
-pub out_last : (start : List LaneState) (part : List SettleEntry) (behind : List LaneState)
-    (out : RunsOut start part behind) → NamesLast part
+pub out_last : (start : Lanes) (part : List SettleEntry) (behind : Lanes) (out : RunsOut lanes start part behind)
+    → NamesLast part
 out_last start part behind out =
-    let all : List SettleRound = out.rounds ++ out.last ∷ [] in
-    let names = names_are 0 out.last.steps behind in
-    let long = rounds_long (begin start) all out.now out.run in
+    let all : List AllRound = out.rounds ++ out.last ∷ [] in
+    let long = rounds_long (begin lanes start) all out.now out.run in
     record {
       front = entries_of_rounds all;
-      names = names.0;
-      is = out.is ∙ ap (λ (l : List SettleEntry). entries_of_rounds all ++ l) names.1;
-      of_lanes = rounds_each IsOfLane (λ k e event step. tt) (λ k. tt) (begin start) all out.now out.run;
-      some = λ one. at_least_one (length all) _ (length (entries_of_rounds all)) out.most long;
+      names = lanes.names out.last.steps behind;
+      is = out.is;
+      of_lanes = rounds_each IsOfLane lane_steps lane_ticks (begin lanes start) all out.now out.run;
+      are = all_names out.last.steps behind;
+      some = λ one. at_least_one (length all) (lanes.pending start) (length (entries_of_rounds all)) out.most long;
     }
 
-pub some_left : (start : List LaneState) (part : List SettleEntry) (behind : List LaneState)
-    (out : RunsOut start part behind) → Each IsReached start → 1 ≤ length (out_last start part behind out).names
-unfolding out_last names_are
-some_left start part behind out reached =
-    let names = names_are 0 out.last.steps behind in
-    let one = out_names start part behind out reached in
-    let same : length (left_over 0 out.last.steps behind) ≡ length (out_last start part behind out).names =
-    ap (λ (l : List SettleEntry). length l) names.1 ∙ length-map names.0 Unsettled in
-    omega (arith, one, same)
+pub some_left : (start : Lanes) (part : List SettleEntry) (behind : Lanes) (out : RunsOut lanes start part behind)
+    → AreReached start → 1 ≤ length (out_last start part behind out).names
+unfolding out_last
+some_left start part behind out reached = some_named start part behind out reached
+
+both_long : (all a b n m : ℕ) → 1 ≤ all → all ≡ a + b → a ≡ n → b ≡ m → 1 ≤ n + m
+both_long all a b n m some sum one two = omega (arith, some, sum, one, two)
+
+pub out_unsettled : (start : Lanes) (part : List SettleEntry) (behind : Lanes) → RunsOut lanes start part behind
+    → AreReached start → EndsUnsettled part
+out_unsettled start part behind out reached =
+    let r = out.last.steps in
+    let front : List SettleEntry = entries_of_rounds (out.rounds ++ out.last ∷ []) in
+    let one = names_are disk_kind disk_entries 0 r.first behind.first in
+    let two = names_are ports port_entries 0 r.second behind.second in
+    let a = disks.names r.first behind.first in
+    let b = switch.names r.second behind.second in
+    record {
+      front = front;
+      disks = one.0;
+      ports = two.0;
+      some = both_long (length (a ++ b)) (length a) (length b) (length one.0) (length two.0)
+          (some_named start part behind out reached) (length-append a b)
+          (ap (λ (l : List SettleEntry). length l) one.1 ∙ length-map one.0 Unsettled)
+          (ap (λ (l : List SettleEntry). length l) two.1 ∙ length-map two.0 UnsettledPort);
+      is = out.is
+          ∙ ap (λ (l : List SettleEntry). front ++ (l ++ b)) one.1
+          ∙ ap (λ (l : List SettleEntry). front ++ (map Unsettled one.0 ++ l)) two.1;
+    }
 
 -- A FRONT OF A SETTLE that made fewer than the most rounds, and any front
-pub settle_front : (start : List LaneState) (part : List SettleEntry) (behind : List LaneState)
-    (at : SettleFront start part behind) → length at.rounds < most_rounds start → AreOfLanes part
-settle_front start part behind at few =
-    few_each IsOfLane (λ k e event step. tt) (λ k. tt) start part behind at few
+pub settle_front : (start : Lanes) (part : List SettleEntry) (behind : Lanes)
+    (at : SettleFront lanes fronts start part behind) → length at.rounds < most_rounds lanes start → AreOfLanes part
+settle_front start part behind at few = few_each IsOfLane lane_steps lane_ticks start part behind at few
 
-named_front : (start : List LaneState) (part : List SettleEntry) (behind : List LaneState)
-    (at : SettleFront start part behind) → length at.rounds ≡ most_rounds start
-    → NamesFront disks at.rounds at.now at.later behind → NamesLast part
+named_front : (start : Lanes) (part : List SettleEntry) (behind : Lanes)
+    (at : SettleFront lanes fronts start part behind) → length at.rounds ≡ most_rounds lanes start
+    → NamesFront lanes at.rounds at.now at.later behind → NamesLast part
 named_front start part behind at all front =
-    let names = names_are 0 front.last.steps at.now.lanes in
-    let named = first_names at.later front.unnamed names.0 (front.is ∙ names.1) in
-    let long = rounds_long (begin start) at.rounds at.now at.run in
+    let long = rounds_long (begin lanes start) at.rounds at.now at.run in
     record {
       front = entries_of_rounds at.rounds;
-      names = named.0;
-      is = at.is ∙ ap (λ (l : List SettleEntry). entries_of_rounds at.rounds ++ l) named.1;
-      of_lanes = rounds_each IsOfLane (λ k e event step. tt) (λ k. tt) (begin start) at.rounds at.now at.run;
-      some = λ one. at_least_one (length at.rounds) _ (length (entries_of_rounds at.rounds)) all long;
+      names = at.later;
+      is = at.is;
+      of_lanes = rounds_each IsOfLane lane_steps lane_ticks (begin lanes start) at.rounds at.now at.run;
+      are = first_each IsName at.later front.unnamed
+          (each_as IsName (at.later ++ front.unnamed) (lanes.names front.last.steps at.now.lanes) front.is
+          (all_names front.last.steps at.now.lanes));
+      some = λ one.
+          at_least_one (length at.rounds) (lanes.pending start) (length (entries_of_rounds at.rounds)) all long;
     }
 
-pub front_last : (start : List LaneState) (part : List SettleEntry) (behind : List LaneState)
-    → SettleFront start part behind → NamesLast part
+pub front_last : (start : Lanes) (part : List SettleEntry) (behind : Lanes)
+    → SettleFront lanes fronts start part behind → NamesLast part
 front_last start part behind at = elim at.front [
   | inl few ↦ lanes_alone part (settle_front start part behind at few.0)
   | inr all ↦ named_front start part behind at all.0 all.1

@@ -2,50 +2,82 @@
 use Rattle.std.proofs.Common.{◌≡◌, ◌⊎◌, inl, inr, Option, Some, None, List, [], ◌∷◌, ◌++◌, refl, sym, ap, ◌∙◌, subst, append-nil}
 use Rattle.runs.specs.Run.{Run, run_split}
 use Rattle.disk_law.specs.ListState.{ImageState}
-use Rattle.disk_model.specs.LaneState.{LaneState}
 use Rattle.domain_script.specs.declared.event.DiskDecl.{DiskDecl}
 use Rattle.domain_script.specs.declared.event.Event.{Event}
 use Rattle.domain_script.specs.declared.event.Event.TheVariants.{Settle}
-use Rattle.world_laws.specs.Begun.{SettleFront}
-use Rattle.world_laws.specs.Settle.{SettleEntry, SettlePart}
-use Rattle.world_laws.specs.Lines as world
-use Rattle.world_laws.specs.World.{WorldState}
+use Rattle.lane_kinds.specs.Fronts.{SettleFront}
+use Rattle.lane_kinds.specs.Settles.{SettlePart}
+use Rattle.world_parts.specs.port_model.NetLaneState.{NetShape}
+use Rattle.world_parts.specs.world_laws.Settle.{SettleEntry}
+use Rattle.world_parts.specs.domain_laws.Domain.{DomainState, DomainStep, Lanes, lanes, lanes_in}
+use Rattle.world_parts.specs.domain_laws.Lines.{fronts}
 use Rattle.ldom_entries.specs.declared.entry.Entry.{Entry}
 use Rattle.script_laws.proofs.LineEntries.{settle_rules}
 use Rattle.script_laws.proofs.Places.{InEither, no_place, place_in}
-use Rattle.script_laws.proofs.DeclaredWorlds.{line_told, says_told}
+use Rattle.script_laws.proofs.DeclaredWorlds.{says_told}
+use Rattle.script_laws.proofs.Untold.{all_told}
 use Rattle.script_laws.specs.Settled.{KeepsRules}
 use Rattle.script_laws.specs.Told.{told_by}
 use Rattle.world_parts.specs.Declared.{world_of}
-use Rattle.world_parts.specs.Lines.{LineStarts, EventStep, line_of}
+use Rattle.world_parts.specs.Lines.{LineStarts, EventStep}
 use Rattle.world_parts.specs.Script.{FitsScript, LastStarts, ScriptParts, all_lines, with_last}
 
--- A SETTLE after these lines: its part, or a front of it
-pub record SettlesBehind (disks : List DiskDecl) (image : ImageState) (before : List (Event × List Entry))
+-- A SETTLE after these lines: its part as it is told, or a front of it
+pub record SettlesBehind (disks : List DiskDecl) (nets : List NetShape) (image : ImageState) (before : List (Event × List Entry))
     (part : List SettleEntry) : Type 0 where
-  pub at : WorldState
-  pub run : Run EventStep (world_of disks image) before at
-  pub behind : List LaneState
-  pub goes : SettlePart at.lanes part behind ⊎ SettleFront at.lanes part behind
+  pub at : DomainState
+  pub run : Run EventStep (world_of disks nets image) before at
+  pub behind : Lanes
+  pub real : List SettleEntry
+  pub told_is : part ≡ all_told real
+  pub goes : SettlePart lanes (lanes_in at) real behind ⊎ SettleFront lanes fronts (lanes_in at) real behind
+  -- where it led
+  pub next : DomainState
+  pub on : Run DomainStep at real next
 
 -- so each of these lines that settles
-abbrev pub EachSettles : List DiskDecl → ImageState → List (Event × List Entry) → Type 0
-EachSettles disks image lines =
+abbrev pub EachSettles : List DiskDecl → List NetShape → ImageState → List (Event × List Entry) → Type 0
+EachSettles disks nets image lines =
     (before : List (Event × List Entry)) (part : List Entry) (behind : List (Event × List Entry))
-    → lines ≡ before ++ (Settle, part) ∷ behind → SettlesBehind disks image before (told_by (Settle, part))
+    → lines ≡ before ++ (Settle, part) ∷ behind → SettlesBehind disks nets image before (told_by (Settle, part))
 
-pub whole_settles : (disks : List DiskDecl) (image : ImageState) (lines : List (Event × List Entry)) (v : WorldState)
-    → Run EventStep (world_of disks image) lines v → EachSettles disks image lines
-whole_settles disks image lines v run before part behind is =
-    let whole : Run EventStep (world_of disks image) (before ++ (Settle, part) ∷ behind) v =
-    subst (λ (l : List (Event × List Entry)). Run EventStep (world_of disks image) l v) is run in
-    let split = run_split EventStep (world_of disks image) v before ((Settle, part) ∷ behind) whole in
+-- and of whole parts each is one
+pub record WholeSettle (disks : List DiskDecl) (nets : List NetShape) (image : ImageState) (before : List (Event × List Entry))
+    (part : List SettleEntry) : Type 0 where
+  pub settles : SettlesBehind disks nets image before part
+  pub whole : SettlePart lanes (lanes_in settles.at) settles.real settles.behind
+
+abbrev pub EachWhole : List DiskDecl → List NetShape → ImageState → List (Event × List Entry) → Type 0
+EachWhole disks nets image lines =
+    (before : List (Event × List Entry)) (part : List Entry) (behind : List (Event × List Entry))
+    → lines ≡ before ++ (Settle, part) ∷ behind → WholeSettle disks nets image before (told_by (Settle, part))
+
+pub each_whole : (disks : List DiskDecl) (nets : List NetShape) (image : ImageState) (lines : List (Event × List Entry))
+    (v : DomainState) → Run EventStep (world_of disks nets image) lines v → EachWhole disks nets image lines
+each_whole disks nets image lines v run before part behind is =
+    let start : DomainState = world_of disks nets image in
+    let whole : Run EventStep start (before ++ (Settle, part) ∷ behind) v =
+    subst (λ (l : List (Event × List Entry)). Run EventStep start l v) is run in
+    let split = run_split EventStep start v before ((Settle, part) ∷ behind) whole in
+    let step = split.2.1 in
     record {
-      at = split.0;
-      run = split.1;
-      behind = split.2.0.lanes;
-      goes = inl (line_told split.0 (Settle, part) split.2.0 split.2.1).part_of;
+      settles = record {
+        at = split.0;
+        run = split.1;
+        behind = lanes_in split.2.0;
+        real = step.entries;
+        told_is = says_told (Settle, part) step.entries step.says;
+        goes = inl step.moves.part_of;
+        next = split.2.0;
+        on = step.moves.run;
+      };
+      whole = step.moves.part_of;
     }
+
+pub whole_settles : (disks : List DiskDecl) (nets : List NetShape) (image : ImageState) (lines : List (Event × List Entry))
+    (v : DomainState) → Run EventStep (world_of disks nets image) lines v → EachSettles disks nets image lines
+whole_settles disks nets image lines v run before part behind is =
+    (each_whole disks nets image lines v run before part behind is).settles
 
 -- THE LAST OF THEM, cut off
 only_one : {X : Type 0} (x : X) (later : List X) (y : X) (behind : List X) → x ∷ [] ≡ later ++ y ∷ behind
@@ -55,41 +87,43 @@ only_one {X} x (z ∷ later) y behind is =
     let none : [] ≡ later ++ y ∷ behind = cc is in
     absurd (no_place later y behind none)
 
-module _ (disks : List DiskDecl) (image : ImageState) (whole : List (Event × List Entry)) (m : WorldState)
-    (run : Run EventStep (world_of disks image) whole m) where
-  module _ (last : Event × List Entry) (v : WorldState) (starts : LineStarts m last v)
+module _ (disks : List DiskDecl) (nets : List NetShape) (image : ImageState) (whole : List (Event × List Entry)) (m : DomainState)
+    (run : Run EventStep (world_of disks nets image) whole m) where
+  module _ (last : Event × List Entry) (v : DomainState) (starts : LineStarts m last v)
       (before : List (Event × List Entry)) (part : List Entry) (behind : List (Event × List Entry)) where
     cut_at : InEither whole (last ∷ []) before (Settle, part) behind
-        → SettlesBehind disks image before (told_by (Settle, part))
-    cut_at (inl at) = whole_settles disks image whole m run before part at.rest at.is
+        → SettlesBehind disks nets image before (told_by (Settle, part))
+    cut_at (inl at) = whole_settles disks nets image whole m run before part at.rest at.is
     cut_at (inr at) =
         let one = only_one last at.later (Settle, part) behind at.is in
-        let begun : world.LineBegins m (line_of last.0) (told_by last) v =
-        subst (λ (l : List SettleEntry). world.LineBegins m (line_of last.0) l v)
-        (sym (says_told last starts.entries starts.says)) starts.begins in
-        let settle : world.LineBegins m (line_of Settle) (told_by (Settle, part)) v =
-        subst (λ (line : Event × List Entry). world.LineBegins m (line_of line.0) (told_by line) v) one.1 begun in
+        let settle : LineStarts m (Settle, part) v =
+        subst (λ (line : Event × List Entry). LineStarts m line v) one.1 starts in
         let is : whole ≡ before =
         sym (append-nil whole) ∙ ap (λ (l : List (Event × List Entry)). whole ++ l) (sym one.0) ∙ sym at.before_is in
         record {
           at = m;
-          run = subst (λ (l : List (Event × List Entry)). Run EventStep (world_of disks image) l m) is run;
-          behind = v.lanes;
-          goes = inr settle.begins;
+          run = subst (λ (l : List (Event × List Entry)). Run EventStep (world_of disks nets image) l m) is run;
+          behind = lanes_in v;
+          real = settle.entries;
+          told_is = says_told (Settle, part) settle.entries settle.says;
+          goes = inr settle.begins.begins;
+          next = v;
+          on = settle.begins.run;
         }
 
-  settles_on : (cut : Option (Event × List Entry)) (v : WorldState) → LastStarts m cut v
-      → EachSettles disks image (with_last whole cut)
-  settles_on None v last before part behind is = whole_settles disks image whole m run before part behind is
+  settles_on : (cut : Option (Event × List Entry)) (v : DomainState) → LastStarts m cut v
+      → EachSettles disks nets image (with_last whole cut)
+  settles_on None v last before part behind is = whole_settles disks nets image whole m run before part behind is
   settles_on (Some line) v last before part behind is =
       cut_at line v last before part behind (place_in whole (line ∷ []) before (Settle, part) behind is)
 
-pub script_settles : (disks : List DiskDecl) (image : ImageState) (parts : ScriptParts) (v : WorldState)
-    → FitsScript 0 (world_of disks image) parts v → EachSettles disks image (all_lines parts)
-script_settles disks image parts v fits =
-    settles_on disks image parts.whole fits.middle fits.run parts.cut v fits.last
+pub script_settles : (disks : List DiskDecl) (nets : List NetShape) (image : ImageState) (parts : ScriptParts) (v : DomainState)
+    → FitsScript 0 (world_of disks nets image) parts v → EachSettles disks nets image (all_lines parts)
+script_settles disks nets image parts v fits =
+    settles_on disks nets image parts.whole fits.middle fits.run parts.cut v fits.last
 
 -- BY ITS RULES
-pub rules_at : (disks : List DiskDecl) (image : ImageState) (before : List (Event × List Entry)) (part : List SettleEntry)
-    → SettlesBehind disks image before part → KeepsRules part
-rules_at disks image before part of = settle_rules of.at.lanes part of.behind of.goes
+pub rules_at : (disks : List DiskDecl) (nets : List NetShape) (image : ImageState) (before : List (Event × List Entry))
+    (part : List SettleEntry) → SettlesBehind disks nets image before part → KeepsRules part
+rules_at disks nets image before part of =
+    subst KeepsRules (sym of.told_is) (settle_rules (lanes_in of.at) of.real of.behind of.goes)

@@ -1,13 +1,14 @@
 -- How long the image of a run is, and that its disks lie within it.
 use Rattle.std.proofs.Common.{◌≡◌, inl, inr, ◌⊎◌, ℕ, ◌+◌, ◌*◌, ◌<◌, ◌≤◌, Bool, List, [], ◌∷◌, ◌++◌, length, map, refl, sym, ap, subst, arith, Option, Some, None, IfSome, replicate}
 use Rattle.std.proofs.Math.ListN.{length-replicate}
-use Rattle.disk_model.specs.LaneState.{LaneState, Shape}
+use Rattle.world_parts.specs.disk_model.LaneState.{LaneState, Shape}
+use Rattle.domain_script.specs.Declarations.{Declared}
 use Rattle.domain_script.specs.declared.event.DiskDecl.{DiskDecl}
 use Rattle.domain_script.specs.declared.event.Event.{Event}
 use Rattle.domain_script.specs.NamesState.{NamesState, noted}
 use Rattle.domain_script.specs.ScriptEvents.{AllSpell}
-use Rattle.world_laws.specs.Rounds.{Each}
-use Rattle.world_laws.specs.World.{WorldState}
+use Rattle.world_parts.specs.world_laws.Rounds.{Each}
+use Rattle.world_parts.specs.domain_laws.Domain.{DomainState, Lanes}
 use Rattle.ldom_entries.specs.declared.entry.Entry.{Entry}
 use Rattle.ldom_report.specs.declared.status.Status.{Status}
 use Rattle.ldom_report.specs.declared.status.Status.TheVariants as status
@@ -18,7 +19,7 @@ use Rattle.script_laws.specs.Going.{RunsAll}
 use Rattle.script_laws.specs.Replayed.{attach_status, ended_status, start_of}
 use Rattle.script_laws.specs.Sized.{SizeIs}
 use Rattle.script_laws.proofs.Through.{script_shapes}
-use Rattle.world_parts.specs.Declared.{LiesWithin, blocks_of, shape_of, shapes_of}
+use Rattle.world_parts.specs.Declared.{LiesWithin, blocks_of, nets_of, shape_of, shapes_of}
 use Rattle.world_parts.specs.Endings.{JournalIs, NotBegun, ending}
 use Rattle.script_laws.proofs.LineCases.{noted_disks}
 use Rattle.script_laws.proofs.Assembly.{ended_as}
@@ -77,14 +78,14 @@ module _ {D : Type 0} (size : D → ℕ) where
   long_or_none status.NoMemory least told image sized = inl (longs least told image sized)
 
   -- what was told is long enough where the run has lanes: there is an image then, and it isn't too short
-  long_over : (least : ℕ) (told : Option (List ℕ)) (image : Option D) (lanes : Option (List LaneState)) (t : WorldState)
+  long_over : (least : ℕ) (told : Option (List ℕ)) (image : Option D) (lanes : Option Lanes) (t : DomainState)
       → IfSome image (λ disk. (least ≤ size disk) × IfSome told (λ bytes. least ≤ length bytes)) → LanesOver image lanes t
       → IfSome lanes (λ stand. IfSome told (λ bytes. least ≤ length bytes))
   long_over least told image None t sized stand = tt
   long_over least told None (Some lanes) t sized stand = absurd (cc stand)
   long_over least told (Some disk) (Some lanes) t sized stand = sized.1
 
-  pub lanes_long : (why : Status) (least : ℕ) (told : Option (List ℕ)) (image : Option D) (lanes : Option (List LaneState)) (t : WorldState)
+  pub lanes_long : (why : Status) (least : ℕ) (told : Option (List ℕ)) (image : Option D) (lanes : Option Lanes) (t : DomainState)
       → SizeIs size why least told image → LanesStand why image lanes t → IfSome lanes (λ stand. IfSome told (λ bytes. least ≤ length bytes))
   lanes_long (status.ImageSize need have) least told image None t sized stand = tt
   lanes_long (status.ImageSize need have) least told image (Some lanes) t sized stand = absurd (cc stand)
@@ -129,14 +130,14 @@ module _ {D : Type 0} (size : D → ℕ) where
   sized_refused Memory least told = tt
 
   -- a run in a world that ended
-  pub sized_run : (start now : Option (List ℕ)) (gives : ℕ → Option (List ℕ)) (why : Status) (faulty : Bool) (names after : NamesState) (s t : WorldState) (journal : List Entry) (lines : ℕ) (image : D) → IsReaders why → RunsAll start now names s why after journal t lines
-      → s ≡ start_of names gives → Each (LiesWithin (size image)) t.lanes → IfSome (gives (512 * blocks_of names.disks)) (λ bytes. 512 * blocks_of names.disks ≤ length bytes)
+  pub sized_run : (start now : Option (List ℕ)) (gives : ℕ → Option (List ℕ)) (why : Status) (faulty : Bool) (names after : NamesState) (s t : DomainState) (journal : List Entry) (lines : ℕ) (image : D) → IsReaders why → RunsAll start now names s why after journal t lines
+      → s ≡ start_of names gives → Each (LiesWithin (size image)) t.first.lanes → IfSome (gives (512 * blocks_of names.disks)) (λ bytes. 512 * blocks_of names.disks ≤ length bytes)
       → SizeIs size (ended_status why faulty) (512 * blocks_of after.disks) (gives (512 * blocks_of after.disks)) (Some image)
   sized_run start now gives why faulty names after s t journal lines image readers runs begins within long =
-      let is : JournalIs (ending why) (start_of names gives) runs.parts journal t = subst (λ (x : WorldState). JournalIs (ending why) x runs.parts journal t) begins runs.journal_is in
+      let is : JournalIs (ending why) (start_of names gives) runs.parts journal t = subst (λ (x : DomainState). JournalIs (ending why) x runs.parts journal t) begins runs.journal_is in
       let enough : 512 * (0 + blocks_of names.disks) ≤ size image =
-      needed_within 0 (size image) names.disks t.lanes (script_shapes names.disks (start_of names gives).image 0 runs.parts t is.fits) within (omega arith) in
-      subst (λ (disks : List DiskDecl). SizeIs size (ended_status why faulty) (512 * blocks_of disks) (gives (512 * blocks_of disks)) (Some image)) (sym runs.disks)
+      needed_within 0 (size image) names.disks t.first.lanes (script_shapes names.disks (nets_of names.ports) (start_of names gives).first.image 0 runs.parts t is.fits) within (omega arith) in
+      subst (λ (disks : List DiskDecl). SizeIs size (ended_status why faulty) (512 * blocks_of disks) (gives (512 * blocks_of disks)) (Some image)) (sym (ap (λ (d : Declared). d.disks) runs.declared))
       (sized_of size why faulty (512 * blocks_of names.disks) (gives (512 * blocks_of names.disks)) image readers (omega (arith, enough)) long)
 
 -- a declaration alone adds blocks

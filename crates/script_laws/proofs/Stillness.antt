@@ -3,30 +3,30 @@ use Rattle.std.proofs.Common.{◌≡◌, ◌⊎◌, inl, inr, ℕ, ◌+◌, ◌�
 use Rattle.std.specs.Prelude.{◌==◌, if◌then◌else◌, ⊤}
 use Rattle.runs.specs.Lawful.{log_append, log_of}
 use Rattle.runs.specs.Run.{Run, run_append}
-use Rattle.lane_laws.specs.Agreement.{AgreesWithLog}
-use Rattle.lane_laws.specs.DiskLog.{DiskLog, after, nothing_yet}
-use Rattle.lane_laws.specs.QuietLaws.{ClientIsIdle, EndIsIdle, ServerIsIdle}
-use Rattle.lane_laws.specs.WorkLaws.{IfClient, IfServer}
-use Rattle.lane_laws.specs.WorkLog.{ClientCounts, WorkLog}
-use Rattle.disk_model.specs.DiskEvent.{DiskEvent, Off, OnWire, Switches}
-use Rattle.disk_model.specs.LaneState.{IsShape, LaneState, Shape, fresh}
-use Rattle.disk_model.specs.LaneStep.{LaneStep}
-use Rattle.channel_model.specs.WireAt.{IsUp}
-use Rattle.channel_model.specs.WireEvent.{Blocked, Idle}
-use Rattle.channel_model.specs.WireLog.{WireLog}
-use Rattle.lane_laws.proofs.AgreementRuns.{run_agrees}
-use Rattle.lane_laws.specs.CalmEnds.{AreStill, HasNoRoom, IsStill}
+use Rattle.world_parts.specs.lane_laws.Agreement.{AgreesWithLog}
+use Rattle.world_parts.specs.lane_laws.DiskLog.{DiskLog, after, nothing_yet}
+use Rattle.world_parts.specs.lane_laws.QuietLaws.{ClientIsIdle, EndIsIdle, ServerIsIdle}
+use Rattle.world_parts.specs.lane_laws.WorkLaws.{IfClient, IfServer}
+use Rattle.world_parts.specs.lane_laws.WorkLog.{ClientCounts, WorkLog}
+use Rattle.world_parts.specs.disk_model.DiskEvent.{DiskEvent, Off, OnWire, Switches}
+use Rattle.world_parts.specs.disk_model.LaneState.{IsShape, LaneState, Shape, fresh}
+use Rattle.world_parts.specs.disk_model.LaneStep.{LaneStep}
+use Rattle.world_parts.specs.channel_model.WireAt.{IsUp}
+use Rattle.world_parts.specs.channel_model.WireEvent.{Blocked, Idle}
+use Rattle.world_parts.specs.channel_model.WireLog.{WireLog}
+use Rattle.world_parts.proofs.lane_laws.AgreementRuns.{run_agrees}
+use Rattle.world_parts.specs.lane_laws.CalmEnds.{AreStill, HasNoRoom, IsStill}
 use Rattle.lane_kinds.proofs.Sums.{and_left, and_right}
-use Rattle.world_laws.proofs.LaneRounds.{quiet_still}
-use Rattle.world_laws.proofs.LineEntries.{EachEntry, each_both, entry_each}
-use Rattle.world_laws.specs.Along.{event_at, happened}
-use Rattle.lane_kinds.specs.Lanes.{turn_entries}
-use Rattle.world_laws.specs.DiskKind.{disk_kind, is_calm}
-use Rattle.world_laws.specs.Rounds.{LaneRound, MakesRound, are_quiet, is_quiet}
-use Rattle.world_laws.specs.Settle.{OfLane, SettleEntry, disk_entries, entry_of, round_entries}
+use Rattle.world_parts.proofs.world_laws.LaneRounds.{quiet_still}
+use Rattle.world_parts.proofs.domain_laws.LineEntries.{EachEntry}
+use Rattle.world_parts.specs.world_laws.Along.{event_at, happened}
+use Rattle.world_parts.specs.world_laws.DiskKind.{disk_kind, is_calm}
+use Rattle.world_parts.specs.world_laws.Rounds.{LaneRound, MakesRound, are_quiet, is_quiet}
+use Rattle.world_parts.specs.world_laws.Settle.{OfLane, SettleEntry, disk_entries, round_entries}
 use Rattle.ldc_queue.specs.Wire.{peer_of, waiting_for}
 use Rattle.ldc_queue.specs.declared.end.End.{End}
 use Rattle.ldc_queue.specs.declared.end.End.TheVariants.{A, B}
+use Rattle.script_laws.proofs.CalmRounds.{calm_entries}
 use Rattle.script_laws.specs.Still.{AreStillBy, IsStillBy}
 
 -- BY THE LOG of a lane, where another log has the same work
@@ -86,24 +86,9 @@ abbrev pub IsCalmEntry : SettleEntry → Type 0
 IsCalmEntry (OfLane k event) = is_calm event ≡ true
 IsCalmEntry _ = ⊤
 
-calm_entry : (k : ℕ) (event : DiskEvent) → is_calm event ≡ true → EachEntry IsCalmEntry (entry_of k event)
-calm_entry k event calm = entry_each IsCalmEntry k event calm
-
-calm_turn : (k : ℕ) (events : LaneRound) → is_quiet events ≡ true
-    → EachEntry IsCalmEntry (turn_entries disk_kind disk_entries k events)
-calm_turn k [] quiet = tt
-calm_turn k (event ∷ events) quiet =
-    each_both IsCalmEntry (entry_of k event) (turn_entries disk_kind disk_entries k events)
-    (calm_entry k event (and_left (is_calm event) (is_quiet events) quiet))
-    (calm_turn k events (and_right (is_calm event) (is_quiet events) quiet))
-
 pub calm_round : (k : ℕ) (rounds : List LaneRound) → are_quiet rounds ≡ true
     → EachEntry IsCalmEntry (round_entries k rounds)
-calm_round k [] quiet = tt
-calm_round k (r ∷ rounds) quiet =
-    each_both IsCalmEntry (turn_entries disk_kind disk_entries k r) (round_entries (k + 1) rounds)
-    (calm_turn k r (and_left (is_quiet r) (are_quiet rounds) quiet))
-    (calm_round (k + 1) rounds (and_right (is_quiet r) (are_quiet rounds) quiet))
+calm_round k rounds quiet = calm_entries disk_kind disk_entries IsCalmEntry (λ j event calm. calm) k rounds quiet
 
 calm_events : (l : DiskLog) (events : LaneRound) → is_quiet events ≡ true → (log_of after l events).work ≡ l.work
 calm_events l [] quiet = refl

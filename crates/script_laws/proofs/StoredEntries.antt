@@ -1,25 +1,22 @@
 -- Which entries of a journal say that the image was called: those that mean a call of a store for the lanes.
 use Rattle.std.proofs.Common.{◌≡◌, ℕ, ◌+◌, Bool, false, cond, Some, List, [], ◌∷◌, refl, sym, ap, ◌∙◌}
 use Rattle.std.specs.List.{count_by}
-use Rattle.channel_model.specs.WireEvent.{Declines}
-use Rattle.disk_model.specs.DiskEvent.{Asks, Calms, DiskEvent, Full, OnWire, Refused, Stored, Works}
+use Rattle.world_parts.specs.disk_model.DiskEvent.{DiskEvent, Stored, Works}
 use Rattle.domain_script.specs.declared.event.Event.{Event}
 use Rattle.ldom_entries.specs.declared.entry.Entry.{Entry}
 use Rattle.ldom_entries.specs.declared.entry.Entry.TheVariants as entry
-use Rattle.ldom_report.specs.DiskEvents.{defect_of}
-use Rattle.ldom_report.specs.LaneEvents.{AtClient, AtLane, AtServer, AtWire, ChangesNothing, LeavesNothing, LeavesOver, Meaning, NoRoomFor, Refuses, meaning}
+use Rattle.ldom_report.specs.LaneEvents.{AtLane, AtPort, AtServer, AtWire, ChangesNothing, LeavesNothing, LeavesOver, Meaning, NoRoomFor, Publishes, Refuses, Switches, TakesFrame, meaning}
 use Rattle.world_parts.specs.WorldEvents.{world_event}
-use Rattle.world_laws.proofs.Counted.{count_more}
-use Rattle.world_laws.specs.Failures.{in_entry, is_store, is_store_that}
-use Rattle.world_laws.specs.Settle.{SettleEntry}
-use Rattle.world_parts.proofs.Meanings.{Holds, disk_has, entry_has, lane_of, left_has, who_has, wire_has}
+use Rattle.world_parts.proofs.world_laws.Counted.{count_more}
+use Rattle.world_parts.specs.world_laws.Failures.{in_entry, is_store, is_store_that}
+use Rattle.world_parts.specs.world_laws.Settle.{OfLane, SettleEntry}
+use Rattle.world_parts.proofs.Meanings.{AllOf, Holds, all_events, all_left, entry_has, lane_has}
 use Rattle.world_parts.specs.Lines.{line_of}
 use Rattle.script_laws.proofs.Tellings.{Telling, entries_told, means_of}
 use Rattle.script_laws.specs.Stored.{is_stored_that}
 
 -- WHETHER A CALL OF A STORE IS MEANT
 abbrev means_store : Meaning → Bool
-means_store (AtClient e event) = is_store event
 means_store (AtServer e event) = is_store event
 means_store (AtLane k event) = is_store event
 means_store other = false
@@ -31,24 +28,25 @@ event_none : (says : ℕ → Bool → Bool) (event : DiskEvent) → is_store eve
 event_none says (Works (Stored operation block count failed)) none = absurd (cc none)
 event_none says event none = refl
 
+abbrev NoStore : DiskEvent → Type 0
+NoStore event = is_store event ≡ false
+
+of_events : (says : ℕ → Bool → Bool) (x : Meaning) → AllOf NoStore x → Holds (StoreSays says false) x
+of_events says x all =
+    all_events (StoreSays says false) NoStore (record { of_disk = λ k event none. event_none says event none; of_port = λ k event. refl }) x all
+
 others_none : (says : ℕ → Bool → Bool) (x : Meaning) → means_store x ≡ false → Holds (StoreSays says false) x
-others_none says (AtWire e event) none = wire_has (StoreSays says false) e.lane event (λ k. refl)
-others_none says (AtClient e event) none = disk_has (StoreSays says false) e.lane event (λ k. event_none says event none)
-others_none says (AtServer e event) none = disk_has (StoreSays says false) e.lane event (λ k. event_none says event none)
-others_none says (AtLane k event) none = event_none says event none
-others_none says (NoRoomFor who) none = (
-  λ request. who_has (StoreSays says false) who (Asks (Full request)) (λ k. refl),
-  λ d. disk_has (StoreSays says false) (lane_of who) (OnWire (Declines d)) (λ k. refl),
-)
-others_none says (Refuses who why) none = (
-  λ request. who_has (StoreSays says false) who (Asks (Refused (defect_of why) request)) (λ k. refl),
-  λ d. disk_has (StoreSays says false) (lane_of who) (OnWire (Declines d)) (λ k. refl),
-)
-others_none says (ChangesNothing who) none = (
-  λ calm. disk_has (StoreSays says false) (lane_of who) (Calms calm) (λ k. refl),
-  λ d. disk_has (StoreSays says false) (lane_of who) (OnWire (Declines d)) (λ k. refl),
-)
-others_none says (LeavesOver who) none = left_has (StoreSays says false) who (λ k. refl)
+others_none says (AtWire e event) none = of_events says (AtWire e event) refl
+others_none says (AtServer e event) none = of_events says (AtServer e event) none
+others_none says (AtLane k event) none = of_events says (AtLane k event) none
+others_none says (AtPort k gets) none = of_events says (AtPort k gets) tt
+others_none says (Publishes e id) none = of_events says (Publishes e id) refl
+others_none says (TakesFrame e frame) none = of_events says (TakesFrame e frame) tt
+others_none says (Switches e frame out full) none = of_events says (Switches e frame out full) tt
+others_none says (NoRoomFor who) none = of_events says (NoRoomFor who) (λ request. refl, λ d. refl)
+others_none says (Refuses who why) none = of_events says (Refuses who why) (λ defect request. refl, λ d. refl)
+others_none says (ChangesNothing who) none = of_events says (ChangesNothing who) (λ calm. refl, λ d. refl)
+others_none says (LeavesOver who) none = all_left (StoreSays says false) who (λ k. refl) (λ k. refl)
 others_none says LeavesNothing none = refl
 
 -- EACH ENTRY says of a call what it means
@@ -56,7 +54,7 @@ entry_stored : (says : ℕ → Bool → Bool) (asked : Event) (e : Entry) (m : S
     → world_event (line_of asked) e ≡ Some m → in_entry (is_store_that says) m ≡ is_stored_that says e
 entry_stored says asked (entry.Stored e operation block count failed) m is =
     entry_has (StoreSays says (says operation failed)) (line_of asked) (entry.Stored e operation block count failed) m
-    (disk_has (StoreSays says (says operation failed)) e.lane (Works (Stored operation block count failed)) (λ k. refl)) is
+    (lane_has (λ lane. StoreSays says (says operation failed)) (λ k. OfLane k (Works (Stored operation block count failed))) e.lane (λ k. refl)) is
 entry_stored says asked e m is = entry_has (StoreSays says false) (line_of asked) e m (others_none says (meaning e) refl) is
 
 -- A JOURNAL

@@ -1,13 +1,13 @@
 -- The entries of a journal one by one, each with what its line asked and what it is for the lanes.
-use Rattle.std.proofs.Common.{◌≡◌, ℕ, Option, Some, None, List, [], ◌∷◌, ◌++◌, length, refl, sym, ap, ◌∙◌, arith}
+use Rattle.std.proofs.Common.{◌≡◌, ℕ, Option, Some, None, List, [], ◌∷◌, ◌++◌, length, map, refl, sym, ap, ◌∙◌, arith}
 use Rattle.std.specs.List.{cons_option, flat_map}
 use Rattle.std.proofs.lemmas.Grind.{flat_map-append}
 use Rattle.std.proofs.lemmas.List.{append-nil}
 use Rattle.disk_law.specs.ListStep as plain
 use Rattle.domain_script.specs.declared.event.Event.{Event}
-use Rattle.world_laws.specs.Settle.{SettleEntry}
+use Rattle.world_parts.specs.world_laws.Settle.{SettleEntry}
 use Rattle.ldom_report.specs.DiskEvents.{disk_event, happened_to}
-use Rattle.world_parts.specs.WorldEvents.{world_event}
+use Rattle.world_parts.specs.WorldEvents.{told_of, world_event}
 use Rattle.ldom_entries.specs.declared.entry.Entry.{Entry}
 use Rattle.world_parts.specs.Lines.{all_happened, line_of}
 use Rattle.world_parts.specs.Parts.{PartSays}
@@ -44,19 +44,19 @@ pub record PartTells (asked : Event) (part : List Entry) (entries : List SettleE
   pub seen : (x : ℕ) → seen_at x tellings ≡ happened_to x asked part
 
 pub part_tells : (asked : Event) (part : List Entry) (entries : List SettleEntry) → PartSays (line_of asked) part entries
-    → PartTells asked part entries
+    → PartTells asked part (map told_of entries)
 part_tells asked [] [] says = record { tellings = []; entries_are = refl; means_are = refl; seen = λ x. refl }
 part_tells asked [] (m ∷ entries) says = absurd (cc says)
 part_tells asked (e ∷ part) [] says = absurd (cc says)
 part_tells asked (e ∷ part) (m ∷ entries) says =
-    let is : world_event (line_of asked) e ≡ Some m = cc says in
+    let is : world_event (line_of asked) e ≡ Some (told_of m) = cc says in
     let others : PartSays (line_of asked) part entries = cc says in
     let rest = part_tells asked part entries others in
-    let first : Telling = record { asked = asked; entry = e; means = m; is = is } in
+    let first : Telling = record { asked = asked; entry = e; means = told_of m; is = is } in
     record {
       tellings = first ∷ rest.tellings;
       entries_are = ap (λ (l : List Entry). e ∷ l) rest.entries_are;
-      means_are = ap (λ (l : List SettleEntry). m ∷ l) rest.means_are;
+      means_are = ap (λ (l : List SettleEntry). told_of m ∷ l) rest.means_are;
       seen = λ x. ap (λ (l : List plain.ListEvent). cons_option (disk_event x asked e) l) (rest.seen x);
     }
 

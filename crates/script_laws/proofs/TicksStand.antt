@@ -1,43 +1,53 @@
 -- Each tick in the part of a settle comes where its lane isn't finished though its server runs, and both ends are still;
 -- and where nobody forged the lane, where a packet was lost since the queues were last emptied.
-use Rattle.std.proofs.Common.{◌≡◌, ◌⊎◌, inl, inr, ℕ, zero, suc, ◌+◌, ◌≤◌, Bool, true, false, List, [], ◌∷◌, ◌++◌, map, slice_get, Some, refl, sym, ap, ◌∙◌, subst, arith, append_assoc, append-nil}
+use Rattle.std.proofs.Common.{◌≡◌, ◌⊎◌, inl, inr, ℕ, zero, suc, ◌+◌, ◌≤◌, Bool, true, false, List, [], ◌∷◌, ◌++◌, slice_get, Some, refl, sym, ap, ◌∙◌, subst, arith, append_assoc, append-nil}
 use Rattle.std.proofs.lemmas.Option.{slice_get_within}
 use Rattle.std.specs.Prelude.{if◌then◌else◌, ⊤}
 use Rattle.ldc_queue.specs.declared.end.End.{End}
 use Rattle.vio_tag.specs.declared.cause.Cause.TheVariants as the_cause
-use Rattle.channel_model.specs.WireEvent.{Reset}
-use Rattle.lane_laws.specs.CalmEnds.{IsStep, StepKeeps}
+use Rattle.world_parts.specs.channel_model.WireEvent.{Reset}
+use Rattle.world_parts.specs.lane_laws.CalmEnds.{IsStep, StepKeeps}
 use Rattle.runs.specs.Lawful.{log_of}
 use Rattle.runs.specs.Run.{Run, run_append}
-use Rattle.lane_laws.specs.DiskLog.{after, nothing_yet}
-use Rattle.disk_model.specs.ClientState.{is_finished}
-use Rattle.disk_model.specs.DiskEvent.{DiskEvent, OnWire}
-use Rattle.disk_model.specs.LaneState.{IsShape, LaneState, Shape, fresh}
-use Rattle.disk_model.specs.LaneStep.{LaneStep}
-use Rattle.disk_model.specs.Reached.{IsReached}
+use Rattle.world_parts.specs.lane_laws.DiskLog.{after, nothing_yet}
+use Rattle.world_parts.specs.disk_model.ClientState.{is_finished}
+use Rattle.world_parts.specs.disk_model.DiskEvent.{DiskEvent, OnWire}
+use Rattle.world_parts.specs.disk_model.LaneState.{IsShape, LaneState, Shape, fresh}
+use Rattle.world_parts.specs.disk_model.LaneStep.{LaneStep}
+use Rattle.world_parts.specs.disk_model.Reached.{IsReached}
 use Rattle.lane_kinds.proofs.Lanes.{own_turns}
 use Rattle.lane_kinds.proofs.Moving.{none_both}
 use Rattle.lane_kinds.specs.Lanes.{OwnTurns}
 use Rattle.lane_kinds.proofs.Leading as kind
 use Rattle.lane_kinds.proofs.Sums.{and_left, and_right}
 use Rattle.lane_kinds.specs.Laws.{Ends, FrontsLeadWhere, Keeps, LeadsWhere}
-use Rattle.world_laws.proofs.LineEntries.{EachEntry, begun_each, each_as, each_in, round_each}
-use Rattle.world_laws.proofs.LaneRounds.{quiet_finished, quiet_same, round_keeps}
-use Rattle.world_laws.proofs.LaneTicks.{either, gets_where, waits_where}
-use Rattle.world_laws.proofs.DiskLaws.{gives_nothing}
-use Rattle.world_laws.proofs.Moving.{ends, fronts_move, happened_both, leads, moved_reached, moves_on, settled_moves, stay}
-use Rattle.world_laws.specs.Along.{LanesMove, event_at, happened}
-use Rattle.world_laws.specs.Begun.{NoMore, SettleFront, TickFront, fronts}
-use Rattle.world_laws.specs.Moves.{is_tick}
-use Rattle.world_laws.specs.Rounds.{Each, LaneRound, MakeRound, MakesRound, are_quiet, is_quiet}
-use Rattle.world_laws.specs.Settle.{OfLane, SettleEntry, SettlePart, Settled, Unsettled, disks, left_over, round_entries, tick_entries}
-use Rattle.world_laws.specs.Sums.{IsUnforged}
-use Rattle.world_laws.specs.DiskKind.{disk_kind, tick, waits_on}
-use Rattle.world_laws.specs.Ticks.{TickLanes, gets_tick}
+use Rattle.lane_kinds.proofs.EntriesEach.{first_each}
+use Rattle.lane_kinds.proofs.EntryRuns.{names_each}
+use Rattle.lane_kinds.proofs.FirstKept.{first_ends_where, first_fronts_where, first_leads_where, kept_both}
+use Rattle.lane_kinds.specs.Both.{Two}
+use Rattle.lane_kinds.specs.Fronts.{SettleFront}
+use Rattle.lane_kinds.specs.Settles.{SettlePart}
+use Rattle.world_parts.specs.switch_laws.Ports.{ports}
+use Rattle.world_parts.proofs.domain_laws.DiskParts.{disks_told, is_of_disks, of_disks, same_happened}
+use Rattle.world_parts.proofs.domain_laws.LineEntries.{EachEntry, StepsHave, disks_begun, disks_each, each_as, each_in}
+use Rattle.world_parts.specs.domain_laws.Domain.{Lanes, lanes, port_entries}
+use Rattle.world_parts.specs.domain_laws.Lines.{fronts as all_fronts}
+use Rattle.script_laws.proofs.Untold.{all_told, told_of_disks}
+use Rattle.world_parts.proofs.world_laws.LaneRounds.{quiet_finished, quiet_same, round_keeps}
+use Rattle.world_parts.proofs.world_laws.LaneTicks.{either, gets_where, waits_where}
+use Rattle.world_parts.proofs.world_laws.DiskLaws.{gives_nothing}
+use Rattle.world_parts.proofs.world_laws.Moving.{ends, fronts_move, happened_both, leads, moved_reached, moves_on, settled_moves, stay}
+use Rattle.world_parts.specs.world_laws.Along.{LanesMove, event_at, happened}
+use Rattle.world_parts.specs.world_laws.Begun.{NoMore, TickFront, fronts}
+use Rattle.world_parts.specs.world_laws.Moves.{is_tick}
+use Rattle.world_parts.specs.world_laws.Rounds.{Each, LaneRound, MakeRound, MakesRound, are_quiet, is_quiet}
+use Rattle.world_parts.specs.world_laws.Settle.{OfLane, SettleEntry, Settled, disk_entries, disks, left_over, round_entries, tick_entries}
+use Rattle.world_parts.specs.world_laws.Sums.{IsUnforged}
+use Rattle.world_parts.specs.world_laws.DiskKind.{disk_kind, tick, waits_on}
+use Rattle.world_parts.specs.world_laws.Ticks.{TickLanes, gets_tick}
 use Rattle.lane_kinds.proofs.Places.{get_within}
-use Rattle.world_laws.proofs.LaneLists.{each_there, other_event, lane_moved, many_moved}
+use Rattle.world_parts.proofs.world_laws.LaneLists.{each_there, other_event, lane_moved, many_moved}
 use Rattle.script_laws.proofs.Places.{InEither, no_place, place_in}
-use Rattle.script_laws.proofs.SettleEntries.{first_names, names_are}
 use Rattle.script_laws.proofs.Stillness.{calm_round, still_by}
 use Rattle.script_laws.specs.Still.{AreStillBy}
 
@@ -49,6 +59,9 @@ NoTick _ = ⊤
 pub step_none : (k : ℕ) (e : End) (event : DiskEvent) → IsStep e event → NoTick (OfLane k event)
 step_none k e (OnWire (Reset d the_cause.Tick packet lost)) own = absurd (cc own.1)
 step_none k e _ own = refl
+
+tick_steps : StepsHave NoTick
+tick_steps = record { of_disk = step_none; of_port = λ k e event own. tt }
 
 -- A TICK of this lane after so much of the part
 pub record TickAt (x : ℕ) (so_far : List SettleEntry) (start : LaneState) : Type 0 where
@@ -320,7 +333,7 @@ module _ (lanes : List LaneState) (marks : List Bool) (steps : List LaneRound) (
       → slice_get lanes x ≡ Some s → InEither (round_entries 0 steps) later so_far (OfLane x event) rest
       → TickAt x so_far s
   quiet_tick x event so_far rest s is there (inl at) =
-      none_stand lanes (round_entries 0 steps) (round_each NoTick step_none lanes steps between made) x event so_far at.rest s is at.is
+      none_stand lanes (round_entries 0 steps) (disks_each NoTick tick_steps lanes steps between made) x event so_far at.rest s is at.is
       there
   quiet_tick x event so_far rest s is there (inr at) =
       let found : QuietAt x s between = quiet_at lanes steps between x s turns quiet there in
@@ -370,23 +383,18 @@ stretches = record {
   };
   round = λ w m r v reached made. record {
     moves = leads.round w r v made;
-    stand = none_stand w (round_entries 0 r) (round_each NoTick step_none w r v made);
+    stand = none_stand w (round_entries 0 r) (disks_each NoTick tick_steps w r v made);
   };
   ticks = λ w m r v u reached made quiet ticks.
       quiet_stretch w m r v (tick_entries 0 v m) u reached made quiet (all_ticks 0 v m u ticks);
 }
 
 -- the answer, and names
-no_ticks : (names : List ℕ) → EachEntry NoTick (map Unsettled names)
-no_ticks [] = tt
-no_ticks (k ∷ names) = (tt, no_ticks names)
-
 named_none : (r : List LaneRound) (w : List LaneState) (part more : List SettleEntry) → part ++ more ≡ left_over 0 r w
     → EachEntry NoTick part
 named_none r w part more is =
-    let names = names_are 0 r w in
-    let named = first_names part more names.0 (is ∙ names.1) in
-    each_as NoTick part (map Unsettled named.0) named.1 (no_ticks named.0)
+    first_each NoTick part more
+    (each_as NoTick (part ++ more) (left_over 0 r w) is (names_each disk_kind disk_entries NoTick (λ k. tt) 0 r w))
 
 stretch_ends : Ends disks Stretch
 stretch_ends = record {
@@ -397,23 +405,61 @@ stretch_ends = record {
   };
 }
 
--- A SETTLE, and a front of one
-pub part_stands : (start : List LaneState) (part : List SettleEntry) (behind : List LaneState) → Each IsReached start
-    → SettlePart start part behind → TicksStand start part
-part_stands start part behind reached settle =
-    (kind.part_stands disks Reached Stretch stretches stretch_ends start part behind reached settle).stand
-
 front_stretches : FrontsLeadWhere disks fronts Reached Stretch
 front_stretches = record {
   round = λ w m part v reached front. record {
     moves = fronts_move.round w part v front;
-    stand = none_stand w part (begun_each NoTick step_none w part v front);
+    stand = none_stand w part (disks_begun NoTick tick_steps w part v front);
   };
   ticks = λ w m r v part u reached made quiet front. quiet_stretch w m r v part u reached made quiet front;
 }
 
-pub begun_stands : (start : List LaneState) (part : List SettleEntry) (behind : List LaneState) → Each IsReached start
-    → SettleFront start part behind → TicksStand start part
+-- A SETTLE over disks and ports, and a front of one: by the entries of disks, and so by all, as they are told
+as_whole : (x : ℕ) (so_far : List SettleEntry) (s : LaneState) → TickAt x (of_disks so_far) s → TickAt x so_far s
+as_whole x so_far s at = record {
+  lane = at.lane;
+  run = subst (λ (l : List DiskEvent). Run LaneStep s l at.lane) (same_happened x so_far) at.run;
+  waits = at.waits;
+  lost = at.lost;
+  still = λ shape events sound run.
+      subst (λ (l : List DiskEvent). AreStillBy (log_of after (nothing_yet shape) (events ++ l))) (same_happened x so_far)
+      (at.still shape events sound run);
+}
+
+stand_whole : (start : List LaneState) (part : List SettleEntry) → TicksStand start (of_disks part) → TicksStand start part
+stand_whole start part stand x event so_far rest s is place there =
+    as_whole x so_far s
+    (stand x event (of_disks so_far) (of_disks rest) s is
+    (ap (λ (l : List SettleEntry). of_disks l) place ∙ kept_both is_of_disks so_far (OfLane x event ∷ rest)) there)
+
+stand_told : (start : List LaneState) (part : List SettleEntry) → TicksStand start (of_disks part)
+    → TicksStand start (all_told part)
+stand_told start part stand = stand_whole start (all_told part) (subst (TicksStand start) (sym (told_of_disks part)) stand)
+
+abbrev AllReached : Lanes → Two (List Bool) (List Bool) → Type 0
+AllReached w m = Reached w.first m.first
+
+abbrev AllStretch : Lanes → List SettleEntry → Lanes → Type 0
+AllStretch w part v = Stretch w.first (of_disks part) v.first
+
+all_stretches : LeadsWhere lanes AllReached AllStretch
+all_stretches = first_leads_where disk_kind disk_entries ports port_entries is_of_disks disks_told Reached Stretch stretches
+
+all_ends : Ends lanes AllStretch
+all_ends = first_ends_where disk_kind disk_entries ports port_entries is_of_disks disks_told Reached Stretch stretches stretch_ends
+
+all_begin : FrontsLeadWhere lanes all_fronts AllReached AllStretch
+all_begin = first_fronts_where disk_kind disk_entries ports port_entries is_of_disks disks_told Reached Stretch stretches front_stretches
+
+pub part_stands : (start : Lanes) (part : List SettleEntry) (behind : Lanes) → Each IsReached start.first
+    → SettlePart lanes start part behind → TicksStand start.first (all_told part)
+part_stands start part behind reached settle =
+    stand_told start.first part
+    (kind.part_stands lanes AllReached AllStretch all_stretches all_ends start part behind reached settle).stand
+
+pub begun_stands : (start : Lanes) (part : List SettleEntry) (behind : Lanes) → Each IsReached start.first
+    → SettleFront lanes all_fronts start part behind → TicksStand start.first (all_told part)
 begun_stands start part behind reached at =
-    (kind.front_stands disks Reached Stretch stretches fronts front_stretches stretch_ends start part behind reached
+    stand_told start.first part
+    (kind.front_stands lanes AllReached AllStretch all_stretches all_fronts all_begin all_ends start part behind reached
     at).stand

@@ -4,17 +4,17 @@ use Rattle.std.specs.Prelude.{⊤}
 use Rattle.std.proofs.lemmas.Bool.{eqb-true}
 use Rattle.std.proofs.lemmas.Option.{slice_get_within}
 use Rattle.runs.specs.Run.{Run}
-use Rattle.disk_model.specs.DiskEvent.{DiskEvent}
-use Rattle.disk_model.specs.Reached.{IsReached}
-use Rattle.world_laws.specs.Along.{happened}
-use Rattle.world_laws.specs.Rounds.{Each}
-use Rattle.world_laws.specs.Settle.{OfLane, SettleEntry, Unsettled}
-use Rattle.world_laws.proofs.Along.{lane_step, many_stay, stay_reached}
-use Rattle.world_laws.proofs.LaneLists.{each_there}
-use Rattle.world_laws.specs.World.{OneMoves, WorldState, WorldStep}
-use Rattle.world_laws.proofs.EventWords.{event_words}
-use Rattle.world_laws.proofs.LeftOver.{NamesBelow}
-use Rattle.world_laws.specs.Words.{HasWords}
+use Rattle.world_parts.specs.disk_model.DiskEvent.{DiskEvent}
+use Rattle.world_parts.specs.disk_model.Reached.{IsReached}
+use Rattle.world_parts.specs.world_laws.Along.{happened}
+use Rattle.world_parts.specs.world_laws.Rounds.{Each}
+use Rattle.world_parts.specs.world_laws.Settle.{OfLane, SettleEntry, Unsettled}
+use Rattle.world_parts.proofs.world_laws.Along.{lane_step, many_stay, stay_reached}
+use Rattle.world_parts.proofs.world_laws.LaneLists.{each_there}
+use Rattle.world_parts.specs.world_laws.World.{OneMoves, WorldState, WorldStep}
+use Rattle.world_parts.proofs.world_laws.EventWords.{event_words}
+use Rattle.world_parts.proofs.domain_laws.LeftOver.{NamesBelow}
+use Rattle.world_parts.specs.world_laws.Words.{HasWords}
 
 -- AN ENTRY of one of so many disks
 abbrev pub IsTold : ℕ → SettleEntry → Type 0
@@ -38,23 +38,23 @@ lane_told many w k event v long reached one =
     )
 
 -- AND SO IS EACH ENTRY of a run
-pub run_told : (many : ℕ) (w : WorldState) (entries : List SettleEntry) (v : WorldState) → length w.lanes ≡ many
-    → Each IsReached w.lanes → Run WorldStep w entries v → NamesBelow many entries → AreTold many entries
-run_told many w [] v long reached run below = tt
-run_told many w (OfLane k event ∷ entries) v long reached run below =
+pub run_told : (many ports : ℕ) (w : WorldState) (entries : List SettleEntry) (v : WorldState) → length w.lanes ≡ many
+    → Each IsReached w.lanes → Run WorldStep w entries v → NamesBelow many ports entries → AreTold many entries
+run_told many ports w [] v long reached run below = tt
+run_told many ports w (OfLane k event ∷ entries) v long reached run below =
     let first : Run WorldStep w (OfLane k event ∷ []) run.0 = (run.0, run.1, refl) in (
       lane_told many w k event run.0 long reached run.1,
-      run_told many run.0 entries v (many_stay w (OfLane k event ∷ []) run.0 first ∙ long)
+      run_told many ports run.0 entries v (many_stay w (OfLane k event ∷ []) run.0 first ∙ long)
           (stay_reached w (OfLane k event ∷ []) run.0 reached first) run.2 below.1,
     )
-run_told many w (Unsettled k ∷ entries) v long reached run below = (
+run_told many ports w (Unsettled k ∷ entries) v long reached run below = (
   below.0,
-  run_told many run.0 entries v (ap (λ (x : WorldState). length x.lanes) run.1 ∙ long)
+  run_told many ports run.0 entries v (ap (λ (x : WorldState). length x.lanes) run.1 ∙ long)
       (subst (λ (x : WorldState). Each IsReached x.lanes) (sym run.1) reached) run.2 below.1,
 )
-run_told many w (entry ∷ entries) v long reached run below = (
+run_told many ports w (entry ∷ entries) v long reached run below = (
   tt,
-  run_told many run.0 entries v (ap (λ (x : WorldState). length x.lanes) run.1 ∙ long)
+  run_told many ports run.0 entries v (ap (λ (x : WorldState). length x.lanes) run.1 ∙ long)
       (subst (λ (x : WorldState). Each IsReached x.lanes) (sym run.1) reached) run.2 below.1,
 )
 

@@ -1,13 +1,13 @@
 -- Where nothing disturbed a disk, its reads show the last earlier write alone.
 use Rattle.std.proofs.Common.{◌≡◌, inl, inr, ℕ, false, List, [], ◌∷◌, refl, ◌∙◌, arith}
 use Rattle.runs.specs.Lawful.{log_of}
-use Rattle.lane_laws.specs.DiskLog.{DiskLog, after, nothing_yet}
-use Rattle.disk_model.specs.DiskEvent.{Accepted, Asks, DiskEvent, Misplaced, OnWire, Calms, Stopped, Switches, Works}
-use Rattle.disk_model.specs.LaneState.{Shape}
-use Rattle.lane_laws.specs.Headline.{CompletionShows, ShowsLast}
-use Rattle.channel_model.specs.WireEvent.{Joined, Reset, Sent, Took}
-use Rattle.world_laws.specs.Along.{happened}
-use Rattle.world_laws.specs.Settle.{SettleEntry}
+use Rattle.world_parts.specs.lane_laws.DiskLog.{DiskLog, after, nothing_yet}
+use Rattle.world_parts.specs.disk_model.DiskEvent.{Accepted, Asks, DiskEvent, Misplaced, OnWire, Calms, Stopped, Switches, Works}
+use Rattle.world_parts.specs.disk_model.LaneState.{Shape}
+use Rattle.world_parts.specs.lane_laws.Headline.{CompletionShows, ShowsLast}
+use Rattle.world_parts.specs.channel_model.WireEvent.{Joined, Reset, Sent, Took}
+use Rattle.world_parts.specs.world_laws.Along.{happened}
+use Rattle.world_parts.specs.world_laws.Settle.{SettleEntry}
 use Rattle.ldc_queue.specs.declared.end.End.TheVariants.{A, B}
 use Rattle.script_laws.specs.Contents.{AreUndisturbed, CompletionShowsLast, ShowsLastAlone, disturbs}
 use Rattle.script_laws.specs.Told.{log_at}

@@ -3,11 +3,11 @@ use Rattle.std.proofs.Common.{◌≡◌, inl, inr, ℕ, ◌+◌, Bool, false, co
 use Rattle.std.specs.List.{cons_option, count_by}
 use Rattle.disk_law.specs.ListStep as plain
 use Rattle.domain_script.specs.declared.event.Event.{Event}
-use Rattle.world_laws.specs.Settle.{OfLane, SettleEntry}
+use Rattle.world_parts.specs.world_laws.Settle.{OfLane, SettleEntry}
 use Rattle.ldom_report.specs.DiskEvents.{Said, said, said_of_any, whole_history}
 use Rattle.ldom_entries.specs.declared.entry.Entry.{Entry}
-use Rattle.world_laws.proofs.Counted.{count_more}
-use Rattle.world_laws.specs.Failures.{in_entry, is_failed_done}
+use Rattle.world_parts.proofs.world_laws.Counted.{count_more}
+use Rattle.world_parts.specs.world_laws.Failures.{in_entry, is_failed_done}
 use Rattle.script_laws.specs.Failures.{has_failed}
 use Rattle.script_laws.proofs.EntryKinds.{Kind, SaysNothing, kind_of}
 use Rattle.script_laws.proofs.Tellings.{Telling, entries_told, means_of}

@@ -1,69 +1,69 @@
 -- Each entry of a journal has the words of its line, since what it is for the lanes has its own.
-use Rattle.std.proofs.Common.{◌≡◌, ℕ, Some, List, [], ◌∷◌, length}
+use Rattle.std.proofs.Common.{◌≡◌, ℕ, Option, Some, List, [], ◌∷◌, length}
 use Rattle.std.specs.List.{All}
 use Rattle.std.proofs.lemmas.List.Elements.{All-cons, All-nil}
-use Rattle.channel_model.specs.WireEvent.{Declines, Reset, WireEvent}
-use Rattle.disk_model.specs.DiskEvent.{Asks, Calms, DiskEvent, Full, OnWire, Refused, Stored, Works}
-use Rattle.world_laws.specs.Settle.{OfLane, SettleEntry, Unsettled}
-use Rattle.world_laws.specs.Lines.{Line}
+use Rattle.std.specs.Prelude.{⊤}
+use Rattle.ldc_queue.specs.declared.end.End.{End}
+use Rattle.world_parts.specs.channel_model.WireEvent.{Reset}
+use Rattle.world_parts.specs.disk_model.DiskEvent.{DiskEvent, Stored, Works}
+use Rattle.world_parts.specs.world_laws.Settle.{OfLane, SettleEntry}
+use Rattle.world_parts.specs.domain_laws.Lines.{Line}
 use Rattle.vio_tag.specs.declared.cause.Cause.{Cause}
 use Rattle.vio_tag.specs.declared.cause.Cause.TheVariants as the_cause
-use Rattle.domain_script.specs.declared.event.DiskDecl.{DiskDecl}
+use Rattle.domain_script.specs.Declarations.{Declared}
 use Rattle.domain_script.specs.declared.event.Lane.{Lane}
 use Rattle.ldom_entries.specs.declared.entry.Entry.{Entry}
 use Rattle.ldom_entries.specs.declared.entry.Entry.TheVariants as entry
-use Rattle.ldom_entries.specs.declared.entry.Who.{Who}
 use Rattle.ldom_entries.specs.declared.entry.Who.TheVariants.{Lane as OfWhole, End as OfEnd}
-use Rattle.ldom_report.specs.DiskEvents.{defect_of}
-use Rattle.ldom_report.specs.HasWords.{HasFault, HasValues, HasWords, IsCompletion, IsDeclared, IsLane, IsNamed}
-use Rattle.ldom_report.specs.LaneEvents.{AtClient, AtLane, AtServer, AtWire, ChangesNothing, LeavesNothing, LeavesOver, Meaning, NoRoomFor, Refuses, end_of, meaning}
-use Rattle.world_parts.specs.WorldEvents.{disk_event, unsettled_event, who_event, wire_event, world_event}
+use Rattle.ldom_report.specs.HasWords.{HasFault, HasValues, HasWords, IsCompletion, IsLane, IsNamed}
+use Rattle.ldom_report.specs.LaneEvents.{AtLane, AtPort, AtServer, AtWire, ChangesNothing, LeavesNothing, LeavesOver, Meaning, NoRoomFor, Publishes, Refuses, Switches, TakesFrame, end_of, meaning}
+use Rattle.world_parts.specs.WorldEvents.{of_net, reset_of, world_event}
 use Rattle.world_parts.specs.Lines.{line_of}
-use Rattle.world_laws.specs.Words.{IsOperation, NamesFault, ReadsBlocks}
+use Rattle.world_parts.specs.world_laws.Words.{IsOperation, NamesFault, ReadsBlocks}
+use Rattle.world_parts.proofs.domain_laws.LineEntries.{EachEntry}
+use Rattle.script_laws.proofs.PortWords.{IsPortTold}
 use Rattle.script_laws.proofs.Tellings.{Telling, entries_told, means_of}
 use Rattle.script_laws.proofs.ToldEntries.{AreTold, IsTold}
-use Rattle.world_parts.proofs.Meanings.{Has, Holds, disk_has, entry_has, lane_has, lane_of, wire_has}
+use Rattle.world_parts.proofs.Meanings.{AllOf, Events, Holds, about, by_events, entry_has, lane_has, left_has, wire_has}
+
+-- AN ENTRY of one of so many disks or ports
+abbrev IsOfDeclared : ℕ → ℕ → SettleEntry → Type 0
+IsOfDeclared disks ports m = IsTold disks m × IsPortTold ports m
 
 -- WHAT IS NAMED is declared
-abbrev Names : List DiskDecl → Lane → SettleEntry → Type 0
-Names disks lane m = IsTold (length disks) m → IsLane disks lane
+abbrev Names : Declared → Lane → SettleEntry → Type 0
+Names all lane m = IsOfDeclared (length all.disks) (length all.ports) m → IsLane all lane
 
-disk_named : (disks : List DiskDecl) (lane : Lane) (event : DiskEvent) → Has (Names disks lane) (disk_event lane event)
-disk_named disks lane event = lane_has (Names disks) (λ k. OfLane k event) lane (λ k told. told.0)
+abbrev Any : DiskEvent → Type 0
+Any event = ⊤
 
-wire_named : (disks : List DiskDecl) (lane : Lane) (event : WireEvent) → Has (Names disks lane) (wire_event lane event)
-wire_named disks lane event = lane_has (Names disks) (λ k. OfLane k (OnWire event)) lane (λ k told. told.0)
+events_named : (all : Declared) → Events (Names all) Any
+events_named all = record { of_disk = λ k event any told. told.0.0; of_port = λ k event told. told.1.0 }
 
-abbrev Declares : List DiskDecl → Who → SettleEntry → Type 0
-Declares disks who m = IsTold (length disks) m → IsDeclared disks who
+-- a meaning names its lane
+lane_named : (all : Declared) (x : Meaning) → AllOf Any x → Holds (Names all (about x)) x
+lane_named all x any = by_events (Names all) Any (events_named all) x any
 
-who_named : (disks : List DiskDecl) (who : Who) (event : DiskEvent)
-    → Has (Declares disks who) (disk_event (lane_of who) event)
-who_named disks (OfWhole lane) event = disk_named disks lane event
-who_named disks (OfEnd e) event = disk_named disks e.lane event
+abbrev Says : Declared → Meaning → SettleEntry → Type 0
+Says all x m = IsOfDeclared (length all.disks) (length all.ports) m → IsNamed all x
 
-whole_named : (disks : List DiskDecl) (who : Who) (event : DiskEvent) → Has (Declares disks who) (who_event who event)
-whole_named disks (OfWhole lane) event = disk_named disks lane event
-whole_named disks (OfEnd e) event = tt
-
-left_named : (disks : List DiskDecl) (who : Who) → Has (Declares disks who) (unsettled_event who)
-left_named disks (OfWhole lane) = lane_has (Names disks) (λ k. Unsettled k) lane (λ k told. told)
-left_named disks (OfEnd e) = tt
-
-named : (disks : List DiskDecl) (x : Meaning) → Holds (λ (m : SettleEntry). IsTold (length disks) m → IsNamed disks x) x
-named disks (AtWire e event) = wire_named disks e.lane event
-named disks (AtClient e event) = disk_named disks e.lane event
-named disks (AtServer e event) = disk_named disks e.lane event
-named disks (AtLane k event) = λ told. told.0
-named disks (NoRoomFor who) =
-    (λ request. whole_named disks who (Asks (Full request)), λ d. who_named disks who (OnWire (Declines d)))
-named disks (Refuses who why) = (
-  λ request. whole_named disks who (Asks (Refused (defect_of why) request)),
-  λ d. who_named disks who (OnWire (Declines d)),
-)
-named disks (ChangesNothing who) = (λ calm. who_named disks who (Calms calm), λ d. who_named disks who (OnWire (Declines d)))
-named disks (LeavesOver who) = left_named disks who
-named disks LeavesNothing = λ told. tt
+named : (all : Declared) (x : Meaning) → Holds (Says all x) x
+named all (AtWire e event) = lane_named all (AtWire e event) tt
+named all (AtServer e event) = lane_named all (AtServer e event) tt
+named all (AtLane k event) = lane_named all (AtLane k event) tt
+named all (AtPort k gets) = lane_named all (AtPort k gets) tt
+named all (Publishes e id) = lane_named all (Publishes e id) tt
+named all (TakesFrame e frame) = lane_named all (TakesFrame e frame) tt
+named all (Switches e frame out full) = lane_named all (Switches e frame out full) tt
+named all (NoRoomFor (OfWhole lane)) = lane_named all (NoRoomFor (OfWhole lane)) (λ request. tt, λ d. tt)
+named all (NoRoomFor (OfEnd e)) = lane_named all (NoRoomFor (OfEnd e)) (λ request. tt, λ d. tt)
+named all (Refuses (OfWhole lane) why) = lane_named all (Refuses (OfWhole lane) why) (λ defect request. tt, λ d. tt)
+named all (Refuses (OfEnd e) why) = lane_named all (Refuses (OfEnd e) why) (λ defect request. tt, λ d. tt)
+named all (ChangesNothing (OfWhole lane)) = lane_named all (ChangesNothing (OfWhole lane)) (λ calm. tt, λ d. tt)
+named all (ChangesNothing (OfEnd e)) = lane_named all (ChangesNothing (OfEnd e)) (λ calm. tt, λ d. tt)
+named all (LeavesOver (OfWhole lane)) = left_has (Names all) (OfWhole lane) (λ k told. told.0) (λ k told. told.1)
+named all (LeavesOver (OfEnd e)) = tt
+named all LeavesNothing = λ told. tt
 
 -- VALUES that have words
 completion : (operation status : ℕ) (bytes : List ℕ) → IsOperation operation × ReadsBlocks operation status bytes
@@ -79,34 +79,43 @@ copy_fault : (cause : Cause) → NamesFault cause → HasFault cause
 copy_fault (the_cause.Copy fault) names = names
 copy_fault cause names = tt
 
-values : (many : ℕ) (asked : Line) (e : Entry) (m : SettleEntry) → world_event asked e ≡ Some m → IsTold many m
-    → HasValues e
-values many asked (entry.Done k id operation status bytes) m is told =
-    entry_has (λ (x : SettleEntry). IsTold many x → IsCompletion operation status bytes.items) asked
-    (entry.Done k id operation status bytes) m (λ at. completion operation status bytes.items at.1) is told
-values many asked (entry.Stored e operation block count failed) m is told =
-    entry_has (λ (x : SettleEntry). IsTold many x → HasValues (entry.Stored e operation block count failed)) asked
-    (entry.Stored e operation block count failed) m
-    (disk_has (λ (x : SettleEntry). IsTold many x → HasValues (entry.Stored e operation block count failed)) e.lane
-    (Works (Stored operation block count failed)) (λ k at. record { least = at.1.0; most = at.1.1 })) is told
-values many asked (entry.Reset e cause packet lost) m is told =
-    entry_has (λ (x : SettleEntry). IsTold many x → HasFault cause) asked (entry.Reset e cause packet lost) m
-    (wire_has (λ (x : SettleEntry). IsTold many x → HasFault cause) e.lane (Reset (end_of e.side) cause packet lost) (λ k at. copy_fault cause at.1.0)) is told
-values many asked e m is told = tt
+port_fault : (ports k : ℕ) (e : End) (cause : Cause) (packet : Option (List ℕ)) (lost : ℕ)
+    → IsPortTold ports (of_net k (reset_of e cause packet lost)) → HasFault cause
+port_fault ports k e (the_cause.Copy fault) packet lost told = told.1
+port_fault ports k e cause packet lost told = tt
+
+module _ (disks ports : ℕ) where
+  abbrev Worded : Type 0 → SettleEntry → Type 0
+  Worded P x = IsOfDeclared disks ports x → P
+
+  values : (asked : Line) (e : Entry) (m : SettleEntry) → world_event asked e ≡ Some m → IsOfDeclared disks ports m → HasValues e
+  values asked (entry.Done k id operation status bytes) m is told =
+      entry_has (Worded (IsCompletion operation status bytes.items)) asked (entry.Done k id operation status bytes) m
+      (λ at. completion operation status bytes.items at.0.1) is told
+  values asked (entry.Stored e operation block count failed) m is told =
+      entry_has (Worded (HasValues (entry.Stored e operation block count failed))) asked
+      (entry.Stored e operation block count failed) m
+      (lane_has (λ lane. Worded (HasValues (entry.Stored e operation block count failed)))
+      (λ k. OfLane k (Works (Stored operation block count failed))) e.lane
+      (λ k at. record { least = at.0.1.0; most = at.0.1.1 })) is told
+  values asked (entry.Reset e cause packet lost) m is told =
+      entry_has (Worded (HasFault cause)) asked (entry.Reset e cause packet lost) m
+      (wire_has (λ lane. Worded (HasFault cause)) (Reset (end_of e.side) cause packet lost) e.lane
+      (λ k at. copy_fault cause at.0.1.0) (λ k at. port_fault ports k (end_of e.side) cause packet lost at.1)) is told
+  values asked e m is told = tt
 
 -- EACH ENTRY
-entry_words : (disks : List DiskDecl) (asked : Line) (e : Entry) (m : SettleEntry) → world_event asked e ≡ Some m
-    → IsTold (length disks) m → HasWords disks e
-entry_words disks asked e m is told = (
-  entry_has (λ (x : SettleEntry). IsTold (length disks) x → IsNamed disks (meaning e)) asked e m
-      (named disks (meaning e)) is told,
-  values (length disks) asked e m is told,
+entry_words : (all : Declared) (asked : Line) (e : Entry) (m : SettleEntry) → world_event asked e ≡ Some m
+    → IsOfDeclared (length all.disks) (length all.ports) m → HasWords all e
+entry_words all asked e m is told = (
+  entry_has (Says all (meaning e)) asked e m (named all (meaning e)) is told,
+  values (length all.disks) (length all.ports) asked e m is told,
 )
 
-pub all_words : (disks : List DiskDecl) (tellings : List Telling) → AreTold (length disks) (means_of tellings)
-    → All (HasWords disks) (entries_told tellings)
-all_words disks [] told = All-nil (HasWords disks)
-all_words disks (t ∷ tellings) told =
-    All-cons (HasWords disks) t.entry (entries_told tellings)
-    (entry_words disks (line_of t.asked) t.entry t.means t.is told.0)
-    (all_words disks tellings told.1)
+pub all_words : (all : Declared) (tellings : List Telling) → AreTold (length all.disks) (means_of tellings)
+    → EachEntry (IsPortTold (length all.ports)) (means_of tellings) → All (HasWords all) (entries_told tellings)
+all_words all [] told ports = All-nil (HasWords all)
+all_words all (t ∷ tellings) told ports =
+    All-cons (HasWords all) t.entry (entries_told tellings)
+    (entry_words all (line_of t.asked) t.entry t.means t.is (told.0, ports.0))
+    (all_words all tellings told.1 ports.1)

@@ -3,9 +3,9 @@ use Rattle.std.proofs.Common.{inl, inr, ℕ, List, [], ◌∷◌, arith}
 use Rattle.vdisk_msg.specs.declared.request.Request.{Request}
 use Rattle.vdisk_msg.specs.declared.request.Request.TheVariants.{Flush, Read, Write}
 use Rattle.disk_law.specs.Issued.{issued}
-use Rattle.disk_model.specs.DiskEvent.{Accepted, Asks, Calms, Desc, DiskEvent, Done, Finished, Full, Misplaced, Moved, OnWire, Published, Refused, Stored, Switches, Works}
-use Rattle.world_laws.specs.NamesNo.{IsApart, NamesNo}
-use Rattle.world_laws.specs.Requests.{requests_of}
+use Rattle.world_parts.specs.disk_model.DiskEvent.{Accepted, Asks, Calms, Desc, DiskEvent, Done, Finished, Full, Misplaced, Moved, OnWire, Published, Refused, Stored, Switches, Works}
+use Rattle.world_parts.specs.world_laws.NamesNo.{IsApart, NamesNo}
+use Rattle.world_parts.specs.world_laws.Requests.{requests_of}
 use Rattle.script_laws.specs.Outside.{IsOutside, IsOutsideAll}
 
 apart : (first place : ℕ) (request : Request) → IsOutside first place request → IsApart place first request

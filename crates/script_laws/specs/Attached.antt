@@ -11,6 +11,7 @@ use Rattle.ldom_report.specs.declared.status.Status.TheVariants as status
 abbrev pub is_opening : Event → Bool
 is_opening line.Blank = true
 is_opening (line.Disk disk) = true
+is_opening (line.Net port) = true
 is_opening other = false
 
 -- blank lines and declarations

@@ -1,18 +1,18 @@
 -- What the reads of a disk show, and what its part of an image holds, over an image that tells its bytes.
 use Rattle.std.specs.Prelude.{◌≡◌, ℕ, ◌+◌, ◌*◌, ◌<◌, Bool, true, false, List, [], ◌∷◌, ◌++◌, length, take, Some, slice_get, ⊤}
-use Rattle.lane_laws.specs.DiskLog.{DiskLog}
-use Rattle.disk_model.specs.DiskEvent.{DiskEvent, Done, OnWire, Stopped, Switches, Works}
-use Rattle.disk_model.specs.LaneState.{Shape}
-use Rattle.lane_laws.specs.Blocks.{after_requests, block_at}
-use Rattle.lane_laws.specs.Headline.{CompletionShows, HoldsDone, LastWrite}
-use Rattle.lane_laws.specs.ImageStep.{region_of}
-use Rattle.channel_model.specs.WireEvent.{Reset}
-use Rattle.world_laws.specs.Along.{happened}
-use Rattle.world_laws.specs.Settle.{OfLane, SettleEntry}
+use Rattle.world_parts.specs.lane_laws.DiskLog.{DiskLog}
+use Rattle.world_parts.specs.disk_model.DiskEvent.{DiskEvent, Done, OnWire, Stopped, Switches, Works}
+use Rattle.world_parts.specs.disk_model.LaneState.{Shape}
+use Rattle.world_parts.specs.lane_laws.Blocks.{after_requests, block_at}
+use Rattle.world_parts.specs.lane_laws.Headline.{CompletionShows, HoldsDone, LastWrite}
+use Rattle.world_parts.specs.lane_laws.ImageStep.{region_of}
+use Rattle.world_parts.specs.channel_model.WireEvent.{Reset}
+use Rattle.world_parts.specs.world_laws.Along.{happened}
+use Rattle.world_parts.specs.world_laws.Settle.{OfLane, SettleEntry}
 use Rattle.script_laws.specs.Told.{log_at}
 use Rattle.vdisk_msg.specs.declared.request.Request.{Request}
 use Rattle.vdisk_msg.specs.declared.request.Request.TheVariants.{Flush, Read, Write}
-use Rattle.world_laws.specs.Failures.{is_failed_store}
+use Rattle.world_parts.specs.world_laws.Failures.{is_failed_store}
 
 -- WHAT DISTURBS a disk's requests: a reset of an end, and a stop of its server
 abbrev pub disturbs : DiskEvent → Bool

@@ -1,7 +1,7 @@
 -- The lines of a script after its declarations.
 use Rattle.std.specs.Prelude.{◌≡◌, ◌≢◌, ℕ, ◌+◌, ◌≤◌, List, ◌++◌, length, Option}
 use Rattle.domain_script.specs.declared.event.Event.{Event}
-use Rattle.domain_script.specs.NamesState.{NamesState}
+use Rattle.domain_script.specs.NamesState.{NamesState, declared_by}
 use Rattle.ldom_entries.specs.declared.entry.Entry.{Entry}
 use Rattle.ldom_report.specs.declared.status.Status.{Status}
 use Rattle.ldom_report.specs.declared.status.Status.TheVariants as status
@@ -13,7 +13,7 @@ use Rattle.script_laws.specs.Replayed.{Stopped}
 use Rattle.domain_script.specs.ScriptLines.{AreShort, TakesLines}
 use Rattle.domain_script.specs.ScriptEvents.{AllSpell}
 use Rattle.world_parts.specs.Script.{FitsScript, ScriptParts, events_of, journal_of}
-use Rattle.world_laws.specs.World.{WorldState}
+use Rattle.world_parts.specs.domain_laws.Domain.{DomainState}
 use Rattle.domain_script.specs.Limits.{most_lines}
 
 -- from the bytes that are still to come, after so many lines, these lines were read
@@ -25,8 +25,8 @@ pub record ReadsOn (start left : Option (List ℕ)) (before : NamesState) (numbe
   pub spell : AllSpell texts before events after
 
 -- they were read and run, and then no further one was taken up
-pub record RunsLines (start now : Option (List ℕ)) (before : NamesState) (old : List Entry) (s : WorldState) (number : ℕ)
-    (why : Status) (after : NamesState) (new : List Entry) (t : WorldState) (lines : ℕ) : Type 0 where
+pub record RunsLines (start now : Option (List ℕ)) (before : NamesState) (old : List Entry) (s : DomainState) (number : ℕ)
+    (why : Status) (after : NamesState) (new : List Entry) (t : DomainState) (lines : ℕ) : Type 0 where
   pub parts : ScriptParts
   pub left : Option (List ℕ)
   pub read : ReadsOn start left before number (events_of parts) after
@@ -38,10 +38,10 @@ pub record RunsLines (start now : Option (List ℕ)) (before : NamesState) (old 
   pub lines_are : lines ≡ counted_lines why (number + length read.texts)
 
 -- From its first line on the script was read and run, and then no further line was taken up.
-pub record RunsAll (start now : Option (List ℕ)) (before : NamesState) (s : WorldState) (why : Status) (after : NamesState) (journal : List Entry) (t : WorldState) (lines : ℕ) : Type 0 where
+pub record RunsAll (start now : Option (List ℕ)) (before : NamesState) (s : DomainState) (why : Status) (after : NamesState) (journal : List Entry) (t : DomainState) (lines : ℕ) : Type 0 where
   pub parts : ScriptParts
   pub stopped : Stopped start now why (events_of parts) after (length journal) lines
   pub journal_is : JournalIs (ending why) s parts journal t
-  pub disks : after.disks ≡ before.disks
+  pub declared : declared_by after ≡ declared_by before
   -- but at the input's end, a line came at which the image is attached
   pub attached : why ≢ status.Done → AreOpening (events_of parts) → ⊥

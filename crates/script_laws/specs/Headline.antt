@@ -1,16 +1,21 @@
 -- THE HEADLINE: what holds of the disks of every script, whatever it resets, stops, restarts and loses.
 use Rattle.std.specs.Prelude.{◌≡◌, ◌↔◌, ℕ, false, List, length, Some, IfSome, slice_get}
 use Rattle.disk_law.specs.ListState.{ImageState}
-use Rattle.disk_model.specs.LaneState.{LaneState, Shape}
+use Rattle.world_parts.specs.disk_model.LaneState.{LaneState, Shape}
 use Rattle.domain_script.specs.declared.event.DiskDecl.{DiskDecl}
-use Rattle.world_laws.specs.World.{WorldState}
-use Rattle.world_laws.specs.Along.{happened}
-use Rattle.world_laws.specs.Settle.{SettleEntry}
-use Rattle.world_laws.specs.Stays.{StaysBehind}
+use Rattle.world_parts.specs.domain_laws.Domain.{DomainState}
+use Rattle.world_parts.specs.port_model.NetLaneState.{NetShape}
+use Rattle.world_parts.specs.world_laws.Along.{happened}
+use Rattle.world_parts.specs.world_laws.Settle.{SettleEntry}
+use Rattle.world_parts.specs.world_laws.Stays.{StaysBehind}
 use Rattle.world_parts.specs.Declared.{shapes_of}
 use Rattle.world_parts.specs.Script.{ScriptParts, all_lines}
+use Rattle.script_laws.specs.Apart.{StandApart}
 use Rattle.script_laws.specs.Contents.{DiskHolds, NoStoreFailed, ReadsShow}
 use Rattle.script_laws.specs.Lanes.{LaneStands}
+use Rattle.script_laws.specs.LastRounds.{EachNamesExactly}
+use Rattle.script_laws.specs.Ports.{PortsStand}
+use Rattle.script_laws.specs.PortSettles.{PortSettles}
 use Rattle.script_laws.specs.Settled.{FinishesAll, LeftWhereBusy, RestsOrTicked, SettlesEnd, StillBehind, TicksAreNeeded}
 use Rattle.script_laws.specs.Told.{told}
 
@@ -31,16 +36,21 @@ pub record OfDisk (shape : Shape) (x : ℕ) (start : ImageState) (entries : List
       → s.failed ≡ false → DiskHolds shape x first entries bytes
 
 -- OF ALL LINES with their parts: each disk has its lane, each settle keeps its rules and, among those that gave whole
--- parts, ended or ran out of rounds, and the image stays outside of all disks.
-pub record Headline (disks : List DiskDecl) (start : ImageState) (parts : ScriptParts) (v : WorldState) : Type 0 where
-  pub many : length v.lanes ≡ length disks
+-- parts, ended or ran out of rounds, and the image stays outside of all disks. A line for one lane leaves all others.
+pub record Headline (disks : List DiskDecl) (nets : List NetShape) (start : ImageState) (parts : ScriptParts) (v : DomainState) : Type 0 where
+  pub many : length v.first.lanes ≡ length disks
   pub each : (x : ℕ) (shape : Shape) (s : LaneState) → slice_get (shapes_of 0 disks) x ≡ Some shape
-      → slice_get v.lanes x ≡ Some s → OfDisk shape x start (told (all_lines parts)) s v.image
-  pub settles : SettlesEnd (length disks) parts
+      → slice_get v.first.lanes x ≡ Some s → OfDisk shape x start (told (all_lines parts)) s v.first.image
+  pub settles : SettlesEnd disks nets start parts
   pub ticks : (x : ℕ) (shape : Shape) → slice_get (shapes_of 0 disks) x ≡ Some shape
       → TicksAreNeeded shape x (all_lines parts)
   pub left : (x : ℕ) (shape : Shape) → slice_get (shapes_of 0 disks) x ≡ Some shape
       → LeftWhereBusy shape x (all_lines parts)
   pub rests : (x : ℕ) (shape : Shape) → slice_get (shapes_of 0 disks) x ≡ Some shape
       → RestsOrTicked shape x (all_lines parts)
-  pub outside : IfSome start.told (λ first. StaysBehind (shapes_of 0 disks) first v.image.told)
+  pub outside : IfSome start.told (λ first. StaysBehind (shapes_of 0 disks) first v.first.image.told)
+  pub ports_many : length v.second ≡ length nets
+  pub ports : PortsStand nets (told (all_lines parts)) v.second
+  pub ports_settle : (k : ℕ) (shape : NetShape) → slice_get nets k ≡ Some shape → PortSettles shape k (all_lines parts)
+  pub names : EachNamesExactly disks nets parts.whole
+  pub apart : StandApart disks nets start parts v

@@ -1,22 +1,22 @@
 -- What holds of the lane of each disk along a script's lines, and at their end.
 use Rattle.std.specs.Prelude.{◌≡◌, ◌↔◌, ℕ, true, false, List, ◌++◌, Some, is_some}
 use Rattle.runs.specs.Run.{Run}
-use Rattle.lane_laws.specs.Agreement.{AgreesWithLog}
-use Rattle.lane_laws.specs.DiskLog.{DiskLog}
-use Rattle.disk_model.specs.LaneState.{LaneState, Shape, fresh}
-use Rattle.disk_model.specs.LaneStep.{LaneStep}
-use Rattle.lane_laws.specs.May.{IsLawful}
-use Rattle.lane_laws.specs.NearLaws.{NearInOrder}
-use Rattle.channel_model.specs.Sayings.{heard, said}
-use Rattle.channel_model.specs.TranscriptLog.{TranscriptLog, transcript_of}
-use Rattle.channel_model.specs.WireAt.{IsUp}
-use Rattle.lane_laws.specs.WorkLog.{ClientCounts, ServerCounts}
-use Rattle.lane_laws.specs.CountsInTurn.{CountsInTurn}
-use Rattle.lane_laws.specs.OneSession.{AreOneSession}
-use Rattle.lane_laws.specs.SlotsInOrder.{RingInOrder}
-use Rattle.world_laws.specs.Along.{happened}
-use Rattle.world_laws.specs.Forged.{NobodyForges}
-use Rattle.world_laws.specs.Settle.{SettleEntry}
+use Rattle.world_parts.specs.lane_laws.Agreement.{AgreesWithLog}
+use Rattle.world_parts.specs.lane_laws.DiskLog.{DiskLog}
+use Rattle.world_parts.specs.disk_model.LaneState.{LaneState, Shape, fresh}
+use Rattle.world_parts.specs.disk_model.LaneStep.{LaneStep}
+use Rattle.world_parts.specs.lane_laws.May.{IsLawful}
+use Rattle.world_parts.specs.lane_laws.NearLaws.{NearInOrder}
+use Rattle.world_parts.specs.channel_model.Sayings.{heard, said}
+use Rattle.world_parts.specs.channel_model.TranscriptLog.{TranscriptLog, transcript_of}
+use Rattle.world_parts.specs.channel_model.WireAt.{IsUp}
+use Rattle.world_parts.specs.lane_laws.WorkLog.{ClientCounts, ServerCounts}
+use Rattle.world_parts.specs.lane_laws.CountsInTurn.{CountsInTurn}
+use Rattle.world_parts.specs.lane_laws.OneSession.{AreOneSession}
+use Rattle.world_parts.specs.lane_laws.SlotsInOrder.{RingInOrder}
+use Rattle.world_parts.specs.world_laws.Along.{happened}
+use Rattle.world_parts.specs.world_laws.Forged.{NobodyForges}
+use Rattle.world_parts.specs.world_laws.Settle.{SettleEntry}
 use Rattle.ldc_queue.specs.OneStream.{IsFront}
 use Rattle.ldc_queue.specs.Transcript.{numbered_heard, numbered_said}
 use Rattle.ldc_queue.specs.Wire.{peer_of}

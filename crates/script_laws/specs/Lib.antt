@@ -1,7 +1,6 @@
 pub mod Admitting
 pub mod Completed
 pub mod Forged
-pub mod Isolation
 pub mod Failures
 pub mod Stored
 pub mod Outside
@@ -9,6 +8,8 @@ pub mod Told
 pub mod Lanes
 pub mod Contents
 pub mod Settled
+pub mod Apart
+pub mod Ports
 pub mod Headline
 pub mod PlainRun
 pub mod Quiet
@@ -27,3 +28,5 @@ pub mod Script
 pub mod Sized
 pub mod Whole
 pub mod Still
+pub mod PortSettles
+pub mod LastRounds

@@ -1,8 +1,8 @@
 -- What the objects that a run is given tell of themselves, and what the run leaves.
 use Rattle.std.specs.Prelude.{ℕ, List, Option}
+use Rattle.world_parts.specs.domain_laws.Domain.{Lanes}
 use Rattle.vio_io.specs.declared.store.Store.{Ghosts}
 use Rattle.disk_law.specs.ListState.{ImageState, as_image}
-use Rattle.disk_model.specs.LaneState.{LaneState}
 use Rattle.ldom_entries.specs.declared.entry.Entry.{Entry}
 use Rattle.ldom_report.specs.declared.status.Status.{Status}
 use Rattle.script_laws.specs.Counts.{Counts, counts}
@@ -33,7 +33,7 @@ pub record RunLeaves (D : Type 0) : Type 0 where
   pub ran : Status
   pub journal : List Entry
   pub image : Option D
-  pub lanes : Option (List LaneState)
+  pub lanes : Option Lanes
 
-abbrev pub run_leaves : {D : Type 0} → Status → Status → List Entry → Option D → Option (List LaneState) → RunLeaves D
+abbrev pub run_leaves : {D : Type 0} → Status → Status → List Entry → Option D → Option Lanes → RunLeaves D
 run_leaves status ran journal image lanes = record { status = status; ran = ran; journal = journal; image = image; lanes = lanes }

@@ -1,7 +1,7 @@
 -- What the top call did.
 use Rattle.std.specs.Prelude.{◌≡◌, ℕ, ◌⊎◌, List, Option, IfSome}
 use Rattle.std.specs.Io.KnownBytes.{Appends}
-use Rattle.domain_script.specs.NamesState.{NamesState}
+use Rattle.domain_script.specs.NamesState.{NamesState, declared_by}
 use Rattle.gathered_text.specs.Gathered.{WroteFront}
 use Rattle.ldom_report.specs.Report.{report}
 use Rattle.ldom_report.specs.declared.status.Mode.{Mode}
@@ -15,7 +15,7 @@ use Rattle.script_laws.specs.Outside.{IsOutsideDisks, KeepsTold}
 use Rattle.script_laws.specs.Replayed.{Replayed, start_of}
 use Rattle.script_laws.specs.Sized.{SizeIs}
 use Rattle.script_laws.specs.Whole.{RunsWhole}
-use Rattle.world_parts.specs.Declared.{bytes_needed}
+use Rattle.world_parts.specs.Declared.{bytes_needed, nets_of}
 use Rattle.world_parts.specs.Script.{all_lines}
 
 -- The whole text was written and the status is the run's, or the sink failed after some front of the text.
@@ -33,8 +33,8 @@ pub record RunsScript {D : Type 0} (mode : Mode) (host : HostTells D) (before no
   pub replayed : Replayed host.seen before.left now.left host.gives left.ran lines names left.journal left.image left.lanes
   pub admits : AdmitsAll names.disks (all_lines replayed.parts)
   pub sized : SizeIs host.size left.ran (bytes_needed names.disks) (host.gives (bytes_needed names.disks)) left.image
-  pub headline : IfSome left.lanes (λ stand. Headline names.disks (start_of names host.gives).image replayed.parts replayed.final)
+  pub headline : IfSome left.lanes (λ stand. Headline names.disks (nets_of names.ports) (start_of names host.gives).first.image replayed.parts replayed.final)
   pub whole : left.status ≡ Done
       → RunsWhole mode host.seen before.left names replayed.parts replayed.final left.journal left.image before.written now.written
   pub others : IfSome left.image (λ disk. KeepsTold (host.gives (bytes_needed names.disks)) (IsOutsideDisks names.disks left.journal) (host.seen disk).told)
-  pub reports : Reports left.ran left.status before.written now.written (report mode names.disks lines left.journal left.ran)
+  pub reports : Reports left.ran left.status before.written now.written (report mode (declared_by names) lines left.journal left.ran)

@@ -5,10 +5,10 @@ use Rattle.vdisk_msg.specs.declared.request.Request.TheVariants.{Read, Write, Fl
 use Rattle.domain_script.specs.declared.event.DiskDecl.{DiskDecl}
 use Rattle.disk_law.specs.Issued.{issued}
 use Rattle.disk_law.specs.ListStep.{block_place}
-use Rattle.disk_model.specs.LaneState.{Shape}
+use Rattle.world_parts.specs.disk_model.LaneState.{Shape}
 use Rattle.ldom_report.specs.DiskEvents.{history}
 use Rattle.ldom_entries.specs.declared.entry.Entry.{Entry}
-use Rattle.world_laws.specs.NamesNo.{IsOutOf}
+use Rattle.world_parts.specs.world_laws.NamesNo.{IsOutOf}
 use Rattle.world_parts.specs.Declared.{shapes_of}
 use Rattle.script_laws.specs.Forged.{IsUnforged}
 

@@ -3,6 +3,7 @@ use Rattle.std.specs.Prelude.{ℕ, ◌+◌, ◌*◌, Bool, true, false, nat_le, 
 use Rattle.std.specs.List.{range_with_len}
 use Rattle.vdisk_msg.specs.declared.request.Request.{Request}
 use Rattle.vdisk_msg.specs.declared.request.Request.TheVariants.{Read, Write, Flush}
+use Rattle.domain_script.specs.Declarations.{Declared}
 use Rattle.domain_script.specs.declared.event.DiskDecl.{DiskDecl}
 use Rattle.domain_script.specs.declared.event.Event.{Event}
 use Rattle.domain_script.specs.declared.event.Event.TheVariants.{Issue, Settle}
@@ -23,6 +24,10 @@ pub record Plain : Type 0 where
 -- nothing was asked yet
 abbrev pub untouched : List ℕ → Plain
 untouched content = record { content = content; waiting = []; completed = 0; text = [] }
+
+-- what such a script declares: one disk, and no port
+abbrev pub one_disk : DiskDecl → Declared
+one_disk disk = record { disks = disk ∷ []; ports = [] }
 
 abbrev pub name_text : DiskDecl → List ℕ
 name_text disk = take disk.name.len disk.name.bytes

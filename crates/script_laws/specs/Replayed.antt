@@ -12,13 +12,12 @@ use Rattle.ldom_report.specs.LinesEnd.{counted_lines}
 use Rattle.script_laws.specs.Attached.{ImageStands}
 use Rattle.script_laws.specs.Behind.{StandsBehind}
 use Rattle.world_parts.specs.Endings.{JournalIs, ending}
-use Rattle.disk_model.specs.LaneState.{LaneState}
-use Rattle.world_laws.specs.World.{WorldState}
+use Rattle.world_parts.specs.domain_laws.Domain.{DomainState, Lanes}
 use Rattle.script_laws.specs.Reading.{StopsAt}
 use Rattle.script_laws.specs.LanesStand.{LanesStand}
 use Rattle.script_laws.specs.Script.{ReadSoFar}
 use Rattle.disk_law.specs.ListState.{attached}
-use Rattle.world_parts.specs.Declared.{bytes_needed, world_of}
+use Rattle.world_parts.specs.Declared.{bytes_needed, nets_of, world_of}
 use Rattle.world_parts.specs.Script.{ScriptParts, events_of}
 
 -- These events were read, and then no further line was taken up, where the journal has so many entries; the report counts
@@ -48,20 +47,20 @@ ended_status status.Done faulty = if faulty then status.StoreFault else status.D
 ended_status other faulty = other
 
 -- the world as a run begins, over what attaching gives for so many bytes
-abbrev pub start_of : NamesState → (ℕ → Option (List ℕ)) → WorldState
-start_of names gives = world_of names.disks (attached (gives (bytes_needed names.disks)))
+abbrev pub start_of : NamesState → (ℕ → Option (List ℕ)) → DomainState
+start_of names gives = world_of names.disks (nets_of names.ports) (attached (gives (bytes_needed names.disks)))
 
 -- A run: its script was read up to where it stopped, its journal is one part for each line, and the image and the lanes are
 -- what the journal makes of the image that was attached and of fresh lanes, but that reads may have been spared the image.
 -- The source has `now` left. `seen` is what contracts see of an image.
 pub record Replayed {D : Type 0} (seen : D → ImageState) (script now : Option (List ℕ)) (gives : ℕ → Option (List ℕ))
-    (why : Status) (lines : ℕ) (names : NamesState) (journal : List Entry) (image : Option D) (lanes : Option (List LaneState)) : Type 0 where
+    (why : Status) (lines : ℕ) (names : NamesState) (journal : List Entry) (image : Option D) (lanes : Option Lanes) : Type 0 where
   -- its lines with their parts, of which all that is said of the run speaks
   pub parts : ScriptParts
   pub stopped : Stopped script now why (events_of parts) names (length journal) lines
-  pub final : WorldState
+  pub final : DomainState
   pub journal_is : JournalIs (ending why) (start_of names gives) parts journal final
-  pub image_is : IfSome image (λ disk. StandsBehind (seen disk) final.image)
-  pub faults_are : FaultsAre why image final.image.faults
+  pub image_is : IfSome image (λ disk. StandsBehind (seen disk) final.first.image)
+  pub faults_are : FaultsAre why image final.first.image.faults
   pub image_stands : ImageStands why (events_of parts) stopped.left journal image
   pub lanes_stand : LanesStand why image lanes final

@@ -1,8 +1,11 @@
--- Where both ends of a disk's lane are still, by its log.
+-- Where both ends of a disk's lane are still, by its log, and both ends of a port.
 use Rattle.std.specs.Prelude.{◌≡◌, ◌⊎◌, ◌+◌, ◌≤◌, true, [], length}
-use Rattle.lane_laws.specs.DiskLog.{DiskLog}
-use Rattle.lane_laws.specs.QuietLaws.{EndIsIdle}
-use Rattle.channel_model.specs.WireAt.{IsUp}
+use Rattle.world_parts.specs.lane_laws.DiskLog.{DiskLog}
+use Rattle.world_parts.specs.lane_laws.QuietLaws.{EndIsIdle}
+use Rattle.world_parts.specs.channel_model.WireAt.{IsUp}
+use Rattle.world_parts.specs.port_model.FrameLaws.{IfSession}
+use Rattle.world_parts.specs.port_model.PortLog.{PortLog, log_of_end}
+use Rattle.world_parts.specs.port_model.RestLaws.{IsIdle}
 use Rattle.ldc_queue.specs.Wire.{peer_of, waiting_for}
 use Rattle.ldc_queue.specs.declared.end.End.{End}
 use Rattle.ldc_queue.specs.declared.end.End.TheVariants.{A, B}
@@ -17,3 +20,13 @@ pub record IsStillBy (e : End) (l : DiskLog) : Type 0 where
 pub record AreStillBy (l : DiskLog) : Type 0 where
   pub client : IsStillBy A l
   pub server : (l.work.stopped ≡ true) ⊎ IsStillBy B l
+
+-- THE SAME of an end of a port; and of both
+pub record IsPortStillBy (e : End) (l : PortLog) : Type 0 where
+  pub up : IsUp e l.wire.wire
+  pub still : ((waiting_for e l.wire.wire ≡ []) × IfSession (log_of_end e l).session (IsIdle e l))
+      ⊎ (l.shape.entries ≤ length (waiting_for (peer_of e) l.wire.wire) + 1)
+
+pub record IsPortStill (l : PortLog) : Type 0 where
+  pub guest : IsPortStillBy A l
+  pub switch_end : IsPortStillBy B l

@@ -4,7 +4,7 @@ use Rattle.std.specs.Io.KnownBytes.{Appends}
 use Rattle.disk_law.specs.ListState.{ImageState}
 use Rattle.domain_script.specs.declared.event.DiskDecl.{DiskDecl}
 use Rattle.domain_script.specs.declared.event.Event.{Event}
-use Rattle.domain_script.specs.NamesState.{NamesState}
+use Rattle.domain_script.specs.NamesState.{NamesState, declared_by}
 use Rattle.domain_script.specs.ScriptEvents.{AllSpell, no_names}
 use Rattle.domain_script.specs.ScriptLines.{script_lines}
 use Rattle.ldom_report.specs.Report.{report}
@@ -15,7 +15,7 @@ use Rattle.script_laws.specs.Behind.{StandsBehind}
 use Rattle.script_laws.specs.Completed.{completed_ids}
 use Rattle.script_laws.specs.PlainRun.{plain_text, plain_content, plain_ids}
 use Rattle.world_parts.specs.Script.{ScriptParts, events_of}
-use Rattle.world_laws.specs.World.{WorldState}
+use Rattle.world_parts.specs.domain_laws.Domain.{DomainState}
 
 -- the events and the names that all lines of a script spell, where its bytes are told, are these
 abbrev pub SpellsAll : Option (List ℕ) → List Event → NamesState → Type 0
@@ -25,12 +25,12 @@ SpellsAll script read known =
 
 -- all lines gave whole parts, no call of the image failed, and the whole report was written
 pub record RunsWhole {D : Type 0} (mode : Mode) (seen : D → ImageState) (script : Option (List ℕ)) (names : NamesState) (parts : ScriptParts)
-    (final : WorldState) (journal : List Entry) (image : Option D) (old new : Option (List ℕ)) : Type 0 where
+    (final : DomainState) (journal : List Entry) (image : Option D) (old new : Option (List ℕ)) : Type 0 where
   pub all : SpellsAll script (events_of parts) names
   pub none_cut : parts.cut ≡ None
-  pub faultless : final.image.faults ≡ 0
-  pub image_is : IsSomeAnd image (λ disk. StandsBehind (seen disk) final.image)
-  pub written : Appends old new (report mode names.disks (length (events_of parts)) journal Done)
+  pub faultless : final.first.image.faults ≡ 0
+  pub image_is : IsSomeAnd image (λ disk. StandsBehind (seen disk) final.first.image)
+  pub written : Appends old new (report mode (declared_by names) (length (events_of parts)) journal Done)
 
 -- the written text is that of the plain run over these bytes, and so are what the image is left with and the ids of the
 -- completions

@@ -10,7 +10,7 @@ mod laws;
 mod plain;
 
 pub use headline::the_headline_holds;
-pub use isolation::a_line_changes_its_own_disk_alone;
+pub use isolation::a_line_changes_its_own_lane_alone;
 pub use laws::{
     a_journal_cuts_in_one_way, bytes_outside_of_writes_stay, calls_of_the_image_are_told,
     completions_succeed_or_fail, entries_have_their_words, failed_completions_are_counted,

@@ -170,7 +170,7 @@ module _ (lanes : List NetLaneState) (known : Known) (xs : List PortState) (k : 
           sees_by k xs answer t.hub.last sets same (subst (λ (l : Known). IfSome sets (GoesTo k t.hub.last l))
           tied.known_are steps.goes);
       of_frame =
-          of_frame_by answer t.hub.last sets (takes_frame (port_at k s known) (port_at k t new) answer t.hub.last
+          of_frame_by answer t.hub.last sets (takes_frame B (port_at k s known) (port_at k t new) answer t.hub.last
           reached_there steps.step);
       shape = steps.shape;
       told = steps.told;

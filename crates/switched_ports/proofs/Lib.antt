@@ -6,4 +6,5 @@ pub mod Asides
 pub mod Moving
 pub mod Switching
 pub mod HubEvents
+pub mod OwnSteps
 pub mod Fresh

@@ -3,6 +3,7 @@ use Rattle.std.proofs.Common.{◌≡◌, ◌≢◌, ◌↔◌, ℕ, ◌+◌, ◌
 use Rattle.std.specs.Option.{option_map_or}
 use Rattle.std.specs.Int.{bit_at}
 use Rattle.std.proofs.lemmas.Bool.{cases_eq, eq-eqb, eqb-true}
+use Rattle.ldc_queue.specs.declared.end.End.{End}
 use Rattle.ldc_queue.specs.declared.end.End.TheVariants.{B}
 use Rattle.net_lane.specs.Events.{SameIds}
 use Rattle.net_lane.specs.Frames.{IsFrame}
@@ -33,21 +34,21 @@ use Rattle.switched_ports.specs.States.{state_of}
 use Rattle.switched_ports.proofs.Moving.{same_guest, same_shape, same_sum}
 use Rattle.switched_ports.proofs.Places.{map_same, view_of}
 
--- A FRAME that a reached port's end takes has its length
-frame_is : (s t : PortState) (frame : List ℕ) → IsReached s → PortStep s (OnLane (Steps B (Frame frame))) t
-    → IsFrame frame
-frame_is s t frame at step =
-    let event = OnLane (Steps B (Frame frame)) in
+-- A FRAME that an end of a reached port takes has its length
+frame_is : (e : End) (s t : PortState) (frame : List ℕ) → IsReached s
+    → PortStep s (OnLane (Steps e (Frame frame))) t → IsFrame frame
+frame_is e s t frame at step =
+    let event = OnLane (Steps e (Frame frame)) in
     let lawful =
     port_takes at.shape (at.events ++ event ∷ []) t at.sound
     (run_push PortStep (fresh_port at.shape) s t at.events event at.run step) in
     (lawful_split TakingAt after (no_events at.shape) at.events (event ∷ []) lawful).1.0.0
 
-pub takes_frame : (s t : PortState) (answer : NetOut) (last : List ℕ) → IsReached s
-    → PortStep s (OnLane (Steps B (net_answer answer last))) t
+pub takes_frame : (e : End) (s t : PortState) (answer : NetOut) (last : List ℕ) → IsReached s
+    → PortStep s (OnLane (Steps e (net_answer answer last))) t
     → TakesFrame answer last
-takes_frame s t (out.Frame len) last at step = frame_is s t last at step
-takes_frame s t _ last at step = tt
+takes_frame e s t (out.Frame len) last at step = frame_is e s t last at step
+takes_frame e s t _ last at step = tt
 
 -- THE PORT'S OWN STEP
 module _ (k : ℕ) (s mid t : NetLaneState) (old handed : Known) (answer : NetOut) (over : HandsOver k s old mid handed)
@@ -62,7 +63,7 @@ module _ (k : ℕ) (s mid t : NetLaneState) (old handed : Known) (answer : NetOu
 
   pub takes : IsReached (port_at k s old) → TakesFrame answer t.hub.last
   takes at =
-      takes_frame (port_at k s old) (state_of t (waiting_for k handed)) answer t.hub.last at
+      takes_frame B (port_at k s old) (state_of t (waiting_for k handed)) answer t.hub.last at
       (own_step (waiting_for k handed) refl)
 
   shape_mid : t.shape ≡ mid.shape

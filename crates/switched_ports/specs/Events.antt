@@ -1,5 +1,6 @@
 -- What a step of an end is for the ports of a switch, by its answer.
-use Rattle.std.specs.Prelude.{Bool, true, false, List, Option, Some}
+use Rattle.std.specs.Prelude.{◌≡◌, Bool, true, false, List, Option, Some, ⊤}
+use Rattle.channel_model.specs.WireEvent.{ByStep, giver}
 use Rattle.ldc_queue.specs.declared.end.End.{End}
 use Rattle.ldc_queue.specs.declared.end.End.TheVariants.{B}
 use Rattle.net_lane.specs.net_out.NetOut.{NetOut}
@@ -22,3 +23,8 @@ is_frame _ = false
 abbrev pub is_switched : End → NetOut → Bool
 is_switched B answer = is_frame answer
 is_switched e answer = false
+
+-- a step resets its end for a cause that a step gives: neither because a script asked, nor for a tick
+abbrev pub ResetsOwn : NetOut → Type 0
+ResetsOwn (out.Reset cause packet lost) = giver cause ≡ ByStep
+ResetsOwn _ = ⊤

@@ -8,8 +8,9 @@ ghost use Rattle.port_laws.specs.NetEvent.{Asked};
 ghost use Rattle.port_laws.specs.PortState.{OnLane};
 ghost use Rattle.switch_laws.specs.Events.{OnPort};
 ghost use Rattle.switch_laws.specs.Ports.{ports};
-ghost use Rattle.switched_ports.specs.Events.{is_frame, is_switched, step_event};
+ghost use Rattle.switched_ports.specs.Events.{is_frame, is_switched, ResetsOwn, step_event};
 ghost use Rattle.switched_ports.specs.Given.{GivenBelow, GivesNoMore, GivesOneMore};
+ghost use Rattle.switched_ports.specs.HubSteps.{TakesFrame};
 ghost use Rattle.switched_ports.specs.States.{last_at};
 
 use crate::hub;
@@ -29,6 +30,10 @@ impl Ports {
             (step_event end (net_answer out.new (last_at end port self.new)) result) self.new }
         ensures switched { is_some result ≡ is_switched end out.new }
         ensures count { TellsLength out.new (last_at end port self.new) }
+
+        // A frame has its length, and a reset is for a cause of its own.
+        ensures frame { TakesFrame out.new (last_at end port self.new) }
+        ensures own { ResetsOwn out.new }
 
         // No end was given more, but by a frame that was switched.
         ensures ids { GivesOneMore self.old self.new }
@@ -61,6 +66,8 @@ impl Ports {
         ensures entry { EntryOf ports port self.old
             (step_event A (net_answer out.new (last_at A port self.new)) None) self.new }
         ensures count { TellsLength out.new (last_at A port self.new) }
+        ensures frame { TakesFrame out.new (last_at A port self.new) }
+        ensures own { ResetsOwn out.new }
         ensures ids { GivesNoMore self.old self.new }
     {
         self.lanes[port as usize].step_into(End::A, out);
@@ -74,6 +81,8 @@ impl Ports {
             (step_event B (net_answer out.new (last_at B port self.new)) result) self.new }
         ensures switched { is_some result ≡ is_frame out.new }
         ensures count { TellsLength out.new (last_at B port self.new) }
+        ensures frame { TakesFrame out.new (last_at B port self.new) }
+        ensures own { ResetsOwn out.new }
         ensures ids { GivesOneMore self.old self.new }
         ensures same_ids { IfNone result (GivesNoMore self.old self.new) }
     {

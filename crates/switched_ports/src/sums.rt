@@ -28,7 +28,8 @@ impl Ports {
 
     /// How many frames are held by all ends, and wait in all queues.
     pub fn pending(&self) -> u64
-        ensures { result ≡ sum_of pending self.now }
+        ensures sum { result ≡ sum_of pending self.now }
+        ensures small { result ≤ 8 * 12884901885 }
     {
         let mut total = 0;
         for port in 0..self.count() {

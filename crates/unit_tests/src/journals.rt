@@ -28,11 +28,27 @@ const SERVER: EndName = EndName {
 
 const LANE: Who = Who::Lane(DISK);
 
+const PORT: Lane = Lane {
+    kind: LaneKind::Port,
+    number: 2,
+};
+
+const GUEST: EndName = EndName {
+    lane: PORT,
+    side: Side::Client,
+};
+
+/// A port's end at the switch.
+const HUB: EndName = EndName {
+    lane: PORT,
+    side: Side::Server,
+};
+
 /// The row of no entry.
 const NOTHING: Row = ("nothing", 0, 0);
 
-/// The rows of `of_lines`, `of_ends` and `of_servers`, and whether a user of the disks may see the entry.
-fn rows() -> [(Row, bool); 25] {
+/// The rows of `of_lines`, `of_ends`, `of_servers`, `of_ports` and `of_forgers`, and whether a user may see the entry.
+fn rows() -> [(Row, bool); 31] {
     [
         (("accepted", 3, 2), false),
         (("full", 13, 0), true),
@@ -59,6 +75,12 @@ fn rows() -> [(Row, bool); 25] {
         (("moved", 31, 1), false),
         (("stored", 31, 8), false),
         (("finished", 31, 5), false),
+        (("queued", 2, 14), true),
+        (("member", 2, 9), true),
+        (("frame", 20, 14), true),
+        (("switched", 21, 65), true),
+        (("injected", 20, 64), true),
+        (("poked", 21, 8191), true),
     ]
 }
 
@@ -189,6 +211,56 @@ fn of_servers() -> [Entry; 4] {
     ]
 }
 
+/// What comes of ports alone.
+fn of_ports(alloc: Global) -> Result<[Entry; 4], NoMemory> {
+    let frame = [7; 14];
+    Ok(frames_with(
+        Bytes::from_slice(alloc, &frame)?,
+        Bytes::from_slice(alloc, &frame)?,
+        Bytes::from_slice(alloc, &frame)?,
+    ))
+}
+
+/// The same with the frames, which took memory.
+fn frames_with(given: Bytes, taken: Bytes, switched: Bytes) -> [Entry; 4] {
+    [
+        Entry::Queued {
+            port: 2,
+            id: 3,
+            bytes: given,
+        },
+        Entry::Member {
+            port: 2,
+            address: [1, 0, 0x5e, 0, 0, 9],
+        },
+        Entry::Frame {
+            end: GUEST,
+            bytes: taken,
+        },
+        Entry::Switched {
+            end: HUB,
+            out: 6,
+            full: 5,
+            bytes: switched,
+        },
+    ]
+}
+
+/// What nobody put or wrote.
+fn of_forgers(alloc: Global) -> Result<[Entry; 2], NoMemory> {
+    Ok([
+        Entry::Injected {
+            end: GUEST,
+            packet: [1; 64],
+        },
+        Entry::Poked {
+            end: HUB,
+            at: 8191,
+            bytes: Bytes::from_slice(alloc, &[1])?,
+        },
+    ])
+}
+
 /// Puts an entry last.
 fn note(journal: &mut Journal, entry: Entry) -> Result<(), NoMemory> {
     journal.reserve(1)?;
@@ -220,14 +292,32 @@ fn note_servers(journal: &mut Journal) -> Result<(), NoMemory> {
     Ok(())
 }
 
+/// Puts what comes of ports last.
+fn note_ports(alloc: Global, journal: &mut Journal) -> Result<(), NoMemory> {
+    for entry in of_ports(alloc)? {
+        note(journal, entry)?;
+    }
+    Ok(())
+}
+
+/// Puts what nobody put or wrote last.
+fn note_forgers(alloc: Global, journal: &mut Journal) -> Result<(), NoMemory> {
+    for entry in of_forgers(alloc)? {
+        note(journal, entry)?;
+    }
+    Ok(())
+}
+
 /// Puts an entry of each kind last.
 pub(crate) fn note_each_kind(alloc: Global, journal: &mut Journal) -> Result<(), NoMemory> {
     note_lines(alloc, journal)?;
     note_ends(journal)?;
-    note_servers(journal)
+    note_servers(journal)?;
+    note_ports(alloc, journal)?;
+    note_forgers(alloc, journal)
 }
 
-/// An end's disk and its side, as a number of two digits.
+/// An end's lane and its side, as a number of two digits.
 fn at(end: EndName) -> u64 {
     let side = match end.side {
         Side::Client => 0,
@@ -236,7 +326,7 @@ fn at(end: EndName) -> u64 {
     10 * u64::from(end.lane.number) + side
 }
 
-/// An end as its number, or a lane's disk with a 1 before it.
+/// An end as its number, or a lane's number with a 1 before it.
 fn whom(who: Who) -> u64 {
     match who {
         Who::Lane(lane) => 10 + u64::from(lane.number),
@@ -296,6 +386,18 @@ fn row(entry: Option<EntryRef<'_>>) -> Row {
 fn whole_row(entry: &Entry) -> Row {
     match entry {
         Entry::Lost { end, packet } => ("lost", at(*end), packet.len() as u64),
+        Entry::Queued { port, bytes, .. } => ("queued", (*port).into(), bytes.len() as u64),
+        Entry::Member { port, address } => ("member", (*port).into(), address[5].into()),
+        Entry::Frame { end, bytes } => ("frame", at(*end), bytes.len() as u64),
+        Entry::Switched { end, out, full, .. } => {
+            (
+                "switched",
+                at(*end),
+                10 * u64::from(*out) + u64::from(*full),
+            )
+        }
+        Entry::Injected { end, packet } => ("injected", at(*end), packet.len() as u64),
+        Entry::Poked { end, at: place, .. } => ("poked", at(*end), *place),
         _ => ("other", 0, 0),
     }
 }
@@ -305,7 +407,7 @@ fn next_row(rest: &mut Entries<'_>) -> Row {
     row(rest.next_entry())
 }
 
-/// The row of the next entry that a user of the disks may see.
+/// The row of the next entry that a user may see.
 fn next_seen_row(rest: &mut Entries<'_>) -> Row {
     rest.pass_unseen();
     row(rest.next_entry())
@@ -343,7 +445,7 @@ fn reads_each(journal: &Journal) -> bool {
             return false;
         }
     }
-    next_row(&mut rest) == NOTHING && row_at(journal, 25) == NOTHING
+    next_row(&mut rest) == NOTHING && row_at(journal, 31) == NOTHING
 }
 
 #[test]
@@ -375,9 +477,10 @@ fn is_counted(journal: &Journal) -> bool {
         journal.accepted(),
         journal.done(),
         journal.resets(),
+        journal.frames(),
         journal.len(),
     ];
-    counts == [1, 2, 2, 25] && !journal.is_empty()
+    counts == [1, 2, 2, 1, 31] && !journal.is_empty()
 }
 
 fn new_is_empty(alloc: Global) -> bool {

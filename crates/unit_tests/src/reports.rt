@@ -1,9 +1,8 @@
 // Lines of a report that no script reaches, and a sink that fails.
-ghost use Rattle.std.specs.Prelude.{◌≡◌, ◌%◌, ◌≤◌, ◌<◌, ◌++◌, All, List, length, OnOk};
-ghost use Rattle.domain_script.specs.declared.event.DiskDecl.{DiskDecl};
-ghost use Rattle.domain_script.specs.Declarations.{AreDisks};
+ghost use Rattle.std.specs.Prelude.{◌≡◌, ◌%◌, ◌≤◌, ◌<◌, ◌++◌, All, length, OnOk};
+ghost use Rattle.domain_script.specs.Declarations.{AreDisks, ArePorts, Declared};
 ghost use Rattle.ldom_report.specs.HasWords.{HasFault, HasWords, IsEnd};
-ghost use Rattle.world_parts.specs.Declared.{bytes_needed};
+ghost use Rattle.ldom_world.specs.world_parts.Declared.{bytes_needed};
 
 use crate::journals::note_each_kind;
 use domain_script::{DiskDecl, Event, Name};
@@ -29,6 +28,7 @@ const SERVER: EndName = EndName {
 pub(crate) fn one_disk() -> Names
     ensures few { length result.disks ≡ 1 }
     ensures disks { AreDisks result.disks }
+    ensures ports { ArePorts result.ports }
     ensures blocks { bytes_needed result.disks ≡ 32768 }
 {
     let mut names = Names::new();
@@ -46,9 +46,9 @@ pub(crate) fn one_disk() -> Names
 
 /// Puts an entry of the disk last.
 fn note(journal: &mut Journal, entry: Entry) -> Result<(), NoMemory>
-    requires words { (disks : List DiskDecl) → length disks ≡ 1 → All (HasWords disks) journal.old.entries }
-    requires fits { (disks : List DiskDecl) → length disks ≡ 1 → HasWords disks entry }
-    ensures { OnOk result ((disks : List DiskDecl) → length disks ≡ 1 → All (HasWords disks) journal.new.entries) }
+    requires words { (all : Declared) → length all.disks ≡ 1 → All (HasWords all) journal.old.entries }
+    requires fits { (all : Declared) → length all.disks ≡ 1 → HasWords all entry }
+    ensures { OnOk result ((all : Declared) → length all.disks ≡ 1 → All (HasWords all) journal.new.entries) }
 {
     journal.reserve(1)?;
     journal.push(entry);
@@ -57,7 +57,7 @@ fn note(journal: &mut Journal, entry: Entry) -> Result<(), NoMemory>
 
 /// Whether the text of a journal of the disk is written, in a mode.
 fn writes<K: Sink>(journal: &Journal, mode: Mode, out: &mut K) -> bool
-    requires { (disks : List DiskDecl) → length disks ≡ 1 → All (HasWords disks) journal.now.entries }
+    requires { (all : Declared) → length all.disks ≡ 1 → All (HasWords all) journal.now.entries }
 {
     write_text(journal, mode, &one_disk(), out).is_ok()
 }
@@ -69,7 +69,7 @@ fn shown(
     journal: &Journal,
     failing: &[u64],
 ) -> Result<(bool, ListSink), NoMemory>
-    requires { (disks : List DiskDecl) → length disks ≡ 1 → All (HasWords disks) journal.now.entries }
+    requires { (all : Declared) → length all.disks ≡ 1 → All (HasWords all) journal.now.entries }
 {
     let mut sink = ListSink::new(alloc, 200_000, failing)?;
     let told = writes(journal, mode, &mut sink);
@@ -82,7 +82,7 @@ fn done(operation: u8, status: u32, bytes: Bytes) -> Entry
     requires most { operation ≤ 3 }
     requires some { operation ≡ 1 → status ≡ 0 → 0 < length bytes.items }
     requires blocks { operation ≡ 1 → status ≡ 0 → length bytes.items % 512 ≡ 0 }
-    ensures { (disks : List DiskDecl) → length disks ≡ 1 → HasWords disks result }
+    ensures { (all : Declared) → length all.disks ≡ 1 → HasWords all result }
 {
     Entry::Done {
         disk: 0,
@@ -96,7 +96,7 @@ fn done(operation: u8, status: u32, bytes: Bytes) -> Entry
 /// A reset of the server.
 fn reset(cause: Cause, packet: Option<[u8; 64]>, lost: u32) -> Entry
     requires { HasFault cause }
-    ensures { (disks : List DiskDecl) → length disks ≡ 1 → HasWords disks result }
+    ensures { (all : Declared) → length all.disks ≡ 1 → HasWords all result }
 {
     Entry::Reset {
         end: SERVER,
@@ -108,8 +108,8 @@ fn reset(cause: Cause, packet: Option<[u8; 64]>, lost: u32) -> Entry
 
 /// Completions and work that failed or found no room, and a settle that ran out of rounds.
 fn note_failures(alloc: Global, journal: &mut Journal) -> Result<(), NoMemory>
-    requires { (disks : List DiskDecl) → length disks ≡ 1 → All (HasWords disks) journal.old.entries }
-    ensures { OnOk result ((disks : List DiskDecl) → length disks ≡ 1 → All (HasWords disks) journal.new.entries) }
+    requires { (all : Declared) → length all.disks ≡ 1 → All (HasWords all) journal.old.entries }
+    ensures { OnOk result ((all : Declared) → length all.disks ≡ 1 → All (HasWords all) journal.new.entries) }
 {
     let who = Who::Lane(DISK);
     note(journal, Entry::Unsettled { who })?;
@@ -133,8 +133,8 @@ fn note_failures(alloc: Global, journal: &mut Journal) -> Result<(), NoMemory>
 
 /// Puts entries last that no script reaches, some of them only over an image that fails.
 fn note_unreached(alloc: Global, journal: &mut Journal) -> Result<(), NoMemory>
-    requires { (disks : List DiskDecl) → length disks ≡ 1 → All (HasWords disks) journal.old.entries }
-    ensures { OnOk result ((disks : List DiskDecl) → length disks ≡ 1 → All (HasWords disks) journal.new.entries) }
+    requires { (all : Declared) → length all.disks ≡ 1 → All (HasWords all) journal.old.entries }
+    ensures { OnOk result ((all : Declared) → length all.disks ≡ 1 → All (HasWords all) journal.new.entries) }
 {
     note_failures(alloc, journal)?;
     note(journal, reset(Cause::Copy(5), None, 4))?;
@@ -169,7 +169,7 @@ reset d0.s gap expected=7 found=9 lost=1
 
 /// Whether a mode shows this text of a journal of the disk.
 fn shows(alloc: Global, mode: Mode, journal: &Journal, text: &str) -> Result<bool, NoMemory>
-    requires { (disks : List DiskDecl) → length disks ≡ 1 → All (HasWords disks) journal.now.entries }
+    requires { (all : Declared) → length all.disks ≡ 1 → All (HasWords all) journal.now.entries }
 {
     let (told, sink) = shown(alloc, mode, journal, &[])?;
     Ok(told && sink.bytes() == text.as_bytes())
@@ -177,7 +177,7 @@ fn shows(alloc: Global, mode: Mode, journal: &Journal, text: &str) -> Result<boo
 
 /// Whether each mode shows its text of them.
 fn shows_each(alloc: Global, journal: &Journal) -> Result<bool, NoMemory>
-    requires { (disks : List DiskDecl) → length disks ≡ 1 → All (HasWords disks) journal.now.entries }
+    requires { (all : Declared) → length all.disks ≡ 1 → All (HasWords all) journal.now.entries }
 {
     Ok(
         shows(alloc, Mode::Trace, journal, TRACED)?
@@ -210,10 +210,10 @@ fn without_repetition(alloc: Global) -> Result<Vec<u8>, NoMemory> {
 
 /// Puts a read last that gave these bytes.
 fn note_read(alloc: Global, journal: &mut Journal, bytes: &[u8]) -> Result<(), NoMemory>
-    requires words { (disks : List DiskDecl) → length disks ≡ 1 → All (HasWords disks) journal.old.entries }
+    requires words { (all : Declared) → length all.disks ≡ 1 → All (HasWords all) journal.old.entries }
     requires some { 0 < length bytes.now }
     requires blocks { length bytes.now % 512 ≡ 0 }
-    ensures { OnOk result ((disks : List DiskDecl) → length disks ≡ 1 → All (HasWords disks) journal.new.entries) }
+    ensures { OnOk result ((all : Declared) → length all.disks ≡ 1 → All (HasWords all) journal.new.entries) }
 {
     let bytes = Bytes::from_slice(alloc, bytes)?;
     note(journal, done(VD_OP_BREAD, 0, bytes))
@@ -227,7 +227,7 @@ fn fails_at(
     call: u64,
     least: usize,
 ) -> Result<bool, NoMemory>
-    requires { (disks : List DiskDecl) → length disks ≡ 1 → All (HasWords disks) journal.now.entries }
+    requires { (all : Declared) → length all.disks ≡ 1 → All (HasWords all) journal.now.entries }
 {
     let (told, sink) = shown(alloc, Mode::Run, journal, &[call])?;
     let front = sink.bytes();
@@ -237,7 +237,7 @@ fn fails_at(
 
 /// Whether a sink that fails at its first calls gets a front of a journal's lines.
 fn fails_at_each(alloc: Global, journal: &Journal, lines: &[u8]) -> Result<bool, NoMemory>
-    requires { (disks : List DiskDecl) → length disks ≡ 1 → All (HasWords disks) journal.now.entries }
+    requires { (all : Declared) → length all.disks ≡ 1 → All (HasWords all) journal.now.entries }
 {
     Ok(
         fails_at(alloc, journal, lines, 0, 0)?
@@ -248,7 +248,7 @@ fn fails_at_each(alloc: Global, journal: &Journal, lines: &[u8]) -> Result<bool,
 
 /// The same of a journal of 128 blocks without repetition, whose lines are of the right length.
 fn is_told_in_front(alloc: Global, journal: &Journal) -> Result<bool, NoMemory>
-    requires { (disks : List DiskDecl) → length disks ≡ 1 → All (HasWords disks) journal.now.entries }
+    requires { (all : Declared) → length all.disks ≡ 1 → All (HasWords all) journal.now.entries }
 {
     let (told, whole) = shown(alloc, Mode::Run, journal, &[])?;
     // A block without repetition has 1,024 digits.
@@ -275,7 +275,7 @@ fn a_failing_sink_gets_a_front_of_the_lines(rt: HostRuntime) -> Result<(), Fail>
 }
 
 /// Whether the last line over a journal of each kind is written. That has one request that was taken up, two
-/// completions and two resets.
+/// completions, two resets and one frame.
 fn ends<K: Sink>(
     alloc: Global,
     lines: u32,
@@ -302,12 +302,12 @@ fn last_lines() -> [(u32, Status, &'static str); 3] {
         (
             2,
             Status::Limit { line, kind },
-            "end lines=2 accepted=1 done=2 pending=0 resets=2 frames=0 status=8 at=3 limit=entries\n",
+            "end lines=2 accepted=1 done=2 pending=0 resets=2 frames=1 status=8 at=3 limit=entries\n",
         ),
         (
             20000,
             Status::ImageSize { need, have },
-            "end lines=20000 accepted=1 done=2 pending=0 resets=2 frames=0 status=7 need=18446744073709551615 have=0\n",
+            "end lines=20000 accepted=1 done=2 pending=0 resets=2 frames=1 status=7 need=18446744073709551615 have=0\n",
         ),
         (0, Status::Usage, "usage: ldom COMMAND [WORD]\n"),
     ]

@@ -3,7 +3,7 @@ use Rattle.std.proofs.Common.{◌≡◌, ℕ, zero, suc, ◌+◌, List, [], ◌�
 use Rattle.std.proofs.lemmas.List.{length-map}
 use Rattle.std.proofs.lemmas.Option.{slice_get-map, slice_get_within}
 use Rattle.std.specs.Option.{option_map}
-use Rattle.runs.specs.Run.{Run, run_append}
+use Rattle.runs.specs.Run.{Run}
 use Rattle.disk_law.specs.ListState.{ImageState}
 use Rattle.disk_model.specs.DiskEvent.{Asks, Desc, DiskEvent, Done, Finished, Misplaced, Moved, OnWire, Published, Calms, Stored, Switches, Works}
 use Rattle.disk_model.specs.LaneState.{IsShape, LaneState, Shape, fresh}
@@ -19,7 +19,6 @@ use Rattle.world_laws.specs.Settle.{OfLane, SettleEntry, disk_entries}
 use Rattle.lane_kinds.proofs.Places.{get_within}
 use Rattle.world_laws.proofs.LaneLists.{lane_moved, many_moved}
 use Rattle.world_laws.specs.WorldAlong.{LanesRun}
-use Rattle.world_laws.specs.Lines.{Line, LineStep, entries_of_lines}
 use Rattle.world_laws.specs.World.{AreShapes, LaneMoves, WorldState, WorldStep, fresh_world}
 
 -- an event over the image is a step of the lane
@@ -91,9 +90,3 @@ stay_reached w entries v all run = moved_reached 0 w.lanes entries v.lanes all (
 pub world_reached : (first : ℕ) (shapes : List Shape) (image : ImageState) (entries : List SettleEntry) (w : WorldState) → AreShapes first shapes → Run WorldStep (fresh_world shapes image) entries w
     → Each IsReached w.lanes
 world_reached first shapes image entries w are run = stay_reached (fresh_world shapes image) entries w (fresh_reached first shapes are) run
-
--- SHAPES STAY
--- A SCRIPT runs the world by the parts of its lines
-pub lines_run : (w : WorldState) (lines : List (Line × List SettleEntry)) (v : WorldState) → Run LineStep w lines v → Run WorldStep w (entries_of_lines lines) v
-lines_run w [] v run = run
-lines_run w (line ∷ lines) v run = run_append WorldStep w run.0 v line.1 (entries_of_lines lines) run.1.run (lines_run run.0 lines v run.2)

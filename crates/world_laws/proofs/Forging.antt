@@ -33,7 +33,7 @@ event_honest (Switches event) none = tt
 event_honest (Calms event) none = tt
 
 -- and one that leads to a lane that nobody forged forges nothing
-forged_now : (w v : WireLog) → v ≡ w → w.forged ≡ true → v.forged ≡ false → ⊥
+pub forged_now : (w v : WireLog) → v ≡ w → w.forged ≡ true → v.forged ≡ false → ⊥
 forged_now w v is forged clean = let both : true ≡ false = sym forged ∙ sym (ap (λ (x : WireLog). x.forged) is) ∙ clean in cc both
 
 pub event_forges : (s : LaneState) (event : DiskEvent) (t : LaneState) → LaneStep s event t → t.wire.forged ≡ false → forges event ≡ false

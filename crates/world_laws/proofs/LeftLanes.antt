@@ -49,14 +49,14 @@ turn_moved k [] loud = absurd (cc loud)
 turn_moved k (event ∷ events) loud = first_or_later k event events (is_calm event) refl loud (λ later. turn_moved k events later)
 
 -- A LANE THAT IS NAMED, of lanes from this number on
-record WaitsAt (k x : ℕ) (lanes : List LaneState) : Type 0 where
-  index : ℕ
-  is : x ≡ k + index
-  lane : LaneState
-  there : slice_get lanes index ≡ Some lane
-  waits : waits_on lane ≡ true
+pub record WaitsAt (k x : ℕ) (lanes : List LaneState) : Type 0 where
+  pub index : ℕ
+  pub is : x ≡ k + index
+  pub lane : LaneState
+  pub there : slice_get lanes index ≡ Some lane
+  pub waits : waits_on lane ≡ true
 
-abbrev Named : ℕ → ℕ → List LaneRound → List LaneState → Type 0
+abbrev pub Named : ℕ → ℕ → List LaneRound → List LaneState → Type 0
 Named k x rounds lanes = MovedIn x (round_entries k rounds) ⊎ WaitsAt k x lanes
 
 name_further : (k x : ℕ) (r : LaneRound) (rounds : List LaneRound) (s : LaneState) (lanes : List LaneState) → Named (k + 1) x rounds lanes → Named k x (r ∷ rounds) (s ∷ lanes)
@@ -91,7 +91,7 @@ no_name : (before : List SettleEntry) (entry : SettleEntry) (later : List Settle
 no_name [] entry later is = absurd (cc is)
 no_name (y ∷ before) entry later is = absurd (cc is)
 
-named : (k x : ℕ) (rounds : List LaneRound) (lanes : List LaneState) (before later : List SettleEntry) → left_over k rounds lanes ≡ before ++ Unsettled x ∷ later → Named k x rounds lanes
+pub named : (k x : ℕ) (rounds : List LaneRound) (lanes : List LaneState) (before later : List SettleEntry) → left_over k rounds lanes ≡ before ++ Unsettled x ∷ later → Named k x rounds lanes
 named k x [] lanes before later is = absurd (no_name before (Unsettled x) later is)
 named k x (r ∷ rounds) [] before later is = absurd (no_name before (Unsettled x) later is)
 named k x (r ∷ rounds) (s ∷ lanes) before later is =

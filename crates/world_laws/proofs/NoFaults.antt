@@ -6,7 +6,6 @@ use Rattle.disk_law.specs.ListState.{ImageState}
 use Rattle.disk_model.specs.DiskEvent.{Asks, Desc, DiskEvent, Done, Finished, Misplaced, Moved, OnWire, Published, Calms, Stored, Switches, Works}
 use Rattle.disk_model.specs.LaneState.{LaneState}
 use Rattle.world_laws.specs.Settle.{OfLane, SettleEntry}
-use Rattle.world_laws.specs.Lines.{Line, LineStep}
 use Rattle.vio_io.specs.Causes.{FaultsAfter}
 use Rattle.world_laws.specs.World.{LaneMoves, WorldState, WorldStep}
 
@@ -46,11 +45,7 @@ entry_before : (w : WorldState) (x : SettleEntry) (v : WorldState) → WorldStep
 entry_before w (OfLane k event) v step none = event_before step.lane w.image event step.after v.image step.moves none
 entry_before w _ v step none = same_world w v step none
 
--- entries, and lines, one after another
+-- entries one after another
 pub part_before : (w : WorldState) (part : List SettleEntry) (v : WorldState) → Run WorldStep w part v → v.image.faults ≡ 0 → w.image.faults ≡ 0
 part_before w [] v run none = same_world w v (sym run) none
 part_before w (x ∷ part) v run none = entry_before w x run.0 run.1 (part_before run.0 part v run.2 none)
-
-pub lines_before : (w : WorldState) (lines : List (Line × List SettleEntry)) (v : WorldState) → Run LineStep w lines v → v.image.faults ≡ 0 → w.image.faults ≡ 0
-lines_before w [] v run none = same_world w v (sym run) none
-lines_before w (line ∷ lines) v run none = part_before w line.1 run.0 run.1.run (lines_before run.0 lines v run.2 none)

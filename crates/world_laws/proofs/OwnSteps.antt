@@ -7,17 +7,18 @@ use Rattle.disk_model.specs.DiskEvent.{DiskEvent}
 use Rattle.disk_model.specs.LaneState.{LaneState}
 use Rattle.disk_model.specs.Reached.{IsReached}
 use Rattle.lane_laws.specs.CalmEnds.{IsStep, StepKeeps}
+use Rattle.lane_kinds.proofs.EntriesEach.{entry_has}
+use Rattle.lane_kinds.proofs.LaneFronts.{of_both}
 use Rattle.lane_kinds.proofs.Lanes.{own_turns}
 use Rattle.lane_kinds.proofs.Leading.{before_answer}
 use Rattle.lane_kinds.proofs.Sums.{and_left}
-use Rattle.lane_kinds.specs.Lanes.{OwnTurns}
+use Rattle.lane_kinds.specs.Lanes.{EachOf, OwnTurns}
 use Rattle.lane_kinds.specs.Laws.{LeadsWhere}
 use Rattle.world_laws.proofs.DiskLaws.{gives_nothing}
 use Rattle.world_laws.proofs.LaneRounds.{quiet_finished, round_keeps, round_reached}
-use Rattle.world_laws.proofs.LineEntries.{EachEntry, each_both, entry_each}
 use Rattle.world_laws.specs.Rounds.{LaneRound, MakeRound, MakesRound, are_quiet, is_quiet}
 use Rattle.world_laws.specs.Settle.{OfLane, SettleEntry, Settled, Settles, disks, entries_of_rounds, entry_of, round_entries, tick_entries}
-use Rattle.world_laws.specs.DiskKind.{disk_kind, tick, waits_on}
+use Rattle.world_laws.specs.DiskKind.{disk_kind, is_silent, tick, waits_on}
 use Rattle.world_laws.specs.Ticks.{TickLanes, TicksWhere, marked}
 
 -- ENTRIES of steps of the ends of lane 0
@@ -31,15 +32,15 @@ IsOwn (OfLane k event) = OwnEvent k event
 IsOwn _ = ⊥
 
 abbrev pub AreOwn : List SettleEntry → Type 0
-AreOwn part = EachEntry IsOwn part
+AreOwn part = EachOf IsOwn part
 
 own_entry : (e : End) (event : DiskEvent) → IsStep e event → AreOwn (entry_of 0 event)
-own_entry e event own = entry_each IsOwn 0 event (record { number = refl; side = e; own = own })
+own_entry e event own = entry_has IsOwn (is_silent event) (OfLane 0 event) (record { number = refl; side = e; own = own })
 
 round_own : (s : LaneState) (r : LaneRound) (t : LaneState) → MakesRound s r t → AreOwn (round_entries 0 (r ∷ []))
 round_own s (client ∷ server ∷ []) t made =
-    each_both IsOwn (entry_of 0 client ++ (entry_of 0 server ++ [])) []
-    (each_both IsOwn (entry_of 0 client) (entry_of 0 server ++ []) (own_entry A client made.of_turn.0) (each_both IsOwn (entry_of 0 server) [] (own_entry B server made.of_turn.1) tt)) tt
+    of_both IsOwn (entry_of 0 client ++ (entry_of 0 server ++ [])) []
+    (of_both IsOwn (entry_of 0 client) (entry_of 0 server ++ []) (own_entry A client made.of_turn.0) (of_both IsOwn (entry_of 0 server) [] (own_entry B server made.of_turn.1) tt)) tt
 round_own s [] t made = absurd made.of_turn
 round_own s (client ∷ []) t made = absurd made.of_turn
 round_own s (client ∷ server ∷ other ∷ events) t made = absurd made.of_turn
@@ -116,11 +117,11 @@ owns = record {
     ticks = λ w m r v u at made quiet ticks. ((round_on w m r v at made).ticks u quiet ticks).alone;
   };
   none = λ w. tt;
-  both = λ w m v one two first second. each_both IsOwn one two first second;
+  both = λ w m v one two first second. of_both IsOwn one two first second;
   round = λ w m r v at made. (round_on w m r v at made).own;
   ticks = λ w m r v u at made quiet ticks.
       let on : RoundOn m r v = round_on w m r v at made in
-      each_both IsOwn (round_entries 0 r) (tick_entries 0 v m) on.own (subst AreOwn (sym (on.ticks u quiet ticks).none) tt);
+      of_both IsOwn (round_entries 0 r) (tick_entries 0 v m) on.own (subst AreOwn (sym (on.ticks u quiet ticks).none) tt);
 }
 
 -- THE PART

@@ -1,7 +1,6 @@
 -- Each entry of a world's journal has its words, and what it says of a disk is lawful.
 use Rattle.std.proofs.Common.{◌≡◌, ℕ, ◌<◌, true, false, List, ◌∷◌, ◌++◌, length, slice_get, Some, sym, subst, arith}
 use Rattle.std.specs.Prelude.{is_some}
-use Rattle.std.proofs.lemmas.List.{length-map}
 use Rattle.std.proofs.lemmas.Option.{slice_get_within}
 use Rattle.runs.specs.Lawful.{log_of}
 use Rattle.runs.specs.Run.{Run, run_split}
@@ -20,13 +19,11 @@ use Rattle.lane_laws.specs.OneSession.{AreOneSession}
 use Rattle.lane_laws.proofs.AgreementRuns.{run_agrees}
 use Rattle.lane_laws.proofs.EveryRun.{every_run}
 use Rattle.world_laws.specs.Along.{happened}
-use Rattle.world_laws.specs.Settle.{OfLane, SettleEntry, Unsettled}
+use Rattle.world_laws.specs.Settle.{OfLane, SettleEntry}
 use Rattle.world_laws.proofs.Along.{lane_at, lane_step, lanes_run, shape_at}
 use Rattle.lane_kinds.proofs.Places.{get_within}
-use Rattle.world_laws.specs.Lines.{Line, LineBegins, LineStep, entries_of_lines}
 use Rattle.world_laws.specs.World.{AreShapes, WorldState, WorldStep, fresh_world}
 use Rattle.world_laws.proofs.EventWords.{event_words}
-use Rattle.world_laws.proofs.LeftOver.{NamesBelow, cut_below, lines_below, named_below}
 use Rattle.world_laws.specs.Words.{HasWords}
 
 -- A LANE of a world was run from a fresh one of a sound shape
@@ -79,20 +76,6 @@ pub entry_words : (shapes : List Shape) (image : ImageState) (entries : List Set
 entry_words shapes image entries w before k event behind are run is =
     let at = entry_at shapes image entries w before k event behind run is in
     event_words at.of_world.shape (happened k before) at.lane event at.behind (at.of_world.sound are) at.of_world.run at.step
-
--- WHAT A SCRIPT'S SETTLES leave over
-pub unsettled_within : (shapes : List Shape) (image : ImageState) (lines : List (Line × List SettleEntry)) (w : WorldState) (before : List SettleEntry) (k : ℕ) (behind : List SettleEntry)
-    → Run LineStep (fresh_world shapes image) lines w → before ++ Unsettled k ∷ behind ≡ entries_of_lines lines → k < length shapes
-unsettled_within shapes image lines w before k behind run is =
-    named_below (length shapes) before k behind
-    (subst (NamesBelow (length shapes)) (sym is) (lines_below (length shapes) (fresh_world shapes image) lines w (length-map shapes fresh) run))
-
-pub begun_within : (shapes : List Shape) (image : ImageState) (lines : List (Line × List SettleEntry)) (w : WorldState) (line : Line) (part : List SettleEntry) (v : WorldState)
-    (before : List SettleEntry) (k : ℕ) (behind : List SettleEntry) → Run LineStep (fresh_world shapes image) lines w → LineBegins w line part v
-    → before ++ Unsettled k ∷ behind ≡ entries_of_lines lines ++ part → k < length shapes
-begun_within shapes image lines w line part v before k behind run begun is =
-    named_below (length shapes) before k behind
-    (subst (NamesBelow (length shapes)) (sym is) (cut_below (length shapes) (fresh_world shapes image) lines w line part v (length-map shapes fresh) run begun))
 
 -- LAWFUL
 pub lane_lawful : (shapes : List Shape) (image : ImageState) (entries : List SettleEntry) (w : WorldState) (k : ℕ) (shape : Shape) → AreShapes 0 shapes

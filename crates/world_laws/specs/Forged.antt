@@ -3,7 +3,6 @@ use Rattle.std.specs.Prelude.{◌≡◌, ℕ, Bool, true, false, List, [], ◌�
 use Rattle.channel_model.specs.WireEvent.{Injected, Poked}
 use Rattle.disk_model.specs.DiskEvent.{DiskEvent, OnWire}
 use Rattle.world_laws.specs.Along.{happened}
-use Rattle.world_laws.specs.Lines.{Calls, Injects, Line, Pokes}
 use Rattle.world_laws.specs.Settle.{SettleEntry}
 
 abbrev pub forges : DiskEvent → Bool
@@ -19,13 +18,3 @@ NobodyForges (event ∷ events) = (forges event ≡ false) × NobodyForges event
 -- nor any lane, by these entries of a world's journal
 abbrev pub NobodyForgesAny : List SettleEntry → Type 0
 NobodyForgesAny entries = (k : ℕ) → NobodyForges (happened k entries)
-
--- A LINE FORGES NOTHING where it injects no packet and pokes into no memory
-abbrev pub ForgesNothing : Line → Type 0
-ForgesNothing (Calls lane (Injects e packet)) = ⊥
-ForgesNothing (Calls lane (Pokes e at bytes)) = ⊥
-ForgesNothing _ = ⊤
-
-abbrev pub AllForgeNothing : List (Line × List SettleEntry) → Type 0
-AllForgeNothing [] = ⊤
-AllForgeNothing (line ∷ lines) = ForgesNothing line.0 × AllForgeNothing lines

@@ -23,10 +23,6 @@ pub mod Shown
 pub mod Plain
 pub mod Quiet
 pub mod Words
-pub mod RoundMade
-pub mod TicksMade
-pub mod Going
-pub mod Names
 pub mod Issued
 pub use Rattle.channel_model.specs.WireEvent
 pub use Rattle.disk_model.specs.DiskEvent

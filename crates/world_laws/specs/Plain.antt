@@ -1,12 +1,11 @@
--- A PLAIN LIST of requests over an image: what each line does to it, and what is shown of that.
+-- A PLAIN LIST of requests over an image: what a request and a completion do to it, and what is shown of that.
 use Rattle.std.specs.Prelude.{ℕ, ◌+◌, ◌*◌, Bool, true, false, nat_le, List, [], ◌∷◌, ◌++◌, length, take, drop, Option, Some, None}
 use Rattle.vdisk_msg.specs.declared.request.Request.{Request}
 use Rattle.vdisk_msg.specs.declared.request.Request.TheVariants.{Flush, Read, Write}
 use Rattle.vdisk_msg.specs.Requests.{Defect, after_request, defect, operation_of}
 use Rattle.disk_model.specs.DiskEvent.{Asks, Done, Full, Refused, Works}
 use Rattle.disk_model.specs.LaneState.{Shape}
-use Rattle.world_laws.specs.Settle.{OfLane, SettleEntry, Settled}
-use Rattle.world_laws.specs.Lines.{Asked, Line, Settles}
+use Rattle.world_laws.specs.Settle.{OfLane, SettleEntry}
 
 pub record Plain : Type 0 where
   -- the bytes of the whole image
@@ -56,23 +55,3 @@ complete_all p (request ∷ behind) = complete_all (complete p request behind) b
 abbrev pub completions : Plain → List Request → List SettleEntry
 completions p [] = []
 completions p (request ∷ behind) = completion p request ∷ completions (complete p request behind) behind
-
--- WHAT A LINE DOES, and what it shows
-abbrev pub plain_line : Shape → Plain → Line → Plain
-plain_line shape p (Asked k request) = asked p request (defect shape.blocks request) (is_full shape p)
-plain_line shape p Settles = complete_all p p.waiting
-plain_line shape p _ = p
-
-abbrev pub plain_shows : Shape → Plain → Line → List SettleEntry
-plain_shows shape p (Asked k request) = answer request (defect shape.blocks request) (is_full shape p)
-plain_shows shape p Settles = completions p p.waiting ++ Settled ∷ []
-plain_shows shape p _ = []
-
--- and so lines one after another
-abbrev pub plain_run : Shape → Plain → List Line → Plain
-plain_run shape p [] = p
-plain_run shape p (line ∷ lines) = plain_run shape (plain_line shape p line) lines
-
-abbrev pub plain_journal : Shape → Plain → List Line → List SettleEntry
-plain_journal shape p [] = []
-plain_journal shape p (line ∷ lines) = plain_shows shape p line ++ plain_journal shape (plain_line shape p line) lines

@@ -1,13 +1,12 @@
 //! Worlds of disks' lanes over one image: rounds, ticks and what a settle comes to. What each line of a script does and
-//! the part of the journal that it gives. Then each disk's requests, its region of the image, failures, and a quiet
-//! script as a plain list of requests. It has no code: the code of a world stands on it.
+//! the part of the journal that it gives. Then each disk's requests, its region of the image, and failures. It has no
+//! code: the code of a world stands on it.
 #![tactic(auto)]
 
 mod fault_laws;
 mod image_laws;
 mod loop_laws;
 mod moves_laws;
-mod plain_laws;
 mod request_laws;
 mod settle_laws;
 mod word_laws;
@@ -21,16 +20,11 @@ pub use image_laws::{
     each_disk_holds_what_is_done, images_keep_what_no_write_names, images_outside_all_disks_stay,
     stores_stay_within_their_disks,
 };
-pub use loop_laws::{
-    a_round_is_made_lane_by_lane, a_settle_is_made_round_by_round,
-    each_event_gives_an_id_where_it_accepts, names_are_given_lane_by_lane,
-    ticks_are_made_lane_by_lane, want_of_memory_leaves_a_front_of_a_settle,
-};
-pub use moves_laws::{a_script_runs_a_world_by_its_parts, each_lane_runs_by_its_events};
-pub use plain_laws::a_quiet_world_is_a_plain_list;
+pub use loop_laws::each_event_gives_an_id_where_it_accepts;
+pub use moves_laws::each_lane_runs_by_its_events;
 pub use request_laws::{
-    accepted_counts, forging_is_told, nobody_forges_by_lines,
-    requests_of_a_lane_are_pending_in_order, requests_of_each_disk_are_admitted_and_complete_once,
+    accepted_counts, forging_is_told, requests_of_a_lane_are_pending_in_order,
+    requests_of_each_disk_are_admitted_and_complete_once,
 };
 pub use settle_laws::{
     a_settle_moves_each_lane_by_its_part, a_settle_of_unforged_lanes_ends_settled,

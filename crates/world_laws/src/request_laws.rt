@@ -8,15 +8,11 @@ ghost use Rattle.disk_model.specs.DiskEvent.{DiskEvent};
 ghost use Rattle.disk_model.specs.LaneState.{fresh, IsShape, LaneState, Shape};
 ghost use Rattle.disk_model.specs.LaneStep.{LaneStep};
 ghost use Rattle.world_laws.specs.Along.{happened};
-ghost use Rattle.world_laws.specs.Rounds.{Each};
 ghost use Rattle.world_laws.specs.Settle.{SettleEntry, pending_on};
-ghost use Rattle.world_laws.specs.Sums.{IsUnforged};
-ghost use Rattle.world_laws.specs.Lines.{Line, LineBegins, LineStep};
 ghost use Rattle.world_laws.specs.World.{AreShapes, WorldState, WorldStep, fresh_world};
 ghost use Rattle.world_laws.specs.Accepted.{accepted_in, next_ids};
 ghost use Rattle.world_laws.specs.Requests.{pending_of, requests_of};
-ghost use Rattle.world_laws.specs.Forged.{AllForgeNothing, NobodyForges};
-ghost use Rattle.world_laws.specs.Running.{AllLeaveRunning, IsRunning};
+ghost use Rattle.world_laws.specs.Forged.{NobodyForges};
 
 /// In every run of a world, forged or not, whether the store fails or not: what the journal says of a disk's requests
 /// is what a plain list does. A request is refused for its defect; else it finds no room where as many are pending as
@@ -56,25 +52,6 @@ pub fn requests_of_a_lane_are_pending_in_order()
     ensures of_world { (shapes : List Shape) (image : ImageState) (entries : List SettleEntry) (w : WorldState)
         → AreShapes 0 shapes → Run WorldStep (fresh_world shapes image) entries w
         → pending_on w.lanes ≡ pending_of 0 (length shapes) entries }
-{}
-
-/// Where no line of a script injects a packet or pokes into a memory, nobody forged any lane of the world that they
-/// lead to. So it is also where want of memory cut a line. And where no line stops a server, each runs.
-pub fn nobody_forges_by_lines()
-    ensures unforged { (shapes : List Shape) (image : ImageState) (lines : List (Line × List SettleEntry))
-        (w : WorldState)
-        → AllForgeNothing lines → Run LineStep (fresh_world shapes image) lines w → Each IsUnforged w.lanes }
-    ensures begun { (shapes : List Shape) (image : ImageState) (lines : List (Line × List SettleEntry))
-        (w : WorldState) (line : Line) (part : List SettleEntry) (v : WorldState)
-        → AllForgeNothing lines → Run LineStep (fresh_world shapes image) lines w → LineBegins w line part v
-        → Each IsUnforged v.lanes }
-    ensures running { (shapes : List Shape) (image : ImageState) (lines : List (Line × List SettleEntry))
-        (w : WorldState)
-        → AllLeaveRunning lines → Run LineStep (fresh_world shapes image) lines w → Each IsRunning w.lanes }
-    ensures running_begun { (shapes : List Shape) (image : ImageState) (lines : List (Line × List SettleEntry))
-        (w : WorldState) (line : Line) (part : List SettleEntry) (v : WorldState)
-        → AllLeaveRunning lines → Run LineStep (fresh_world shapes image) lines w → LineBegins w line part v
-        → Each IsRunning v.lanes }
 {}
 
 /// A lane's state says whether somebody forged it: nobody did exactly where none of its events forges. So it is of

@@ -13,15 +13,13 @@ ghost use Rattle.disk_model.specs.DiskEvent.{DiskEvent};
 ghost use Rattle.disk_model.specs.LaneState.{LaneState, Shape};
 ghost use Rattle.lane_laws.specs.OneSession.{AreOneSession};
 ghost use Rattle.world_laws.specs.Along.{happened};
-ghost use Rattle.world_laws.specs.Settle.{OfLane, SettleEntry, Unsettled};
-ghost use Rattle.world_laws.specs.Lines.{Line, LineBegins, LineStep, entries_of_lines};
+ghost use Rattle.world_laws.specs.Settle.{OfLane, SettleEntry};
 ghost use Rattle.world_laws.specs.World.{AreShapes, fresh_world, WorldState, WorldStep};
 ghost use Rattle.world_laws.specs.Words.{HasWords};
 
 /// Along every run of a world, forged or not, whether the store fails or not, each event is of a disk of it and can be
 /// told in words. An operation is a read, a write or a flush; what a read carries that succeeded is whole blocks, and
-/// at least one. A copy was refused for one of its six faults; and no end loses frames by being configured. The disks
-/// that a settle of a script leaves over are the world's too, also where want of memory cut its line.
+/// at least one. A copy was refused for one of its six faults; and no end loses frames by being configured.
 pub fn events_have_their_words()
     ensures lanes { (shapes : List Shape) (image : ImageState) (entries : List SettleEntry) (w : WorldState)
         (before : List SettleEntry) (k : ℕ) (event : DiskEvent) (behind : List SettleEntry)
@@ -31,15 +29,6 @@ pub fn events_have_their_words()
         (before : List SettleEntry) (k : ℕ) (event : DiskEvent) (behind : List SettleEntry)
         → AreShapes 0 shapes → Run WorldStep (fresh_world shapes image) entries w
         → before ++ OfLane k event ∷ behind ≡ entries → HasWords event }
-    ensures unsettled { (shapes : List Shape) (image : ImageState) (lines : List (Line × List SettleEntry))
-        (w : WorldState) (before : List SettleEntry) (k : ℕ) (behind : List SettleEntry)
-        → Run LineStep (fresh_world shapes image) lines w
-        → before ++ Unsettled k ∷ behind ≡ entries_of_lines lines → k < length shapes }
-    ensures unsettled_begun { (shapes : List Shape) (image : ImageState) (lines : List (Line × List SettleEntry))
-        (w : WorldState) (line : Line) (part : List SettleEntry) (v : WorldState)
-        (before : List SettleEntry) (k : ℕ) (behind : List SettleEntry)
-        → Run LineStep (fresh_world shapes image) lines w → LineBegins w line part v
-        → before ++ Unsettled k ∷ behind ≡ entries_of_lines lines ++ part → k < length shapes }
 {}
 
 /// Along every run of a world, forged or not, whether the store fails or not: what its journal says of a disk is

@@ -1,9 +1,11 @@
 -- The world that a script's declarations make.
-use Rattle.std.specs.Prelude.{ℕ, ◌+◌, ◌*◌, ◌≤◌, List, [], ◌∷◌, Option}
+use Rattle.std.specs.Prelude.{ℕ, ◌+◌, ◌*◌, ◌≤◌, List, [], ◌∷◌, map}
 use Rattle.domain_script.specs.declared.event.DiskDecl.{DiskDecl}
+use Rattle.domain_script.specs.declared.event.PortDecl.{PortDecl}
 use Rattle.disk_law.specs.ListState.{ImageState}
-use Rattle.world_laws.specs.LaneState.{LaneState, Shape}
-use Rattle.world_laws.specs.World.{WorldState, fresh_world}
+use Rattle.domain_laws.specs.port_model.NetLaneState.{NetShape}
+use Rattle.domain_laws.specs.Domain.{DomainState, fresh_domain}
+use Rattle.domain_laws.specs.disk_model.LaneState.{LaneState, Shape}
 
 -- a disk from this block of the image on
 abbrev pub shape_of : ℕ → DiskDecl → Shape
@@ -14,6 +16,13 @@ abbrev pub shapes_of : ℕ → List DiskDecl → List Shape
 shapes_of first [] = []
 shapes_of first (disk ∷ disks) = shape_of first disk ∷ shapes_of (first + disk.blocks) disks
 
+-- a port
+abbrev pub net_of : PortDecl → NetShape
+net_of port = record { address = port.address; slots = port.ring; entries = port.queue }
+
+abbrev pub nets_of : List PortDecl → List NetShape
+nets_of ports = map net_of ports
+
 -- the blocks of all disks together
 abbrev pub blocks_of : List DiskDecl → ℕ
 blocks_of [] = 0
@@ -23,9 +32,9 @@ blocks_of (disk ∷ disks) = disk.blocks + blocks_of disks
 abbrev pub bytes_needed : List DiskDecl → ℕ
 bytes_needed disks = 512 * blocks_of disks
 
--- their world over an image, before anything was asked
-abbrev pub world_of : List DiskDecl → ImageState → WorldState
-world_of disks image = fresh_world (shapes_of 0 disks) image
+-- THE WORLD of disks over an image, beside these ports of one switch, before anything was asked
+abbrev pub world_of : List DiskDecl → List NetShape → ImageState → DomainState
+world_of disks nets image = fresh_domain (shapes_of 0 disks) image nets
 
 -- the lane's disk lies within an image of so many bytes
 abbrev pub LiesWithin : ℕ → LaneState → Type 0

@@ -1,6 +1,6 @@
 -- How far the journal of a run goes, by its status.
 use Rattle.std.specs.Prelude.{◌≡◌, List, [], None, ⊤}
-use Rattle.world_laws.specs.World.{WorldState}
+use Rattle.domain_laws.specs.Domain.{DomainState}
 use Rattle.ldom_entries.specs.declared.entry.Entry.{Entry}
 use Rattle.ldom_report.specs.declared.status.Status.{Status}
 use Rattle.ldom_report.specs.declared.status.Status.TheVariants as status
@@ -27,7 +27,7 @@ EndsSo NotBegun parts = journal_of parts ≡ []
 
 -- THE JOURNAL of a run is the parts of its lines, one after another: after want of memory the last may be a front of
 -- one, and where no image was attached there is none.
-pub record JournalIs (how : Ending) (s : WorldState) (parts : ScriptParts) (journal : List Entry) (t : WorldState) : Type 0 where
+pub record JournalIs (how : Ending) (s : DomainState) (parts : ScriptParts) (journal : List Entry) (t : DomainState) : Type 0 where
   pub is : journal_of parts ≡ journal
   pub fits : FitsScript 0 s parts t
   pub ends : EndsSo how parts

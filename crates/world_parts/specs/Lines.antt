@@ -1,19 +1,21 @@
 -- What a line of a script is for a world of lanes, and the part that it gives.
-use Rattle.std.specs.Prelude.{◌≡◌, ℕ, ◌<◌, List, take, IsSomeAnd, ⊤}
+use Rattle.std.specs.Prelude.{◌≡◌, ℕ, ◌<◌, List, length, take, ⊤}
 use Rattle.std.specs.List.{flat_map}
 use Rattle.vdisk_msg.specs.Fills.{IsRequest}
 use Rattle.disk_law.specs.ListStep.{ListEvent}
 use Rattle.domain_script.specs.declared.event.Event.{Event}
 use Rattle.domain_script.specs.declared.event.Event.TheVariants as event
 use Rattle.domain_script.specs.declared.event.Lane.{Lane}
+use Rattle.domain_script.specs.declared.event.Side.{Side}
 use Rattle.domain_script.specs.declared.event.Side.TheVariants.{Client, Server}
 use Rattle.domain_script.specs.declared.fields.LaneKind.{LaneKind}
 use Rattle.domain_script.specs.declared.fields.LaneKind.TheVariants as kinds
-use Rattle.domain_script.specs.LaneKinds.{disk_of}
+use Rattle.domain_script.specs.Addresses.{IsGroup}
+use Rattle.domain_script.specs.Fills.{IsPiece}
 use Rattle.domain_script.specs.Limits.{AreTurns}
-use Rattle.world_laws.specs.Settle.{SettleEntry}
-use Rattle.world_laws.specs.Lines.{Asked, Calls, Injects, Line, LineBegins, LineMoves, Loses, Nothing, Pokes, Resets, Restarts, Rounds, Settles, Starts, Steps, Stops, Ticks, LaneName, OfDisk}
-use Rattle.world_laws.specs.World.{WorldState}
+use Rattle.domain_laws.specs.world_laws.Settle.{SettleEntry}
+use Rattle.domain_laws.specs.Domain.{DomainState}
+use Rattle.domain_laws.specs.Lines.{Asked, Calls, DiskLane, Injects, Joins, LaneName, Line, LineBegins, LineMoves, Loses, Nothing, Pokes, PortLane, Resets, Restarts, Rounds, Sends, Settles, Starts, Steps, Stops, Ticks}
 use Rattle.ldom_report.specs.DiskEvents.{happened_to}
 use Rattle.ldom_report.specs.LaneEvents.{end_of}
 use Rattle.ldom_entries.specs.declared.entry.Entry.{Entry}
@@ -21,7 +23,8 @@ use Rattle.world_parts.specs.Parts.{PartSays}
 
 -- a lane of a script is this one of the world, by its kind
 abbrev pub of_kind : LaneKind → ℕ → LaneName
-of_kind kinds.Disk k = OfDisk k
+of_kind kinds.Disk k = DiskLane k
+of_kind kinds.Port k = PortLane k
 
 abbrev pub lane_named : Lane → LaneName
 lane_named lane = of_kind lane.kind lane.number
@@ -30,47 +33,62 @@ lane_named lane = of_kind lane.kind lane.number
 abbrev pub line_of : Event → Line
 line_of event.Blank = Nothing
 line_of (event.Disk disk) = Nothing
+line_of (event.Net port) = Nothing
 line_of (event.Issue disk request) = Asked disk request
+line_of (event.Send port frame) = Sends port (take frame.len frame.bytes)
+line_of (event.Join port address) = Joins port address
 line_of event.Settle = Settles
 line_of (event.Step end count) = Steps (lane_named end.lane) (end_of end.side) count
 line_of (event.Round count) = Rounds count
 line_of (event.Reset end) = Calls (lane_named end.lane) (Resets (end_of end.side))
 line_of (event.Restart end) = Calls (lane_named end.lane) Restarts
-line_of (event.Stop disk) = Calls (OfDisk disk) Stops
-line_of (event.Start disk) = Calls (OfDisk disk) Starts
+line_of (event.Stop disk) = Calls (DiskLane disk) Stops
+line_of (event.Start disk) = Calls (DiskLane disk) Starts
 line_of (event.Lose end) = Calls (lane_named end.lane) (Loses (end_of end.side))
 line_of (event.Tick lane) = Calls (lane_named lane) Ticks
 line_of (event.Inject end packet) = Calls (lane_named end.lane) (Injects (end_of end.side) packet)
 line_of (event.Poke end at bytes) = Calls (lane_named end.lane) (Pokes (end_of end.side) at (take bytes.len bytes.bytes))
 
--- the lane is that of one of so many disks
-abbrev pub IsDiskOf : ℕ → Lane → Type 0
-IsDiskOf many lane = IsSomeAnd (disk_of lane) (λ k. k < many)
+-- THE LANE IS ONE OF THE WORLD'S
+abbrev pub number_of_kind : LaneKind → DomainState → ℕ
+number_of_kind kinds.Disk w = length w.first.lanes
+number_of_kind kinds.Port w = length w.second
 
--- The event is one that a row of a script says, of one of so many disks: a request's fill is one, steps and rounds are 1
--- to 100, the end that restarts is a server, and that with memory a client. Of a declaration nothing is asked.
-abbrev pub IsForDisks : ℕ → Event → Type 0
-IsForDisks many (event.Issue disk request) = (disk < many) × IsRequest request
-IsForDisks many (event.Step end count) = IsDiskOf many end.lane × AreTurns count
-IsForDisks many (event.Round count) = AreTurns count
-IsForDisks many (event.Reset end) = IsDiskOf many end.lane
-IsForDisks many (event.Restart end) = IsDiskOf many end.lane × (end.side ≡ Server)
-IsForDisks many (event.Stop disk) = disk < many
-IsForDisks many (event.Start disk) = disk < many
-IsForDisks many (event.Lose end) = IsDiskOf many end.lane
-IsForDisks many (event.Tick lane) = IsDiskOf many lane
-IsForDisks many (event.Inject end packet) = IsDiskOf many end.lane
-IsForDisks many (event.Poke end at bytes) = IsDiskOf many end.lane × (end.side ≡ Client)
-IsForDisks many other = ⊤
+abbrev pub IsLaneOf : DomainState → Lane → Type 0
+IsLaneOf w lane = lane.number < number_of_kind lane.kind w
+
+-- an end of it has memory: a disk's client, and either end of a port
+abbrev pub HasMemory : LaneKind → Side → Type 0
+HasMemory kinds.Disk side = side ≡ Client
+HasMemory kinds.Port side = ⊤
+
+-- The event is one that a row of a script says, of one of these lanes: a request's fill is one, and so is a frame and a
+-- group's address; steps and rounds are 1 to 100; the end that restarts is a disk's server, and one that is poked has
+-- memory. Of a declaration nothing is asked.
+abbrev pub IsForLanes : DomainState → Event → Type 0
+IsForLanes w (event.Issue disk request) = (disk < length w.first.lanes) × IsRequest request
+IsForLanes w (event.Send port frame) = (port < length w.second) × IsPiece frame
+IsForLanes w (event.Join port address) = (port < length w.second) × IsGroup address
+IsForLanes w (event.Step end count) = IsLaneOf w end.lane × AreTurns count
+IsForLanes w (event.Round count) = AreTurns count
+IsForLanes w (event.Reset end) = IsLaneOf w end.lane
+IsForLanes w (event.Restart end) = IsLaneOf w end.lane × (end.lane.kind ≡ kinds.Disk) × (end.side ≡ Server)
+IsForLanes w (event.Stop disk) = disk < length w.first.lanes
+IsForLanes w (event.Start disk) = disk < length w.first.lanes
+IsForLanes w (event.Lose end) = IsLaneOf w end.lane
+IsForLanes w (event.Tick lane) = IsLaneOf w lane
+IsForLanes w (event.Inject end packet) = IsLaneOf w end.lane
+IsForLanes w (event.Poke end at bytes) = IsLaneOf w end.lane × HasMemory end.lane.kind end.side
+IsForLanes w other = ⊤
 
 -- A LINE with its part of the journal leads a world from one state to another
-pub record EventStep (w : WorldState) (line : Event × List Entry) (v : WorldState) : Type 0 where
+pub record EventStep (w : DomainState) (line : Event × List Entry) (v : DomainState) : Type 0 where
   pub entries : List SettleEntry
   pub says : PartSays (line_of line.0) line.1 entries
   pub moves : LineMoves w (line_of line.0) entries v
 
 -- and one with the steps of its part that were made before memory was wanted
-pub record LineStarts (w : WorldState) (line : Event × List Entry) (v : WorldState) : Type 0 where
+pub record LineStarts (w : DomainState) (line : Event × List Entry) (v : DomainState) : Type 0 where
   pub entries : List SettleEntry
   pub says : PartSays (line_of line.0) line.1 entries
   pub begins : LineBegins w (line_of line.0) entries v

@@ -3,7 +3,7 @@ use Rattle.std.specs.Prelude.{◌≡◌, ℕ, ◌+◌, ◌<◌, List, [], ◌∷
 use Rattle.std.specs.List.{flat_map}
 use Rattle.runs.specs.Run.{Run}
 use Rattle.domain_script.specs.declared.event.Event.{Event}
-use Rattle.world_laws.specs.World.{WorldState}
+use Rattle.domain_laws.specs.Domain.{DomainState}
 use Rattle.ldom_report.specs.LinesEnd.{most_entries}
 use Rattle.ldom_entries.specs.declared.entry.Entry.{Entry}
 use Rattle.world_parts.specs.Lines.{LineStarts, EventStep}
@@ -41,13 +41,13 @@ BeginBelow entries [] = Unit {0}
 BeginBelow entries (line ∷ lines) = (entries < most_entries) × BeginBelow (entries + length line.1) lines
 
 -- of a line that was cut off only the steps were made that it has
-abbrev pub LastStarts : WorldState → Option (Event × List Entry) → WorldState → Type 0
+abbrev pub LastStarts : DomainState → Option (Event × List Entry) → DomainState → Type 0
 LastStarts w None v = v ≡ w
 LastStarts w (Some last) v = LineStarts w last v
 
 -- AFTER SO MANY ENTRIES the lines lead the world from one state to another, one after the other.
-pub record FitsScript (entries : ℕ) (s : WorldState) (parts : ScriptParts) (t : WorldState) : Type 0 where
-  pub middle : WorldState
+pub record FitsScript (entries : ℕ) (s : DomainState) (parts : ScriptParts) (t : DomainState) : Type 0 where
+  pub middle : DomainState
   pub run : Run EventStep s parts.whole middle
   pub last : LastStarts middle parts.cut t
   pub begin_below : BeginBelow entries (all_lines parts)

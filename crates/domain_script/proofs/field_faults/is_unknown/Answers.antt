@@ -1,6 +1,6 @@
 use Rattle.std.proofs.Common.{◌≡◌, Bool, ℕ, true, false, Option, not, is_none, is_some, ap, ◌∙◌, refl}
 use Rattle.domain_script.specs.declared.event.Lane.{Lane}
-use Rattle.domain_script.proofs.NamingTests.{disk_told, end_told, lane_told}
+use Rattle.domain_script.proofs.NamingTests.{end_told, lane_told, number_told}
 use Rattle.domain_script.proofs.field_faults.is_unknown.Goals as goal
 
 none_unless : (found none : Bool) → found ≡ not none → none ≡ not found
@@ -9,10 +9,10 @@ none_unless true false is = refl
 none_unless false true is = refl
 none_unless false false is = cc is
 
-pub returns-in-DiskName : goal.returns-in-DiskName
-returns-in-DiskName c = rw c.in-DiskName.is
-    (none_unless (is_some c.declared_disk.result) c.is_none.result c.is_none.ensures
-    ∙ ap (λ (o : Option ℕ). is_none o) (disk_told c.args.names.now c.args.word.now c.declared_disk.result c.declared_disk.ensures.some c.declared_disk.ensures.none))
+pub returns-in-Named : goal.returns-in-Named
+returns-in-Named c = rw c.in-Named.is
+    (none_unless (is_some c.declared_number.result) c.is_none.result c.is_none.ensures
+    ∙ ap (λ (o : Option ℕ). is_none o) (number_told c.args.names.now c.args.word.now c.in-Named.kind c.declared_number.result c.declared_number.ensures.some c.declared_number.ensures.none))
 
 pub returns-in-LaneName : goal.returns-in-LaneName
 returns-in-LaneName c = rw c.in-LaneName.is

@@ -1,5 +1,5 @@
 use Rattle.std.proofs.Common.{◌≡◌, ◌+◌, ◌*◌, ◌<◌, ◌≤◌, drop, length}
-use Rattle.world_parts.specs.Declared.{blocks_of}
+use Rattle.ldom_world.specs.world_parts.Declared.{blocks_of}
 use Rattle.ldom_replay.proofs.blocks.blocks_declared.Given as goal
 
 abbrev pub invariant-loop-k : goal.invariant-loop-k

@@ -3,7 +3,7 @@ use Rattle.ldom_entries.specs.JournalState.{JournalState}
 use Rattle.script_laws.specs.Replayed.{attach_status}
 use Rattle.vio_io.specs.declared.host.AttachFault.TheVariants.{Memory}
 use Rattle.disk_law.specs.ListState.{as_image}
-use Rattle.world_parts.specs.Declared.{blocks_of}
+use Rattle.ldom_world.specs.world_parts.Declared.{blocks_of}
 use Rattle.script_laws.proofs.Assembly.{replayed_as, replayed_refused}
 use Rattle.script_laws.proofs.Sizes.{sized_as, sized_refused}
 use Rattle.ldom_replay.proofs.Beginning.{just_attached}

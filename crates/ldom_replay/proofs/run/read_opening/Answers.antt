@@ -1,8 +1,8 @@
 use Rattle.std.proofs.Common.{◌∙◌, refl, subst, sym}
-use Rattle.domain_script.specs.Declarations.{AreDisks}
-use Rattle.domain_script.specs.NamesState.{NamesState}
+use Rattle.domain_script.specs.Declarations.{AreDeclared}
+use Rattle.domain_script.specs.NamesState.{NamesState, declared_by}
 use Rattle.script_reader.specs.LinesState.{to_come}
-use Rattle.script_laws.proofs.ReadLemmas.{opens, opens_more, read_disks}
+use Rattle.script_laws.proofs.ReadLemmas.{opens, opens_more, read_declared}
 use Rattle.ldom_replay.proofs.run.read_opening.Goals as goal
 
 pub loop-event-preserved : goal.loop-event-preserved
@@ -24,18 +24,18 @@ returns-then-not-is_opening-clause-opens g c =
     opens (to_come c.args.reader.now.lines (g.S.Source.left c.args.source.now)) (to_come c.loop-event.reader.lines (g.S.Source.left c.loop-event.source)) (to_come c.read_event.new.self.lines (g.S.Source.left c.read_event.new.source))
     c.read_event.new.event c.loop-event.reader.names c.read_event.new.self.names c.loop-event.reader.lines.number c.read_event.new.self.lines.number c.loop-event.invariant.so_far c.in_ok-read_event.ensures.event c.in_ok-read_event.ensures.next.0 c.in_ok-read_event.ensures.next.1 (λ opening. (cc (c.if-not-is_opening.ensures.1 opening)))
 
-pub returns-then-not-is_opening-clause-disks : goal.returns-then-not-is_opening-clause-disks
-returns-then-not-is_opening-clause-disks g c =
+pub returns-then-not-is_opening-clause-limits : goal.returns-then-not-is_opening-clause-limits
+returns-then-not-is_opening-clause-limits g c =
     let start = to_come c.args.reader.now.lines (g.S.Source.left c.args.source.now) in
     let left = to_come c.read_event.new.self.lines (g.S.Source.left c.read_event.new.source) in
     let opened = opens start (to_come c.loop-event.reader.lines (g.S.Source.left c.loop-event.source)) left
     c.read_event.new.event c.loop-event.reader.names c.read_event.new.self.names c.loop-event.reader.lines.number c.read_event.new.self.lines.number c.loop-event.invariant.so_far c.in_ok-read_event.ensures.event c.in_ok-read_event.ensures.next.0 c.in_ok-read_event.ensures.next.1 (λ opening. (cc (c.if-not-is_opening.ensures.1 opening))) in
-    read_disks start left _ c.read_event.new.self.names c.read_event.new.self.lines.number opened.read
+    read_declared start left _ c.read_event.new.self.names c.read_event.new.self.lines.number opened.read
 
-pub returns-in_err-read_event-clause-disks : goal.returns-in_err-read_event-clause-disks
-returns-in_err-read_event-clause-disks g c =
+pub returns-in_err-read_event-clause-limits : goal.returns-in_err-read_event-clause-limits
+returns-in_err-read_event-clause-limits g c =
     let start = to_come c.args.reader.now.lines (g.S.Source.left c.args.source.now) in
     let rest = to_come c.loop-event.reader.lines (g.S.Source.left c.loop-event.source) in
     let so_far = c.loop-event.invariant.so_far in
-    subst (λ (n : NamesState). AreDisks n.disks) (sym c.in_err-read_event.ensures.lines.1)
-    (read_disks start rest so_far.opening c.loop-event.reader.names c.loop-event.reader.lines.number so_far.read)
+    subst (λ (n : NamesState). AreDeclared (declared_by n)) (sym c.in_err-read_event.ensures.lines.1)
+    (read_declared start rest so_far.opening c.loop-event.reader.names c.loop-event.reader.lines.number so_far.read)

@@ -6,8 +6,8 @@ use Rattle.ldom_report.specs.declared.status.Status.TheVariants as status
 use Rattle.ldom_report.specs.Stops.{stop_lines, stop_status}
 use Rattle.script_laws.specs.Going.{RunsAll}
 use Rattle.script_laws.specs.Opening.{Opened}
-use Rattle.world_parts.specs.Lines.{IsForDisks, line_of}
-use Rattle.world_parts.specs.Parts.{Fits, FitsSoFar}
+use Rattle.ldom_world.specs.world_parts.Lines.{line_of}
+use Rattle.ldom_world.specs.world_parts.Parts.{Fits, FitsSoFar}
 use Rattle.domain_script.specs.Spells.{IsDeclared}
 use Rattle.script_laws.proofs.LineCases.{for_declared}
 use Rattle.script_laws.proofs.Assembly.{runs_all, runs_first_cut, runs_none_more}
@@ -41,12 +41,14 @@ returns-in-Err-clause-runs g c start opened =
 pub run_lines-requires-clause-goes : goal.run_lines-requires-clause-goes
 run_lines-requires-clause-goes g c = (c.requires.goes (subst (λ (first : Option Event). IsSome first) (sym c.in-Some.is) refl)).0
 
-pub run_lines-requires-clause-many : goal.run_lines-requires-clause-many
-run_lines-requires-clause-many g c =
-    c.in-Ok.ensures.many ∙ c.requires.many
+pub run_lines-requires-clause-lanes : goal.run_lines-requires-clause-lanes
+run_lines-requires-clause-lanes g c = record {
+  disks = c.in-Ok.ensures.many.disks ∙ c.requires.lanes.disks;
+  ports = c.in-Ok.ensures.many.ports ∙ c.requires.lanes.ports;
+}
 
 pub apply-requires-clause-event : goal.apply-requires-clause-event
 apply-requires-clause-event g c =
     let names = c.args.reader.now.names in
     let declared : IsDeclared names c.in-Some.event = subst (λ (first : Option Event). IfSome first (IsDeclared names)) c.in-Some.is c.requires.declared in
-    subst (λ n. IsForDisks n c.in-Some.event) (sym c.requires.many) (for_declared names c.in-Some.event declared)
+    for_declared names c.args.world.now c.requires.lanes.disks c.requires.lanes.ports c.in-Some.event declared

@@ -4,11 +4,12 @@ use Rattle.ldom_report.specs.declared.status.Status.{Status}
 use Rattle.script_laws.specs.Going.{RunsLines}
 use Rattle.script_reader.specs.LinesState.{to_come}
 use Rattle.ldom_report.specs.Stops.{stop_lines, stop_status}
-use Rattle.script_laws.proofs.ReadLemmas.{same_disks, still_ended}
+use Rattle.script_laws.proofs.ReadLemmas.{same_disks, same_ports, still_ended}
 use Rattle.script_laws.proofs.LineCases.{for_declared}
-use Rattle.world_parts.specs.Lines.{IsForDisks, line_of}
-use Rattle.world_parts.specs.Parts.{Fits, FitsSoFar}
-use Rattle.domain_script.specs.declared.event.DiskDecl.{DiskDecl}
+use Rattle.ldom_world.specs.world_parts.Lines.{line_of}
+use Rattle.ldom_world.specs.world_parts.Parts.{Fits, FitsSoFar}
+use Rattle.ldom_replay.specs.NamesLanes.{HasLanes}
+use Rattle.ldom_replay.proofs.Beginning.{has_still}
 use Rattle.script_laws.proofs.RunLemmas.{runs_cut, runs_more, runs_none, runs_stop}
 use Rattle.ldom_report.proofs.StopLemmas.{readers_of}
 use Rattle.ldom_replay.proofs.run.run_lines.Goals as goal
@@ -20,7 +21,7 @@ loop-stop-init g c =
       goes = c.requires.goes;
       few = c.requires.few;
       ended = c.requires.ended;
-      many = c.requires.many;
+      lanes = c.requires.lanes;
       agrees = c.requires.agrees;
       so_far = runs_none start c.args.reader.now.names c.args.reader.now.journal.entries c.args.world.now c.args.reader.now.lines.number c.requires.few;
       unfailed = refl;
@@ -31,12 +32,16 @@ loop-stop-preserved g c =
     let start = to_come c.args.reader.now.lines (g.S.Source.left c.args.source.now) in
     let rest = to_come c.loop-stop.reader.lines (g.S.Source.left c.loop-stop.source) in
     let left = to_come c.read_event.new.self.lines (g.S.Source.left c.read_event.new.source) in
+    let names = c.loop-stop.reader.names in
+    let after = c.read_event.new.self.names in
     record {
       goes = c.in-Ok.ensures.next.2;
       few = c.in-Ok.ensures.next.1;
       ended = still_ended rest left c.read_event.new.event c.loop-stop.reader.names c.read_event.new.self.names c.in-Ok.ensures.event c.loop-stop.invariant.ended;
-      many = c.in-Ok-apply.ensures.many
-          ∙ c.loop-stop.invariant.many ∙ sym (ap (λ (l : List DiskDecl). length l) (same_disks rest left c.read_event.new.event c.loop-stop.reader.names c.read_event.new.self.names c.in-Ok.ensures.event c.loop-stop.invariant.ended));
+      lanes = has_still names after c.loop-stop.world c.apply.new.self
+          (same_disks rest left c.read_event.new.event names after c.in-Ok.ensures.event c.loop-stop.invariant.ended)
+          (same_ports rest left c.read_event.new.event names after c.in-Ok.ensures.event c.loop-stop.invariant.ended)
+          c.in-Ok-apply.ensures.many c.loop-stop.invariant.lanes;
       agrees = c.in-Ok-apply.ensures.agrees;
       so_far = runs_more start rest left c.args.reader.now.names c.loop-stop.reader.names c.read_event.new.self.names c.args.reader.now.journal.entries c.loop-stop.reader.journal.entries c.apply.new.journal.entries
           c.args.world.now c.loop-stop.world c.apply.new.self c.args.reader.now.lines.number c.loop-stop.reader.lines.number c.read_event.new.self.lines.number c.read_event.new.event
@@ -69,7 +74,10 @@ pub apply-requires-clause-event : goal.apply-requires-clause-event
 apply-requires-clause-event g c =
     let rest = to_come c.loop-stop.reader.lines (g.S.Source.left c.loop-stop.source) in
     let left = to_come c.read_event.new.self.lines (g.S.Source.left c.read_event.new.source) in
-    let names = c.read_event.new.self.names in
-    let many : length names.disks ≡ length c.loop-stop.world.lanes =
-    ap (λ (l : List DiskDecl). length l) (same_disks rest left c.read_event.new.event c.loop-stop.reader.names names c.in-Ok.ensures.event c.loop-stop.invariant.ended) ∙ sym c.loop-stop.invariant.many in
-    subst (λ n. IsForDisks n c.read_event.new.event) many (for_declared names c.read_event.new.event c.in-Ok.ensures.declared)
+    let names = c.loop-stop.reader.names in
+    let after = c.read_event.new.self.names in
+    let lanes : HasLanes after c.loop-stop.world = has_still names after c.loop-stop.world c.loop-stop.world
+    (same_disks rest left c.read_event.new.event names after c.in-Ok.ensures.event c.loop-stop.invariant.ended)
+    (same_ports rest left c.read_event.new.event names after c.in-Ok.ensures.event c.loop-stop.invariant.ended)
+    (record { disks = refl; ports = refl }) c.loop-stop.invariant.lanes in
+    for_declared after c.loop-stop.world lanes.disks lanes.ports c.read_event.new.event c.in-Ok.ensures.declared

@@ -1,7 +1,7 @@
-use Rattle.std.proofs.Common.{◌≡◌, ◌-◌, ◌≤◌, true, length}
+use Rattle.std.proofs.Common.{◌≡◌, ◌-◌, ◌≤◌, true}
 use Rattle.script_reader.specs.LinesState.{GoesOn, to_come}
-use Rattle.ldom_report.specs.Report.{accepted_count}
-use Rattle.world_laws.specs.Issued.{issued_on}
+use Rattle.ldom_replay.specs.NamesLanes.{HasLanes}
+use Rattle.ldom_world.specs.Steps.{Counted}
 use Rattle.script_laws.proofs.RunLemmas.{RunsSoFar}
 use Rattle.ldom_replay.proofs.run.run_lines.Given as goal
 
@@ -10,8 +10,8 @@ invariant-loop-stop g l = record {
   goes : GoesOn l.reader.lines (g.S.Source.left l.source);
   few : l.reader.lines.number ≤ 20000;
   ended : l.reader.names.ended ≡ true;
-  many : length l.world.lanes ≡ length l.reader.names.disks;
-  agrees : accepted_count l.reader.journal.entries ≡ issued_on l.world.lanes;
+  lanes : HasLanes l.reader.names l.world;
+  agrees : Counted l.reader.journal.entries l.world;
   so_far : RunsSoFar (to_come l.fn.reader.lines (g.S.Source.left l.fn.source)) l.fn.reader.names l.fn.reader.journal.entries l.fn.world l.fn.reader.lines.number
       (to_come l.reader.lines (g.S.Source.left l.source)) l.reader.names l.reader.journal.entries l.world l.reader.lines.number;
   unfailed : g.S.Source.faults l.source ≡ g.S.Source.faults l.fn.source;

@@ -2,11 +2,10 @@ use Rattle.std.proofs.Common.{◌≡◌, ◌*◌, ◌≤◌, [], ℕ, List, leng
 use Rattle.disk_law.specs.ListState.{ImageState}
 use Rattle.ldom_entries.specs.JournalState.{JournalState}
 use Rattle.ldom_report.specs.declared.status.Status.TheVariants as status
-use Rattle.world_laws.specs.LaneState.{LaneState}
-use Rattle.world_laws.specs.Issued.{issued_on}
+use Rattle.ldom_world.specs.world_parts.domain_laws.Domain.{Lanes}
 use Rattle.disk_law.specs.ListState.{as_image}
-use Rattle.world_parts.specs.Declared.{blocks_of, shapes_of}
-use Rattle.ldom_replay.proofs.Beginning.{as_many, none_issued, same_world}
+use Rattle.ldom_world.specs.world_parts.Declared.{blocks_of}
+use Rattle.ldom_replay.proofs.Beginning.{begins_counted, has_all, same_world}
 use Rattle.ldom_world.proofs.Declaring.{all_within}
 use Rattle.script_laws.proofs.Assembly.{replayed_as, replayed_short}
 use Rattle.script_laws.proofs.Sizes.{long_told, sized_as, sized_short}
@@ -36,13 +35,13 @@ returns-then-have-need-clause-sized g c start gives opened attached =
 pub over-requires-clause-image : goal.over-requires-clause-image
 over-requires-clause-image g c =
     let enough : 512 * blocks_of c.args.reader.names.disks ≤ g.D.Store.size c.args.image = search rules in
-    all_within (g.D.Store.size c.args.image) c.args.reader.names.disks c.args.lanes enough c.requires.lanes
+    all_within (g.D.Store.size c.args.image) c.args.reader.names.disks c.args.lanes.first enough (ap (λ (l : Lanes). l.first) c.requires.lanes)
 
 pub returns-clause-replayed : goal.returns-clause-replayed
 returns-clause-replayed g c start gives opened attached =
     c.run_world.ensures.replayed start gives opened
     (same_world c.args.reader.names gives c.over.result c.args.lanes (as_image g.D.Store c.args.image)
-    c.over.ensures.lanes c.over.ensures.image c.requires.lanes attached)
+    c.over.ensures.lanes c.over.ensures.image c.over.ensures.ports c.requires.lanes attached)
 
 pub returns-clause-sized : goal.returns-clause-sized
 returns-clause-sized g c start gives opened attached =
@@ -51,13 +50,13 @@ returns-clause-sized g c start gives opened attached =
     let enough : least ≤ g.D.Store.size c.args.image = search rules in
     c.run_world.ensures.sized start gives opened
     (same_world c.args.reader.names gives c.over.result c.args.lanes (as_image g.D.Store c.args.image)
-    c.over.ensures.lanes c.over.ensures.image c.requires.lanes attached)
+    c.over.ensures.lanes c.over.ensures.image c.over.ensures.ports c.requires.lanes attached)
     (subst (λ (o : Option (List ℕ)). IfSome o (λ bytes. least ≤ length bytes)) told (long_told (g.D.Store.content c.args.image) (g.D.Store.size c.args.image) least (g.met.D.Store.told_size c.args.image) enough))
 
-pub run_world-requires-clause-many : goal.run_world-requires-clause-many
-run_world-requires-clause-many g c =
-    ap (λ (l : List LaneState). length l) (c.over.ensures.lanes ∙ c.requires.lanes) ∙ as_many 0 c.args.reader.names.disks
+pub run_world-requires-clause-lanes : goal.run_world-requires-clause-lanes
+run_world-requires-clause-lanes g c =
+    has_all c.args.reader.names c.over.result c.args.lanes c.over.ensures.lanes c.over.ensures.ports c.requires.lanes
 
-pub run_world-requires-clause-fresh : goal.run_world-requires-clause-fresh
-run_world-requires-clause-fresh g c =
-    ap issued_on (c.over.ensures.lanes ∙ c.requires.lanes) ∙ none_issued (shapes_of 0 c.args.reader.names.disks)
+pub run_world-requires-clause-agrees : goal.run_world-requires-clause-agrees
+run_world-requires-clause-agrees g c =
+    begins_counted c.args.reader.names c.over.result c.args.lanes c.over.ensures.lanes c.over.ensures.ports c.requires.lanes

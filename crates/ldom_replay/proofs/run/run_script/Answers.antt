@@ -10,7 +10,7 @@ use Rattle.ldom_report.proofs.StopLemmas.{done_at_end, readers_of}
 use Rattle.script_laws.specs.Opening.{Opens, OpensAndStops}
 use Rattle.script_laws.proofs.Assembly.{from_start, replayed_as, replayed_none, replayed_unattached}
 use Rattle.disk_law.specs.ListState.{as_image}
-use Rattle.world_parts.specs.Declared.{blocks_of}
+use Rattle.ldom_world.specs.world_parts.Declared.{blocks_of}
 use Rattle.script_laws.proofs.Sizes.{sized_as, sized_none}
 use Rattle.ldom_replay.proofs.Holding.{gave_as}
 use Rattle.ldom_replay.proofs.run.run_script.Goals as goal

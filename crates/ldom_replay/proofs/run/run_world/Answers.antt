@@ -7,6 +7,7 @@ use Rattle.script_laws.specs.Replayed.{ended_status}
 use Rattle.script_laws.proofs.Assembly.{replayed_as, replayed_of}
 use Rattle.script_laws.proofs.Sizes.{sized_as, sized_run}
 use Rattle.disk_law.specs.ListState.{as_image}
+use Rattle.ldom_replay.proofs.Beginning.{same_lanes}
 use Rattle.ldom_replay.proofs.run.run_world.Goals as goal
 
 pub returns-clause-replayed : goal.returns-clause-replayed
@@ -29,7 +30,7 @@ returns-clause-replayed g c start gives opened begins =
       writes = c.finish-image.ensures.writes;
       calls = c.finish-image.ensures.calls;
     })
-    c.finish-image.ensures.lanes c.faulty.ensures)
+    (same_lanes c.finish-image.result.1 c.run_first-stop.new.world c.finish-image.ensures.lanes c.finish-image.ensures.ports) c.faulty.ensures)
 
 pub returns-clause-sized : goal.returns-clause-sized
 returns-clause-sized g c start gives opened begins long =

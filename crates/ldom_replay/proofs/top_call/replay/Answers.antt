@@ -10,7 +10,7 @@ use Rattle.script_laws.specs.Clean.{EndsClean}
 use Rattle.script_laws.specs.Failures.{FailuresCounted, SucceedOrFail, SucceedsOrFails}
 use Rattle.script_laws.specs.Objects.{host_tells, run_leaves, tells}
 use Rattle.script_laws.specs.Outcomes.{RunsScript}
-use Rattle.world_parts.specs.Declared.{blocks_of}
+use Rattle.ldom_world.specs.world_parts.Declared.{blocks_of}
 use Rattle.ldom_words.specs.Words.{AsksSample}
 use Rattle.ldom_sample.specs.Sample.{sample_text}
 use Rattle.ldom_replay.proofs.Commands.{as_asked, no_sample_too, one_asked, one_sample}

@@ -14,41 +14,41 @@ use Rattle.ldom_report.proofs.lines.write_lines.Goals as goal
 pub loop-entry-init : goal.loop-entry-init
 loop-entry-init g c = record {
   so_far = [];
-  whole = ap (report_entries c.args.mode c.args.names.now.disks) (sym c.entries-rest.ensures);
-  words = subst (λ (l : List Entry). All (HasWords c.args.names.now.disks) l) (sym c.entries-rest.ensures) c.requires.words;
+  whole = ap (report_entries c.args.mode c.args.names.now) (sym c.entries-rest.ensures);
+  words = subst (λ (l : List Entry). All (HasWords c.args.names.now) l) (sym c.entries-rest.ensures) c.requires.words;
   gathers = subst (λ (t : List ℕ). Gathers (g.K.Sink.written c.args.out.now) (g.K.Sink.written c.args.out.now) t []) (sym c.new-text.ensures) (gathers_all _ []);
   unfailed = refl;
 }
 
 pub put_line-requires : goal.put_line-requires
 put_line-requires g c =
-    let P : Entry → Type 0 = HasWords c.args.names.now.disks in
+    let P : Entry → Type 0 = HasWords c.args.names.now in
     record { may = c.in-Some.ensures.may; words = All-head P (told c.in-Some.entry) c.next_to_show.new.entries (all_left P c.args.mode c.loop-entry.rest (told c.in-Some.entry ∷ c.next_to_show.new.entries) c.in-Some.ensures.some c.loop-entry.invariant.words) }
 
 pub returns-in_err-put_line-clause-front : goal.returns-in_err-put_line-clause-front
 returns-in_err-put_line-clause-front g c =
     let mode = c.args.mode in
-    let disks = c.args.names.now.disks in
+    let declared = c.args.names.now in
     let i = c.loop-entry.invariant in
-    let whole : List ℕ = report_entries mode disks c.args.journal.now.entries in
-    let line : List ℕ = entry_lines mode disks (told c.in-Some.entry) in
-    let rest : List ℕ = report_entries mode disks c.next_to_show.new.entries in
+    let whole : List ℕ = report_entries mode declared c.args.journal.now.entries in
+    let line : List ℕ = entry_lines mode declared (told c.in-Some.entry) in
+    let rest : List ℕ = report_entries mode declared c.next_to_show.new.entries in
     on_err c.from_residual.result _
     (wrote_front_of_more _ _ (i.so_far ++ line) rest whole
-    (next_lines mode disks whole i.so_far c.loop-entry.rest c.next_to_show.new.entries (told c.in-Some.entry) i.whole c.in-Some.ensures.some)
+    (next_lines mode declared whole i.so_far c.loop-entry.rest c.next_to_show.new.entries (told c.in-Some.entry) i.whole c.in-Some.ensures.some)
     (wrote_front_then _ _ _ c.loop-entry.text i.so_far line i.gathers c.in_err-put_line.ensures.front))
 
 pub loop-entry-preserved : goal.loop-entry-preserved
 loop-entry-preserved g c =
     let mode = c.args.mode in
-    let disks = c.args.names.now.disks in
-    let P : Entry → Type 0 = HasWords disks in
+    let declared = c.args.names.now in
+    let P : Entry → Type 0 = HasWords declared in
     let i = c.loop-entry.invariant in
-    let whole : List ℕ = report_entries mode disks c.args.journal.now.entries in
-    let line : List ℕ = entry_lines mode disks (told c.in-Some.entry) in
+    let whole : List ℕ = report_entries mode declared c.args.journal.now.entries in
+    let line : List ℕ = entry_lines mode declared (told c.in-Some.entry) in
     record {
       so_far = i.so_far ++ line;
-      whole = next_lines mode disks whole i.so_far c.loop-entry.rest c.next_to_show.new.entries (told c.in-Some.entry) i.whole c.in-Some.ensures.some;
+      whole = next_lines mode declared whole i.so_far c.loop-entry.rest c.next_to_show.new.entries (told c.in-Some.entry) i.whole c.in-Some.ensures.some;
       words = All-tail P (told c.in-Some.entry) c.next_to_show.new.entries (all_left P mode c.loop-entry.rest (told c.in-Some.entry ∷ c.next_to_show.new.entries) c.in-Some.ensures.some i.words);
       gathers = gathers_then _ _ _ c.loop-entry.text c.put_line.new.text i.so_far line i.gathers c.in_ok-put_line.ensures.told;
       unfailed = c.in_ok-put_line.ensures.faults.unfailed (λ is. cc) ∙ i.unfailed;
@@ -63,10 +63,10 @@ loop-entry-smaller g c =
 pub returns-clause-told : goal.returns-clause-told
 returns-clause-told g c =
     let mode = c.args.mode in
-    let disks = c.args.names.now.disks in
+    let declared = c.args.names.now in
     let i = c.loop-entry.invariant in
-    let all : i.so_far ≡ report_entries mode disks c.args.journal.now.entries =
-    no_lines mode disks (report_entries mode disks c.args.journal.now.entries) i.so_far c.loop-entry.rest i.whole (c.in_default.ensures.none refl) in
+    let all : i.so_far ≡ report_entries mode declared c.args.journal.now.entries =
+    no_lines mode declared (report_entries mode declared c.args.journal.now.entries) i.so_far c.loop-entry.rest i.whole (c.in_default.ensures.none refl) in
     on_ok_then c.flush.result
     (λ told. subst (λ (l : List ℕ). Appends (g.K.Sink.written c.args.out.now) (g.K.Sink.written c.flush.new.out) l) all
     (appends_last _ _ _ c.loop-entry.text i.so_far i.gathers told))
@@ -75,10 +75,10 @@ returns-clause-told g c =
 pub returns-clause-front : goal.returns-clause-front
 returns-clause-front g c =
     let mode = c.args.mode in
-    let disks = c.args.names.now.disks in
+    let declared = c.args.names.now in
     let i = c.loop-entry.invariant in
-    let all : i.so_far ≡ report_entries mode disks c.args.journal.now.entries =
-    no_lines mode disks (report_entries mode disks c.args.journal.now.entries) i.so_far c.loop-entry.rest i.whole (c.in_default.ensures.none refl) in
+    let all : i.so_far ≡ report_entries mode declared c.args.journal.now.entries =
+    no_lines mode declared (report_entries mode declared c.args.journal.now.entries) i.so_far c.loop-entry.rest i.whole (c.in_default.ensures.none refl) in
     on_err_then c.flush.result
     (λ front. subst (λ (l : List ℕ). WroteFront (g.K.Sink.written c.args.out.now) (g.K.Sink.written c.flush.new.out) l) all
     (wrote_front_last _ _ _ c.loop-entry.text i.so_far i.gathers front))

@@ -8,8 +8,8 @@ use Rattle.ldom_report.proofs.lines.write_lines.Given as goal
 abbrev pub invariant-loop-entry : goal.invariant-loop-entry
 invariant-loop-entry g l = record {
   so_far : List ℕ;
-  whole : report_entries l.mode l.names.disks l.journal.entries ≡ so_far ++ report_entries l.mode l.names.disks l.rest;
-  words : All (HasWords l.names.disks) l.rest;
+  whole : report_entries l.mode l.names l.journal.entries ≡ so_far ++ report_entries l.mode l.names l.rest;
+  words : All (HasWords l.names) l.rest;
   gathers : Gathers (g.K.Sink.written l.initial.out) (g.K.Sink.written l.out) l.text so_far;
   unfailed : g.K.Sink.faults l.out ≡ g.K.Sink.faults l.initial.out;
 }

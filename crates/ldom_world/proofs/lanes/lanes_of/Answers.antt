@@ -1,7 +1,7 @@
 use Rattle.std.proofs.Common.{◌≡◌, ℕ, ◌+◌, ◌≤◌, Some, slice_get, sym, ap, ◌∙◌, arith}
 use Rattle.domain_script.specs.Declarations.{IsDisk}
 use Rattle.domain_script.proofs.Disks.{is_disk_at}
-use Rattle.ldom_world.proofs.Declaring.{all_lanes, few_lanes, first_more, lanes_more, no_more_lanes}
+use Rattle.ldom_world.proofs.Declaring.{all_lanes, one_longer, first_more, lanes_more, no_more_lanes}
 use Rattle.ldom_world.proofs.lanes.lanes_of.Goals as goal
 
 pub lane_of-requires : goal.lane_of-requires
@@ -19,7 +19,7 @@ loop-k-preserved c =
           there c.loop-k.invariant.first c.loop-k.invariant.lanes c.in_ok-lane_of.ensures c.in_ok-push.ensures.items;
       first = ap (λ (n : ℕ). c.loop-k.first + n) c.from.ensures
           ∙ first_more c.args.names.now.disks c.loop-k.k c.loop-k.first c.in-Some.disk there c.loop-k.invariant.first;
-      long = few_lanes c.loop-k.lanes.items c.push.new.self.items c.in_ok-lane_of.field-0 c.loop-k.k
+      long = one_longer c.loop-k.lanes.items c.push.new.self.items c.in_ok-lane_of.field-0 c.loop-k.k
           c.in_ok-push.ensures.items c.loop-k.invariant.long;
       small = omega (arith, c.loop-k.invariant.small, limits.most_blocks, c.from.ensures);
       few = λ some. c.disk.ensures.few;

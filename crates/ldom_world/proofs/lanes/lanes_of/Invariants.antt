@@ -1,5 +1,5 @@
 use Rattle.std.proofs.Common.{◌≡◌, ◌*◌, ◌≤◌, length, map, take}
-use Rattle.disk_model.specs.LaneState.{fresh}
+use Rattle.world_parts.specs.disk_model.LaneState.{fresh}
 use Rattle.world_parts.specs.Declared.{blocks_of, shapes_of}
 use Rattle.ldom_world.proofs.lanes.lanes_of.Given as goal
 

@@ -11,6 +11,6 @@ one_more P old new entry words has is =
     subst (All P) (sym is) (All-append P old (entry ∷ []) words (All-cons P entry [] has (All-nil P)))
 
 pub returns : goal.returns
-returns c = λ disks one.
-    one_more (HasWords disks) _ _ _ (c.requires.words disks one) (c.requires.fits disks one)
+returns c = λ all one.
+    one_more (HasWords all) _ _ _ (c.requires.words all one) (c.requires.fits all one)
     (c.push.ensures.entries ∙ ap (put_last c.args.entry) c.reserve.ensures.entries)

@@ -1,25 +1,38 @@
-use Rattle.std.proofs.Common.{List, ap, ◌∙◌}
-use Rattle.ldom_report.specs.Report.{accepted_count}
-use Rattle.ldom_entries.specs.declared.entry.Entry.{Entry}
-use Rattle.ldom_world.proofs.Lifting.{few_issued}
-use Rattle.ldom_world.proofs.Opened.{answer_agrees, lane_there, request_fits}
+use Rattle.world_parts.specs.world_laws.World.{WorldState, WorldStep}
+use Rattle.world_parts.specs.world_laws.Settle.{OfLane}
+use Rattle.std.proofs.Common.{refl}
+use Rattle.std.proofs.lemmas.Result.{on_err_weaker, on_ok_weaker}
+use Rattle.world_parts.specs.domain_laws.Lines.{AnswersRequest, Asked}
+use Rattle.ldom_world.proofs.Lifted.{adds_grow, answer_fits, both, counted_at, disk_within, disks_counted, grows_by, lift_disks, nothing_begun, same_grows}
 use Rattle.ldom_world.proofs.world.World.issue.Goals as goal
 
-pub ask_lane-requires-clause-few : goal.ask_lane-requires-clause-few
-ask_lane-requires-clause-few g c =
-    few_issued c.reserve.new.self.entries c.args.self.now.lanes c.args.disk c.index_mut.result.now
-    (lane_there c.args.self.now _ _ c.args.disk c.index_mut.result.now c.self.view_is c.requires.disk
-    c.index_mut.ensures.value)
-    (ap (λ (l : List Entry). accepted_count l) c.in_ok-reserve.ensures.entries ∙ c.requires.agrees)
-    c.len-len.ensures.small
+pub issue-requires-clause-disk : goal.issue-requires-clause-disk
+issue-requires-clause-disk g c = disk_within c.self.inside.disks c.self.inside.ports c.args.self.now c.self.view_is c.args.disk c.requires.disk
+
+pub issue-requires-clause-agrees : goal.issue-requires-clause-agrees
+issue-requires-clause-agrees g c = counted_at c.self.inside.disks c.self.inside.ports c.args.self.now c.self.view_is c.args.journal.now.entries c.requires.agrees
 
 pub returns-clause-fits : goal.returns-clause-fits
 returns-clause-fits g c =
-    request_fits c.args.self.now _ _ c.args.disk _ _ _ _ _ _ c.self.view_is c.requires.disk c.index_mut.ensures.value
-    c.in_ok-reserve.ensures.entries c.ask_lane.ensures.answers.puts.entries _ c.ask_lane.ensures.answers.answer
+    on_ok_weaker c.issue.result
+    (λ made. answer_fits WorldStep OfLane (λ (d : WorldState). both d c.self.inside.ports) (lift_disks c.self.inside.ports)
+    c.self.inside.disks c.args.self.now c.self.view_is
+    (Asked c.args.disk c.args.request.now) c.args.disk (AnswersRequest c.args.request.now) c.issue.new.self c.args.journal.now.entries c.issue.new.journal.entries
+    (λ event answers. record { event = event; answers = answers; is = refl }) made) c.issue.ensures.made
+
+pub returns-clause-so_far : goal.returns-clause-so_far
+returns-clause-so_far g c =
+    on_err_weaker c.issue.result
+    (λ same. nothing_begun WorldStep OfLane (λ (d : WorldState). both d c.self.inside.ports) (lift_disks c.self.inside.ports)
+    c.self.inside.disks c.args.self.now c.self.view_is
+    (Asked c.args.disk c.args.request.now) c.args.disk (AnswersRequest c.args.request.now) c.issue.new.self c.args.journal.now.entries c.issue.new.journal.entries refl same) c.issue.ensures.same
 
 pub returns-clause-agrees : goal.returns-clause-agrees
 returns-clause-agrees g c =
-    answer_agrees c.args.self.now _ _ c.args.disk _ _ _ _ _ _ c.self.view_is c.requires.disk c.index_mut.ensures.value
-    c.in_ok-reserve.ensures.entries c.ask_lane.ensures.answers.puts.entries _ _ c.ask_lane.ensures.answers.answer
+    disks_counted c.self.inside.disks c.self.inside.ports c.args.self.now c.self.view_is c.issue.new.self c.args.journal.now.entries c.issue.new.journal.entries
     c.requires.agrees
+    (grows_by c.issue.result _ _ c.args.journal.now.entries c.issue.new.journal.entries
+    (λ made. adds_grow _ c.args.journal.now.entries c.issue.new.journal.entries _ made.adds)
+    (λ same. same_grows c.args.journal.now.entries c.issue.new.journal.entries same.1) c.issue.ensures.made
+    c.issue.ensures.same)
+    c.issue.ensures.agrees

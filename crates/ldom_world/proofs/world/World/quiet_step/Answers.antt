@@ -1,21 +1,18 @@
-use Rattle.std.proofs.Common.{true}
+use Rattle.std.proofs.Common.{Bool, sym, subst}
+use Rattle.std.specs.Prelude.{IfOk}
+use Rattle.domain_script.specs.declared.fields.LaneKind.{LaneKind}
 use Rattle.ldom_report.specs.LaneEvents.{end_of}
-use Rattle.ldom_world.proofs.Lifting.{makes_quiet_step, quiet_step_agrees, steps_many}
+use Rattle.ldom_world.specs.SettleParts.{MakesQuiet}
 use Rattle.ldom_world.proofs.world.World.quiet_step.Goals as goal
 
-pub returns-clause-made : goal.returns-clause-made
-returns-clause-made g c =
-    makes_quiet_step c.args.self.now c.step_end.new.self c.args.disk (end_of c.args.side) c.reserve.new.self
-    c.in_ok-calm.calm c.step_end.new.journal c.args.journal.now.entries c.in_ok-reserve.ensures.entries
-    c.in_ok-calm.ensures.steps
+pub returns-in-Disk-clause-made : goal.returns-in-Disk-clause-made
+returns-in-Disk-clause-made g c =
+    let step = c.quiet_step_disk in
+    subst (λ (kind : LaneKind). IfOk step.result (λ (calm : Bool). MakesQuiet kind c.args.lane.number (end_of c.args.side) c.args.self.now
+    c.args.journal.now.entries step.new.journal.entries calm step.new.self)) (sym c.in-Disk.is) step.ensures.made
 
-pub returns-clause-many : goal.returns-clause-many
-returns-clause-many g c =
-    steps_many true c.args.self.now c.step_end.new.self c.args.disk (end_of c.args.side) c.reserve.new.self
-    c.in_ok-calm.calm c.step_end.new.journal c.in_ok-calm.ensures.steps
-
-pub returns-clause-agrees : goal.returns-clause-agrees
-returns-clause-agrees g c =
-    quiet_step_agrees c.args.self.now c.step_end.new.self c.args.disk (end_of c.args.side) c.reserve.new.self
-    c.in_ok-calm.calm c.step_end.new.journal c.args.journal.now.entries c.in_ok-reserve.ensures.entries
-    c.in_ok-calm.ensures.steps c.requires.agrees
+pub returns-in-Port-clause-made : goal.returns-in-Port-clause-made
+returns-in-Port-clause-made g c =
+    let step = c.quiet_step_port in
+    subst (λ (kind : LaneKind). IfOk step.result (λ (calm : Bool). MakesQuiet kind c.args.lane.number (end_of c.args.side) c.args.self.now
+    c.args.journal.now.entries step.new.journal.entries calm step.new.self)) (sym c.in-Port.is) step.ensures.made

@@ -1,12 +1,17 @@
-use Rattle.std.proofs.Common.{rules, ◌≡◌}
-use Rattle.std.specs.Prelude.{◌&&◌}
-use Rattle.ldom_world.proofs.SettlingAdds.{lane_goes_on}
+use Rattle.std.proofs.Common.{rules}
+use Rattle.ldom_world.proofs.Lifted.{both_numbers}
+use Rattle.ldom_world.proofs.SettlingLanes.{all_set}
 use Rattle.ldom_world.proofs.world.World.round_of.Goals as goal
 
-pub returns-clause-made : goal.returns-clause-made
-returns-clause-made g c =
-    let client = c.in_ok-client.client in
-    let server = c.in_ok-server.server in
-    let both : c.if-client.calm ≡ (client && server) = search rules in
-    lane_goes_on c.args.disk c.args.self.now _ _ c.args.journal.now.entries _ _ c.args.quiet.now _ client server
-    c.in_ok-client.ensures.made c.in_ok-server.ensures.made c.requires.place (search rules)
+pub loop-number-preserved : goal.loop-number-preserved
+loop-number-preserved g c =
+    let before = c.loop-number.invariant in
+    let lane = c.in_ok-calm.ensures in
+    record {
+      made = lane.made c.args.self.now c.args.journal.now.entries before.made;
+      calm = all_set c.loop-number.number c.loop-number.quiet _ c.loop-number.all c.in_ok-calm.calm
+          (search rules) lane.marked before.calm;
+      many = both_numbers before.many lane.many;
+      long = search rules;
+      agrees = lane.agrees;
+    }

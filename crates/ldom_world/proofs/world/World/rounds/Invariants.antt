@@ -1,13 +1,11 @@
-use Rattle.std.proofs.Common.{◌≡◌, length}
-use Rattle.world_laws.specs.Lines.{turns_of}
-use Rattle.ldom_report.specs.Report.{accepted_count}
+use Rattle.world_parts.specs.domain_laws.Domain.{lanes_in}
+use Rattle.world_parts.specs.domain_laws.Lines.{turns_of}
+use Rattle.ldom_world.specs.Steps.{Counted}
 use Rattle.ldom_world.specs.TurnsMade.{TurnsMade}
-use Rattle.world_laws.specs.Issued.{issued_on}
 use Rattle.ldom_world.proofs.world.World.rounds.Given as goal
 
 abbrev pub invariant-loop : goal.invariant-loop
 invariant-loop g l = record {
-  turned : TurnsMade (turns_of l.counter (length l.fn.self.lanes)) l.fn.self l.fn.journal.entries l.journal.entries l.self;
-  many : length l.self.lanes ≡ length l.fn.self.lanes;
-  agrees : accepted_count l.journal.entries ≡ issued_on l.self.lanes;
+  turned : TurnsMade (turns_of l.counter (lanes_in l.fn.self)) l.fn.self l.fn.journal.entries l.journal.entries l.self;
+  agrees : Counted l.journal.entries l.self;
 }

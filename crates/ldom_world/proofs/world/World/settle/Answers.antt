@@ -1,5 +1,6 @@
 use Rattle.std.proofs.lemmas.Result.{on_err_weaker, on_ok_weaker}
 use Rattle.ldom_world.proofs.SettlingAdds.{count_at, count_below, ended_fits, names_want, on_err, out_adds}
+use Rattle.ldom_world.specs.SettleParts.{marks_of}
 use Rattle.ldom_world.proofs.world.World.settle.Goals as goal
 
 pub returns-in_err-settle_turn-clause-so_far : goal.returns-in_err-settle_turn-clause-so_far
@@ -13,7 +14,7 @@ returns-then-branch-clause-fits g c =
     let few = count_below c.loop.counter c.most_rounds-end.result _ c.loop-test.true c.most_rounds-end.ensures.most in
     ended_fits c.in_ok-settle_turn.field-0 c.args.self.now c.loop.self c.settle_turn.new.self c.loop.counter
     c.args.journal.now.entries c.loop.journal.entries c.settle_turn.new.journal.entries
-    c.loop.had _ c.loop.quiet _ c.if-branch.true c.in_ok-settle_turn.ensures.turned c.loop.invariant.gone few
+    (marks_of c.loop.had) _ (marks_of c.loop.quiet) _ c.if-branch.true c.in_ok-settle_turn.ensures.turned c.loop.invariant.gone few
 
 pub returns-clause-fits : goal.returns-clause-fits
 returns-clause-fits g c =
@@ -21,7 +22,7 @@ returns-clause-fits g c =
     c.most_rounds-end.ensures.most in
     on_ok_weaker c.name_left.result
     (λ named. out_adds c.args.self.now c.loop.self c.loop.counter c.args.journal.now.entries c.loop.journal.entries
-    c.name_left.new.journal.entries c.loop.had c.loop.quiet c.loop.invariant.gone most named)
+    c.name_left.new.journal.entries (marks_of c.loop.had) (marks_of c.loop.quiet) c.loop.invariant.gone most named)
     c.name_left.ensures.named
 
 pub returns-clause-so_far : goal.returns-clause-so_far
@@ -30,5 +31,5 @@ returns-clause-so_far g c =
     c.most_rounds-end.ensures.most in
     on_err_weaker c.name_left.result
     (λ begun. names_want c.args.self.now c.loop.self c.loop.counter c.args.journal.now.entries c.loop.journal.entries
-    c.name_left.new.journal.entries c.loop.had c.loop.quiet c.loop.invariant.gone most begun)
+    c.name_left.new.journal.entries (marks_of c.loop.had) (marks_of c.loop.quiet) c.loop.invariant.gone most begun)
     c.name_left.ensures.begun

@@ -1,16 +1,19 @@
-use Rattle.std.proofs.Common.{rules, ◌∙◌}
-use Rattle.ldom_world.proofs.SettlingLanes.{all_set}
+use Rattle.ldom_world.proofs.SettlingAdds.{on_err, ports_round_front, whole_round}
 use Rattle.ldom_world.proofs.world.World.settle_round.Goals as goal
 
-pub loop-disk-preserved : goal.loop-disk-preserved
-loop-disk-preserved g c =
-    let before = c.loop-disk.invariant in
-    let lane = c.in_ok-calm.ensures in
-    record {
-      made = lane.made c.args.self.now c.args.journal.now.entries before.made;
-      calm = all_set c.loop-disk.disk c.loop-disk.quiet _ c.loop-disk.all c.in_ok-calm.calm
-          (search rules) lane.marked before.calm;
-      many = lane.many ∙ before.many;
-      long = search rules;
-      agrees = lane.agrees;
-    }
+pub returns-in_err-ports-clause-begun : goal.returns-in_err-ports-clause-begun
+returns-in_err-ports-clause-begun g c =
+    on_err c.from_residual-in_err-ports.result
+    (ports_round_front c.args.self.now c.round_of.new.self c.round_of-2.new.self c.args.journal.now.entries
+    c.round_of.new.journal.entries c.round_of-2.new.journal.entries _ c.in_ok-disks.ensures.made
+    c.in_err-ports.ensures.begun)
+
+pub returns-then-disks-clause-made : goal.returns-then-disks-clause-made
+returns-then-disks-clause-made g c =
+    whole_round c.args.self.now c.round_of.new.self c.round_of-2.new.self c.args.journal.now.entries
+    c.round_of.new.journal.entries c.round_of-2.new.journal.entries _ c.in_ok-disks.ensures.made c.in_ok-ports.ensures.made
+
+pub returns-else-disks-clause-made : goal.returns-else-disks-clause-made
+returns-else-disks-clause-made g c =
+    whole_round c.args.self.now c.round_of.new.self c.round_of-2.new.self c.args.journal.now.entries
+    c.round_of.new.journal.entries c.round_of-2.new.journal.entries _ c.in_ok-disks.ensures.made c.in_ok-ports.ensures.made

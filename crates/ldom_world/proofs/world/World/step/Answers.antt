@@ -1,21 +1,16 @@
+use Rattle.std.proofs.lemmas.Result.{on_ok_weaker}
 use Rattle.ldom_report.specs.LaneEvents.{end_of}
-use Rattle.ldom_world.proofs.Lifting.{makes_step, step_agrees, steps_many}
-use Rattle.std.proofs.Common.{false}
+use Rattle.ldom_world.proofs.Turning.{disk_turned, port_turned}
 use Rattle.ldom_world.proofs.world.World.step.Goals as goal
 
-pub returns-clause-made : goal.returns-clause-made
-returns-clause-made g c =
-    makes_step c.args.self.now c.step_end.new.self c.args.disk (end_of c.args.side) c.reserve.new.self
-    _ c.step_end.new.journal c.args.journal.now.entries c.in_ok-reserve.ensures.entries
-    c.in_ok-step_end.ensures.steps
+pub returns-in-Disk-clause-made : goal.returns-in-Disk-clause-made
+returns-in-Disk-clause-made g c =
+    on_ok_weaker c.step_disk.result
+    (λ made. disk_turned c.args.lane.kind c.args.lane.number (end_of c.args.side) c.args.self.now c.step_disk.new.self
+    c.args.journal.now.entries c.step_disk.new.journal.entries c.in-Disk.is made) c.step_disk.ensures.made
 
-pub returns-clause-many : goal.returns-clause-many
-returns-clause-many g c =
-    steps_many false c.args.self.now c.step_end.new.self c.args.disk (end_of c.args.side) c.reserve.new.self
-    _ c.step_end.new.journal c.in_ok-step_end.ensures.steps
-
-pub returns-clause-agrees : goal.returns-clause-agrees
-returns-clause-agrees g c =
-    step_agrees c.args.self.now c.step_end.new.self c.args.disk (end_of c.args.side) c.reserve.new.self
-    _ c.step_end.new.journal c.args.journal.now.entries c.in_ok-reserve.ensures.entries
-    c.in_ok-step_end.ensures.steps c.requires.agrees
+pub returns-in-Port-clause-made : goal.returns-in-Port-clause-made
+returns-in-Port-clause-made g c =
+    on_ok_weaker c.step_port.result
+    (λ made. port_turned c.args.lane.kind c.args.lane.number (end_of c.args.side) c.args.self.now c.step_port.new.self
+    c.args.journal.now.entries c.step_port.new.journal.entries c.in-Port.is made) c.step_port.ensures.made

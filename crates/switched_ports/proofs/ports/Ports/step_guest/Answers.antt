@@ -1,13 +1,15 @@
-use Rattle.std.proofs.Common.{ℕ, List, slice_set, sym, subst}
-use Rattle.lane_kinds.specs.Lanes.{EntryOf}
+use Rattle.std.proofs.Common.{ℕ, List, None, slice_set, sym, subst}
+use Rattle.lane_kinds.specs.Lanes.{EachOf, EntryOf}
 use Rattle.ldc_queue.specs.declared.end.End.TheVariants.{A}
 use Rattle.net_lane.specs.Stepping.{TellsLength, net_answer}
 use Rattle.port_model.specs.NetEvent.{Steps}
-use Rattle.port_model.specs.PortState.{OnLane}
+use Rattle.port_model.specs.PortState.{OnLane, PortState}
 use Rattle.switch_laws.specs.Events.{OnPort}
 use Rattle.switch_laws.specs.Ports.{ports}
+use Rattle.switch_laws.specs.Reached.{IsReached}
 use Rattle.switched_ports.specs.States.{states}
 use Rattle.switched_ports.proofs.Asides.{aside_entry, aside_last, aside_none, aside_tied}
+use Rattle.switched_ports.proofs.OwnSteps.{entry_resets, entry_takes}
 use Rattle.switched_ports.proofs.ports.Ports.step_guest.Goals as goal
 
 pub invariant_of-self : goal.invariant_of-self
@@ -51,3 +53,12 @@ returns-clause-ids c =
     (Steps A (net_answer c.step_into.new.out c.step_into.new.self.guest.last)) c.self.view_is c.self.invariant
     c.requires.port c.index_mut.ensures.value tt
     c.step_into.ensures.step c.step_into.ensures.ids
+
+pub returns-clause-frame : goal.returns-clause-frame
+returns-clause-frame c =
+    entry_takes c.args.port c.args.self.now A c.step_into.new.out _ None _ (returns-clause-entry c)
+    (subst (λ (l : List PortState). EachOf IsReached l) c.self.view_is c.self.invariant.reached)
+
+pub returns-clause-own : goal.returns-clause-own
+returns-clause-own c =
+    entry_resets c.args.port c.args.self.now A c.step_into.new.out _ None _ (returns-clause-entry c)

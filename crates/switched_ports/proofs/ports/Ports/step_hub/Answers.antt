@@ -1,6 +1,11 @@
 use Rattle.std.proofs.Common.{ℕ, List, sym, subst}
+use Rattle.lane_kinds.specs.Lanes.{EachOf}
+use Rattle.ldc_queue.specs.declared.end.End.TheVariants.{B}
 use Rattle.net_lane.specs.Stepping.{TellsLength}
+use Rattle.port_model.specs.PortState.{PortState}
+use Rattle.switch_laws.specs.Reached.{IsReached}
 use Rattle.switched_ports.proofs.HubEvents.{differs, few_ids, hub_entry, hub_last, hub_none, hub_one, hub_tied, known_there, none_more, reached_there}
+use Rattle.switched_ports.proofs.OwnSteps.{entry_resets, entry_takes}
 use Rattle.switched_ports.proofs.ports.Ports.step_hub.Goals as goal
 
 pub step_hub-requires-clause-known : goal.step_hub-requires-clause-known
@@ -60,3 +65,12 @@ returns-clause-same_ids c =
     c.index_mut-lane.ensures.value
     c.step_hub.new.lane c.step_hub.new.switch.ports c.step_hub.new.out c.step_hub.result c.step_hub.ensures.switched
     c.step_hub.ensures.steps)
+
+pub returns-clause-frame : goal.returns-clause-frame
+returns-clause-frame c =
+    entry_takes c.args.port c.args.self.now B c.step_hub.new.out _ c.step_hub.result _ (returns-clause-entry c)
+    (subst (λ (l : List PortState). EachOf IsReached l) c.self.view_is c.self.invariant.reached)
+
+pub returns-clause-own : goal.returns-clause-own
+returns-clause-own c =
+    entry_resets c.args.port c.args.self.now B c.step_hub.new.out _ c.step_hub.result _ (returns-clause-entry c)

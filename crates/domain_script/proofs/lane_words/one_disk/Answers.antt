@@ -1,8 +1,0 @@
-use Rattle.domain_script.specs.declared.fields.Field.TheVariants.{DiskName}
-use Rattle.domain_script.specs.Words.{words}
-use Rattle.domain_script.proofs.RowLemmas.{no_one}
-use Rattle.domain_script.proofs.lane_words.one_disk.Goals as goal
-
-pub returns-clause-none : goal.returns-clause-none
-returns-clause-none c =
-    no_one c.declared_disk.result c.args.names.now DiskName (words c.args.fields.now) c.in_ok-one_word.field-0.now c.in_ok-one_word.ensures c.declared_disk.ensures.none

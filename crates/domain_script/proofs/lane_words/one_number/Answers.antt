@@ -1,0 +1,8 @@
+use Rattle.domain_script.specs.declared.fields.Field.TheVariants.{Named}
+use Rattle.domain_script.specs.Words.{words}
+use Rattle.domain_script.proofs.RowLemmas.{no_one}
+use Rattle.domain_script.proofs.lane_words.one_number.Goals as goal
+
+pub returns-clause-none : goal.returns-clause-none
+returns-clause-none c =
+    no_one c.declared_number.result c.args.names.now (Named c.args.kind) (words c.args.fields.now) c.in_ok-one_word.field-0.now c.in_ok-one_word.ensures c.declared_number.ensures.none

@@ -1,0 +1,21 @@
+-- Fresh lanes: nothing was asked of a disk, and no frame was given to a port.
+use Rattle.std.proofs.Common.{◌≡◌, List, [], ◌∷◌, map, refl, ap, sym, subst, ◌∙◌, arith}
+use Rattle.world_parts.specs.domain_laws.Domain.{DomainState}
+use Rattle.world_parts.specs.port_model.NetLaneState.{NetShape}
+use Rattle.world_parts.specs.port_model.PortState.{PortState, fresh_port}
+use Rattle.world_parts.specs.world_laws.Issued.{issued_on}
+use Rattle.world_parts.specs.disk_model.LaneState.{Shape, fresh}
+use Rattle.switched_ports.specs.Given.{GivenBelow}
+use Rattle.switched_ports.proofs.Fresh.{fresh_below}
+use Rattle.ldom_world.specs.Steps.{Counted}
+
+none_issued : (shapes : List Shape) → issued_on (map fresh shapes) ≡ 0
+none_issued [] = refl
+none_issued (shape ∷ shapes) = omega (arith, none_issued shapes)
+
+pub none_counted : (shapes : List Shape) (nets : List NetShape) (w : DomainState) → w.first.lanes ≡ map fresh shapes
+    → w.second ≡ map fresh_port nets → Counted [] w
+none_counted shapes nets w disks ports = record {
+  accepted = sym (ap issued_on disks ∙ none_issued shapes);
+  given = subst (λ (l : List PortState). GivenBelow 1 l) (sym ports) (fresh_below nets);
+}

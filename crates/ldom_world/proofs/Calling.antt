@@ -1,0 +1,29 @@
+-- Which calls an event of a script makes of a lane, by its kind.
+use Rattle.std.proofs.Common.{◌≡◌, ℕ, List, sym, subst}
+use Rattle.domain_script.specs.declared.event.Side.{Side}
+use Rattle.domain_script.specs.declared.fields.LaneKind.{LaneKind}
+use Rattle.domain_script.specs.declared.fields.LaneKind.TheVariants as kinds
+use Rattle.ldom_world.specs.OnePort.{IsCallOf}
+use Rattle.ldom_world.specs.declared.calls.LaneCall.TheVariants as lane
+
+pub reset_of_lane : (kind : LaneKind) (side : Side) → IsCallOf kind (lane.Reset side)
+reset_of_lane kinds.Disk side = tt
+reset_of_lane kinds.Port side = tt
+
+pub lose_of_lane : (kind : LaneKind) (side : Side) → IsCallOf kind (lane.Lose side)
+lose_of_lane kinds.Disk side = tt
+lose_of_lane kinds.Port side = tt
+
+pub tick_of_lane : (kind : LaneKind) → IsCallOf kind lane.Tick
+tick_of_lane kinds.Disk = tt
+tick_of_lane kinds.Port = tt
+
+pub inject_of_lane : (kind : LaneKind) (side : Side) (packet : List ℕ) → IsCallOf kind (lane.Inject side packet)
+inject_of_lane kinds.Disk side packet = tt
+inject_of_lane kinds.Port side packet = tt
+
+pub restart_of_disk : (kind : LaneKind) → kind ≡ kinds.Disk → IsCallOf kind lane.Restart
+restart_of_disk kind is = subst (λ (k : LaneKind). IsCallOf k lane.Restart) (sym is) tt
+
+-- what the search goes by for the lines of a script
+pub ruleset calls_on = (reset_of_lane, lose_of_lane, tick_of_lane, inject_of_lane, restart_of_disk)

@@ -1,0 +1,148 @@
+-- A world whose disks, or whose ports, made one event: what it did there, it did to the world, and the others stay.
+use Rattle.std.proofs.Common.{◌≡◌, ℕ, ◌+◌, ◌≤◌, ◌<◌, Bool, List, [], ◌∷◌, length, Result, Ok, Err, refl, sym, ap, subst, ◌∙◌, arith, length-append}
+use Rattle.std.specs.Prelude.{IfOk, OnErr, OnOk}
+use Rattle.world_parts.specs.disk_model.DiskEvent.{DiskEvent}
+use Rattle.world_parts.specs.switch_laws.Events.{SwitchEvent}
+use Rattle.world_parts.specs.world_laws.Settle.{OfLane, OfPort, SettleEntry}
+use Rattle.world_parts.specs.world_laws.World.{WorldState, WorldStep}
+use Rattle.world_parts.specs.world_laws.Issued.{issued_on}
+use Rattle.world_parts.specs.domain_laws.Domain.{DomainState, DomainStep, PortsStep, lanes_in}
+use Rattle.world_parts.specs.domain_laws.Lines.{BeginsPart, Line, Nothing, PartOf}
+use Rattle.world_parts.specs.port_model.PortState.{PortState}
+use Rattle.ldom_entries.specs.declared.entry.Entry.{Entry}
+use Rattle.ldom_report.specs.Report.{accepted_count}
+use Rattle.switched_ports.proofs.Entries.{below_later}
+use Rattle.switched_ports.specs.Given.{GivenBelow}
+use Rattle.ldom_world.proofs.Adding.{none_adds}
+use Rattle.ldom_world.specs.Steps.{AnswerMade, Counted, OneMade, QuietMade}
+use Rattle.ldom_world.specs.TurnsMade.{SameNumbers}
+use Rattle.world_parts.specs.Parts.{Adds, Fits, FitsSoFar}
+
+abbrev pub both : WorldState → List PortState → DomainState
+both disks ports = record { first = disks; second = ports }
+
+-- HOW A JOURNAL GREW by what it adds
+pub adds_grow : (line : Line) (old new : List Entry) (entries : List SettleEntry) → Adds line old new entries
+    → length old + 1 ≤ length new + 1
+adds_grow line old new entries adds =
+    omega (arith, ap (λ (l : List Entry). length l) adds.grew, length-append old adds.part)
+
+pub same_grows : (old new : List Entry) → new ≡ old → length old + 1 ≤ length new + 1
+same_grows old new same = omega (arith, ap (λ (l : List Entry). length l) same)
+
+-- one kind made an event, by which the world goes from one state to another
+module _ {W V : Type 0} (KindStep : W → SettleEntry → W → Type 0) (of_lane : ℕ → V → SettleEntry) (state : W → DomainState)
+    (lift : (d : W) (k : ℕ) (event : V) (e : W) → KindStep d (of_lane k event) e
+    → DomainStep (state d) (of_lane k event) (state e))
+    (d : W) (w : DomainState) (is : state d ≡ w) where
+  moves_at : (k : ℕ) (event : V) (e : W) → KindStep d (of_lane k event) e → DomainStep w (of_lane k event) (state e)
+  moves_at k event e moves =
+      subst (λ (x : DomainState). DomainStep x (of_lane k event) (state e)) is (lift d k event e moves)
+
+  pub same_at : (e : W) (old new : List Entry) → (e ≡ d) × (new ≡ old) → (state e ≡ w) × (new ≡ old)
+  same_at e old new same = (ap state same.0 ∙ is, same.1)
+
+  -- A STEP
+  pub step_at : (OfEnd : V → Type 0) (k : ℕ) (e : W) (old new : List Entry) → OneMade KindStep of_lane OfEnd k d old new e
+      → OneMade DomainStep of_lane OfEnd k w old new (state e)
+  step_at OfEnd k e old new made = record {
+    event = made.event;
+    of_end = made.of_end;
+    moves = moves_at k made.event e made.moves;
+    adds = made.adds;
+  }
+
+  pub quiet_step_at : (leaves : ℕ → V → List SettleEntry) (calm_at : V → Bool) (OfEnd : V → Type 0) (k : ℕ) (e : W)
+      (old new : List Entry) (calm : Bool) → QuietMade KindStep of_lane leaves calm_at OfEnd k d old new calm e
+      → QuietMade DomainStep of_lane leaves calm_at OfEnd k w old new calm (state e)
+  quiet_step_at leaves calm_at OfEnd k e old new calm made = record {
+    event = made.event;
+    of_end = made.of_end;
+    moves = moves_at k made.event e made.moves;
+    calm_is = made.calm_is;
+    adds = made.adds;
+  }
+
+  -- WHAT A LINE ASKED of one lane: it fits, or nothing was done
+  module _ (line : Line) (k : ℕ) (Answers : V → Type 0) (e : W) (old new : List Entry) where
+    pub answer_fits : ((event : V) → Answers event
+        → PartOf line (lanes_in w) (of_lane k event ∷ []) (lanes_in (state e)))
+        → AnswerMade KindStep of_lane line k Answers d old new e → Fits w line old new (state e)
+    answer_fits as_part made = record {
+      entries = of_lane k made.event ∷ [];
+      adds = made.adds;
+      moves = record {
+        part_of = as_part made.event made.answers;
+        run = (state e, moves_at k made.event e made.moves, refl);
+      };
+    }
+
+    pub nothing_begun : BeginsPart line (lanes_in w) [] (lanes_in (state e)) → (e ≡ d) × (new ≡ old)
+        → FitsSoFar w line old new (state e)
+    nothing_begun begins same = record {
+      entries = [];
+      adds = none_adds line old new same.1;
+      begins = record { begins = begins; run = sym (ap state same.0 ∙ is) };
+    }
+
+-- EACH KIND in a world: the disks beside these ports, and the ports beside these disks
+pub lift_disks : (ports : List PortState) (d : WorldState) (k : ℕ) (event : DiskEvent) (e : WorldState)
+    → WorldStep d (OfLane k event) e → DomainStep (both d ports) (OfLane k event) (both e ports)
+lift_disks ports d k event e moves = record { of_first = moves; of_second = refl }
+
+pub lift_ports : (disks : WorldState) (d : List PortState) (k : ℕ) (event : SwitchEvent) (e : List PortState)
+    → PortsStep d (OfPort k event) e → DomainStep (both disks d) (OfPort k event) (both disks e)
+lift_ports disks d k event e moves = record { of_first = refl; of_second = moves }
+
+module _ (d : WorldState) (p : List PortState) (w : DomainState) (is : both d p ≡ w) where
+  -- WHAT IS ASKED of the world is so of each kind
+  pub disk_within : (k : ℕ) → k < length w.first.lanes → k < length d.lanes
+  disk_within k less = subst (λ (x : DomainState). k < length x.first.lanes) (sym is) less
+
+  pub port_within : (k : ℕ) → k < length w.second → k < length p
+  port_within k less = subst (λ (x : DomainState). k < length x.second) (sym is) less
+
+  pub counted_at : (entries : List Entry) → Counted entries w → accepted_count entries ≡ issued_on d.lanes
+  counted_at entries counted = subst (λ (x : DomainState). accepted_count entries ≡ issued_on x.first.lanes) (sym is) counted.accepted
+
+  pub given_at : (entries : List Entry) → Counted entries w → GivenBelow (length entries + 1) p
+  given_at entries counted = subst (λ (x : DomainState). GivenBelow (length entries + 1) x.second) (sym is) counted.given
+
+  pub disks_same_numbers : (e : WorldState) → length e.lanes ≡ length d.lanes → SameNumbers w (both e p)
+  disks_same_numbers e many =
+      subst (λ (x : DomainState). SameNumbers x (both e p)) is (record { disks = many; ports = refl })
+
+  pub ports_same_numbers : (e : List PortState) → length e ≡ length p → SameNumbers w (both d e)
+  ports_same_numbers e many =
+      subst (λ (x : DomainState). SameNumbers x (both d e)) is (record { disks = refl; ports = many })
+
+  -- THE JOURNAL COUNTS behind an event of a disk, by which it didn't shrink; and behind one of a port, which accepts nothing
+  pub disks_counted : (e : WorldState) (old new : List Entry) → Counted old w → length old + 1 ≤ length new + 1
+      → accepted_count new ≡ issued_on e.lanes → Counted new (both e p)
+  disks_counted e old new counted grows accepted = record {
+    accepted = accepted;
+    given = below_later (length old + 1) (length new + 1) p grows (given_at old counted);
+  }
+
+  pub ports_counted : (e : List PortState) (old new : List Entry) → Counted old w → accepted_count new ≡ accepted_count old
+      → GivenBelow (length new + 1) e → Counted new (both d e)
+  ports_counted e old new counted same given =
+      record { accepted = same ∙ counted_at old counted; given = given }
+
+-- by what a call answered, its journal didn't shrink
+pub grows_by : {X E : Type 0} (result : Result X E) (Made Same : Type 0) (old new : List Entry)
+    → (Made → length old + 1 ≤ length new + 1) → (Same → length old + 1 ≤ length new + 1)
+    → OnOk result Made → OnErr result Same → length old + 1 ≤ length new + 1
+grows_by (Ok x) Made Same old new grew stayed made same = grew made
+grows_by (Err e) Made Same old new grew stayed made same = stayed same
+
+-- and in a settle, by what it adds
+pub quiet_grows : {X E : Type 0} (result : Result X E) (Made : X → Type 0) (Same : Type 0) (old new : List Entry)
+    → ((x : X) → Made x → (entries : List SettleEntry) × Adds Nothing old new entries) → IfOk result Made
+    → OnErr result (Same × (new ≡ old)) → length old + 1 ≤ length new + 1
+quiet_grows (Ok x) Made Same old new adds made same = let at = adds x made in adds_grow Nothing old new at.0 at.1
+quiet_grows (Err e) Made Same old new adds made same = same_grows old new same.1
+
+-- as many lanes of each kind, one after the other
+pub both_numbers : {u v w : DomainState} → SameNumbers u v → SameNumbers v w → SameNumbers u w
+both_numbers one two = record { disks = two.disks ∙ one.disks; ports = two.ports ∙ one.ports }

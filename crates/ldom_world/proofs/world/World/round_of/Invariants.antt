@@ -1,0 +1,15 @@
+use Rattle.std.proofs.Common.{◌≡◌, length, take}
+use Rattle.ldom_world.specs.SettleParts.{LanesAdd}
+use Rattle.ldom_world.specs.Steps.{Counted}
+use Rattle.ldom_world.specs.TurnsMade.{SameNumbers}
+use Rattle.lane_kinds.specs.LanesMade.{all_true}
+use Rattle.ldom_world.proofs.world.World.round_of.Given as goal
+
+abbrev pub invariant-loop-number : goal.invariant-loop-number
+invariant-loop-number g l = record {
+  made : LanesAdd l.fn.kind l.number l.fn.self l.quiet l.self l.fn.journal.entries l.journal.entries;
+  calm : all_true (take l.number l.quiet) ≡ l.all;
+  many : SameNumbers l.fn.self l.self;
+  long : length l.quiet ≡ 8;
+  agrees : Counted l.journal.entries l.self;
+}

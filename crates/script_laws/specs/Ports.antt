@@ -1,0 +1,62 @@
+-- What holds of each port along a script's lines, and at their end.
+use Rattle.std.specs.Prelude.{◌≡◌, ◌↔◌, ℕ, List, [], ◌∷◌, ◌++◌, map, Some, slice_get}
+use Rattle.runs.specs.Run.{Run}
+use Rattle.ldc_queue.specs.declared.end.End.TheVariants.{A, B}
+use Rattle.world_parts.specs.port_laws.InOrder.{InOrder}
+use Rattle.world_parts.specs.port_laws.Lost.{frames_lost}
+use Rattle.world_parts.specs.port_model.NetLaneState.{NetShape}
+use Rattle.world_parts.specs.port_model.PortMay.{IsLawfulPort}
+use Rattle.world_parts.specs.port_model.PortState.{PortState, PortStep, fresh_port}
+use Rattle.world_parts.specs.switch_laws.Events.{Switched}
+use Rattle.world_parts.specs.switch_laws.Forwards.{Forwards}
+use Rattle.world_parts.specs.switch_laws.Reached.{IsUnforged}
+use Rattle.world_parts.specs.world_laws.Settle.{OfPort as PortEntry, SettleEntry, Settled}
+use Rattle.world_parts.specs.domain_laws.Along.{port_happened}
+use Rattle.world_parts.specs.domain_laws.Domain.{PortsStep}
+use Rattle.world_parts.specs.domain_laws.Forged.{NobodyForgesPort}
+use Rattle.world_parts.specs.domain_laws.Frames.{frames_arrived, frames_put, frames_queued, frames_switched, port_events}
+use Rattle.world_parts.specs.domain_laws.Settling.{HoldsNoFrame}
+use Rattle.world_parts.specs.WorldEvents.{told_of}
+
+-- BEHIND A SETTLE the port came to a state, by what happened to it; where nobody forged it, its guest is in session, and
+-- no frame is held. The entries are those of which these are told.
+pub record RestsBehind (shape : NetShape) (k : ℕ) (before : List SettleEntry) : Type 0 where
+  pub real : List SettleEntry
+  pub told_is : before ≡ map told_of real
+  pub at : PortState
+  pub run : Run PortStep (fresh_port shape) (port_events k real) at
+  pub rests : IsUnforged at → HoldsNoFrame at
+
+-- OF EACH PORT, by its number: what happened to it led it here, and is lawful, forged or not. What is told says whether
+-- somebody forged it. Where nobody did, its frames arrive in order, each at most once; and where the script ends settled
+-- and none is said to be lost, all of them. Behind each settle it is at rest.
+pub record OfPort (shape : NetShape) (k : ℕ) (entries real : List SettleEntry) (s : PortState) : Type 0 where
+  pub run : Run PortStep (fresh_port shape) (port_events k real) s
+  pub lawful : IsLawfulPort shape (port_events k real)
+  pub forged : (IsUnforged s) ↔ NobodyForgesPort (port_happened k entries)
+  pub to_switch : IsUnforged s → InOrder 0 (frames_switched k entries) (frames_queued k entries)
+  pub to_guest : IsUnforged s → InOrder 0 (frames_arrived k entries) (frames_put k entries)
+  pub all_to_switch : (front : List SettleEntry) → entries ≡ front ++ Settled ∷ [] → IsUnforged s
+      → frames_lost A (port_events k real) ≡ 0 → frames_switched k entries ≡ frames_queued k entries
+  pub all_to_guest : (front : List SettleEntry) → entries ≡ front ++ Settled ∷ [] → IsUnforged s
+      → frames_lost B (port_events k real) ≡ 0 → frames_arrived k entries ≡ frames_put k entries
+  pub rests : (before behind : List SettleEntry) → entries ≡ before ++ Settled ∷ behind → RestsBehind shape k before
+
+-- A FRAME THAT WAS SWITCHED went to one set of ports and missed another, whose out queues were full: together they are
+-- the other ports in session that its destination names. So it was by the states of all ports, to which the entries before
+-- it led; the entries are those of which these are told.
+pub record GoesByStates (nets : List NetShape) (before : List SettleEntry) (k : ℕ) (frame : List ℕ) (out full : ℕ) : Type 0 where
+  pub real : List SettleEntry
+  pub told_is : before ≡ map told_of real
+  pub at : List PortState
+  pub run : Run PortsStep (map fresh_port nets) real at
+  pub forwards : Forwards at k frame out full
+
+-- OF ALL PORTS, by the entries of which these are told
+pub record PortsStand (nets : List NetShape) (entries : List SettleEntry) (ports : List PortState) : Type 0 where
+  pub real : List SettleEntry
+  pub told_is : entries ≡ map told_of real
+  pub each : (k : ℕ) (shape : NetShape) (s : PortState) → slice_get nets k ≡ Some shape → slice_get ports k ≡ Some s
+      → OfPort shape k entries real s
+  pub forwards : (before : List SettleEntry) (k : ℕ) (frame : List ℕ) (out full : ℕ) (behind : List SettleEntry)
+      → entries ≡ before ++ PortEntry k (Switched frame out full) ∷ behind → GoesByStates nets before k frame out full

@@ -1,5 +1,0 @@
-use Rattle.world_laws.proofs.GoingOn.{fresh_marks, nothing_gone, one_round, one_round_ticked, run_out, settled}
-use Rattle.world_laws.proofs.loop_laws.a_settle_is_made_round_by_round.Goals as goal
-
-pub returns : goal.returns
-returns c = record { begins = nothing_gone; fresh = fresh_marks; loud = one_round; ticked = one_round_ticked; settled = settled; out = run_out }

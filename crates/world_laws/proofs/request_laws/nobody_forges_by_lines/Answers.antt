@@ -1,5 +1,0 @@
-use Rattle.world_laws.proofs.ByLines.{running_begun, running_behind, unforged_begun, unforged_behind}
-use Rattle.world_laws.proofs.request_laws.nobody_forges_by_lines.Goals as goal
-
-pub returns : goal.returns
-returns c = record { unforged = unforged_behind; begun = unforged_begun; running = running_behind; running_begun = running_begun }
