@@ -18,6 +18,7 @@ pub mod HeardFront
 pub mod IdleRuns
 pub mod LaneCounting
 pub mod LaneStepping
+pub mod LaneViews
 pub mod MemoryStanding
 pub mod MemorySteps
 pub mod OfferedRing
