@@ -18,7 +18,7 @@ use Rattle.lane_laws.proofs.ClientMoves.{client_asked, client_begins, client_com
 use Rattle.lane_laws.proofs.ServerMoves.{server_begins, server_fails, server_fetched, server_finished, server_hears, server_moved, server_renews, server_same, server_says, server_stored, server_waits}
 use Rattle.lane_laws.specs.ChannelEnds.{client_core, core_event, server_core}
 use Rattle.lane_laws.specs.Sound.{ClientSound}
-use Rattle.lane_laws.proofs.LaneStepping.{calm_same}
+use Rattle.lane_laws.proofs.LaneViews.{calm_same}
 
 abbrev at_client : LaneState → Seen
 at_client s = seen A s.shape.entries s.wire.wire

@@ -18,7 +18,7 @@ use Rattle.disk_model.specs.ServerStep.{ServerSends, ServerStep}
 use Rattle.disk_model.specs.ServerTaking.{GoesOn, Resets, ServerTake, ServerTakes}
 use Rattle.cookie_copy.specs.Reach.{Reach}
 use Rattle.channel_laws.proofs.Apart.{none_is_some}
-use Rattle.lane_laws.proofs.LaneStepping.{calm_same}
+use Rattle.lane_laws.proofs.LaneViews.{calm_same}
 use Rattle.lane_laws.proofs.RulesFree.{ServerFree, server_free}
 use Rattle.lane_laws.proofs.ServerAnswers.{comes_to, goes_by}
 use Rattle.lane_laws.proofs.UnitsHeld.{fetched_is, moved_work, stored_work}
