@@ -28,7 +28,7 @@ pub sound_step : (s : LaneState) (event : DiskEvent) (t : LaneState) → ClientS
 sound_step s event t sound step = by event (lane_view s event t step).client
   where
     by : (event : DiskEvent) → ClientView s t event → ClientSound t.client
-    by _ (ClientActs event does) = steps_sound s sound event t.client t.memory does
+    by _ (ClientActs event own does) = steps_sound s sound event t.client t.memory does
     by _ (ClientAsked request admits) = client_admits s.client request t.client sound admits
     by _ (ClientCalled cause begins is) = subst ClientSound (sym is) (client_joined s.client sound)
     by _ (ClientStays event beside is) = subst ClientSound (sym is) sound

@@ -15,9 +15,9 @@ use Rattle.channel_model.specs.WireEvent.{Blocked, ByRestart, ByScript, ByStep, 
 use Rattle.cookie_copy.specs.Reach.{Reach}
 use Rattle.disk_model.specs.ClientState.{ClientState, joined_client}
 use Rattle.disk_model.specs.ClientStep.{ClientAdmits, ClientStep}
-use Rattle.disk_model.specs.DiskEvent.{Accepted, Admitted, Asks, Calm, CalmReset, CalmRestart, CalmStart, CalmStop, CalmTick, Calms, Desc, DiskEvent, Done, Finished, Full, Misplaced, Moved, Off, OnWire, Published, Refused, Started, Stopped, Stored, Switched, Switches, Worked, Works}
+use Rattle.disk_model.specs.DiskEvent.{Accepted, Admitted, Asks, Calm, CalmReset, Calms, DiskEvent, Done, Misplaced, OnWire, Published, Started, Stopped, Stored, Switched, Switches, Worked, Works}
 use Rattle.disk_model.specs.LaneState.{LaneState, NearCounts, near_disturbed}
-use Rattle.disk_model.specs.LaneStep.{ClientOnWire, ClientWorks, EndOnWire, LaneStep, ResetBy, RestStep, ServerOnWire, ServerWorks, TurnStep, WireStep, WorkStep, failed_worked, near_on_wire, near_worked, reach}
+use Rattle.disk_model.specs.LaneStep.{EndOnWire, LaneStep, ResetBy, RestStep, ServerWorks, TurnStep, WireStep, WorkStep, failed_worked, near_on_wire, near_worked, reach}
 use Rattle.disk_model.specs.ServerState.{ServerState, joined_server, restarted_server}
 use Rattle.disk_model.specs.ServerStep.{ServerStep}
 use Rattle.lane_laws.specs.BlockLog.{Blockage, Clear}
@@ -64,15 +64,20 @@ Beside A (Asks request) = ⊥
 Beside B (Switches Stopped) = ⊥
 Beside e _ = ⊤
 
+-- a reset that is a step of its end has a cause of its own
+abbrev pub IsOwnStep : DiskEvent → Type 0
+IsOwnStep (OnWire (Reset e cause packet lost)) = giver cause ≡ ByStep
+IsOwnStep _ = ⊤
+
 -- THE FEW WAYS. A reset that a call gives carries no packet and loses no frames.
 pub data ClientView (s t : LaneState) : DiskEvent → Type 0 where
-  ClientActs : (event : DiskEvent) → ClientStep s.client (at_client s) s.memory event t.client t.memory → ClientView s t event
+  ClientActs : (event : DiskEvent) → IsOwnStep event → ClientStep s.client (at_client s) s.memory event t.client t.memory → ClientView s t event
   ClientAsked : (request : Admitted) → ClientAdmits s.client request t.client → ClientView s t (Asks request)
   ClientCalled : (cause : Cause) → reset_move (giver cause) cause None ≡ Begins → t.client ≡ joined_client s.client → ClientView s t (OnWire (Reset A cause None 0))
   ClientStays : (event : DiskEvent) → Beside A event → t.client ≡ s.client → ClientView s t event
 
 pub data ServerView (s t : LaneState) : DiskEvent → Type 0 where
-  ServerActs : (event : DiskEvent) (gave : List ℕ) → ServerStep s.server (at_server s) (reach_of s) gave event t.server t.memory → ServerView s t event
+  ServerActs : (event : DiskEvent) (gave : List ℕ) → IsOwnStep event → ServerStep s.server (at_server s) (reach_of s) gave event t.server t.memory → ServerView s t event
   ServerCalled : (cause : Cause) → reset_move (giver cause) cause None ≡ Begins → t.server ≡ joined_server s.server → ServerView s t (OnWire (Reset B cause None 0))
   ServerRenewed : (cause : Cause) → reset_move (giver cause) cause None ≡ Renews → t.server ≡ restarted_server s.server → ServerView s t (OnWire (Reset B cause None 0))
   ServerStopped : t.server ≡ restarted_server s.server → ServerView s t (Switches Stopped)
@@ -118,27 +123,27 @@ made : (s : LaneState) (event : DiskEvent) (t : LaneState) (c : ClientState) (v 
 made s event t c v memory is = subst (λ (x : LaneState). x ≡ lane_after s event x.client x.server x.memory) (sym is) refl
 
 -- AN END ACTS
-client_acts : (s : LaneState) (event : DiskEvent) (t : LaneState) → Beside B event → ClientStep s.client (at_client s) s.memory event t.client t.memory
+client_acts : (s : LaneState) (event : DiskEvent) (t : LaneState) → Beside B event → IsOwnStep event → ClientStep s.client (at_client s) s.memory event t.client t.memory
     → t ≡ lane_after s event t.client s.server t.memory → LaneView s event t
-client_acts s event t beside step is = record {
-  client = ClientActs event step;
+client_acts s event t beside own step is = record {
+  client = ClientActs event own step;
   server = ServerStays event beside (ap (λ (x : LaneState). x.server) is);
   memory = ClientWrites event step;
   is = made s event t t.client s.server t.memory is;
 }
 
-server_acts : (s : LaneState) (event : DiskEvent) (gave : List ℕ) (t : LaneState) → Beside A event → ServerStep s.server (at_server s) (reach_of s) gave event t.server t.memory
+server_acts : (s : LaneState) (event : DiskEvent) (gave : List ℕ) (t : LaneState) → Beside A event → IsOwnStep event → ServerStep s.server (at_server s) (reach_of s) gave event t.server t.memory
     → t ≡ lane_after s event s.client t.server t.memory → LaneView s event t
-server_acts s event gave t beside step is = record {
+server_acts s event gave t beside own step is = record {
   client = ClientStays event beside (ap (λ (x : LaneState). x.client) is);
-  server = ServerActs event gave step;
+  server = ServerActs event gave own step;
   memory = ServerWrites event gave step;
   is = made s event t s.client t.server t.memory is;
 }
 
-end_acts : (e : End) (s : LaneState) (event : WireEvent) (t : LaneState) → WireBeside (peer_of e) event → EndOnWire e s event t → LaneView s (OnWire event) t
-end_acts A s event t beside step = client_acts s (OnWire event) t beside step.step step.is
-end_acts B s event t beside step = server_acts s (OnWire event) step.0 t beside step.1.step.1 step.1.is
+end_acts : (e : End) (s : LaneState) (event : WireEvent) (t : LaneState) → WireBeside (peer_of e) event → IsOwnStep (OnWire event) → EndOnWire e s event t → LaneView s (OnWire event) t
+end_acts A s event t beside own step = client_acts s (OnWire event) t beside own step.step step.is
+end_acts B s event t beside own step = server_acts s (OnWire event) step.0 t beside own step.1.step.1 step.1.is
 
 -- NO END ACTS
 no_end : (s : LaneState) (event : DiskEvent) (t : LaneState) → Beside A event → Beside B event → t ≡ lane_after s event s.client s.server s.memory → LaneView s event t
@@ -178,8 +183,8 @@ moves_by by cause move given is = ap (λ (g : Giver). reset_move g cause None) g
 
 reset_view : (by : Giver) (e : End) (s : LaneState) (cause : Cause) (packet : Option (List ℕ)) (lost : ℕ) (t : LaneState) → giver cause ≡ by → ResetBy by e s cause packet lost t
     → LaneView s (OnWire (Reset e cause packet lost)) t
-reset_view ByStep A s cause packet lost t by step = end_acts A s (Reset A cause packet lost) t tt step
-reset_view ByStep B s cause packet lost t by step = end_acts B s (Reset B cause packet lost) t tt step
+reset_view ByStep A s cause packet lost t by step = end_acts A s (Reset A cause packet lost) t tt by step
+reset_view ByStep B s cause packet lost t by step = end_acts B s (Reset B cause packet lost) t tt by step
 reset_view ByScript A s cause packet lost t by step = at_none s A cause packet lost t step.0 step.1 (client_called s cause t (moves_by ByScript cause Begins by refl) step.2)
 reset_view ByScript B s cause packet lost t by step =
     at_none s B cause packet lost t step.1.0 step.1.1 (server_called s (OnWire (Reset B cause None 0)) (joined_server s.server) t tt (ServerCalled cause (moves_by ByScript cause Begins by refl)) step.1.2)
@@ -204,11 +209,11 @@ poke_view A s at bytes t step = record {
 poke_view B s at bytes t step = absurd step
 
 wire_view : (s : LaneState) (event : WireEvent) (t : LaneState) → WireStep s event t → LaneView s (OnWire event) t
-wire_view s (Joined e lost) t step = end_acts e s (Joined e lost) t (peer_apart e) step
-wire_view s (Took e packet opens) t step = end_acts e s (Took e packet opens) t (peer_apart e) step
-wire_view s (Sent e packet opens) t step = end_acts e s (Sent e packet opens) t (peer_apart e) step
-wire_view s (Idle e) t step = end_acts e s (Idle e) t (peer_apart e) step
-wire_view s (Blocked e) t step = end_acts e s (Blocked e) t (peer_apart e) step
+wire_view s (Joined e lost) t step = end_acts e s (Joined e lost) t (peer_apart e) tt step
+wire_view s (Took e packet opens) t step = end_acts e s (Took e packet opens) t (peer_apart e) tt step
+wire_view s (Sent e packet opens) t step = end_acts e s (Sent e packet opens) t (peer_apart e) tt step
+wire_view s (Idle e) t step = end_acts e s (Idle e) t (peer_apart e) tt step
+wire_view s (Blocked e) t step = end_acts e s (Blocked e) t (peer_apart e) tt step
 wire_view s (Reset e cause packet lost) t step = reset_view (giver cause) e s cause packet lost t refl step
 wire_view s (Lost e packet) t step = no_end s (OnWire (Lost e packet)) t tt tt step.1
 wire_view s (Injected e packet) t step = no_end s (OnWire (Injected e packet)) t tt tt step.2
@@ -225,12 +230,12 @@ worked_failed _ b = or_false b
 
 server_works : (s : LaneState) (gave : List ℕ) (event : Worked) (t : LaneState) → WorkBeside A event → ServerWorks s gave event t → LaneView s (Works event) t
 server_works s gave event t beside step =
-    server_acts s (Works event) gave t beside step.step.1
+    server_acts s (Works event) gave t beside tt step.step.1
     (step.is ∙ ap (λ (b : Bool). record s { server = t.server; memory = t.memory; failed = b; near = near_worked event s.near }) (worked_failed event s.failed))
 
 work_view : (s : LaneState) (event : Worked) (t : LaneState) → WorkStep s event t → LaneView s (Works event) t
-work_view s (Published id) t step = client_acts s (Works (Published id)) t tt step.step step.is
-work_view s (Done id operation status bytes) t step = client_acts s (Works (Done id operation status bytes)) t tt step.step step.is
+work_view s (Published id) t step = client_acts s (Works (Published id)) t tt tt step.step step.is
+work_view s (Done id operation status bytes) t step = client_acts s (Works (Done id operation status bytes)) t tt tt step.step step.is
 work_view s Misplaced t step = absurd step
 work_view s event t step = server_works s step.0 event t tt step.1
 
@@ -313,7 +318,7 @@ pub client_keeps : (P : ClientState → ClientSide → Type 0) (s : LaneState) (
 client_keeps P s l event t keeps step = by event (lane_view s event t step).client
   where
     by : (event : DiskEvent) → ClientView s t event → P t.client (client_side (after l event))
-    by _ (ClientActs event does) = keeps.acts event t.client t.memory does
+    by _ (ClientActs event own does) = keeps.acts event t.client t.memory does
     by _ (ClientAsked request admits) = subst (P t.client) (sym (asked_side l request)) (keeps.asked request t.client admits)
     by _ (ClientCalled cause begins is) = subst (λ (c : ClientState). P c (client_side (after l (OnWire (Reset A cause None 0))))) (sym is) keeps.joined
     by _ (ClientStays event beside is) = subst (P t.client) (sym (client_side_stays l event beside)) (subst (λ (c : ClientState). P c (client_side l)) (sym is) keeps.now)
@@ -329,7 +334,7 @@ pub server_keeps : (P : ServerState → ServerSide → Type 0) (s : LaneState) (
 server_keeps P s l event t keeps step = by event (lane_view s event t step).server
   where
     by : (event : DiskEvent) → ServerView s t event → P t.server (server_side (after l event))
-    by _ (ServerActs event gave does) = keeps.acts event gave t.server t.memory does
+    by _ (ServerActs event gave own does) = keeps.acts event gave t.server t.memory does
     by _ (ServerCalled cause begins is) = subst (λ (v : ServerState). P v (server_side (after l (OnWire (Reset B cause None 0))))) (sym is) keeps.joined
     by _ (ServerRenewed cause renews is) = subst (λ (v : ServerState). P v (server_side (after l (OnWire (Reset B cause None 0))))) (sym is) keeps.renewed
     by _ (ServerStopped is) = subst (λ (v : ServerState). P v (server_side (after l (Switches Stopped)))) (sym is) keeps.renewed
