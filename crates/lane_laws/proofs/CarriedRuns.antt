@@ -21,7 +21,7 @@ use Rattle.lane_laws.specs.Standing.{LaneInvariant}
 
 -- the lane after an event of a server's work, and one that is the same in client and memory
 server_memory : (s : LaneState) (event : Worked) (t : LaneState) → MemoryStands s → WorkStep s event t → t.client ≡ s.client → MemoryStands t
-server_memory s event t stands step same = kept_memory s t stands (same_client s t same) (work_step_long s event t stands step)
+server_memory s event t stands step same = kept_memory s t stands (same_client s.client t.client same) (work_step_long s event t stands step)
 
 work_memory : (s : LaneState) (event : Worked) (t : LaneState) → MemoryStands s → WorkStep s event t → MemoryStands t
 work_memory s (Published id) t stands step =
@@ -35,7 +35,7 @@ work_memory s (Finished slot status) t stands step = server_memory s (Finished s
 work_memory s Misplaced t stands step = absurd step
 
 same_memory : (s t : LaneState) → MemoryStands s → t.client ≡ s.client → t.memory ≡ s.memory → MemoryStands t
-same_memory s t stands client memory = kept_memory s t stands (same_client s t client) (ap length memory)
+same_memory s t stands client memory = kept_memory s t stands (same_client s.client t.client client) (ap length memory)
 
 equal_memory : (s t : LaneState) → MemoryStands s → t ≡ s → MemoryStands t
 equal_memory s t stands is = subst MemoryStands (sym is) stands
@@ -95,7 +95,7 @@ all_step s l event t all step = (
   carries s l event t all.stands all.memory step,
   record {
     sound = sound_step s event t all.sound step;
-    stands = (stands_step s l event t all.stands step).stands;
+    stands = stands_step s l event t all.stands step;
     memory = memory_step s event t all.memory step;
   },
 )
