@@ -61,8 +61,7 @@ link_begins k empty = record { owes = λ never. absurd (cc); left = λ fresh som
 
 hearing_stuck : (b : Blockage) → is_stuck (hearing b) ≡ is_stuck b
 hearing_stuck Clear = refl
-hearing_stuck Stuck = refl
-hearing_stuck StuckBefore = refl
+hearing_stuck _ = refl
 
 -- it takes a packet where its end isn't urgent
 pub owes_up : (k : LinkState) → is_up k ≡ true → 1 ≤ length k.to_send → owes k ≡ true
@@ -117,8 +116,7 @@ link_puts k quiet = record { owes = λ never. absurd (cc); left = λ fresh some.
 -- it is stuck with what it holds
 stuck_is : (b : Blockage) → is_stuck (stuck b) ≡ true
 stuck_is Clear = refl
-stuck_is Stuck = refl
-stuck_is StuckBefore = refl
+stuck_is _ = refl
 
 pub link_stuck : (k : LinkState) (b : Blockage) → owes k ≡ true → LinkIs k (stuck b)
 link_stuck k b owing = record { owes = λ now. owing; left = λ fresh some. stuck_is b }

@@ -55,8 +55,6 @@ parts_own c false is own = omega (arith, length-drop 56 c.link.to_send, leb-fals
 own_in : (ph : LinkPhase) (c : ClientState) → ClientSound c → is_announcing (session_behind (kind_in ph c.link (is_announcing c.session)) c) ≡ true
     → 1 ≤ length (left_behind_put ph c.link.to_send)
 own_in phase.Established c sound own = parts_own c (nat_le (length c.link.to_send) 56) refl own
-own_in phase.OwesRdx c sound own = sound.own own
-own_in phase.OwesVersInfo c sound own = sound.own own
 own_in _ c sound own = sound.own own
 
 pub client_put_sound : (c : ClientState) → ClientSound c → ClientSound (client_put c)

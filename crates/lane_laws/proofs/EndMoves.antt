@@ -101,6 +101,5 @@ step_b s event t step = by event (lane_view s event t step).server
 
 -- WHAT WAS SAID AND HEARD is the same
 pub transcript_same : (l : TranscriptLog) (event : DiskEvent) → transcript_after l (core_event event) ≡ after_transcript l event
-transcript_same l (OnWire event) = refl
 transcript_same l (Switches Stopped) = refl
 transcript_same l _ = refl

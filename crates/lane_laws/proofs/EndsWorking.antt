@@ -5,7 +5,7 @@ use Rattle.runs.specs.Run.{Run}
 use Rattle.ldc_queue.specs.declared.end.End.{End}
 use Rattle.ldc_queue.specs.declared.end.End.TheVariants.{A, B}
 use Rattle.disk_model.specs.ClientRule as client_rules
-use Rattle.disk_model.specs.DiskEvent.{Asks, Desc, DiskEvent, Done, Finished, Misplaced, Moved, OnWire, Published, Calms, Stored, Switches, Worked, Works}
+use Rattle.disk_model.specs.DiskEvent.{Desc, DiskEvent, Done, Finished, Misplaced, Moved, Published, Stored, Worked, Works}
 use Rattle.lane_laws.specs.DiskLog.{DiskLog, after, nothing_yet}
 use Rattle.disk_model.specs.LaneState.{IsShape, LaneState, Shape, fresh}
 use Rattle.disk_model.specs.LaneStep.{LaneStep, WorkStep}
@@ -45,10 +45,7 @@ work_up s l Misplaced t grounded step = absurd step
 
 works_at : (s : LaneState) (l : DiskLog) (event : DiskEvent) (t : LaneState) → Grounded s l → LaneStep s event t → WorksAt l event
 works_at s l (Works event) t grounded step = work_up s l event t grounded step
-works_at s l (OnWire event) t grounded step = tt
-works_at s l (Asks event) t grounded step = tt
-works_at s l (Switches event) t grounded step = tt
-works_at s l (Calms event) t grounded step = tt
+works_at s l _ t grounded step = tt
 
 -- ALONG EVERY RUN
 pub works_lawful : (shape : Shape) (events : List DiskEvent) (s : LaneState) → IsShape shape → Run LaneStep (fresh shape) events s

@@ -7,7 +7,7 @@ use Rattle.ldc_queue.specs.declared.end.End.{End}
 use Rattle.ldc_queue.specs.declared.end.End.TheVariants.{A, B}
 use Rattle.ldc_queue.specs.Transcript.{Heard as Heard_, Said as Said_, Turn}
 use Rattle.channel_model.specs.Sayings.{half_heard, heard}
-use Rattle.channel_model.specs.WireEvent.{Blocked, Declines, Idle, Injected, Joined, Lost, Poked, Reset, Sent, Took, WireEvent}
+use Rattle.channel_model.specs.WireEvent.{Blocked, Idle, Joined, Reset, Sent, Took, WireEvent}
 use Rattle.channel_model.specs.WireLog.{WireLog, wire_moved}
 use Rattle.lane_laws.specs.DiskLog.{DiskLog, after, nothing_yet}
 use Rattle.channel_model.specs.Messages.{range_ended}
@@ -156,16 +156,7 @@ client_wire shape events s (Idle A) t known step flight = flight_is s t (log_at 
 client_wire shape events s (Reset A cause packet lost) t known step flight =
     flight_is (record s { wire = wire_moved s.wire (Joined A 0); client = t.client; memory = t.memory; near = _ }) t [] step.is
     (client_anew s t.client (log_at shape events).transcript.client (knows_at shape events s (OnWire (Reset A cause packet lost)) t known).rests.client.stands step.step.2 flight)
-client_wire shape events s (Joined B lost) t known step flight = absurd step.step
-client_wire shape events s (Took B packet opens) t known step flight = absurd step.step
-client_wire shape events s (Sent B packet opens) t known step flight = absurd step.step
-client_wire shape events s (Blocked B) t known step flight = absurd step.step
-client_wire shape events s (Idle B) t known step flight = absurd step.step
-client_wire shape events s (Reset B cause packet lost) t known step flight = absurd step.step
-client_wire shape events s (Lost e packet) t known step flight = absurd step.step
-client_wire shape events s (Injected e packet) t known step flight = absurd step.step
-client_wire shape events s (Poked e at bytes) t known step flight = absurd step.step
-client_wire shape events s (Declines d) t known step flight = absurd step.step
+client_wire shape events s _ t known step flight = absurd step.step
 
 -- THE SERVER takes a packet, and puts one
 server_took : (shape : Shape) (events : List DiskEvent) (s : LaneState) (packet : List ℕ) (opens : Bool) (t : LaneState) → StepKnown shape events s (OnWire (Took B packet opens)) t
@@ -222,16 +213,7 @@ server_wire shape events s (Reset B cause packet lost) t known step flight =
     flight_is (record s { wire = wire_moved s.wire (Joined B 0); server = t.server; memory = t.memory; near = _ }) t (log_at shape events).transcript.client step.1.is
     (began s t.server (log_at shape events).transcript.client (log_at shape events).transcript.server (knows_at shape events s (OnWire (Reset B cause packet lost)) t known).rests.server.stands
     step.1.step.1.2 flight)
-server_wire shape events s (Joined A lost) t known step flight = absurd step.1.step.1
-server_wire shape events s (Took A packet opens) t known step flight = absurd step.1.step.1
-server_wire shape events s (Sent A packet opens) t known step flight = absurd step.1.step.1
-server_wire shape events s (Blocked A) t known step flight = absurd step.1.step.1
-server_wire shape events s (Idle A) t known step flight = absurd step.1.step.1
-server_wire shape events s (Reset A cause packet lost) t known step flight = absurd step.1.step.1
-server_wire shape events s (Lost e packet) t known step flight = absurd step.1.step.1
-server_wire shape events s (Injected e packet) t known step flight = absurd step.1.step.1
-server_wire shape events s (Poked e at bytes) t known step flight = absurd step.1.step.1
-server_wire shape events s (Declines d) t known step flight = absurd step.1.step.1
+server_wire shape events s _ t known step flight = absurd step.1.step.1
 
 pub end_wire : (e : End) (shape : Shape) (events : List DiskEvent) (s : LaneState) (event : WireEvent) (t : LaneState) → StepKnown shape events s (OnWire event) t → EndOnWire e s event t
     → InFlight s (log_at shape events).transcript.client → InFlight t (after (log_at shape events) (OnWire event)).transcript.client

@@ -11,7 +11,7 @@ use Rattle.vdisk_msg.specs.Fills.{IsRequest}
 use Rattle.vdisk_msg.specs.Requests.{AreSound, defect}
 use Rattle.channel_model.specs.WireLog.{WireLog}
 use Rattle.lane_laws.specs.DiskLog.{DiskLog, after, nothing_yet}
-use Rattle.disk_model.specs.DiskEvent.{Accepted, Asks, Desc, DiskEvent, Done, Finished, Full, Misplaced, Moved, Off, OnWire, Published, Refused, Calms, Started, Stopped, Stored, Switches, Works}
+use Rattle.disk_model.specs.DiskEvent.{Accepted, Asks, Desc, DiskEvent, Done, Full, OnWire, Published, Refused, Stopped, Switches, Works}
 use Rattle.disk_model.specs.LaneState.{IsShape, LaneState, Shape, fresh}
 use Rattle.disk_model.specs.LaneStep.{LaneStep}
 use Rattle.lane_laws.proofs.RingClientSteps.{got_at}
@@ -62,14 +62,8 @@ behind_done first s l (Works (Done id operation status bytes)) t stands step =
     let within = slice_get_within s.client.pending 0 step.step.request step.step.front in
     front_content first l.work.issued l.work.done s.client.pending stands.pending (omega (arith, within))
 behind_done first s l (Works (Desc slot bytes)) t stands step = refl
-behind_done first s l (Works (Moved unit fault)) t stands step = refl
-behind_done first s l (Works (Stored operation block count failed)) t stands step = refl
-behind_done first s l (Works (Finished slot status)) t stands step = refl
-behind_done first s l (Works Misplaced) t stands step = refl
 behind_done first s l (Switches Stopped) t stands step = refl
-behind_done first s l (Switches Started) t stands step = refl
-behind_done first s l (Switches Off) t stands step = refl
-behind_done first s l (Calms event) t stands step = refl
+behind_done first s l _ t stands step = refl
 
 -- EACH REQUEST that was accepted was admitted
 sound_push : (blocks : ℕ) (requests : List Request) (request : Request) → AreSound blocks requests → defect blocks request ≡ None → IsRequest request → AreSound blocks (requests ++ request ∷ [])
@@ -90,18 +84,9 @@ sound_behind blocks s l (OnWire event) t same sound step = subst (AreSound block
 sound_behind blocks s l (Asks (Accepted id request)) t same sound step =
     sound_push blocks l.work.issued request sound (subst (λ (n : ℕ). defect n request ≡ None) same step.0.0) step.0.2
 sound_behind blocks s l (Asks (Full request)) t same sound step = sound
-sound_behind blocks s l (Asks (Refused why request)) t same sound step = sound
 sound_behind blocks s l (Works (Published id)) t same sound step = sound
-sound_behind blocks s l (Works (Done id operation status bytes)) t same sound step = sound
-sound_behind blocks s l (Works (Desc slot bytes)) t same sound step = sound
-sound_behind blocks s l (Works (Moved unit fault)) t same sound step = sound
-sound_behind blocks s l (Works (Stored operation block count failed)) t same sound step = sound
-sound_behind blocks s l (Works (Finished slot status)) t same sound step = sound
-sound_behind blocks s l (Works Misplaced) t same sound step = sound
 sound_behind blocks s l (Switches Stopped) t same sound step = sound
-sound_behind blocks s l (Switches Started) t same sound step = sound
-sound_behind blocks s l (Switches Off) t same sound step = sound
-sound_behind blocks s l (Calms event) t same sound step = sound
+sound_behind blocks s l _ t same sound step = sound
 
 -- ALONG A RUN with the image
 record AlongImage (shape : Shape) (first : List ℕ) (a : Imaged) (l : DiskLog) : Type 0 where

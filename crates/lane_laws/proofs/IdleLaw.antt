@@ -6,7 +6,7 @@ use Rattle.ldc_queue.specs.declared.end.End.{End}
 use Rattle.ldc_queue.specs.declared.end.End.TheVariants.{A, B}
 use Rattle.ldc_queue.specs.Wire.{waiting_for}
 use Rattle.vdisk_msg.specs.declared.request.Request.{Request}
-use Rattle.channel_model.specs.WireEvent.{Blocked, Declines, Idle, Injected, Joined, Lost, Poked, Reset, Sent, Took, WireEvent}
+use Rattle.channel_model.specs.WireEvent.{Idle, WireEvent}
 use Rattle.channel_model.specs.WireLog.{WireLog}
 use Rattle.channel_laws.proofs.Apart.{some_same}
 use Rattle.channel_laws.proofs.EndsAtRest.{none_waits}
@@ -16,7 +16,7 @@ use Rattle.lane_laws.specs.QuietLaws.{ClientIsIdle, EndIsIdle, IdleAt, ServerIsI
 use Rattle.lane_laws.specs.WorkLaws.{IfClient, IfServer}
 use Rattle.lane_laws.specs.WorkLog.{ClientCounts, ServerCounts}
 use Rattle.disk_model.specs.ClientState.{ClientSession}
-use Rattle.disk_model.specs.DiskEvent.{Asks, DiskEvent, OnWire, Calms, Switches, Works}
+use Rattle.disk_model.specs.DiskEvent.{DiskEvent, OnWire}
 use Rattle.disk_model.specs.LaneState.{LaneState}
 use Rattle.disk_model.specs.LaneStep.{EndOnWire, LaneStep, WireStep}
 use Rattle.disk_model.specs.ServerState.{ServerSession, Work}
@@ -103,19 +103,8 @@ idle_end B s l t grounded step =
 
 wire_idle : (s : LaneState) (l : DiskLog) (event : WireEvent) (t : LaneState) → Grounded s l → WireStep s event t → IdleAt l (OnWire event)
 wire_idle s l (Idle e) t grounded step = idle_end e s l t grounded step
-wire_idle s l (Joined e lost) t grounded step = tt
-wire_idle s l (Took e packet opens) t grounded step = tt
-wire_idle s l (Sent e packet opens) t grounded step = tt
-wire_idle s l (Blocked e) t grounded step = tt
-wire_idle s l (Reset e cause packet lost) t grounded step = tt
-wire_idle s l (Lost e packet) t grounded step = tt
-wire_idle s l (Injected e packet) t grounded step = tt
-wire_idle s l (Poked e at bytes) t grounded step = tt
-wire_idle s l (Declines d) t grounded step = tt
+wire_idle s l _ t grounded step = tt
 
 pub idle_at : (s : LaneState) (l : DiskLog) (event : DiskEvent) (t : LaneState) → Grounded s l → LaneStep s event t → IdleAt l event
 idle_at s l (OnWire event) t grounded step = wire_idle s l event t grounded step
-idle_at s l (Asks event) t grounded step = tt
-idle_at s l (Works event) t grounded step = tt
-idle_at s l (Switches event) t grounded step = tt
-idle_at s l (Calms event) t grounded step = tt
+idle_at s l _ t grounded step = tt

@@ -24,12 +24,7 @@ control_in phase.OwesRdx k is = refl
 control_in phase.OwesVersAck k is = refl
 control_in (phase.OwesVersNack major) k is = refl
 control_in phase.OwesRtr k is = refl
-control_in phase.AwaitsVersAck k is = absurd (cc)
-control_in phase.AwaitsRtr k is = absurd (cc)
-control_in phase.AwaitsVersInfo k is = absurd (cc)
-control_in phase.AwaitsRts k is = absurd (cc)
-control_in phase.AwaitsRdx k is = absurd (cc)
-control_in phase.Established k is = absurd (cc)
+control_in _ k is = absurd (cc)
 
 not_owing : (a b c d : Bool) → (a ≡ true → c ≡ true) → c ≡ false → b ≡ false → (a || b || (d && c)) ≡ false
 not_owing true b c d owes free none = true_is_false (sym (owes refl) ∙ free)

@@ -10,10 +10,10 @@ use Rattle.vio_tag.specs.declared.cause.Cause.TheVariants as the_cause
 use Rattle.channel_model.specs.ResetSays.{WireResetAt}
 use Rattle.channel_model.specs.TranscriptLog.{TranscriptLog, transcript_of}
 use Rattle.channel_model.specs.WireAt.{WireGapAt}
-use Rattle.channel_model.specs.WireEvent.{Blocked, Declines, Idle, Injected, Joined, Lost, Poked, Reset, Sent, Took, WireEvent}
+use Rattle.channel_model.specs.WireEvent.{Reset, WireEvent}
 use Rattle.lane_laws.specs.DiskLog.{DiskLog, after, after_transcript, nothing_yet}
 use Rattle.disk_model.specs.ClientRule.{client_rule}
-use Rattle.disk_model.specs.DiskEvent.{Asks, DiskEvent, OnWire, Calms, Switches, Works}
+use Rattle.disk_model.specs.DiskEvent.{DiskEvent, OnWire}
 use Rattle.disk_model.specs.LaneState.{IsShape, LaneState, Shape, fresh}
 use Rattle.disk_model.specs.LaneStep.{EndOnWire, LaneStep, WireStep, reach}
 use Rattle.channel_model.specs.Seeing.{seen}
@@ -76,22 +76,11 @@ pub record SaysAt (transcript : TranscriptLog) (event : WireEvent) : Type 0 wher
 wire_says : (s : LaneState) (transcript : TranscriptLog) (event : WireEvent) (t : LaneState) → Stands s transcript → WireStep s event t → SaysAt transcript event
 wire_says s transcript (Reset e cause packet lost) t stands step =
     let why = by_giver e s transcript cause packet lost t stands step in record { says = why.says; gap = why.gap }
-wire_says s transcript (Joined e lost) t stands step = record { says = tt; gap = tt }
-wire_says s transcript (Took e packet opens) t stands step = record { says = tt; gap = tt }
-wire_says s transcript (Sent e packet opens) t stands step = record { says = tt; gap = tt }
-wire_says s transcript (Idle e) t stands step = record { says = tt; gap = tt }
-wire_says s transcript (Blocked e) t stands step = record { says = tt; gap = tt }
-wire_says s transcript (Lost e packet) t stands step = record { says = tt; gap = tt }
-wire_says s transcript (Injected e packet) t stands step = record { says = tt; gap = tt }
-wire_says s transcript (Poked e at bytes) t stands step = record { says = tt; gap = tt }
-wire_says s transcript (Declines d) t stands step = record { says = tt; gap = tt }
+wire_says s transcript _ t stands step = record { says = tt; gap = tt }
 
 says_at : (s : LaneState) (l : DiskLog) (event : DiskEvent) (t : LaneState) → Stands s l.transcript → LaneStep s event t → ResetAt l event × GapAt l event
 says_at s l (OnWire event) t stands step = let says = wire_says s l.transcript event t stands step in (says.says, says.gap)
-says_at s l (Asks event) t stands step = (tt, tt)
-says_at s l (Works event) t stands step = (tt, tt)
-says_at s l (Switches event) t stands step = (tt, tt)
-says_at s l (Calms event) t stands step = (tt, tt)
+says_at s l _ t stands step = (tt, tt)
 
 stands_step : (s : LaneState) (transcript : TranscriptLog) (event : DiskEvent) (t : LaneState) → Stands s transcript → LaneStep s event t → Stands t (after_transcript transcript event)
 stands_step s transcript event t (sound, rests) step = (sound_step s event t sound step, rests_step s event t transcript sound rests step)

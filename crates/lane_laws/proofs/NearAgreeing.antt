@@ -198,8 +198,7 @@ asks_ever s (Refused why request) t step = ap (λ (c : ClientState). c.ever_publ
 
 asks_log : (l : DiskLog) (event : Admitted) → (after l (Asks event)).work.done ≡ l.work.done
 asks_log l (Accepted id request) = refl
-asks_log l (Full request) = refl
-asks_log l (Refused why request) = refl
+asks_log l _ = refl
 
 event_same : (s : LaneState) (l : DiskLog) (event : DiskEvent) (t : LaneState) → Before s l → StepFacts s l event t → LaneStep s event t → NearSame s l → NearSame t (after l event)
 event_same s l (OnWire event) t before facts step same = wire_same_near s l event t before facts step same

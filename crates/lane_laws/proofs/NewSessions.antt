@@ -3,12 +3,12 @@ use Rattle.std.proofs.Common.{◌≡◌, true, false, Option, Some, None, List, 
 use Rattle.runs.specs.Lawful.{Lawful, lawful_split, log_of}
 use Rattle.ldc_queue.specs.declared.end.End.{End}
 use Rattle.ldc_queue.specs.declared.end.End.TheVariants.{A, B}
-use Rattle.disk_model.specs.DiskEvent.{Accepted, Asks, Desc, DiskEvent, Done, Finished, Full, Misplaced, Moved, Off, OnWire, Published, Refused, Calms, Started, Stopped, Stored, Switches, Worked, Works}
+use Rattle.disk_model.specs.DiskEvent.{Accepted, Asks, Desc, DiskEvent, Done, Finished, Full, Misplaced, Moved, OnWire, Published, Refused, Stopped, Stored, Switches, Worked, Works}
 use Rattle.lane_laws.specs.DiskLog.{DiskLog, after, nothing_yet}
 use Rattle.disk_model.specs.LaneState.{Shape}
 use Rattle.lane_laws.specs.May.{IsLawful, May}
 use Rattle.channel_model.specs.WireAt.{IsUp}
-use Rattle.channel_model.specs.WireEvent.{Blocked, Declines, Idle, Injected, Joined, Lost, Poked, Reset, Sent, Took, WireEvent}
+use Rattle.channel_model.specs.WireEvent.{Injected, Joined, Lost, Reset, Sent, Took, WireEvent}
 use Rattle.lane_laws.specs.WorkLaws.{FinishesPiece, InClient, InServer, MayComplete, MayFetch, MayPublish, MovesPiece, StoresPiece}
 use Rattle.lane_laws.specs.WorkLog.{ClientCounts, ServerCounts, WorkLog, change_client, change_server}
 use Rattle.lane_laws.proofs.SlotsStepping.{behind_up, upset_not}
@@ -39,20 +39,7 @@ ended_waits B l (OnWire (Reset A cause packet lost)) was = λ up. absurd ((behin
 ended_waits B l (OnWire (Reset B cause packet lost)) was = λ up. refl
 ended_waits A l (Switches Stopped) was = λ up. absurd (upset_not l.wire.wire.end_a up)
 ended_waits B l (Switches Stopped) was = λ up. refl
-ended_waits e l (OnWire (Joined f lost)) was = absurd was
-ended_waits e l (OnWire (Took f packet opens)) was = absurd was
-ended_waits e l (OnWire (Sent f packet opens)) was = absurd was
-ended_waits e l (OnWire (Idle f)) was = absurd was
-ended_waits e l (OnWire (Blocked f)) was = absurd was
-ended_waits e l (OnWire (Lost f packet)) was = absurd was
-ended_waits e l (OnWire (Injected f packet)) was = absurd was
-ended_waits e l (OnWire (Poked f at bytes)) was = absurd was
-ended_waits e l (OnWire (Declines d)) was = absurd was
-ended_waits e l (Asks event) was = absurd was
-ended_waits e l (Works event) was = absurd was
-ended_waits e l (Switches Started) was = absurd was
-ended_waits e l (Switches Off) was = absurd was
-ended_waits e l (Calms event) was = absurd was
+ended_waits e l _ was = absurd was
 
 -- EACH EVENT opens its session, or it still waits: the client
 client_wire : (l : DiskLog) (event : WireEvent) → Waits A l → OpensAt A (OnWire event) ⊎ Waits A (after l (OnWire event))
@@ -67,13 +54,8 @@ client_wire l (Joined B lost) waits = inr (λ up. waits (behind_up l.wire.wire.e
 client_wire l (Reset A cause packet lost) waits = inr (λ up. refl)
 client_wire l (Reset B cause packet lost) waits = inr (λ up. waits (behind_up l.wire.wire.end_b l.wire.wire.end_a up).0)
 client_wire l (Lost A packet) waits = inr waits
-client_wire l (Lost B packet) waits = inr waits
 client_wire l (Injected A packet) waits = inr waits
-client_wire l (Injected B packet) waits = inr waits
-client_wire l (Poked e at bytes) waits = inr waits
-client_wire l (Idle e) waits = inr waits
-client_wire l (Blocked e) waits = inr waits
-client_wire l (Declines d) waits = inr waits
+client_wire l _ waits = inr waits
 
 client_waits : (l : DiskLog) (event : DiskEvent) → Waits A l → OpensAt A event ⊎ Waits A (after l event)
 client_waits l (OnWire event) waits = client_wire l event waits
@@ -88,9 +70,7 @@ client_waits l (Works (Stored operation block count failed)) waits = inr waits
 client_waits l (Works (Finished slot status)) waits = inr waits
 client_waits l (Works Misplaced) waits = inr waits
 client_waits l (Switches Stopped) waits = inr (λ up. absurd (upset_not l.wire.wire.end_a up))
-client_waits l (Switches Started) waits = inr waits
-client_waits l (Switches Off) waits = inr waits
-client_waits l (Calms event) waits = inr waits
+client_waits l _ waits = inr waits
 
 -- the server
 server_wire : (l : DiskLog) (event : WireEvent) → Waits B l → OpensAt B (OnWire event) ⊎ Waits B (after l (OnWire event))
@@ -105,13 +85,8 @@ server_wire l (Joined A lost) waits = inr (λ up. waits (behind_up l.wire.wire.e
 server_wire l (Reset B cause packet lost) waits = inr (λ up. refl)
 server_wire l (Reset A cause packet lost) waits = inr (λ up. waits (behind_up l.wire.wire.end_a l.wire.wire.end_b up).0)
 server_wire l (Lost A packet) waits = inr waits
-server_wire l (Lost B packet) waits = inr waits
 server_wire l (Injected A packet) waits = inr waits
-server_wire l (Injected B packet) waits = inr waits
-server_wire l (Poked e at bytes) waits = inr waits
-server_wire l (Idle e) waits = inr waits
-server_wire l (Blocked e) waits = inr waits
-server_wire l (Declines d) waits = inr waits
+server_wire l _ waits = inr waits
 
 server_waits : (l : DiskLog) (event : DiskEvent) → Waits B l → OpensAt B event ⊎ Waits B (after l event)
 server_waits l (OnWire event) waits = server_wire l event waits
@@ -126,9 +101,7 @@ server_waits l (Works (Stored operation block count failed)) waits = inr (λ up.
 server_waits l (Works (Finished slot status)) waits = inr (λ up. none_server _ l.work.server (waits up))
 server_waits l (Works Misplaced) waits = inr waits
 server_waits l (Switches Stopped) waits = inr (λ up. refl)
-server_waits l (Switches Started) waits = inr waits
-server_waits l (Switches Off) waits = inr waits
-server_waits l (Calms event) waits = inr waits
+server_waits l _ waits = inr waits
 
 goes_on : (e : End) (l : DiskLog) (event : DiskEvent) → Waits e l → OpensAt e event ⊎ Waits e (after l event)
 goes_on A l event waits = client_waits l event waits

@@ -12,12 +12,12 @@ use Rattle.vdisk_msg.specs.declared.request.Request.{Request}
 use Rattle.vio_handshake.specs.declared.handshake.Handshake.{Handshake}
 use Rattle.vio_tag.specs.declared.cause.Cause.{Cause}
 use Rattle.channel_model.specs.Seeing.{Seen}
-use Rattle.channel_model.specs.WireEvent.{Blocked, ByRestart, ByScript, ByStep, ByTick, Declines, Giver, Idle, Injected, Joined, Lost, Poked, Reset, Sent, Took, WireEvent, giver}
+use Rattle.channel_model.specs.WireEvent.{Blocked, ByRestart, ByScript, ByStep, ByTick, Giver, Idle, Reset, Sent, Took, WireEvent, giver}
 use Rattle.disk_model.specs.ClientPutting.{client_holds, is_announcing}
 use Rattle.disk_model.specs.ClientRule as client
 use Rattle.disk_model.specs.ClientState.{ClientSession, ClientState, joined_client}
 use Rattle.disk_model.specs.ClientStep.{ClientFails}
-use Rattle.disk_model.specs.DiskEvent.{Asks, Calms, Desc, DiskEvent, Done, Finished, Misplaced, Moved, OnWire, Published, Stored, Switches, Worked, Works}
+use Rattle.disk_model.specs.DiskEvent.{Desc, DiskEvent, Done, Finished, Misplaced, Moved, OnWire, Published, Stored, Worked, Works}
 use Rattle.disk_model.specs.LaneState.{LaneState}
 use Rattle.disk_model.specs.LaneStep.{CallsReset, EndOnWire, LaneStep, ResetBy, WireStep, WorkStep, reach}
 use Rattle.disk_model.specs.ServerRule as server
@@ -108,12 +108,7 @@ client_fails : (s : ClientState) (rule : client.ClientRule) (memory : List ℕ) 
     → ((bytes : List ℕ) → rule ≡ client.Takes bytes → P) → P
 client_fails s (client.Takes bytes) memory cause packet P fails taking = taking bytes refl
 client_fails s (client.Completes session) memory cause packet P fails taking = let never : Some packet ≡ None = fails.0 in absurd (cc)
-client_fails s client.Joins memory cause packet P fails taking = absurd fails
-client_fails s client.Puts memory cause packet P fails taking = absurd fails
-client_fails s (client.Says message) memory cause packet P fails taking = absurd fails
-client_fails s (client.Announces session) memory cause packet P fails taking = absurd fails
-client_fails s (client.Publishes session request) memory cause packet P fails taking = absurd fails
-client_fails s client.Idles memory cause packet P fails taking = absurd fails
+client_fails s _ memory cause packet P fails taking = absurd fails
 
 -- IT PUTS: where it owes nothing it isn't urgent, and announces
 quiet_link : (s : LaneState) (l : DiskLog) (session : Option ClientSession) (b : Bool) → Told s l → owes_control s.client.link ≡ false → s.client.handshake.owed ≡ None
@@ -127,9 +122,7 @@ quiet_link s l None true told calm none is owing =
 
 all_false : (a b c : Bool) → a ≡ false → b ≡ false → c ≡ false → (a || b || c) ≡ false
 all_false false false false no_a no_b no_c = refl
-all_false true b c no_a no_b no_c = absurd (cc)
-all_false false true c no_a no_b no_c = absurd (cc)
-all_false false false true no_a no_b no_c = absurd (cc)
+all_false _ _ _ no_a no_b no_c = absurd (cc)
 
 client_calm : (s : LaneState) (l : DiskLog) → Told s l → OwesNothing A l → client.is_urgent s.client ≡ false
 client_calm s l told nothing =
@@ -161,11 +154,7 @@ holds_published s l (client.Announces one) held session told nothing rule is now
     let both : Some one ≡ Some session = sym may.3 ∙ now in
     let same : one ≡ session = cc in
     subst (PublishedAll s.client) same (published_all s.client (at_client s) one rule)
-holds_published s l client.Joins held session told nothing rule is now clear = absurd (cc)
-holds_published s l (client.Completes one) held session told nothing rule is now clear = absurd (cc)
-holds_published s l (client.Takes packet) held session told nothing rule is now clear = absurd (cc)
-holds_published s l (client.Publishes one request) held session told nothing rule is now clear = absurd (cc)
-holds_published s l client.Idles held session told nothing rule is now clear = absurd (cc)
+holds_published s l _ held session told nothing rule is now clear = absurd (cc)
 
 published_in_log : (s : LaneState) (l : DiskLog) (held : ClientState) → Told s l → OwesNothing A l → client_holds (client.client_rule s.client (at_client s)) s.client ≡ Some held → HasPublished l
 published_in_log s l held told nothing is =
@@ -229,10 +218,7 @@ server_fails : (s : ServerState) (rule : server.ServerRule) (reach : Reach) (cau
 server_fails s (server.Takes bytes) reach cause packet new P fails taking = taking bytes refl
 server_fails s (server.Fetches session) reach cause packet new P fails taking = let never : Some packet ≡ None = fails.0 in absurd (cc)
 server_fails s (server.Serves session work) reach cause packet new P fails taking = let never : Some packet ≡ None = fails.0 in absurd (cc)
-server_fails s server.Joins reach cause packet new P fails taking = absurd fails
-server_fails s server.Puts reach cause packet new P fails taking = absurd fails
-server_fails s (server.Says message) reach cause packet new P fails taking = absurd fails
-server_fails s server.Idles reach cause packet new P fails taking = absurd fails
+server_fails s _ reach cause packet new P fails taking = absurd fails
 
 -- A RESET that carries a packet is one by the end's own step, which takes it
 calls_none : (s behind : LaneState) (cause : Cause) (e : End) (packet : List ℕ) (lost : ℕ) (t : LaneState) → CallsReset s behind cause e (Some packet) lost t → ⊥
@@ -269,11 +255,7 @@ wire_order s l (Blocked B) t told step = server_to_put s l t.server told step.1.
 wire_order s l (Reset e cause (Some packet) lost) t told step = reset_order (giver cause) e s l cause packet lost t told step
 wire_order s l (Reset e cause None lost) t told step = tt
 wire_order s l (Idle e) t told step = idle_order e s l t told step
-wire_order s l (Joined e lost) t told step = tt
-wire_order s l (Lost e packet) t told step = tt
-wire_order s l (Injected e packet) t told step = tt
-wire_order s l (Poked e at bytes) t told step = tt
-wire_order s l (Declines d) t told step = tt
+wire_order s l _ t told step = tt
 
 work_order : (s : LaneState) (l : DiskLog) (event : Worked) (t : LaneState) → Told s l → WorkStep s event t → OrderAt l (Works event)
 work_order s l (Published id) t told step = publishes_order s l step.step.session step.step.request told step.step.rule
@@ -287,6 +269,4 @@ work_order s l Misplaced t told step = tt
 pub order_at : (s : LaneState) (l : DiskLog) (event : DiskEvent) (t : LaneState) → Told s l → LaneStep s event t → OrderAt l event
 order_at s l (OnWire event) t told step = wire_order s l event t told step
 order_at s l (Works event) t told step = work_order s l event t told step
-order_at s l (Asks event) t told step = tt
-order_at s l (Switches event) t told step = tt
-order_at s l (Calms event) t told step = tt
+order_at s l _ t told step = tt

@@ -16,11 +16,11 @@ use Rattle.lane_laws.specs.Agreement.{WorkAgrees, owed_of}
 use Rattle.lane_laws.specs.DiskLog.{DiskLog}
 use Rattle.lane_laws.specs.WorkLaws.{FinishesPiece, InServer, MovesPiece, Owes, PiecesAt, StoresPiece, access_of, block_in, count_in, desc_in, unit_fault}
 use Rattle.lane_laws.specs.WorkLog.{ServerCounts}
-use Rattle.disk_model.specs.DiskEvent.{Asks, Desc, DiskEvent, Done, Finished, Misplaced, Moved, OnWire, Published, Calms, Stored, Switches, Worked, Works}
+use Rattle.disk_model.specs.DiskEvent.{Desc, DiskEvent, Done, Finished, Misplaced, Moved, Published, Stored, Worked, Works}
 use Rattle.channel_model.specs.OwnMemory.{own_table}
 use Rattle.disk_model.specs.LaneState.{LaneState, pages_of}
 use Rattle.disk_model.specs.LaneStep.{LaneStep, WorkStep, reach}
-use Rattle.disk_model.specs.ServerState.{Ends, Flushes, Gathers, Gives, Progress, Reads, ServerSession, Work, Writes}
+use Rattle.disk_model.specs.ServerState.{Flushes, Gathers, Gives, Progress, Reads, ServerSession, Work, Writes}
 use Rattle.disk_model.specs.ServerStep.{ServerFetches, ServerFinishes, ServerMoves, ServerStores}
 use Rattle.disk_model.specs.ServerWork.{MovesIn, StoresIn, desc_of, slot_fetched, unit_length}
 use Rattle.lane_laws.proofs.RulesFree.{ServerFree, ServesFree, server_free}
@@ -100,10 +100,7 @@ moves_in (Gathers u) s l work unit why next new working within is moves = (
   subst (λ (v : ℕ). Owes (write_pieces u (unit_count (desc_of work).size - u) ++ Finishes 0 ∷ []) (Moves v)) (sym moves.0) (owes_write u (unit_count (desc_of work).size) (Finishes 0 ∷ []) within),
   moves.1 ∙ same_fault s l (desc_of work) u Read working (ap access_of is) ∙ ap (unit_fault l (desc_of work)) (sym moves.0),
 )
-moves_in (Reads u) s l work unit why next new working within is moves = absurd moves
-moves_in (Writes u bytes) s l work unit why next new working within is moves = absurd moves
-moves_in Flushes s l work unit why next new working within is moves = absurd moves
-moves_in (Ends status) s l work unit why next new working within is moves = absurd moves
+moves_in _ s l work unit why next new working within is moves = absurd moves
 
 moved_piece : (s t : LaneState) (l : DiskLog) (unit : ℕ) (why : Option CopyFault) → Working s l
     → ServerMoves s.server (at_server s) (reach s (at_server s).both) unit why t.server t.memory → InServer l.work.server (MovesPiece l unit why)
@@ -156,9 +153,7 @@ stores_in Flushes work operation block count failed gave next within is stores =
   block_is = stores.1 ∙ sym (ap (λ (n : ℕ). if n == 3 then 0 else (desc_of work).offset + 16 * 0) is);
   count_is = stores.2 ∙ sym (ap (λ (n : ℕ). if n == 3 then 0 else min 8192 ((desc_of work).size - 8192 * 0) / 512) is);
 }
-stores_in (Gives u bytes) work operation block count failed gave next within is stores = absurd stores
-stores_in (Gathers u) work operation block count failed gave next within is stores = absurd stores
-stores_in (Ends status) work operation block count failed gave next within is stores = absurd stores
+stores_in _ work operation block count failed gave next within is stores = absurd stores
 
 stored_piece : (s t : LaneState) (l : DiskLog) (operation block count : ℕ) (failed : Bool) (gave : List ℕ) → Working s l
     → ServerStores s.server (at_server s) operation block count failed gave t.server → InServer l.work.server (StoresPiece operation block count)
@@ -203,7 +198,4 @@ work_pieces s l Misplaced t working step = tt
 
 pub pieces_at : (s : LaneState) (l : DiskLog) (event : DiskEvent) (t : LaneState) → Working s l → LaneStep s event t → PiecesAt l event
 pieces_at s l (Works event) t working step = work_pieces s l event t working step
-pieces_at s l (OnWire event) t working step = tt
-pieces_at s l (Asks event) t working step = tt
-pieces_at s l (Switches event) t working step = tt
-pieces_at s l (Calms event) t working step = tt
+pieces_at s l _ t working step = tt

@@ -18,7 +18,7 @@ use Rattle.vio_tag.specs.declared.message.Message.{Message}
 use Rattle.vio_tag.specs.declared.message.MsgBody.TheVariants.{DringData}
 use Rattle.vio_tag.specs.Spelling.{SpellsBody, canonical, envelope_code, subtype_at}
 use Rattle.channel_model.specs.Sayings.{half_heard, half_said, said}
-use Rattle.channel_model.specs.WireEvent.{Blocked, Declines, Idle, Injected, Joined, Lost, Poked, Reset, Sent, Took, WireEvent}
+use Rattle.channel_model.specs.WireEvent.{Sent, Took, WireEvent}
 use Rattle.lane_laws.specs.DiskLog.{DiskLog}
 use Rattle.lane_laws.specs.BlockLog.{Blockage, Clear}
 use Rattle.lane_laws.specs.EndLog.{ident_of, is_stuck_with_own, range_in_work, state_of}
@@ -36,7 +36,7 @@ use Rattle.disk_model.specs.ServerRule as server_rules
 use Rattle.vio_handshake.specs.declared.handshake.Handshake.{Handshake}
 use Rattle.vio_handshake.specs.declared.handshake.Phase.{Phase}
 use Rattle.vio_handshake.specs.Rules.{sid_fault}
-use Rattle.disk_model.specs.DiskEvent.{Asks, DiskEvent, OnWire, Calms, Switches, Works}
+use Rattle.disk_model.specs.DiskEvent.{DiskEvent, OnWire}
 use Rattle.disk_model.specs.LaneState.{IsShape, LaneState}
 use Rattle.disk_model.specs.LaneStep.{EndOnWire, LaneStep, WireStep}
 use Rattle.channel_model.specs.Ranges.{wrapped}
@@ -474,18 +474,8 @@ wire_ranges s l (Sent A packet opens) t sound both told step = said_info s l pac
 wire_ranges s l (Sent B packet opens) t sound both told step = said_ack s l packet opens t.server sound both told step.1.step.1.0
 wire_ranges s l (Took A packet opens) t sound both told step = took_ack s l packet opens t both told step
 wire_ranges s l (Took B packet opens) t sound both told step = took_info s l packet opens t sound both told step
-wire_ranges s l (Joined e lost) t sound both told step = tt
-wire_ranges s l (Idle e) t sound both told step = tt
-wire_ranges s l (Blocked e) t sound both told step = tt
-wire_ranges s l (Reset e cause packet lost) t sound both told step = tt
-wire_ranges s l (Lost e packet) t sound both told step = tt
-wire_ranges s l (Injected e packet) t sound both told step = tt
-wire_ranges s l (Poked e at bytes) t sound both told step = tt
-wire_ranges s l (Declines d) t sound both told step = tt
+wire_ranges s l _ t sound both told step = tt
 
 pub ranges_at : (s : LaneState) (l : DiskLog) (event : DiskEvent) (t : LaneState) → IsShape l.shape → BothAre s l → AreTold s l → LaneStep s event t → RangesAt l event
 ranges_at s l (OnWire event) t sound both told step = wire_ranges s l event t sound both told step
-ranges_at s l (Asks event) t sound both told step = tt
-ranges_at s l (Works event) t sound both told step = tt
-ranges_at s l (Switches event) t sound both told step = tt
-ranges_at s l (Calms event) t sound both told step = tt
+ranges_at s l _ t sound both told step = tt

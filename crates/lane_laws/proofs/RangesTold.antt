@@ -14,7 +14,7 @@ use Rattle.ldc_queue.specs.declared.end.ChannelState.TheVariants.{Up}
 use Rattle.ldc_queue.specs.declared.end.End.TheVariants.{A, B}
 use Rattle.ldc_queue.specs.OneStream.{IsFront}
 use Rattle.ldc_queue.specs.Transcript.{Said, Turn}
-use Rattle.vio_handshake.proofs.Places.{AllSaid, AttributesAnswered, AttributesSaid, Deal, PeerReadyAnswered, PeerReadySaid, PeerRingAnswered, PeerRingSaid, Place, ReadyAnswered, ReadySaid, RingAnswered, RingSaid, VersionAnswered, VersionSaid, handshake_at, message_at}
+use Rattle.vio_handshake.proofs.Places.{AllSaid, Deal, Place, VersionSaid, handshake_at, message_at}
 use Rattle.vio_handshake.specs.declared.handshake.Handshake.{Handshake}
 use Rattle.vio_handshake.specs.declared.session.Session.{Session}
 use Rattle.vio_tag.specs.declared.message.Message.{Message}
@@ -26,11 +26,11 @@ use Rattle.channel_model.specs.Messages.{range_in}
 use Rattle.channel_model.specs.Ranges.{wrapped}
 use Rattle.channel_model.specs.Sayings.{half_said, heard, said}
 use Rattle.channel_model.specs.Seeing.{seen}
-use Rattle.channel_model.specs.WireEvent.{Blocked, Declines, Idle, Injected, Joined, Lost, Poked, Reset, Sent, Took, WireEvent}
+use Rattle.channel_model.specs.WireEvent.{Joined, Reset, Sent, Took, WireEvent}
 use Rattle.channel_model.specs.WireLog.{WireLog}
 use Rattle.disk_model.specs.ClientPutting.{client_kind, is_announcing}
 use Rattle.disk_model.specs.ClientState.{ClientState, slot_in}
-use Rattle.disk_model.specs.DiskEvent.{Asks, Calms, DiskEvent, Off, OnWire, Started, Stopped, Switches, Works}
+use Rattle.disk_model.specs.DiskEvent.{DiskEvent, OnWire, Stopped, Switches}
 use Rattle.disk_model.specs.LaneState.{IsShape, LaneState, Shape, fresh}
 use Rattle.disk_model.specs.LaneStep.{LaneStep}
 use Rattle.disk_model.specs.ServerPutting.{server_kind}
@@ -143,18 +143,7 @@ record IsOther (m : Message) : Type 0 where
 
 place_other : (d : Deal) (n : Place) → IsOther (message_at d n)
 place_other d VersionSaid = record { plain = tt; code = omega arith }
-place_other d VersionAnswered = record { plain = tt; code = omega arith }
-place_other d AttributesSaid = record { plain = tt; code = omega arith }
-place_other d AttributesAnswered = record { plain = tt; code = omega arith }
-place_other d RingSaid = record { plain = tt; code = omega arith }
-place_other d RingAnswered = record { plain = tt; code = omega arith }
-place_other d PeerRingSaid = record { plain = tt; code = omega arith }
-place_other d PeerRingAnswered = record { plain = tt; code = omega arith }
-place_other d ReadySaid = record { plain = tt; code = omega arith }
-place_other d ReadyAnswered = record { plain = tt; code = omega arith }
-place_other d PeerReadySaid = record { plain = tt; code = omega arith }
-place_other d PeerReadyAnswered = record { plain = tt; code = omega arith }
-place_other d AllSaid = record { plain = tt; code = omega arith }
+place_other d _ = record { plain = tt; code = omega arith }
 
 other_apart : (m : Message) → IsOther m → IsApart (canonical m)
 other_apart m is = omega (arith, is.code, envelope_reads m.subtype m.sid m.body is.plain)
@@ -362,21 +351,12 @@ wire_told l (Joined A lost) may tell = record { client = tt; server = tell.serve
 wire_told l (Joined B lost) may tell = record { client = tell.client; server = tt }
 wire_told l (Reset A cause packet lost) may tell = record { client = tt; server = tell.server }
 wire_told l (Reset B cause packet lost) may tell = record { client = tell.client; server = tt }
-wire_told l (Idle e) may tell = record { client = tell.client; server = tell.server }
-wire_told l (Blocked e) may tell = record { client = tell.client; server = tell.server }
-wire_told l (Lost e packet) may tell = record { client = tell.client; server = tell.server }
-wire_told l (Injected e packet) may tell = record { client = tell.client; server = tell.server }
-wire_told l (Poked e at bytes) may tell = record { client = tell.client; server = tell.server }
-wire_told l (Declines d) may tell = record { client = tell.client; server = tell.server }
+wire_told l _ may tell = record { client = tell.client; server = tell.server }
 
 told_step : (l : DiskLog) (event : DiskEvent) → TellsAt l event → TheyTell l → TheyTell (after l event)
 told_step l (OnWire event) may tell = wire_told l event may tell
 told_step l (Switches Stopped) may tell = record { client = tell.client; server = tt }
-told_step l (Switches Started) may tell = record { client = tell.client; server = tell.server }
-told_step l (Switches Off) may tell = record { client = tell.client; server = tell.server }
-told_step l (Asks event) may tell = record { client = tell.client; server = tell.server }
-told_step l (Works event) may tell = record { client = tell.client; server = tell.server }
-told_step l (Calms event) may tell = record { client = tell.client; server = tell.server }
+told_step l _ may tell = record { client = tell.client; server = tell.server }
 
 abbrev MayTell : DiskLog → DiskEvent → Type 0
 MayTell l event = l.wire.forged ≡ false → TellsAt l event

@@ -3,7 +3,7 @@ use Rattle.std.proofs.Common.{◌≡◌, ℕ, ◌+◌, ◌*◌, ◌≤◌, Bool,
 use Rattle.ldc_link.specs.declared.phase.Role.TheVariants.{Responder}
 use Rattle.ldc_queue.specs.declared.end.ChannelState.TheVariants.{Up}
 use Rattle.ldc_queue.specs.Transcript.{Turn}
-use Rattle.channel_model.specs.EndPuts.{ComesUp, EndsOwn, EndsHandshake, Goes, PutKind}
+use Rattle.channel_model.specs.EndPuts.{EndsOwn, PutKind}
 use Rattle.channel_model.specs.Seeing.{Seen}
 use Rattle.disk_model.specs.ServerPutting.{server_holds, server_kind, session_behind}
 use Rattle.disk_model.specs.ServerRule.{Puts, Says, ServerRule, server_rule}
@@ -68,17 +68,11 @@ blocked_falls s at held turns holds stands =
 -- PUTTING a packet: an answer changes neither what it was asked for nor what it finished
 answered_asked : (kind : PutKind) (session : Option ServerSession) → asked_in (session_behind kind session) ≡ asked_in session
 answered_asked EndsOwn None = refl
-answered_asked EndsOwn (Some s) = refl
-answered_asked Goes session = refl
-answered_asked ComesUp session = refl
-answered_asked EndsHandshake session = refl
+answered_asked _ _ = refl
 
 answered_serving : (kind : PutKind) (work : Option Work) (session : Option ServerSession) → serving_left work (session_behind kind session) ≡ serving_left work session
 answered_serving EndsOwn work None = refl
-answered_serving EndsOwn work (Some s) = refl
-answered_serving Goes work session = refl
-answered_serving ComesUp work session = refl
-answered_serving EndsHandshake work session = refl
+answered_serving _ work _ = refl
 
 pub sends_falls : (s : ServerState) (at : Seen) (packet : List ℕ) (opens : Bool) (t : ServerState) (turns : List Turn) → ServerSends s at packet opens t
     → EndStands Responder (server_core s) turns → ServerFalls 1 s t

@@ -5,7 +5,7 @@ use Rattle.ldc_queue.specs.declared.end.ChannelState.{ChannelState}
 use Rattle.ldc_queue.specs.declared.end.ChannelState.TheVariants.{Down, Resetting, Up}
 use Rattle.ldc_queue.specs.declared.end.End.TheVariants.{A, B}
 use Rattle.ldc_queue.specs.Wire.{peer_behind}
-use Rattle.channel_model.specs.WireEvent.{Blocked, Declines, Idle, Injected, Joined, Lost, Poked, Reset, Sent, Took, WireEvent}
+use Rattle.channel_model.specs.WireEvent.{Injected, Joined, Lost, Poked, Reset, Sent, Took, WireEvent}
 use Rattle.vdisk_msg.specs.declared.request.Request.{Request}
 use Rattle.lane_laws.specs.DiskLog.{DiskLog, after}
 use Rattle.lane_laws.specs.RingLog.{Accepted, SlotLog}
@@ -230,6 +230,4 @@ wire_leaves l (Lost B packet) not = record { ring = refl; issued = refl; done = 
 wire_leaves l (Injected A packet) not = record { ring = refl; issued = refl; done = refl; client = ids_stay l.work.client; server = work_stays l.work.server; unforged = λ f. absurd (cc f); live = λ up. inl up }
 wire_leaves l (Injected B packet) not = record { ring = refl; issued = refl; done = refl; client = ids_stay l.work.client; server = work_stays l.work.server; unforged = λ f. absurd (cc f); live = λ up. inl up }
 wire_leaves l (Poked e at bytes) not = record { ring = refl; issued = refl; done = refl; client = ids_stay l.work.client; server = work_stays l.work.server; unforged = λ f. absurd (cc f); live = λ up. inl up }
-wire_leaves l (Idle e) not = record { ring = refl; issued = refl; done = refl; client = ids_stay l.work.client; server = work_stays l.work.server; unforged = λ f. f; live = λ up. inl up }
-wire_leaves l (Blocked e) not = record { ring = refl; issued = refl; done = refl; client = ids_stay l.work.client; server = work_stays l.work.server; unforged = λ f. f; live = λ up. inl up }
-wire_leaves l (Declines d) not = record { ring = refl; issued = refl; done = refl; client = ids_stay l.work.client; server = work_stays l.work.server; unforged = λ f. f; live = λ up. inl up }
+wire_leaves l _ not = record { ring = refl; issued = refl; done = refl; client = ids_stay l.work.client; server = work_stays l.work.server; unforged = λ f. f; live = λ up. inl up }

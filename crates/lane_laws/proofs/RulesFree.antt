@@ -82,11 +82,7 @@ all_calm : (s : ClientState) (at : Seen) (rule : client.ClientRule) → (client.
 all_calm s at client.Puts calm = calm
 all_calm s at (client.Says message) calm = calm
 all_calm s at (client.Announces session) calm = calm
-all_calm s at client.Joins calm = tt
-all_calm s at (client.Completes session) calm = tt
-all_calm s at (client.Takes packet) calm = tt
-all_calm s at (client.Publishes session request) calm = tt
-all_calm s at client.Idles calm = tt
+all_calm s at _ calm = tt
 
 first_calm : (s : ClientState) (at : Seen) (first : Option (List ℕ)) → at.first ≡ first → PutsCalm s at (client.takes_first first (client.puts_first s))
 first_calm s at None is = all_calm s at (client.puts_first s) (λ calm. is)
@@ -112,11 +108,7 @@ put_calm : (s : ClientState) (at : Seen) (rule : client.ClientRule) (held : Clie
 put_calm s at client.Puts held is calm = calm
 put_calm s at (client.Says message) held is calm = calm
 put_calm s at (client.Announces session) held is calm = calm
-put_calm s at client.Joins held is calm = absurd (cc)
-put_calm s at (client.Completes session) held is calm = absurd (cc)
-put_calm s at (client.Takes packet) held is calm = absurd (cc)
-put_calm s at (client.Publishes session request) held is calm = absurd (cc)
-put_calm s at client.Idles held is calm = absurd (cc)
+put_calm s at _ held is calm = absurd (cc)
 
 pub puts_calm : (s : ClientState) (at : Seen) (held : ClientState) → client_holds (client.client_rule s at) s ≡ Some held → client.is_urgent s ≡ false → at.first ≡ None
 puts_calm s at held is = put_calm s at (client.client_rule s at) held is (up_calm s at (is_up at.state))

@@ -22,8 +22,7 @@ up_is Resetting up = absurd (cc)
 
 not_up : (e : ChannelState) → is_up e ≡ false → e ≢ Up
 not_up Up down up = absurd (cc)
-not_up Down down up = absurd (cc)
-not_up Resetting down up = absurd (cc)
+not_up _ down up = absurd (cc)
 
 -- THE CLIENT
 announces_may : (s : ClientState) (at : Seen) (session : ClientSession) (b : Bool) → at.state ≡ Up → owes s.link ≡ false → s.handshake.owed ≡ None

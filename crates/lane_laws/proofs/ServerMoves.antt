@@ -20,7 +20,7 @@ use Rattle.vio_tag.specs.Decoding.{Decodes}
 use Rattle.vio_tag.specs.Spelling.{canonical}
 use Rattle.vio_handshake.specs.declared.handshake.Handshake.{Handshake}
 use Rattle.vio_handshake.specs.Rules.{HandshakeTake, handshake_take}
-use Rattle.channel_model.specs.EndPuts.{ComesUp, EndsOwn, EndsHandshake, Goes as Goes_, PutKind, ending, kind_in, put_opens, handshake_behind, handshake_risen}
+use Rattle.channel_model.specs.EndPuts.{EndsOwn, EndsHandshake, PutKind, ending, kind_in, put_opens, handshake_behind, handshake_risen}
 use Rattle.disk_model.specs.Offering.{server_offer}
 use Rattle.channel_model.specs.Ranges.{wrapped}
 use Rattle.channel_model.specs.Seeing.{Seen}
@@ -319,17 +319,11 @@ server_waits s at t is = let to = holds_by s at (server_rule s at) t (server_may
 -- IT PUTS a packet
 behind_ranges : (kind : PutKind) (session : Option ServerSession) → range_left (session_behind kind session) ≤ range_left session
 behind_ranges EndsOwn None = omega arith
-behind_ranges EndsOwn (Some session) = omega arith
-behind_ranges Goes_ session = omega arith
-behind_ranges ComesUp session = omega arith
-behind_ranges EndsHandshake session = omega arith
+behind_ranges _ _ = omega arith
 
 behind_open : (kind : PutKind) (session : Option ServerSession) → is_some (session_behind kind session) ≡ is_some session
 behind_open EndsOwn None = refl
-behind_open EndsOwn (Some session) = refl
-behind_open Goes_ session = refl
-behind_open ComesUp session = refl
-behind_open EndsHandshake session = refl
+behind_open _ _ = refl
 
 no_ranges : (session : Option ServerSession) → range_left (answered session) ≡ 0
 no_ranges None = refl

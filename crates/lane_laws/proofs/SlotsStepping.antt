@@ -4,7 +4,7 @@ use Rattle.ldc_queue.specs.declared.end.ChannelState.{ChannelState}
 use Rattle.ldc_queue.specs.declared.end.ChannelState.TheVariants.{Down, Resetting, Up}
 use Rattle.ldc_queue.specs.declared.end.End.TheVariants.{A, B}
 use Rattle.ldc_queue.specs.Wire.{Wire, closed, configured, peer_behind, upset}
-use Rattle.channel_model.specs.WireEvent.{Blocked, Declines, Idle, Injected, Joined, Lost, Poked, Reset, Sent, Took, WireEvent}
+use Rattle.channel_model.specs.WireEvent.{Injected, Joined, Lost, Reset, Sent, Took, WireEvent}
 use Rattle.lane_laws.specs.Agreement.{ServerAgrees, WorkAgrees}
 use Rattle.lane_laws.specs.DiskLog.{DiskLog, after}
 use Rattle.channel_model.specs.Messages.{range_ended}
@@ -96,8 +96,7 @@ at_changed wire q g finished descs same at = record {
 
 pub upset_not : (x : ChannelState) → upset x ≡ Up → ⊥
 upset_not Up is = absurd (cc)
-upset_not Down is = absurd (cc)
-upset_not Resetting is = absurd (cc)
+upset_not _ is = absurd (cc)
 
 pub behind_up : (x y : ChannelState) → peer_behind x y ≡ Up → (y ≡ Up) × (x ≡ Up → ⊥)
 behind_up Up y is = absurd (upset_not y is)
@@ -210,10 +209,7 @@ wire_slots s l (Lost A packet) t step facts slots = keep_server l.shape.slots l.
 wire_slots s l (Lost B packet) t step facts slots = keep_server l.shape.slots l.work (after l (OnWire (Lost B packet))).work l.wire.wire (after l (OnWire (Lost B packet))).wire.wire l.ring l.work.client refl (λ finished descs at. same_at l.wire.wire (after l (OnWire (Lost B packet))).wire.wire l.work.server finished descs refl refl at) slots
 wire_slots s l (Injected A packet) t step facts slots = keep_server l.shape.slots l.work (after l (OnWire (Injected A packet))).work l.wire.wire (after l (OnWire (Injected A packet))).wire.wire l.ring l.work.client refl (λ finished descs at. same_at l.wire.wire (after l (OnWire (Injected A packet))).wire.wire l.work.server finished descs refl refl at) slots
 wire_slots s l (Injected B packet) t step facts slots = keep_server l.shape.slots l.work (after l (OnWire (Injected B packet))).work l.wire.wire (after l (OnWire (Injected B packet))).wire.wire l.ring l.work.client refl (λ finished descs at. same_at l.wire.wire (after l (OnWire (Injected B packet))).wire.wire l.work.server finished descs refl refl at) slots
-wire_slots s l (Poked e at bytes) t step facts slots = slots
-wire_slots s l (Idle e) t step facts slots = slots
-wire_slots s l (Blocked e) t step facts slots = slots
-wire_slots s l (Declines d) t step facts slots = slots
+wire_slots s l _ t step facts slots = slots
 
 -- THE WORK: a request is published
 published_in : (s : LaneState) (l : DiskLog) (id : ℕ) (t : LaneState) → Known s l → WorkStep s (Published id) t → SlotsInOrder l → SlotsInOrder (after l (Works (Published id)))

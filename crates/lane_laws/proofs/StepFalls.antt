@@ -5,7 +5,7 @@ use Rattle.ldc_queue.specs.declared.end.End.{End}
 use Rattle.ldc_queue.specs.declared.end.End.TheVariants.{A, B}
 use Rattle.vio_tag.specs.declared.cause.Cause.{Cause}
 use Rattle.channel_model.specs.WireAt.{IsUp}
-use Rattle.channel_model.specs.WireEvent.{Blocked, ByStep, Declines, Giver, Idle, Injected, Joined, Lost, Poked, Reset, Sent, Took, WireEvent, giver}
+use Rattle.channel_model.specs.WireEvent.{Blocked, ByStep, Giver, Idle, Joined, Reset, Sent, Took, WireEvent, giver}
 use Rattle.disk_model.specs.ClientRule as client_rules
 use Rattle.disk_model.specs.ClientState.{ClientState}
 use Rattle.disk_model.specs.ClientStep.{ClientFails}
@@ -71,10 +71,7 @@ wire_falls shape events s e (Sent d packet opens) t sound run clean step own = i
 wire_falls shape events s e (Idle d) t sound run clean step own = inl (own, same_remains s t (idles d s t step))
 wire_falls shape events s e (Blocked d) t sound run clean step own = inl (own, blocked_stays shape events s d t sound run step)
 wire_falls shape events s e (Reset d cause packet lost) t sound run clean step own = inr (own_falls shape events s d cause packet lost t sound run clean own.1 step)
-wire_falls shape events s e (Lost d packet) t sound run clean step own = absurd own
-wire_falls shape events s e (Injected d packet) t sound run clean step own = absurd own
-wire_falls shape events s e (Poked d at bytes) t sound run clean step own = absurd own
-wire_falls shape events s e (Declines d) t sound run clean step own = absurd own
+wire_falls shape events s e _ t sound run clean step own = absurd own
 
 work_falls : (shape : Shape) (events : List DiskEvent) (s : LaneState) (e : End) (event : Worked) (t : LaneState) → IsShape shape → Run LaneStep (fresh shape) events s → LaneStep s (Works event) t
     → remaining t < remaining s

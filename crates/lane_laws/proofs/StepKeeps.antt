@@ -5,7 +5,7 @@ use Rattle.ldc_queue.specs.declared.end.ChannelState.TheVariants.{Down, Resettin
 use Rattle.ldc_queue.specs.declared.end.End.{End}
 use Rattle.ldc_queue.specs.declared.end.End.TheVariants.{A, B}
 use Rattle.ldc_queue.specs.Wire.{state_of}
-use Rattle.channel_model.specs.WireEvent.{Blocked, Declines, Giver, Idle, Injected, Joined, Lost, Poked, Reset, Sent, Took, WireEvent}
+use Rattle.channel_model.specs.WireEvent.{Blocked, Giver, Idle, Joined, Reset, Sent, Took, WireEvent}
 use Rattle.channel_model.specs.WireLog.{WireLog, lossy_behind, wire_moved}
 use Rattle.disk_model.specs.DiskEvent.{Asks, Desc, DiskEvent, Done, Finished, Misplaced, Moved, Off, OnWire, Published, Calms, Started, Stopped, Stored, Switches, Worked, Works}
 use Rattle.disk_model.specs.LaneState.{LaneState}
@@ -58,10 +58,7 @@ wire_keeps s e (Blocked d) t step own = same_lane s t (wire_is d s (Blocked d) t
 wire_keeps s e (Reset d cause packet lost) t step own =
     let resets : EndOnWire d s (Reset d cause packet lost) t = subst (λ (g : Giver). ResetBy g d s cause packet lost t) own.1 step in
     begun_lane d s t (wire_is d s (Reset d cause packet lost) t resets) (stopped_is d s (Reset d cause packet lost) t resets)
-wire_keeps s e (Lost d packet) t step own = absurd own
-wire_keeps s e (Injected d packet) t step own = absurd own
-wire_keeps s e (Poked d at bytes) t step own = absurd own
-wire_keeps s e (Declines d) t step own = absurd own
+wire_keeps s e _ t step own = absurd own
 
 -- THE WORK
 work_keeps : (s : LaneState) (event : Worked) (t : LaneState) → LaneStep s (Works event) t → StepKeeps s t

@@ -157,7 +157,6 @@ idle_none s _ t step = tt
 
 -- THE WIRE: what an event makes of it, and where it may stand
 pub wire_same : (l : WireLog) (event : DiskEvent) → after_wire l event ≡ wire_after l (core_event event)
-wire_same l (OnWire event) = refl
 wire_same l (Switches Stopped) = refl
 wire_same l _ = refl
 

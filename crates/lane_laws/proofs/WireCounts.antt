@@ -80,13 +80,8 @@ k_quiet s l (Sent B packet false) t before facts not =
     kis_server l.wire.wire.end_b l.work.server _ l.work.client l.work.done s.near.k (λ d. refl) before.near.k
 k_quiet s l (Sent B packet true) t before facts not = absurd (facts.sends packet refl)
 k_quiet s l (Lost A packet) t before facts not = before.near.k
-k_quiet s l (Lost B packet) t before facts not = before.near.k
 k_quiet s l (Injected A packet) t before facts not = before.near.k
-k_quiet s l (Injected B packet) t before facts not = before.near.k
-k_quiet s l (Poked e at bytes) t before facts not = before.near.k
-k_quiet s l (Idle e) t before facts not = before.near.k
-k_quiet s l (Blocked e) t before facts not = before.near.k
-k_quiet s l (Declines d) t before facts not = before.near.k
+k_quiet s l _ t before facts not = before.near.k
 
 -- THE CLIENT'S SESSION opens: no server works on it yet
 begins_k : (x : ChannelState) (q : Option ServerCounts) (o : Option ClientCounts) (new : ClientCounts) (done k : ℕ) → new.base ≡ done → ((d : ServerCounts) → x ≡ Up → q ≡ Some d → d.finished ≡ 0)

@@ -8,7 +8,7 @@ use Rattle.lane_laws.specs.DiskLog.{DiskLog}
 use Rattle.lane_laws.specs.WorkLaws.{InClient, InServer, MayComplete, MayFetch, MayPublish, WorkNumbersAt}
 use Rattle.lane_laws.specs.WorkLog.{ClientCounts, ServerCounts}
 use Rattle.disk_model.specs.ClientStep.{ClientCompletes, ClientPublishes}
-use Rattle.disk_model.specs.DiskEvent.{Asks, Desc, DiskEvent, Done, Finished, Misplaced, Moved, OnWire, Published, Calms, Stored, Switches, Worked, Works}
+use Rattle.disk_model.specs.DiskEvent.{Desc, DiskEvent, Done, Finished, Misplaced, Moved, Published, Stored, Worked, Works}
 use Rattle.disk_model.specs.LaneState.{IsShape, LaneState}
 use Rattle.disk_model.specs.LaneStep.{LaneStep, WorkStep, reach}
 use Rattle.channel_model.specs.Seeing.{Seen, seen}
@@ -153,7 +153,4 @@ work_numbers s l Misplaced t grounded step = absurd step
 
 pub numbers_at : (s : LaneState) (l : DiskLog) (event : DiskEvent) (t : LaneState) → Grounded s l → LaneStep s event t → WorkNumbersAt l event
 numbers_at s l (Works event) t grounded step = work_numbers s l event t grounded step
-numbers_at s l (OnWire event) t grounded step = tt
-numbers_at s l (Asks event) t grounded step = tt
-numbers_at s l (Switches event) t grounded step = tt
-numbers_at s l (Calms event) t grounded step = tt
+numbers_at s l _ t grounded step = tt

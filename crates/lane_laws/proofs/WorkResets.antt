@@ -11,13 +11,13 @@ use Rattle.ldc_queue.specs.declared.end.End.{End}
 use Rattle.ldc_queue.specs.declared.end.End.TheVariants.{A, B}
 use Rattle.vio_tag.specs.declared.cause.Cause.{Cause}
 use Rattle.vio_tag.specs.declared.cause.Cause.TheVariants as the_cause
-use Rattle.channel_model.specs.WireEvent.{Blocked, Declines, Idle, Injected, Joined, Lost, Poked, Reset, Sent, Took, WireEvent}
+use Rattle.channel_model.specs.WireEvent.{Reset, WireEvent}
 use Rattle.lane_laws.specs.DiskLog.{DiskLog}
 use Rattle.lane_laws.specs.WorkLaws.{ClientFailed, FetchFailed, InRange, InServer, MayFetch, OwnReset, ResetOf, WorkResetAt}
 use Rattle.lane_laws.specs.WorkLog.{ServerCounts}
 use Rattle.disk_model.specs.ClientRule as client
 use Rattle.disk_model.specs.ClientStep.{ClientFails}
-use Rattle.disk_model.specs.DiskEvent.{Asks, DiskEvent, OnWire, Calms, Switches, Works}
+use Rattle.disk_model.specs.DiskEvent.{DiskEvent, OnWire}
 use Rattle.disk_model.specs.LaneState.{LaneState}
 use Rattle.disk_model.specs.LaneStep.{EndOnWire, LaneStep, WireStep, reach}
 use Rattle.disk_model.specs.ServerRule as server
@@ -62,11 +62,7 @@ client_reset s l _ cause packet grounded lies may fails = absurd fails
 -- A SERVER
 number_small : (why : CopyFault) → (1 ≤ copy_number why) × (copy_number why ≤ 6)
 number_small copy.Channel = (omega arith, omega arith)
-number_small copy.BadAlign = (omega arith, omega arith)
-number_small copy.Short = (omega arith, omega arith)
-number_small copy.BadPage = (omega arith, omega arith)
-number_small copy.NoMap = (omega arith, omega arith)
-number_small copy.NoAccess = (omega arith, omega arith)
+number_small _ = (omega arith, omega arith)
 
 below : (a b : ℕ) → a ≤ b → a ≢ b → a < b
 below a b most other = grind (arith, nat_tests, most, other)
@@ -172,19 +168,8 @@ reset_in e s l (the_cause.Copy fault) packet lost t grounded lies step = end_res
 wire_resets : (s : LaneState) (l : DiskLog) (event : WireEvent) (t : LaneState) → Grounded s l → WireStep s event t → WorkResetAt l (OnWire event)
 wire_resets s l (Reset e cause packet lost) t grounded step =
     reset_in e s l cause packet lost t grounded (by_giver e s l.transcript cause packet lost t (grounded.knows.all.sound, grounded.knows.rests) step).carried step
-wire_resets s l (Joined e lost) t grounded step = tt
-wire_resets s l (Took e packet opens) t grounded step = tt
-wire_resets s l (Sent e packet opens) t grounded step = tt
-wire_resets s l (Idle e) t grounded step = tt
-wire_resets s l (Blocked e) t grounded step = tt
-wire_resets s l (Lost e packet) t grounded step = tt
-wire_resets s l (Injected e packet) t grounded step = tt
-wire_resets s l (Poked e at bytes) t grounded step = tt
-wire_resets s l (Declines d) t grounded step = tt
+wire_resets s l _ t grounded step = tt
 
 pub own_resets_at : (s : LaneState) (l : DiskLog) (event : DiskEvent) (t : LaneState) → Grounded s l → LaneStep s event t → WorkResetAt l event
 own_resets_at s l (OnWire event) t grounded step = wire_resets s l event t grounded step
-own_resets_at s l (Asks event) t grounded step = tt
-own_resets_at s l (Works event) t grounded step = tt
-own_resets_at s l (Switches event) t grounded step = tt
-own_resets_at s l (Calms event) t grounded step = tt
+own_resets_at s l _ t grounded step = tt
