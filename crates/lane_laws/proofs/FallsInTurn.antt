@@ -17,7 +17,7 @@ use Rattle.channel_model.specs.WireEvent.{Joined, Sent, Took, WireEvent}
 use Rattle.channel_model.specs.WireLog.{wire_moved}
 use Rattle.disk_model.specs.ClientState.{ClientState}
 use Rattle.disk_model.specs.ClientTaking.{acknowledged}
-use Rattle.disk_model.specs.DiskEvent.{Desc, DiskEvent, Done, Finished, Misplaced, Moved, OnWire, Published, Stored, Works}
+use Rattle.disk_model.specs.DiskEvent.{Desc, DiskEvent, Done, Finished, Moved, OnWire, Published, Stored, Works}
 use Rattle.disk_model.specs.LaneState.{IsShape, LaneState, Shape, fresh}
 use Rattle.disk_model.specs.LaneStep.{EndOnWire, LaneStep}
 use Rattle.disk_model.specs.ServerRule as server_rules
@@ -174,7 +174,6 @@ does_clean s (Works (Desc slot bytes)) t step does clean = ap (λ (x : LaneState
 does_clean s (Works (Moved unit fault)) t step does clean = ap (λ (x : LaneState). x.wire.forged) step.1.is ∙ clean
 does_clean s (Works (Stored operation block count failed)) t step does clean = ap (λ (x : LaneState). x.wire.forged) step.1.is ∙ clean
 does_clean s (Works (Finished slot status)) t step does clean = ap (λ (x : LaneState). x.wire.forged) step.1.is ∙ clean
-does_clean s (Works Misplaced) t step does clean = absurd does
 does_clean s _ t step does clean = absurd does
 
 pub took_falls : (shape : Shape) (events : List DiskEvent) (s : LaneState) (e : End) (packet : List ℕ) (opens : Bool) (t : LaneState) → IsShape shape → Run LaneStep (fresh shape) events s → s.wire.forged ≡ false

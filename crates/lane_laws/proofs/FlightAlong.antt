@@ -12,7 +12,7 @@ use Rattle.channel_model.specs.WireEvent.{Blocked, ByRestart, ByScript, ByStep, 
 use Rattle.channel_model.specs.WireLog.{WireLog, server_closed, wire_moved}
 use Rattle.lane_laws.specs.DiskLog.{DiskLog, after, nothing_yet}
 use Rattle.disk_model.specs.ClientState.{joined_client}
-use Rattle.disk_model.specs.DiskEvent.{Asks, Calm, CalmReset, CalmRestart, CalmStart, CalmStop, CalmTick, Desc, DiskEvent, Done, Finished, Misplaced, Moved, Off, OnWire, Published, Calms, Started, Stopped, Stored, Switched, Switches, Worked, Works}
+use Rattle.disk_model.specs.DiskEvent.{Asks, Calm, CalmReset, Desc, DiskEvent, Done, Finished, Misplaced, Moved, Off, OnWire, Published, Calms, Started, Stopped, Stored, Switched, Switches, Worked, Works}
 use Rattle.disk_model.specs.LaneState.{IsShape, LaneState, Shape, fresh}
 use Rattle.disk_model.specs.LaneStep.{CallsReset, LaneStep, ResetBy, RestStep, TurnStep, WireStep, WorkStep}
 use Rattle.disk_model.specs.ServerState.{ServerState, joined_server, restarted_server}
@@ -127,12 +127,8 @@ turns_fly s Started t turns step flight = flight_is (record s { stopped = false 
 turns_fly s Off t turns step flight = flight_is s t turns step.1 flight
 
 calm : (s : LaneState) (event : Calm) (t : LaneState) → RestStep s event t → t ≡ s
-calm s CalmTick t step = step.1
-calm s CalmStop t step = step.1
-calm s CalmStart t step = step.1
 calm s (CalmReset A) t step = absurd step
-calm s (CalmReset B) t step = step.1
-calm s CalmRestart t step = step.1
+calm s _ t step = step.1
 
 flight_step : (shape : Shape) (events : List DiskEvent) (s : LaneState) (event : DiskEvent) (t : LaneState) → StepKnown shape events s event t → LaneStep s event t
     → InFlight s (log_at shape events).transcript.client → InFlight t (after (log_at shape events) event).transcript.client

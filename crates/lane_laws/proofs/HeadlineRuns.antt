@@ -11,7 +11,7 @@ use Rattle.vdisk_msg.specs.Fills.{IsRequest}
 use Rattle.vdisk_msg.specs.Requests.{AreSound, defect}
 use Rattle.channel_model.specs.WireLog.{WireLog}
 use Rattle.lane_laws.specs.DiskLog.{DiskLog, after, nothing_yet}
-use Rattle.disk_model.specs.DiskEvent.{Accepted, Asks, Desc, DiskEvent, Done, Full, OnWire, Published, Refused, Stopped, Switches, Works}
+use Rattle.disk_model.specs.DiskEvent.{Accepted, Asks, DiskEvent, Done, OnWire, Published, Stopped, Switches, Works}
 use Rattle.disk_model.specs.LaneState.{IsShape, LaneState, Shape, fresh}
 use Rattle.disk_model.specs.LaneStep.{LaneStep}
 use Rattle.lane_laws.proofs.RingClientSteps.{got_at}
@@ -55,13 +55,9 @@ behind_done : (first : List ℕ) (s : LaneState) (l : DiskLog) (event : DiskEven
 behind_done first s l (OnWire event) t stands step =
     let keeps = wired_keeps l.shape.slots l.transcript l.work event in same_done first s l (OnWire event) keeps.done keeps.issued refl
 behind_done first s l (Asks (Accepted id request)) t stands step = ap (after_requests first) (sym (take-append-le l.work.done l.work.issued (request ∷ []) stands.done))
-behind_done first s l (Asks (Full request)) t stands step = refl
-behind_done first s l (Asks (Refused why request)) t stands step = refl
-behind_done first s l (Works (Published id)) t stands step = refl
 behind_done first s l (Works (Done id operation status bytes)) t stands step =
     let within = slice_get_within s.client.pending 0 step.step.request step.step.front in
     front_content first l.work.issued l.work.done s.client.pending stands.pending (omega (arith, within))
-behind_done first s l (Works (Desc slot bytes)) t stands step = refl
 behind_done first s l (Switches Stopped) t stands step = refl
 behind_done first s l _ t stands step = refl
 
@@ -83,7 +79,6 @@ sound_behind : (blocks : ℕ) (s : LaneState) (l : DiskLog) (event : DiskEvent) 
 sound_behind blocks s l (OnWire event) t same sound step = subst (AreSound blocks) (sym (wired_keeps l.shape.slots l.transcript l.work event).issued) sound
 sound_behind blocks s l (Asks (Accepted id request)) t same sound step =
     sound_push blocks l.work.issued request sound (subst (λ (n : ℕ). defect n request ≡ None) same step.0.0) step.0.2
-sound_behind blocks s l (Asks (Full request)) t same sound step = sound
 sound_behind blocks s l (Works (Published id)) t same sound step = sound
 sound_behind blocks s l (Switches Stopped) t same sound step = sound
 sound_behind blocks s l _ t same sound step = sound

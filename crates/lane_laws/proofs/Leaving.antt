@@ -99,10 +99,8 @@ client_sent c at memory packet t new sends =
 
 -- its session opens: nothing is published in it
 opened_behind : (kind : PutKind) (c : ClientState) → put_opens kind c.handshake ≡ true → session_behind kind c ≡ Some (opened_session (first_id c))
-opened_behind EndsOwn c is = absurd (cc is)
-opened_behind Goes c is = absurd (cc is)
-opened_behind ComesUp c is = absurd (cc is)
 opened_behind EndsHandshake c is = ap (λ (b : Bool). opened_if b c) is
+opened_behind _ c is = absurd (cc is)
 
 pub record ClientOpened (c t : ClientState) : Type 0 where
   pub ever : t.ever_published ≡ c.ever_published

@@ -8,7 +8,7 @@ use Rattle.ldc_queue.specs.declared.end.End.TheVariants.{A, B}
 use Rattle.ldc_queue.specs.Transcript.{Heard, Said}
 use Rattle.channel_model.specs.HandshakeOrder.{HandshakeOrder}
 use Rattle.channel_model.specs.TranscriptLog.{TranscriptLog, hears, says}
-use Rattle.channel_model.specs.WireEvent.{Joined, Sent, Took, WireEvent}
+use Rattle.channel_model.specs.WireEvent.{Sent, Took, WireEvent}
 use Rattle.lane_laws.specs.DiskLog.{after, nothing_yet}
 use Rattle.lane_laws.specs.WorkLaws.{OpeningsAt, OpensRightly}
 use Rattle.disk_model.specs.DiskEvent.{Asks, DiskEvent, OnWire}
@@ -53,7 +53,6 @@ wire_opens : (shape : Shape) (events : List DiskEvent) (s : LaneState) (event : 
     → OpeningsAt (log_of after (nothing_yet shape) events) (OnWire event)
 wire_opens shape events s (Sent e packet opens) t at step = sent_opens shape events s e packet opens t at step
 wire_opens shape events s (Took e packet opens) t at step = took_opens shape events s e packet opens t at step
-wire_opens shape events s (Joined e lost) t at step = tt
 wire_opens shape events s _ t at step = tt
 
 opening_at : (shape : Shape) (events : List DiskEvent) (s : LaneState) (event : DiskEvent) (t : LaneState) → At shape events s → LaneStep s event t

@@ -17,7 +17,7 @@ use Rattle.disk_model.specs.ClientPutting.{client_holds, is_announcing}
 use Rattle.disk_model.specs.ClientRule as client
 use Rattle.disk_model.specs.ClientState.{ClientSession, ClientState, joined_client}
 use Rattle.disk_model.specs.ClientStep.{ClientFails}
-use Rattle.disk_model.specs.DiskEvent.{Desc, DiskEvent, Done, Finished, Misplaced, Moved, OnWire, Published, Stored, Worked, Works}
+use Rattle.disk_model.specs.DiskEvent.{Desc, DiskEvent, Done, Misplaced, OnWire, Published, Worked, Works}
 use Rattle.disk_model.specs.LaneState.{LaneState}
 use Rattle.disk_model.specs.LaneStep.{CallsReset, EndOnWire, LaneStep, ResetBy, WireStep, WorkStep, reach}
 use Rattle.disk_model.specs.ServerRule as server
@@ -253,7 +253,6 @@ wire_order s l (Sent B packet opens) t told step = server_to_put s l step.1.step
 wire_order s l (Blocked A) t told step = client_may_put s l t.client told step.step.0
 wire_order s l (Blocked B) t told step = server_to_put s l t.server told step.1.step.1.0
 wire_order s l (Reset e cause (Some packet) lost) t told step = reset_order (giver cause) e s l cause packet lost t told step
-wire_order s l (Reset e cause None lost) t told step = tt
 wire_order s l (Idle e) t told step = idle_order e s l t told step
 wire_order s l _ t told step = tt
 
@@ -261,10 +260,8 @@ work_order : (s : LaneState) (l : DiskLog) (event : Worked) (t : LaneState) → 
 work_order s l (Published id) t told step = publishes_order s l step.step.session step.step.request told step.step.rule
 work_order s l (Done id operation status bytes) t told step = tt
 work_order s l (Desc slot bytes) t told step = fetches_clear s l step.1.step.1.0.session told step.1.step.1.0.rule
-work_order s l (Moved unit fault) t told step = serves_clear s l step.1.step.1.0.session step.1.step.1.0.work told step.1.step.1.0.rule
-work_order s l (Stored operation block count failed) t told step = serves_clear s l step.1.step.1.0.session step.1.step.1.0.work told step.1.step.1.0.rule
-work_order s l (Finished slot status) t told step = serves_clear s l step.1.step.1.0.session step.1.step.1.0.work told step.1.step.1.0.rule
 work_order s l Misplaced t told step = tt
+work_order s l _ t told step = serves_clear s l step.1.step.1.0.session step.1.step.1.0.work told step.1.step.1.0.rule
 
 pub order_at : (s : LaneState) (l : DiskLog) (event : DiskEvent) (t : LaneState) → Told s l → LaneStep s event t → OrderAt l event
 order_at s l (OnWire event) t told step = wire_order s l event t told step

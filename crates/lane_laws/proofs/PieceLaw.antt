@@ -16,7 +16,7 @@ use Rattle.lane_laws.specs.Agreement.{WorkAgrees, owed_of}
 use Rattle.lane_laws.specs.DiskLog.{DiskLog}
 use Rattle.lane_laws.specs.WorkLaws.{FinishesPiece, InServer, MovesPiece, Owes, PiecesAt, StoresPiece, access_of, block_in, count_in, desc_in, unit_fault}
 use Rattle.lane_laws.specs.WorkLog.{ServerCounts}
-use Rattle.disk_model.specs.DiskEvent.{Desc, DiskEvent, Done, Finished, Misplaced, Moved, Published, Stored, Worked, Works}
+use Rattle.disk_model.specs.DiskEvent.{Desc, DiskEvent, Finished, Moved, Stored, Worked, Works}
 use Rattle.channel_model.specs.OwnMemory.{own_table}
 use Rattle.disk_model.specs.LaneState.{LaneState, pages_of}
 use Rattle.disk_model.specs.LaneStep.{LaneStep, WorkStep, reach}
@@ -191,10 +191,8 @@ work_pieces : (s : LaneState) (l : DiskLog) (event : Worked) (t : LaneState) →
 work_pieces s l (Moved unit why) t working step = moved_piece s t l unit why working step.1.step.1.0
 work_pieces s l (Stored operation block count failed) t working step = stored_piece s t l operation block count failed step.0 working step.1.step.1.0
 work_pieces s l (Finished slot status) t working step = finished_piece s t l slot status working step.1.step.1.0
-work_pieces s l (Published id) t working step = tt
-work_pieces s l (Done id operation status bytes) t working step = tt
 work_pieces s l (Desc slot bytes) t working step = fetched_ready s t slot bytes step.1.step.1.0
-work_pieces s l Misplaced t working step = tt
+work_pieces s l _ t working step = tt
 
 pub pieces_at : (s : LaneState) (l : DiskLog) (event : DiskEvent) (t : LaneState) → Working s l → LaneStep s event t → PiecesAt l event
 pieces_at s l (Works event) t working step = work_pieces s l event t working step

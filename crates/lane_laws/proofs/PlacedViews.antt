@@ -34,10 +34,8 @@ pub record IsLive (x : ChannelState) (q : Option ServerCounts) : Type 0 where
   pub there : q ≡ Some counts
 
 pub live_or_not : (x : ChannelState) (q : Option ServerCounts) → (counts_while x q ≡ None) ⊎ IsLive x q
-live_or_not Down q = inl refl
-live_or_not Resetting q = inl refl
-live_or_not Up None = inl refl
 live_or_not Up (Some d) = inr (record { counts = d; up = refl; there = refl })
+live_or_not _ _ = inl refl
 
 pub live_work : (x : ChannelState) (w : Option Work) (work : Work) → work_while x w ≡ Some work → (x ≡ Up) × (w ≡ Some work)
 live_work Up w work is = (refl, is)

@@ -346,7 +346,6 @@ wire_told l (Sent A packet opens) may tell =
 wire_told l (Sent B packet opens) may tell =
     record { client = tell.client; server = tells_more Responder l.shape.slots (said l.transcript.server) (said (Said packet ∷ l.transcript.server)) may tell.server }
 wire_told l (Took A packet opens) may tell = record { client = tell.client; server = tell.server }
-wire_told l (Took B packet opens) may tell = record { client = tell.client; server = tell.server }
 wire_told l (Joined A lost) may tell = record { client = tt; server = tell.server }
 wire_told l (Joined B lost) may tell = record { client = tell.client; server = tt }
 wire_told l (Reset A cause packet lost) may tell = record { client = tt; server = tell.server }

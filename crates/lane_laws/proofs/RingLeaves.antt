@@ -226,7 +226,6 @@ wire_leaves l (Sent B packet opens) not = record {
   live = λ up. inl up;
 }
 wire_leaves l (Lost A packet) not = record { ring = refl; issued = refl; done = refl; client = ids_stay l.work.client; server = work_stays l.work.server; unforged = λ f. f; live = λ up. inl up }
-wire_leaves l (Lost B packet) not = record { ring = refl; issued = refl; done = refl; client = ids_stay l.work.client; server = work_stays l.work.server; unforged = λ f. f; live = λ up. inl up }
 wire_leaves l (Injected A packet) not = record { ring = refl; issued = refl; done = refl; client = ids_stay l.work.client; server = work_stays l.work.server; unforged = λ f. absurd (cc f); live = λ up. inl up }
 wire_leaves l (Injected B packet) not = record { ring = refl; issued = refl; done = refl; client = ids_stay l.work.client; server = work_stays l.work.server; unforged = λ f. absurd (cc f); live = λ up. inl up }
 wire_leaves l (Poked e at bytes) not = record { ring = refl; issued = refl; done = refl; client = ids_stay l.work.client; server = work_stays l.work.server; unforged = λ f. absurd (cc f); live = λ up. inl up }

@@ -9,20 +9,20 @@ use Rattle.cookie_copy.specs.declared.fault.CopyFault.{CopyFault}
 use Rattle.dring.proofs.Turning.{slot_fits}
 use Rattle.dring.specs.Slots.{slot_bytes}
 use Rattle.map_table.specs.declared.table.Entry.{Entry}
-use Rattle.ldc_queue.specs.declared.end.End.TheVariants.{A, B}
+use Rattle.ldc_queue.specs.declared.end.End.TheVariants.{B}
 use Rattle.vdisk_msg.specs.Check.{first_defect}
 use Rattle.vdisk_msg.specs.declared.desc.DescFault.{DescFault}
 use Rattle.vdisk_msg.specs.declared.desc.DescFault.TheVariants.{Operation}
 use Rattle.vdisk_msg.specs.declared.desc.DiskDesc.{DiskDesc}
 use Rattle.vdisk_msg.specs.Pieces.{Finishes, Moves, Piece, Stores, checked_pieces, operation_pieces, pieces, read_pieces, refusal_status, unit_count, write_pieces}
 use Rattle.channel_model.specs.TranscriptLog.{TranscriptLog}
-use Rattle.channel_model.specs.WireEvent.{Injected, Joined, Lost, Poked, Reset, Sent, Took, WireEvent}
+use Rattle.channel_model.specs.WireEvent.{Injected, Joined, Poked, Reset, Sent, Took, WireEvent}
 use Rattle.channel_laws.proofs.Apart.{some_same}
 use Rattle.lane_laws.specs.Agreement.{RingAgrees, SlotAgrees}
 use Rattle.lane_laws.specs.DiskLog.{DiskLog, after, nothing_yet}
 use Rattle.lane_laws.specs.RingLog.{Free, SlotLog, Zeros, no_ring}
 use Rattle.lane_laws.specs.WorkLog.{ServerCounts, WorkLog, change_server, moved_rest, opened_counts, rest_of, stored_rest, work_wired}
-use Rattle.disk_model.specs.DiskEvent.{Accepted, Admitted, Asks, Desc, DiskEvent, Done, Finished, Full, Misplaced, Moved, OnWire, Published, Refused, Stopped, Stored, Switches, Works}
+use Rattle.disk_model.specs.DiskEvent.{Accepted, Admitted, Asks, Desc, DiskEvent, Finished, Full, Moved, OnWire, Published, Refused, Stopped, Stored, Switches, Works}
 use Rattle.disk_model.specs.LaneState.{IsShape, LaneState, Shape, fresh, pages_of}
 use Rattle.disk_model.specs.LaneStep.{LaneStep}
 use Rattle.lane_laws.proofs.CarriedRuns.{AllStand}
@@ -90,28 +90,19 @@ opened_status true sid o stands = tt
 opened_status false sid o stands = stands
 
 wire_status : (slots : ℕ) (transcript : TranscriptLog) (w : WorkLog) (event : WireEvent) → StatusStands w.server → StatusStands (work_wired slots transcript w event).server
-wire_status slots transcript w (Joined A lost) stands = stands
 wire_status slots transcript w (Joined B lost) stands = tt
-wire_status slots transcript w (Reset A cause packet lost) stands = stands
 wire_status slots transcript w (Reset B cause packet lost) stands = tt
-wire_status slots transcript w (Took A packet opens) stands = stands
 wire_status slots transcript w (Took B packet opens) stands = opened_status opens _ _ (changed_status _ w.server (λ c small. small) stands)
-wire_status slots transcript w (Sent A packet opens) stands = stands
 wire_status slots transcript w (Sent B packet opens) stands = opened_status opens _ _ (changed_status _ w.server (λ c small. small) stands)
 wire_status slots transcript w _ stands = stands
 
 statuses : (l : DiskLog) (event : DiskEvent) → StatusStands l.work.server → StatusStands (after l event).work.server
 statuses l (OnWire event) stands = wire_status l.shape.slots l.transcript l.work event stands
 statuses l (Asks (Accepted id request)) stands = stands
-statuses l (Asks (Full request)) stands = stands
-statuses l (Asks (Refused why request)) stands = stands
-statuses l (Works (Published id)) stands = stands
-statuses l (Works (Done id operation status bytes)) stands = stands
 statuses l (Works (Desc slot bytes)) stands = changed_status _ l.work.server (λ c small. pieces_status _ l.shape.blocks 0x0e) stands
 statuses l (Works (Moved unit fault)) stands = changed_status _ l.work.server (λ c small. moved_status fault c.owed small) stands
 statuses l (Works (Stored operation block count failed)) stands = changed_status _ l.work.server (λ c small. stored_status failed c.owed small) stands
 statuses l (Works (Finished slot status)) stands = changed_status _ l.work.server (λ c small. rest_status c.owed small) stands
-statuses l (Works Misplaced) stands = stands
 statuses l (Switches Stopped) stands = tt
 statuses l _ stands = stands
 
@@ -135,11 +126,6 @@ issued_behind s l _ t stands few step = few
 
 -- where nobody forged after an event, nobody had before it
 wire_before : (l : DiskLog) (event : WireEvent) → (after l (OnWire event)).wire.forged ≡ false → l.wire.forged ≡ false
-wire_before l (Joined e lost) not = not
-wire_before l (Reset e cause packet lost) not = not
-wire_before l (Took e packet opens) not = not
-wire_before l (Sent e packet opens) not = not
-wire_before l (Lost e packet) not = not
 wire_before l (Injected e packet) not = absurd (cc not)
 wire_before l (Poked e at bytes) not = absurd (cc not)
 wire_before l _ not = not

@@ -12,7 +12,7 @@ use Rattle.lane_laws.specs.RingLog.{Accepted as IsAccepted, Done as IsDone, Slot
 use Rattle.lane_laws.specs.WorkLaws.{IfServer}
 use Rattle.lane_laws.specs.WorkLog.{ClientCounts, ServerCounts, WorkLog, change_client, change_server, length_in, one_in}
 use Rattle.disk_model.specs.ClientRule as client_rules
-use Rattle.disk_model.specs.DiskEvent.{Accepted, Asks, Desc, DiskEvent, Done, Finished, Full, Misplaced, Moved, Off, OnWire, Published, Refused, Calms, Started, Stopped, Stored, Switches, Worked, Works}
+use Rattle.disk_model.specs.DiskEvent.{Accepted, Asks, Desc, DiskEvent, Done, Finished, Misplaced, Moved, OnWire, Published, Started, Stopped, Stored, Switches, Worked, Works}
 use Rattle.disk_model.specs.LaneState.{LaneState}
 use Rattle.disk_model.specs.LaneStep.{LaneStep, WorkStep}
 use Rattle.channel_model.specs.Sayings.{half_heard, half_said}
@@ -357,11 +357,8 @@ work_slots s l Misplaced t step facts slots = absurd step
 pub event_slots : (s : LaneState) (l : DiskLog) (event : DiskEvent) (t : LaneState) → LaneStep s event t → StepFacts s l event t → SlotsInOrder l → SlotsInOrder (after l event)
 event_slots s l (OnWire event) t step facts slots = wire_slots s l event t step facts slots
 event_slots s l (Asks (Accepted id request)) t step facts slots = keep_server l.shape.slots l.work (after l (Asks (Accepted id request))).work l.wire.wire l.wire.wire l.ring l.work.client refl (λ finished descs at. at) slots
-event_slots s l (Asks (Full request)) t step facts slots = slots
-event_slots s l (Asks (Refused why request)) t step facts slots = slots
 event_slots s l (Works event) t step facts slots = work_slots s l event t step facts slots
 event_slots s l (Switches Stopped) t step facts slots =
     keep_server l.shape.slots l.work (after l (Switches Stopped)).work l.wire.wire (after l (Switches Stopped)).wire.wire l.ring l.work.client refl (λ finished descs at. at_closed l.wire.wire finished descs) slots
 event_slots s l (Switches Started) t step facts slots = keep_server l.shape.slots l.work (after l (Switches Started)).work l.wire.wire l.wire.wire l.ring l.work.client refl (λ finished descs at. at) slots
-event_slots s l (Switches Off) t step facts slots = slots
-event_slots s l (Calms event) t step facts slots = slots
+event_slots s l _ t step facts slots = slots

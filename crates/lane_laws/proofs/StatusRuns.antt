@@ -13,7 +13,7 @@ use Rattle.lane_laws.specs.RingLog.{Done as IsDone, Free, SlotLog, finished_at, 
 use Rattle.lane_laws.specs.WorkLaws.{IfClient, InClient, Unforged, WorkUnforgedAt, last_of}
 use Rattle.channel_model.specs.Messages.{opening_sid}
 use Rattle.lane_laws.specs.WorkLog.{ClientCounts, Opened, ServerCounts, change_server, rest_of}
-use Rattle.disk_model.specs.DiskEvent.{Accepted, Asks, Desc, DiskEvent, Done, Finished, Full, Misplaced, Moved, OnWire, Published, Refused, Stopped, Stored, Switches, Worked, Works}
+use Rattle.disk_model.specs.DiskEvent.{Accepted, Asks, Desc, DiskEvent, Done, Finished, Misplaced, Moved, OnWire, Published, Stopped, Stored, Switches, Worked, Works}
 use Rattle.disk_model.specs.LaneState.{IsShape, LaneState, Shape, fresh}
 use Rattle.disk_model.specs.LaneStep.{LaneStep, WorkStep}
 use Rattle.channel_model.specs.Seeing.{seen}
@@ -155,8 +155,6 @@ work_status s l Misplaced t known step stand = absurd step
 event_status : (shape : Shape) (s : LaneState) (l : DiskLog) (event : DiskEvent) (t : LaneState) → Around shape s l event t → LaneStep s event t → StatusesStand l → StatusesStand (after l event)
 event_status shape s l (OnWire event) t now step stand = wire_status shape s l event t now step stand
 event_status shape s l (Asks (Accepted id request)) t now step stand = record { done = stand.done; last = stand.last; named = stand.named }
-event_status shape s l (Asks (Full request)) t now step stand = record { done = stand.done; last = stand.last; named = stand.named }
-event_status shape s l (Asks (Refused why request)) t now step stand = record { done = stand.done; last = stand.last; named = stand.named }
 event_status shape s l (Works event) t now step stand = work_status s l event t now.known step stand
 event_status shape s l (Switches Stopped) t now step stand = record { done = stand.done; last = λ up. tt; named = stand.named }
 event_status shape s l _ t now step stand = record { done = stand.done; last = stand.last; named = stand.named }

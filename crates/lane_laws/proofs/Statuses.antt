@@ -11,7 +11,7 @@ use Rattle.channel_laws.proofs.Apart.{some_same}
 use Rattle.lane_laws.specs.DiskLog.{DiskLog, after, nothing_yet}
 use Rattle.lane_laws.specs.RingLog.{Done as IsDone, Free, Ready, SlotLog, Zeros, cleared_if, fetched_at, finished_at, freed_at, published_at}
 use Rattle.lane_laws.specs.WorkLog.{ClientCounts, Opened, ServerCounts, WorkLog, finished_in, opened_more}
-use Rattle.disk_model.specs.DiskEvent.{Accepted, Asks, Desc, DiskEvent, Done, Finished, Full, Misplaced, Moved, OnWire, Published, Refused, Stopped, Stored, Switches, Works}
+use Rattle.disk_model.specs.DiskEvent.{Accepted, Asks, Desc, DiskEvent, Done, Finished, Moved, OnWire, Published, Stopped, Switches, Works}
 use Rattle.disk_model.specs.LaneState.{IsShape, LaneState, Shape, fresh}
 use Rattle.disk_model.specs.LaneStep.{LaneStep, WorkStep, reach}
 use Rattle.channel_model.specs.Seeing.{seen}
@@ -83,10 +83,7 @@ more_opened false sid sessions zeros = zeros
 -- EACH EVENT
 wire_zero : (l : DiskLog) (event : WireEvent) → StatusesZero l → StatusesZero (after l (OnWire event))
 wire_zero l (Joined A lost) zeros = record { ring = zeros.ring; opened = zeros.opened }
-wire_zero l (Joined B lost) zeros = record { ring = zeros.ring; opened = zeros.opened }
 wire_zero l (Reset A cause packet lost) zeros = record { ring = zeros.ring; opened = zeros.opened }
-wire_zero l (Reset B cause packet lost) zeros = record { ring = zeros.ring; opened = zeros.opened }
-wire_zero l (Took A packet opens) zeros = record { ring = zeros.ring; opened = zeros.opened }
 wire_zero l (Took B packet opens) zeros = record { ring = zeros.ring; opened = more_opened opens _ l.work.opened zeros.opened }
 wire_zero l (Sent A packet opens) zeros = record { ring = cleared_zero opens l.shape.slots l.ring zeros.ring; opened = zeros.opened }
 wire_zero l (Sent B packet opens) zeros = record { ring = zeros.ring; opened = more_opened opens _ l.work.opened zeros.opened }
@@ -106,17 +103,12 @@ ends_zero s l slot status t before contents step =
 event_zero : (s : LaneState) (l : DiskLog) (event : DiskEvent) (t : LaneState) → Before s l → ContentsStand (view_of s) → LaneStep s event t → StatusesZero l → StatusesZero (after l event)
 event_zero s l (OnWire event) t before contents step zeros = wire_zero l event zeros
 event_zero s l (Asks (Accepted id request)) t before contents step zeros = record { ring = zeros.ring; opened = zeros.opened }
-event_zero s l (Asks (Full request)) t before contents step zeros = record { ring = zeros.ring; opened = zeros.opened }
-event_zero s l (Asks (Refused why request)) t before contents step zeros = record { ring = zeros.ring; opened = zeros.opened }
 event_zero s l (Works (Published id)) t before contents step zeros = record { ring = published_zero l.shape.slots l.work.client id l.ring zeros.ring; opened = zeros.opened }
 event_zero s l (Works (Done id operation status bytes)) t before contents step zeros = record { ring = freed_zero l.shape.slots l.work l.work.client l.ring zeros.ring; opened = zeros.opened }
 event_zero s l (Works (Desc slot bytes)) t before contents step zeros = record { ring = fetched_zero l.shape.slots l.work l.work.server slot l.ring zeros.ring; opened = zeros.opened }
-event_zero s l (Works (Moved unit fault)) t before contents step zeros = record { ring = zeros.ring; opened = zeros.opened }
-event_zero s l (Works (Stored operation block count failed)) t before contents step zeros = record { ring = zeros.ring; opened = zeros.opened }
 event_zero s l (Works (Finished slot status)) t before contents step zeros =
     let none = ends_zero s l slot status t before contents step in
     record { ring = finished_zero l.shape.slots l.work l.work.server slot status l.ring none zeros.ring; opened = finished_opened status l.work.opened none zeros.opened }
-event_zero s l (Works Misplaced) t before contents step zeros = record { ring = zeros.ring; opened = zeros.opened }
 event_zero s l (Switches Stopped) t before contents step zeros = record { ring = zeros.ring; opened = zeros.opened }
 event_zero s l _ t before contents step zeros = record { ring = zeros.ring; opened = zeros.opened }
 

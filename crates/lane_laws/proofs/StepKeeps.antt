@@ -7,7 +7,7 @@ use Rattle.ldc_queue.specs.declared.end.End.TheVariants.{A, B}
 use Rattle.ldc_queue.specs.Wire.{state_of}
 use Rattle.channel_model.specs.WireEvent.{Blocked, Giver, Idle, Joined, Reset, Sent, Took, WireEvent}
 use Rattle.channel_model.specs.WireLog.{WireLog, lossy_behind, wire_moved}
-use Rattle.disk_model.specs.DiskEvent.{Asks, Desc, DiskEvent, Done, Finished, Misplaced, Moved, Off, OnWire, Published, Calms, Started, Stopped, Stored, Switches, Worked, Works}
+use Rattle.disk_model.specs.DiskEvent.{Asks, DiskEvent, Done, Misplaced, Off, OnWire, Published, Calms, Started, Stopped, Switches, Worked, Works}
 use Rattle.disk_model.specs.LaneState.{LaneState}
 use Rattle.disk_model.specs.LaneStep.{EndOnWire, LaneStep, ResetBy}
 use Rattle.lane_laws.specs.CalmEnds.{IsStep, IsWireStep, StepKeeps}
@@ -64,11 +64,8 @@ wire_keeps s e _ t step own = absurd own
 work_keeps : (s : LaneState) (event : Worked) (t : LaneState) → LaneStep s (Works event) t → StepKeeps s t
 work_keeps s (Published id) t step = same_lane s t (ap (λ (x : LaneState). x.wire) step.is) (ap (λ (x : LaneState). x.stopped) step.is)
 work_keeps s (Done id operation status bytes) t step = same_lane s t (ap (λ (x : LaneState). x.wire) step.is) (ap (λ (x : LaneState). x.stopped) step.is)
-work_keeps s (Desc slot bytes) t step = same_lane s t (ap (λ (x : LaneState). x.wire) step.1.is) (ap (λ (x : LaneState). x.stopped) step.1.is)
-work_keeps s (Moved unit fault) t step = same_lane s t (ap (λ (x : LaneState). x.wire) step.1.is) (ap (λ (x : LaneState). x.stopped) step.1.is)
-work_keeps s (Stored operation block count failed) t step = same_lane s t (ap (λ (x : LaneState). x.wire) step.1.is) (ap (λ (x : LaneState). x.stopped) step.1.is)
-work_keeps s (Finished slot status) t step = same_lane s t (ap (λ (x : LaneState). x.wire) step.1.is) (ap (λ (x : LaneState). x.stopped) step.1.is)
 work_keeps s Misplaced t step = absurd step
+work_keeps s _ t step = same_lane s t (ap (λ (x : LaneState). x.wire) step.1.is) (ap (λ (x : LaneState). x.stopped) step.1.is)
 
 pub step_keeps : (s : LaneState) (e : End) (event : DiskEvent) (t : LaneState) → LaneStep s event t → IsStep e event → StepKeeps s t
 step_keeps s e (OnWire event) t step own = wire_keeps s e event t step own

@@ -30,10 +30,8 @@ use Rattle.lane_laws.proofs.Standing.{Before, EverStands, NearStands, ever_count
 
 -- A SERVER'S SESSION opens: what is done was done before it
 opened_k : (x : ChannelState) (d : ServerCounts) (o : Option ClientCounts) (done k : ℕ) → d.finished ≡ 0 → ((c : ClientCounts) → o ≡ Some c → c.base ≡ done) → k ≡ 0 → KIs (counts_while x (Some d)) o done k
-opened_k Down d o done k first based none = none
-opened_k Resetting d o done k first based none = none
-opened_k Up d None done k first based none = none
 opened_k Up d (Some c) done k first based none = omega (arith, first, based c refl, none)
+opened_k _ d _ done k first based none = none
 
 took_opens : (s : LaneState) (l : DiskLog) (packet : List ℕ) (t : LaneState) → Before s l → StepFacts s l (OnWire (Took B packet true)) t
     → KIs (counts_while (after l (OnWire (Took B packet true))).wire.wire.end_b (after l (OnWire (Took B packet true))).work.server) l.work.client l.work.done s.near.k
@@ -86,12 +84,10 @@ k_quiet s l _ t before facts not = before.near.k
 -- THE CLIENT'S SESSION opens: no server works on it yet
 begins_k : (x : ChannelState) (q : Option ServerCounts) (o : Option ClientCounts) (new : ClientCounts) (done k : ℕ) → new.base ≡ done → ((d : ServerCounts) → x ≡ Up → q ≡ Some d → d.finished ≡ 0)
     → ((c : ClientCounts) → o ≡ Some c → c.base ≤ done) → KIs (counts_while x q) o done k → (k ≡ 0) × KIs (counts_while x q) (Some new) done k
-begins_k Down q o new done k same nothing based is = (is, is)
-begins_k Resetting q o new done k same nothing based is = (is, is)
-begins_k Up None o new done k same nothing based is = (is, is)
 begins_k Up (Some d) None new done k same nothing based is = (is, omega (arith, same, is, nothing d refl refl))
 begins_k Up (Some d) (Some c) new done k same nothing based is =
     let none : k ≡ 0 = omega (arith, is, nothing d refl refl, based c refl) in (none, omega (arith, same, none, nothing d refl refl))
+begins_k _ _ o new done k same nothing based is = (is, is)
 
 work_first : (o : Option ServerSession) (w : Option Work) (q : Option ServerCounts) (d : ServerCounts) → q ≡ Some d → ServerAgrees o w q → d.finished ≤ d.descs
 work_first None w None d is agrees = absurd (cc is)

@@ -8,7 +8,7 @@ use Rattle.lane_laws.specs.DiskLog.{DiskLog}
 use Rattle.lane_laws.specs.WorkLaws.{InClient, InServer, MayComplete, MayFetch, MayPublish, WorkNumbersAt}
 use Rattle.lane_laws.specs.WorkLog.{ClientCounts, ServerCounts}
 use Rattle.disk_model.specs.ClientStep.{ClientCompletes, ClientPublishes}
-use Rattle.disk_model.specs.DiskEvent.{Desc, DiskEvent, Done, Finished, Misplaced, Moved, Published, Stored, Worked, Works}
+use Rattle.disk_model.specs.DiskEvent.{Desc, DiskEvent, Done, Misplaced, Published, Worked, Works}
 use Rattle.disk_model.specs.LaneState.{IsShape, LaneState}
 use Rattle.disk_model.specs.LaneStep.{LaneStep, WorkStep, reach}
 use Rattle.channel_model.specs.Seeing.{Seen, seen}
@@ -146,10 +146,8 @@ work_numbers : (s : LaneState) (l : DiskLog) (event : Worked) (t : LaneState) �
 work_numbers s l (Published id) t grounded step = publishes s t l (at_client s) id grounded step.step
 work_numbers s l (Done id operation status bytes) t grounded step = completes s t l (at_client s) id operation status bytes grounded step.step
 work_numbers s l (Desc slot bytes) t grounded step = fetches s t l (at_server s) (reach s (at_server s).both) slot bytes grounded step.1.step.1.0
-work_numbers s l (Moved unit why) t grounded step = tt
-work_numbers s l (Stored operation block count failed) t grounded step = tt
-work_numbers s l (Finished slot status) t grounded step = tt
 work_numbers s l Misplaced t grounded step = absurd step
+work_numbers s l _ t grounded step = tt
 
 pub numbers_at : (s : LaneState) (l : DiskLog) (event : DiskEvent) (t : LaneState) → Grounded s l → LaneStep s event t → WorkNumbersAt l event
 numbers_at s l (Works event) t grounded step = work_numbers s l event t grounded step
