@@ -100,18 +100,10 @@ pub wire_changes : (s : LaneState) (l : DiskLog) (event : WireEvent) (t : LaneSt
     → (after l (OnWire event)).wire.forged ≡ false → WireStep s event t → Changed s (OnWire event) t
 wire_changes s l (Sent A packet true) t before contents facts clean step = wire_opens s l packet t before facts step
 wire_changes s l (Sent A packet false) t before contents facts clean step = wire_rests s l (Sent A packet false) t before facts clean refl tt step
-wire_changes s l (Sent B packet opens) t before contents facts clean step = wire_rests s l (Sent B packet opens) t before facts clean tt tt step
 wire_changes s l (Took A packet opens) t before contents facts clean step = wire_rests s l (Took A packet opens) t before facts clean step.step.2 tt step
-wire_changes s l (Took B packet opens) t before contents facts clean step = wire_rests s l (Took B packet opens) t before facts clean tt tt step
-wire_changes s l (Joined e lost) t before contents facts clean step = wire_rests s l (Joined e lost) t before facts clean tt tt step
 wire_changes s l (Reset A cause packet lost) t before contents facts clean step = wire_resets A s l cause packet lost t before contents clean (λ is. ends_differ is) (λ is. refl) (λ is. refl) step
 wire_changes s l (Reset B cause packet lost) t before contents facts clean step = wire_resets B s l cause packet lost t before contents clean (λ is. refl) (λ is. ends_differ (sym is)) (λ is. ends_differ (sym is)) step
-wire_changes s l (Lost e packet) t before contents facts clean step = wire_rests s l (Lost e packet) t before facts clean tt tt step
-wire_changes s l (Injected e packet) t before contents facts clean step = wire_rests s l (Injected e packet) t before facts clean tt tt step
-wire_changes s l (Poked e at bytes) t before contents facts clean step = wire_rests s l (Poked e at bytes) t before facts clean tt tt step
-wire_changes s l (Idle e) t before contents facts clean step = wire_rests s l (Idle e) t before facts clean tt tt step
-wire_changes s l (Blocked e) t before contents facts clean step = wire_rests s l (Blocked e) t before facts clean tt tt step
-wire_changes s l (Declines d) t before contents facts clean step = wire_rests s l (Declines d) t before facts clean tt tt step
+wire_changes s l event t before contents facts clean step = wire_rests s l event t before facts clean tt tt step
 
 -- WHAT CHANGES NOTHING of it
 parts_same : (s : LaneState) (event : DiskEvent) (t : LaneState) → t.client ≡ s.client → t.wire ≡ s.wire → t.server ≡ s.server → t.near ≡ s.near → t.memory ≡ s.memory

@@ -35,13 +35,9 @@ work_up s l (Done id operation status bytes) t grounded step =
     in_log A s l grounded (client_up s (client_rules.Completes step.step.session) step.step.rule).0
 work_up s l (Desc slot bytes) t grounded step =
     let f = step.1.step.1.0 in in_log B s l grounded (server_up s (server_rules.Fetches f.session) f.rule).0
-work_up s l (Moved unit fault) t grounded step =
-    let f = step.1.step.1.0 in in_log B s l grounded (server_up s (server_rules.Serves f.session f.work) f.rule).0
-work_up s l (Stored operation block count failed) t grounded step =
-    let f = step.1.step.1.0 in in_log B s l grounded (server_up s (server_rules.Serves f.session f.work) f.rule).0
-work_up s l (Finished slot status) t grounded step =
-    let f = step.1.step.1.0 in in_log B s l grounded (server_up s (server_rules.Serves f.session f.work) f.rule).0
 work_up s l Misplaced t grounded step = absurd step
+work_up s l _ t grounded step =
+    let f = step.1.step.1.0 in in_log B s l grounded (server_up s (server_rules.Serves f.session f.work) f.rule).0
 
 works_at : (s : LaneState) (l : DiskLog) (event : DiskEvent) (t : LaneState) → Grounded s l → LaneStep s event t → WorksAt l event
 works_at s l (Works event) t grounded step = work_up s l event t grounded step

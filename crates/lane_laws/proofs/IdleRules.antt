@@ -106,13 +106,9 @@ WhereRestsAt s at _ = ⊤
 
 with_first : (s : ClientState) (at : Seen) (rule : client.ClientRule) → at.first ≡ None → WhereRests s rule → WhereRestsAt s at rule
 with_first s at client.Idles none rests = record { rests = rests; first = none }
-with_first s at client.Joins none rests = tt
-with_first s at (client.Completes session) none rests = tt
-with_first s at (client.Takes packet) none rests = tt
-with_first s at client.Puts none rests = tt
-with_first s at (client.Says message) none rests = tt
 with_first s at (client.Announces session) none rests = rests
 with_first s at (client.Publishes session request) none rests = record { free = rests.0; owed = rests.1; first = none }
+with_first s at _ none rests = tt
 
 takes_rests : (s : ClientState) (at : Seen) (first : Option (List ℕ)) → at.first ≡ first → WhereRestsAt s at (client.takes_first first (client.puts_first s))
 takes_rests s at None is = with_first s at (client.puts_first s) is (puts_rests s (owes s.link) refl)
@@ -120,13 +116,9 @@ takes_rests s at (Some packet) is = tt
 
 never_urgent : (s : ClientState) (at : Seen) (rule : client.ClientRule) → client.is_urgent s ≡ true → WhereRests s rule → WhereRestsAt s at rule
 never_urgent s at client.Idles urgent rests = true_is_false (sym urgent ∙ not_urgent s rests.free rests.owed)
-never_urgent s at client.Joins urgent rests = tt
-never_urgent s at (client.Completes session) urgent rests = tt
-never_urgent s at (client.Takes packet) urgent rests = tt
-never_urgent s at client.Puts urgent rests = tt
-never_urgent s at (client.Says message) urgent rests = tt
 never_urgent s at (client.Announces session) urgent rests = rests
 never_urgent s at (client.Publishes session request) urgent rests = true_is_false (sym urgent ∙ not_urgent s rests.0 rests.1)
+never_urgent s at _ urgent rests = tt
 
 urgent_rests : (s : ClientState) (at : Seen) (b : Bool) → client.is_urgent s ≡ b → WhereRestsAt s at (if b then client.puts_first s else client.takes_first at.first (client.puts_first s))
 urgent_rests s at true is = never_urgent s at (client.puts_first s) is (puts_rests s (owes s.link) refl)
@@ -154,11 +146,9 @@ with_completed : (s : ClientState) (at : Seen) (rule : client.ClientRule) → Co
 with_completed s at client.Idles none rests = record { rests = rests; completed = none }
 with_completed s at client.Joins none rests = tt
 with_completed s at (client.Completes session) none rests = tt
-with_completed s at (client.Takes packet) none rests = none
-with_completed s at client.Puts none rests = none
-with_completed s at (client.Says message) none rests = none
 with_completed s at (client.Announces session) none rests = (none, rests)
 with_completed s at (client.Publishes session request) none rests = (none, rests)
+with_completed s at _ none rests = none
 
 completes_idles : (s : ClientState) (at : Seen) (session : ClientSession) (b : Bool) → s.session ≡ Some session → nat_lt session.completed session.acked ≡ b
     → ClientGoes s at (if b then client.Completes session else client.puts_or_takes s at)

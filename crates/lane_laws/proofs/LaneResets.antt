@@ -49,24 +49,7 @@ by_giver A s transcript the_cause.Restart packet lost t stands step = absurd ste
 by_giver B s transcript the_cause.Restart packet lost t stands step = asked_why transcript.server the_cause.Restart packet step.1.0 (record { says = tt; gap = tt; carried = tt })
 by_giver A s transcript the_cause.Tick packet lost t stands step = asked_why transcript.client the_cause.Tick packet step.1.0 (record { says = tt; gap = tt; carried = tt })
 by_giver B s transcript the_cause.Tick packet lost t stands step = absurd step
-by_giver e s transcript (the_cause.Packet fault) packet lost t stands step = end_why e s transcript (the_cause.Packet fault) packet lost t stands step
-by_giver e s transcript (the_cause.Gap expected found) packet lost t stands step = end_why e s transcript (the_cause.Gap expected found) packet lost t stands step
-by_giver e s transcript (the_cause.Mode found) packet lost t stands step = end_why e s transcript (the_cause.Mode found) packet lost t stands step
-by_giver e s transcript the_cause.Version packet lost t stands step = end_why e s transcript the_cause.Version packet lost t stands step
-by_giver e s transcript the_cause.Unexpected packet lost t stands step = end_why e s transcript the_cause.Unexpected packet lost t stands step
-by_giver e s transcript the_cause.Fragment packet lost t stands step = end_why e s transcript the_cause.Fragment packet lost t stands step
-by_giver e s transcript (the_cause.Tag fault) packet lost t stands step = end_why e s transcript (the_cause.Tag fault) packet lost t stands step
-by_giver e s transcript (the_cause.Sid expected found) packet lost t stands step = end_why e s transcript (the_cause.Sid expected found) packet lost t stands step
-by_giver e s transcript the_cause.Order packet lost t stands step = end_why e s transcript the_cause.Order packet lost t stands step
-by_giver e s transcript the_cause.Refused packet lost t stands step = end_why e s transcript the_cause.Refused packet lost t stands step
-by_giver e s transcript (the_cause.Ident expected found) packet lost t stands step = end_why e s transcript (the_cause.Ident expected found) packet lost t stands step
-by_giver e s transcript (the_cause.Seq expected found) packet lost t stands step = end_why e s transcript (the_cause.Seq expected found) packet lost t stands step
-by_giver e s transcript (the_cause.Slot expected found) packet lost t stands step = end_why e s transcript (the_cause.Slot expected found) packet lost t stands step
-by_giver e s transcript (the_cause.RangeEnd found) packet lost t stands step = end_why e s transcript (the_cause.RangeEnd found) packet lost t stands step
-by_giver e s transcript (the_cause.NotReady slot state) packet lost t stands step = end_why e s transcript (the_cause.NotReady slot state) packet lost t stands step
-by_giver e s transcript (the_cause.NotDone slot state) packet lost t stands step = end_why e s transcript (the_cause.NotDone slot state) packet lost t stands step
-by_giver e s transcript (the_cause.Frame size count) packet lost t stands step = end_why e s transcript (the_cause.Frame size count) packet lost t stands step
-by_giver e s transcript (the_cause.Copy fault) packet lost t stands step = end_why e s transcript (the_cause.Copy fault) packet lost t stands step
+by_giver e s transcript cause packet lost t stands step = end_why e s transcript cause packet lost t stands step
 
 -- both laws of an event
 pub record SaysAt (transcript : TranscriptLog) (event : WireEvent) : Type 0 where

@@ -107,19 +107,11 @@ wire_disturbs e s l cause packet lost t before gone kept peer done step same =
 wire_same_near : (s : LaneState) (l : DiskLog) (event : WireEvent) (t : LaneState) → Before s l → StepFacts s l (OnWire event) t → WireStep s event t → NearSame s l → NearSame t (after l (OnWire event))
 wire_same_near s l (Sent A packet true) t before facts step same = wire_opens s l packet t step same
 wire_same_near s l (Sent A packet false) t before facts step same = wire_stays s l (Sent A packet false) t before facts refl tt refl refl step same
-wire_same_near s l (Sent B packet opens) t before facts step same = wire_stays s l (Sent B packet opens) t before facts tt tt refl refl step same
 wire_same_near s l (Took A packet opens) t before facts step same = wire_stays s l (Took A packet opens) t before facts step.step.2 tt refl refl step same
-wire_same_near s l (Took B packet opens) t before facts step same = wire_stays s l (Took B packet opens) t before facts tt tt refl refl step same
 wire_same_near s l (Joined A lost) t before facts step same = wire_stays s l (Joined A lost) t before facts tt tt refl refl step same
-wire_same_near s l (Joined B lost) t before facts step same = wire_stays s l (Joined B lost) t before facts tt tt refl refl step same
 wire_same_near s l (Reset A cause packet lost) t before facts step same = wire_disturbs A s l cause packet lost t before (λ is. ends_differ is) (λ is. refl) (λ is. refl) refl step same
 wire_same_near s l (Reset B cause packet lost) t before facts step same = wire_disturbs B s l cause packet lost t before (λ is. refl) (λ is. ends_differ (sym is)) (λ is. ends_differ (sym is)) refl step same
-wire_same_near s l (Lost e packet) t before facts step same = wire_stays s l (Lost e packet) t before facts tt tt refl refl step same
-wire_same_near s l (Injected e packet) t before facts step same = wire_stays s l (Injected e packet) t before facts tt tt refl refl step same
-wire_same_near s l (Poked e at bytes) t before facts step same = wire_stays s l (Poked e at bytes) t before facts tt tt refl refl step same
-wire_same_near s l (Idle e) t before facts step same = wire_stays s l (Idle e) t before facts tt tt refl refl step same
-wire_same_near s l (Blocked e) t before facts step same = wire_stays s l (Blocked e) t before facts tt tt refl refl step same
-wire_same_near s l (Declines d) t before facts step same = wire_stays s l (Declines d) t before facts tt tt refl refl step same
+wire_same_near s l event t before facts step same = wire_stays s l event t before facts tt tt refl refl step same
 
 -- THE WORK
 blocks_same : (operation count : ℕ) (failed : Bool) (u : ℕ) → (operation ≡ 2 → u + count ≤ 128) → stored_blocks operation count failed u ≡ stored_more operation count failed u

@@ -42,18 +42,13 @@ served_by : (shape : Shape) (events : List DiskEvent) (s : LaneState) (event : D
     → ServedImage shape s event t store new
 served_by shape events s (Works (Stored operation block count failed)) gave store new t sound run unforged well room step does =
     stored_image shape events s operation block count failed gave store new t sound run unforged well room step does (stored_well s gave operation block count failed t step well)
-served_by shape events s (Works (Published id)) gave store new t sound run unforged well room step does = still shape s (Works (Published id)) t store new (λ same. ap (region_of shape) same) does
 served_by shape events s (Works (Done id operation status bytes)) gave store new t sound run unforged well room step does =
     still shape s (Works (Done id operation status bytes)) t store new (λ same. ap (region_of shape) same) does
-served_by shape events s (Works (Desc slot bytes)) gave store new t sound run unforged well room step does = still shape s (Works (Desc slot bytes)) t store new (λ same. ap (region_of shape) same) does
-served_by shape events s (Works (Moved unit fault)) gave store new t sound run unforged well room step does = still shape s (Works (Moved unit fault)) t store new (λ same. ap (region_of shape) same) does
 served_by shape events s (Works (Finished slot status)) gave store new t sound run unforged well room step does =
     still shape s (Works (Finished slot status)) t store new (λ same. ap (region_of shape) same) does
-served_by shape events s (Works Misplaced) gave store new t sound run unforged well room step does = still shape s (Works Misplaced) t store new (λ same. ap (region_of shape) same) does
-served_by shape events s (OnWire event) gave store new t sound run unforged well room step does = still shape s (OnWire event) t store new (λ same. ap (region_of shape) same) does
-served_by shape events s (Switches event) gave store new t sound run unforged well room step does = still shape s (Switches event) t store new (λ same. ap (region_of shape) same) does
 served_by shape events s (Asks event) gave store new t sound run unforged well room step does = absurd step
 served_by shape events s (Calms event) gave store new t sound run unforged well room step does = absurd step
+served_by shape events s event gave store new t sound run unforged well room step does = still shape s event t store new (λ same. ap (region_of shape) same) does
 
 pub run_served : (shape : Shape) (events : List DiskEvent) (s : LaneState) (event : DiskEvent) (t : LaneState) (store new : List ℕ) → IsShape shape → Run LaneStep (fresh shape) events s
     → t.wire.forged ≡ false → t.failed ≡ false → 512 * (shape.first + shape.blocks) ≤ length store → served.Served s (Some store) event t (Some new)

@@ -96,11 +96,7 @@ turn_in_ring s l Off t known step = rest_in_ring s l (Switches Off) t known (sam
 
 calm_in_ring : (s : LaneState) (l : DiskLog) (event : Calm) (t : LaneState) → Known s l → RestStep s event t → InRing t (after l (Calms event))
 calm_in_ring s l (CalmReset A) t known step = absurd step
-calm_in_ring s l (CalmReset B) t known step = rest_in_ring s l (Calms (CalmReset B)) t known (same_log l (Calms (CalmReset B)) refl refl refl) (ap (λ (x : LaneState). x.memory) step.1)
-calm_in_ring s l CalmTick t known step = rest_in_ring s l (Calms CalmTick) t known (same_log l (Calms CalmTick) refl refl refl) (ap (λ (x : LaneState). x.memory) step.1)
-calm_in_ring s l CalmStop t known step = rest_in_ring s l (Calms CalmStop) t known (same_log l (Calms CalmStop) refl refl refl) (ap (λ (x : LaneState). x.memory) step.1)
-calm_in_ring s l CalmStart t known step = rest_in_ring s l (Calms CalmStart) t known (same_log l (Calms CalmStart) refl refl refl) (ap (λ (x : LaneState). x.memory) step.1)
-calm_in_ring s l CalmRestart t known step = rest_in_ring s l (Calms CalmRestart) t known (same_log l (Calms CalmRestart) refl refl refl) (ap (λ (x : LaneState). x.memory) step.1)
+calm_in_ring s l event t known step = rest_in_ring s l (Calms event) t known (same_log l (Calms event) refl refl refl) (ap (λ (x : LaneState). x.memory) step.1)
 
 pub event_in_ring : (s : LaneState) (l : DiskLog) (event : DiskEvent) (t : LaneState) → Known s l → length l.work.issued < 2 ^ 64 → SessionsAgree t (after l event) → LaneStep s event t
     → (after l event).wire.forged ≡ false → InRing t (after l event)

@@ -75,13 +75,8 @@ wire_falls shape events s e _ t sound run clean step own = absurd own
 
 work_falls : (shape : Shape) (events : List DiskEvent) (s : LaneState) (e : End) (event : Worked) (t : LaneState) → IsShape shape → Run LaneStep (fresh shape) events s → LaneStep s (Works event) t
     → remaining t < remaining s
-work_falls shape events s e (Published id) t sound run step = steps_fall shape events s (Works (Published id)) t sound run step tt
-work_falls shape events s e (Done id operation status bytes) t sound run step = steps_fall shape events s (Works (Done id operation status bytes)) t sound run step tt
-work_falls shape events s e (Desc slot bytes) t sound run step = steps_fall shape events s (Works (Desc slot bytes)) t sound run step tt
-work_falls shape events s e (Moved unit fault) t sound run step = steps_fall shape events s (Works (Moved unit fault)) t sound run step tt
-work_falls shape events s e (Stored operation block count failed) t sound run step = steps_fall shape events s (Works (Stored operation block count failed)) t sound run step tt
-work_falls shape events s e (Finished slot status) t sound run step = steps_fall shape events s (Works (Finished slot status)) t sound run step tt
 work_falls shape events s e Misplaced t sound run step = absurd step
+work_falls shape events s e event t sound run step = steps_fall shape events s (Works event) t sound run step tt
 
 off_calm : (e : End) → IsStep e (Switches Off) → IsCalm e (Switches Off)
 off_calm A own = absurd own

@@ -162,15 +162,7 @@ pub near_wire : (s : LaneState) (l : DiskLog) (event : WireEvent) (t : LaneState
     → NearStands t (after l (OnWire event))
 near_wire s l (Sent A packet true) t before facts behind step = near_opens s l packet t before facts behind step
 near_wire s l (Sent A packet false) t before facts behind step = near_quiet s l (Sent A packet false) t before facts behind refl step before.near.m
-near_wire s l (Sent B packet opens) t before facts behind step = near_quiet s l (Sent B packet opens) t before facts behind tt step before.near.m
 near_wire s l (Took A packet opens) t before facts behind step = near_quiet s l (Took A packet opens) t before facts behind step.step.2 step before.near.m
-near_wire s l (Took B packet opens) t before facts behind step = near_quiet s l (Took B packet opens) t before facts behind tt step before.near.m
-near_wire s l (Joined e lost) t before facts behind step = near_quiet s l (Joined e lost) t before facts behind tt step before.near.m
 near_wire s l (Reset e cause packet lost) t before facts behind step =
     near_quiet s l (Reset e cause packet lost) t before facts behind tt step (let is = ever_count s l before.known.stands in omega (arith, is))
-near_wire s l (Lost e packet) t before facts behind step = near_quiet s l (Lost e packet) t before facts behind tt step before.near.m
-near_wire s l (Injected e packet) t before facts behind step = near_quiet s l (Injected e packet) t before facts behind tt step before.near.m
-near_wire s l (Poked e at bytes) t before facts behind step = near_quiet s l (Poked e at bytes) t before facts behind tt step before.near.m
-near_wire s l (Idle e) t before facts behind step = near_quiet s l (Idle e) t before facts behind tt step before.near.m
-near_wire s l (Blocked e) t before facts behind step = near_quiet s l (Blocked e) t before facts behind tt step before.near.m
-near_wire s l (Declines d) t before facts behind step = near_quiet s l (Declines d) t before facts behind tt step before.near.m
+near_wire s l event t before facts behind step = near_quiet s l event t before facts behind tt step before.near.m

@@ -146,24 +146,7 @@ reset_in A s l the_cause.Restart packet lost t grounded lies step = absurd step
 reset_in B s l the_cause.Restart packet lost t grounded lies step = asked_reset l B the_cause.Restart packet lost step.1.0 step.1.1 tt
 reset_in A s l the_cause.Tick packet lost t grounded lies step = asked_reset l A the_cause.Tick packet lost step.1.0 step.1.1 tt
 reset_in B s l the_cause.Tick packet lost t grounded lies step = absurd step
-reset_in e s l (the_cause.Packet fault) packet lost t grounded lies step = end_reset e s l (the_cause.Packet fault) packet lost t grounded lies step
-reset_in e s l (the_cause.Gap expected found) packet lost t grounded lies step = end_reset e s l (the_cause.Gap expected found) packet lost t grounded lies step
-reset_in e s l (the_cause.Mode found) packet lost t grounded lies step = end_reset e s l (the_cause.Mode found) packet lost t grounded lies step
-reset_in e s l the_cause.Version packet lost t grounded lies step = end_reset e s l the_cause.Version packet lost t grounded lies step
-reset_in e s l the_cause.Unexpected packet lost t grounded lies step = end_reset e s l the_cause.Unexpected packet lost t grounded lies step
-reset_in e s l the_cause.Fragment packet lost t grounded lies step = end_reset e s l the_cause.Fragment packet lost t grounded lies step
-reset_in e s l (the_cause.Tag fault) packet lost t grounded lies step = end_reset e s l (the_cause.Tag fault) packet lost t grounded lies step
-reset_in e s l (the_cause.Sid expected found) packet lost t grounded lies step = end_reset e s l (the_cause.Sid expected found) packet lost t grounded lies step
-reset_in e s l the_cause.Order packet lost t grounded lies step = end_reset e s l the_cause.Order packet lost t grounded lies step
-reset_in e s l the_cause.Refused packet lost t grounded lies step = end_reset e s l the_cause.Refused packet lost t grounded lies step
-reset_in e s l (the_cause.Ident expected found) packet lost t grounded lies step = end_reset e s l (the_cause.Ident expected found) packet lost t grounded lies step
-reset_in e s l (the_cause.Seq expected found) packet lost t grounded lies step = end_reset e s l (the_cause.Seq expected found) packet lost t grounded lies step
-reset_in e s l (the_cause.Slot expected found) packet lost t grounded lies step = end_reset e s l (the_cause.Slot expected found) packet lost t grounded lies step
-reset_in e s l (the_cause.RangeEnd found) packet lost t grounded lies step = end_reset e s l (the_cause.RangeEnd found) packet lost t grounded lies step
-reset_in e s l (the_cause.NotReady slot state) packet lost t grounded lies step = end_reset e s l (the_cause.NotReady slot state) packet lost t grounded lies step
-reset_in e s l (the_cause.NotDone slot state) packet lost t grounded lies step = end_reset e s l (the_cause.NotDone slot state) packet lost t grounded lies step
-reset_in e s l (the_cause.Frame size count) packet lost t grounded lies step = end_reset e s l (the_cause.Frame size count) packet lost t grounded lies step
-reset_in e s l (the_cause.Copy fault) packet lost t grounded lies step = end_reset e s l (the_cause.Copy fault) packet lost t grounded lies step
+reset_in e s l cause packet lost t grounded lies step = end_reset e s l cause packet lost t grounded lies step
 
 wire_resets : (s : LaneState) (l : DiskLog) (event : WireEvent) (t : LaneState) → Grounded s l → WireStep s event t → WorkResetAt l (OnWire event)
 wire_resets s l (Reset e cause packet lost) t grounded step =
