@@ -9,7 +9,7 @@ use Rattle.vio_tag.specs.declared.cause.Cause.{Cause}
 use Rattle.disk_model.specs.DiskEvent.{DiskEvent, OnWire}
 use Rattle.lane_laws.specs.DiskLog.{DiskLog, after, nothing_yet}
 use Rattle.disk_model.specs.LaneState.{IsShape, LaneState, Shape, fresh}
-use Rattle.disk_model.specs.LaneStep.{EndOnWire, LaneStep, ResetBy, WireStep}
+use Rattle.disk_model.specs.LaneStep.{EndOnWire, LaneStep, ResetBy}
 use Rattle.channel_model.specs.WireAt.{WireLostAt}
 use Rattle.channel_model.specs.WireEvent.{ByRestart, ByScript, ByStep, ByTick, Giver, Joined, Reset, WireEvent, giver}
 use Rattle.lane_laws.specs.Laws.{LostAt}
@@ -37,13 +37,9 @@ reset_lost ByRestart B s cause packet lost t step = step.1.1
 reset_lost ByTick A s cause packet lost t step = step.1.1
 reset_lost ByTick B s cause packet lost t step = absurd step
 
-wire_lost : (s : LaneState) (event : WireEvent) (t : LaneState) → WireStep s event t → WireLostAt event
-wire_lost s (Joined e lost) t step = end_lost e s (Joined e lost) t step
-wire_lost s (Reset e cause packet lost) t step = reset_lost (giver cause) e s cause packet lost t step
-wire_lost s _ t step = tt
-
 lost_at : (s : LaneState) (l : DiskLog) (event : DiskEvent) (t : LaneState) → LaneStep s event t → LostAt l event
-lost_at s l (OnWire event) t step = wire_lost s event t step
+lost_at s l (OnWire (Joined e lost)) t step = end_lost e s (Joined e lost) t step
+lost_at s l (OnWire (Reset e cause packet lost)) t step = reset_lost (giver cause) e s cause packet lost t step
 lost_at s l _ t step = tt
 
 -- ALONG EVERY RUN

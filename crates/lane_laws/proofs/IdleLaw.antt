@@ -6,7 +6,7 @@ use Rattle.ldc_queue.specs.declared.end.End.{End}
 use Rattle.ldc_queue.specs.declared.end.End.TheVariants.{A, B}
 use Rattle.ldc_queue.specs.Wire.{waiting_for}
 use Rattle.vdisk_msg.specs.declared.request.Request.{Request}
-use Rattle.channel_model.specs.WireEvent.{Idle, WireEvent}
+use Rattle.channel_model.specs.WireEvent.{Idle}
 use Rattle.channel_model.specs.WireLog.{WireLog}
 use Rattle.channel_laws.proofs.Apart.{some_same}
 use Rattle.channel_laws.proofs.EndsAtRest.{none_waits}
@@ -18,7 +18,7 @@ use Rattle.lane_laws.specs.WorkLog.{ClientCounts, ServerCounts}
 use Rattle.disk_model.specs.ClientState.{ClientSession}
 use Rattle.disk_model.specs.DiskEvent.{DiskEvent, OnWire}
 use Rattle.disk_model.specs.LaneState.{LaneState}
-use Rattle.disk_model.specs.LaneStep.{EndOnWire, LaneStep, WireStep}
+use Rattle.disk_model.specs.LaneStep.{EndOnWire, LaneStep}
 use Rattle.disk_model.specs.ServerState.{ServerSession, Work}
 use Rattle.lane_laws.proofs.Sharing.{in_order}
 use Rattle.lane_laws.specs.Counted.{InServerOrder, RangeStands}
@@ -101,10 +101,6 @@ idle_end B s l t grounded step =
     let idles = server_idles s.server (at_server s) step.1.step.1.0 in
     (same_waiting B s l grounded (none_waits (waiting_for B s.wire.wire) idles.first), idle_server s l grounded idles)
 
-wire_idle : (s : LaneState) (l : DiskLog) (event : WireEvent) (t : LaneState) → Grounded s l → WireStep s event t → IdleAt l (OnWire event)
-wire_idle s l (Idle e) t grounded step = idle_end e s l t grounded step
-wire_idle s l _ t grounded step = tt
-
 pub idle_at : (s : LaneState) (l : DiskLog) (event : DiskEvent) (t : LaneState) → Grounded s l → LaneStep s event t → IdleAt l event
-idle_at s l (OnWire event) t grounded step = wire_idle s l event t grounded step
+idle_at s l (OnWire (Idle e)) t grounded step = idle_end e s l t grounded step
 idle_at s l _ t grounded step = tt

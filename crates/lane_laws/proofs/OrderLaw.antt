@@ -12,14 +12,14 @@ use Rattle.vdisk_msg.specs.declared.request.Request.{Request}
 use Rattle.vio_handshake.specs.declared.handshake.Handshake.{Handshake}
 use Rattle.vio_tag.specs.declared.cause.Cause.{Cause}
 use Rattle.channel_model.specs.Seeing.{Seen}
-use Rattle.channel_model.specs.WireEvent.{Blocked, ByRestart, ByScript, ByStep, ByTick, Giver, Idle, Reset, Sent, Took, WireEvent, giver}
+use Rattle.channel_model.specs.WireEvent.{Blocked, ByRestart, ByScript, ByStep, ByTick, Giver, Idle, Reset, Sent, Took, giver}
 use Rattle.disk_model.specs.ClientPutting.{client_holds, is_announcing}
 use Rattle.disk_model.specs.ClientRule as client
 use Rattle.disk_model.specs.ClientState.{ClientSession, ClientState, joined_client}
 use Rattle.disk_model.specs.ClientStep.{ClientFails}
-use Rattle.disk_model.specs.DiskEvent.{Desc, DiskEvent, Done, Misplaced, OnWire, Published, Worked, Works}
+use Rattle.disk_model.specs.DiskEvent.{Desc, DiskEvent, Done, Misplaced, OnWire, Published, Works}
 use Rattle.disk_model.specs.LaneState.{LaneState}
-use Rattle.disk_model.specs.LaneStep.{CallsReset, EndOnWire, LaneStep, ResetBy, WireStep, WorkStep, reach}
+use Rattle.disk_model.specs.LaneStep.{CallsReset, EndOnWire, LaneStep, ResetBy, reach}
 use Rattle.disk_model.specs.ServerRule as server
 use Rattle.disk_model.specs.ServerState.{ServerSession, ServerState, SlotRange, Work, joined_server, restarted_server}
 use Rattle.disk_model.specs.ServerStep.{ServerFails}
@@ -245,25 +245,18 @@ idle_order A s l t told step =
 idle_order B s l t told step = let idles = server_idles s.server (at_server s) step.1.step.1.0 in server_owes_nothing s l told idles.free idles.owed
 
 -- EACH EVENT
-wire_order : (s : LaneState) (l : DiskLog) (event : WireEvent) (t : LaneState) → Told s l → WireStep s event t → OrderAt l (OnWire event)
-wire_order s l (Took A packet opens) t told step = client_may_take s l packet told step.step.0
-wire_order s l (Took B packet opens) t told step = server_may_take s l packet told step.1.step.1.0
-wire_order s l (Sent A packet opens) t told step = client_may_put s l step.step.held told step.step.holds
-wire_order s l (Sent B packet opens) t told step = server_to_put s l step.1.step.1.0.held told step.1.step.1.0.holds
-wire_order s l (Blocked A) t told step = client_may_put s l t.client told step.step.0
-wire_order s l (Blocked B) t told step = server_to_put s l t.server told step.1.step.1.0
-wire_order s l (Reset e cause (Some packet) lost) t told step = reset_order (giver cause) e s l cause packet lost t told step
-wire_order s l (Idle e) t told step = idle_order e s l t told step
-wire_order s l _ t told step = tt
-
-work_order : (s : LaneState) (l : DiskLog) (event : Worked) (t : LaneState) → Told s l → WorkStep s event t → OrderAt l (Works event)
-work_order s l (Published id) t told step = publishes_order s l step.step.session step.step.request told step.step.rule
-work_order s l (Done id operation status bytes) t told step = tt
-work_order s l (Desc slot bytes) t told step = fetches_clear s l step.1.step.1.0.session told step.1.step.1.0.rule
-work_order s l Misplaced t told step = tt
-work_order s l _ t told step = serves_clear s l step.1.step.1.0.session step.1.step.1.0.work told step.1.step.1.0.rule
-
 pub order_at : (s : LaneState) (l : DiskLog) (event : DiskEvent) (t : LaneState) → Told s l → LaneStep s event t → OrderAt l event
-order_at s l (OnWire event) t told step = wire_order s l event t told step
-order_at s l (Works event) t told step = work_order s l event t told step
+order_at s l (OnWire (Took A packet opens)) t told step = client_may_take s l packet told step.step.0
+order_at s l (OnWire (Took B packet opens)) t told step = server_may_take s l packet told step.1.step.1.0
+order_at s l (OnWire (Sent A packet opens)) t told step = client_may_put s l step.step.held told step.step.holds
+order_at s l (OnWire (Sent B packet opens)) t told step = server_to_put s l step.1.step.1.0.held told step.1.step.1.0.holds
+order_at s l (OnWire (Blocked A)) t told step = client_may_put s l t.client told step.step.0
+order_at s l (OnWire (Blocked B)) t told step = server_to_put s l t.server told step.1.step.1.0
+order_at s l (OnWire (Reset e cause (Some packet) lost)) t told step = reset_order (giver cause) e s l cause packet lost t told step
+order_at s l (OnWire (Idle e)) t told step = idle_order e s l t told step
+order_at s l (Works (Published id)) t told step = publishes_order s l step.step.session step.step.request told step.step.rule
+order_at s l (Works (Done id operation status bytes)) t told step = tt
+order_at s l (Works (Desc slot bytes)) t told step = fetches_clear s l step.1.step.1.0.session told step.1.step.1.0.rule
+order_at s l (Works Misplaced) t told step = tt
+order_at s l (Works _) t told step = serves_clear s l step.1.step.1.0.session step.1.step.1.0.work told step.1.step.1.0.rule
 order_at s l _ t told step = tt

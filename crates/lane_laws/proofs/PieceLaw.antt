@@ -16,10 +16,10 @@ use Rattle.lane_laws.specs.Agreement.{WorkAgrees, owed_of}
 use Rattle.lane_laws.specs.DiskLog.{DiskLog}
 use Rattle.lane_laws.specs.WorkLaws.{FinishesPiece, InServer, MovesPiece, Owes, PiecesAt, StoresPiece, access_of, block_in, count_in, desc_in, unit_fault}
 use Rattle.lane_laws.specs.WorkLog.{ServerCounts}
-use Rattle.disk_model.specs.DiskEvent.{Desc, DiskEvent, Finished, Moved, Stored, Worked, Works}
+use Rattle.disk_model.specs.DiskEvent.{Desc, DiskEvent, Finished, Moved, Stored, Works}
 use Rattle.channel_model.specs.OwnMemory.{own_table}
 use Rattle.disk_model.specs.LaneState.{LaneState, pages_of}
-use Rattle.disk_model.specs.LaneStep.{LaneStep, WorkStep, reach}
+use Rattle.disk_model.specs.LaneStep.{LaneStep, reach}
 use Rattle.disk_model.specs.ServerState.{Flushes, Gathers, Gives, Progress, Reads, ServerSession, Work, Writes}
 use Rattle.disk_model.specs.ServerStep.{ServerFetches, ServerFinishes, ServerMoves, ServerStores}
 use Rattle.disk_model.specs.ServerWork.{MovesIn, StoresIn, desc_of, slot_fetched, unit_length}
@@ -187,13 +187,9 @@ fetched_ready s t slot bytes fetches =
     ap (λ (xs : List ℕ). slice_index xs 0) fetches.bytes_are
     ∙ eqb-true (slice_index (slot_fetched s.server (reach s (at_server s).both) slot) 0) ready_state fetches.fetched.1
 
-work_pieces : (s : LaneState) (l : DiskLog) (event : Worked) (t : LaneState) → Working s l → WorkStep s event t → PiecesAt l (Works event)
-work_pieces s l (Moved unit why) t working step = moved_piece s t l unit why working step.1.step.1.0
-work_pieces s l (Stored operation block count failed) t working step = stored_piece s t l operation block count failed step.0 working step.1.step.1.0
-work_pieces s l (Finished slot status) t working step = finished_piece s t l slot status working step.1.step.1.0
-work_pieces s l (Desc slot bytes) t working step = fetched_ready s t slot bytes step.1.step.1.0
-work_pieces s l _ t working step = tt
-
 pub pieces_at : (s : LaneState) (l : DiskLog) (event : DiskEvent) (t : LaneState) → Working s l → LaneStep s event t → PiecesAt l event
-pieces_at s l (Works event) t working step = work_pieces s l event t working step
+pieces_at s l (Works (Moved unit why)) t working step = moved_piece s t l unit why working step.1.step.1.0
+pieces_at s l (Works (Stored operation block count failed)) t working step = stored_piece s t l operation block count failed step.0 working step.1.step.1.0
+pieces_at s l (Works (Finished slot status)) t working step = finished_piece s t l slot status working step.1.step.1.0
+pieces_at s l (Works (Desc slot bytes)) t working step = fetched_ready s t slot bytes step.1.step.1.0
 pieces_at s l _ t working step = tt

@@ -18,7 +18,7 @@ use Rattle.vio_tag.specs.declared.message.Message.{Message}
 use Rattle.vio_tag.specs.declared.message.MsgBody.TheVariants.{DringData}
 use Rattle.vio_tag.specs.Spelling.{SpellsBody, canonical, envelope_code, subtype_at}
 use Rattle.channel_model.specs.Sayings.{half_heard, half_said, said}
-use Rattle.channel_model.specs.WireEvent.{Sent, Took, WireEvent}
+use Rattle.channel_model.specs.WireEvent.{Sent, Took}
 use Rattle.lane_laws.specs.DiskLog.{DiskLog}
 use Rattle.lane_laws.specs.BlockLog.{Blockage, Clear}
 use Rattle.lane_laws.specs.EndLog.{ident_of, is_stuck_with_own, range_in_work, state_of}
@@ -38,7 +38,7 @@ use Rattle.vio_handshake.specs.declared.handshake.Phase.{Phase}
 use Rattle.vio_handshake.specs.Rules.{sid_fault}
 use Rattle.disk_model.specs.DiskEvent.{DiskEvent, OnWire}
 use Rattle.disk_model.specs.LaneState.{IsShape, LaneState}
-use Rattle.disk_model.specs.LaneStep.{EndOnWire, LaneStep, WireStep}
+use Rattle.disk_model.specs.LaneStep.{EndOnWire, LaneStep}
 use Rattle.channel_model.specs.Ranges.{wrapped}
 use Rattle.dring.specs.Slots.{range_length}
 use Rattle.disk_model.specs.ServerState.{ServerSession, ServerState, SlotRange}
@@ -469,13 +469,9 @@ took_info s l packet opens t sound both told step =
       server_no_other s.server t.server l.transcript.server packet opens took,
     )
 
-wire_ranges : (s : LaneState) (l : DiskLog) (event : WireEvent) (t : LaneState) → IsShape l.shape → BothAre s l → AreTold s l → WireStep s event t → RangesAt l (OnWire event)
-wire_ranges s l (Sent A packet opens) t sound both told step = said_info s l packet opens t.client t.memory both told step.step
-wire_ranges s l (Sent B packet opens) t sound both told step = said_ack s l packet opens t.server sound both told step.1.step.1.0
-wire_ranges s l (Took A packet opens) t sound both told step = took_ack s l packet opens t both told step
-wire_ranges s l (Took B packet opens) t sound both told step = took_info s l packet opens t sound both told step
-wire_ranges s l _ t sound both told step = tt
-
 pub ranges_at : (s : LaneState) (l : DiskLog) (event : DiskEvent) (t : LaneState) → IsShape l.shape → BothAre s l → AreTold s l → LaneStep s event t → RangesAt l event
-ranges_at s l (OnWire event) t sound both told step = wire_ranges s l event t sound both told step
+ranges_at s l (OnWire (Sent A packet opens)) t sound both told step = said_info s l packet opens t.client t.memory both told step.step
+ranges_at s l (OnWire (Sent B packet opens)) t sound both told step = said_ack s l packet opens t.server sound both told step.1.step.1.0
+ranges_at s l (OnWire (Took A packet opens)) t sound both told step = took_ack s l packet opens t both told step
+ranges_at s l (OnWire (Took B packet opens)) t sound both told step = took_info s l packet opens t sound both told step
 ranges_at s l _ t sound both told step = tt

@@ -289,9 +289,9 @@ server_tells EndsHandshake l d held packet sound small here counted says =
       what = inr (owed_apart Responder d (server_core held) l.transcript.server bytes here (server_holds_owed held l.transcript.server here.stands says.1 says.0.some));
     })
 
-wire_tells : (shape : Shape) (events : List DiskEvent) (s : LaneState) (event : WireEvent) (t : LaneState) → IsShape shape → Run LaneStep (fresh shape) events s
-    → LaneStep s (OnWire event) t → (log_of after (nothing_yet shape) events).wire.forged ≡ false → WireTellsAt (log_of after (nothing_yet shape) events) event
-wire_tells shape events s (Sent A packet opens) t sound run step clean =
+tells_at : (shape : Shape) (events : List DiskEvent) (s : LaneState) (event : DiskEvent) (t : LaneState) → IsShape shape → Run LaneStep (fresh shape) events s → LaneStep s event t
+    → (log_of after (nothing_yet shape) events).wire.forged ≡ false → TellsAt (log_of after (nothing_yet shape) events) event
+tells_at shape events s (OnWire (Sent A packet opens)) t sound run step clean =
     let l = log_of after (nothing_yet shape) events in
     let knows : Knows s l = run_knows shape events s sound run in
     let sends = step.step in
@@ -303,7 +303,7 @@ wire_tells shape events s (Sent A packet opens) t sound run step clean =
     let waits = client_waits s.client (seen A s.shape.entries s.wire.wire) sends.held knows.all.sound sends.holds in
     client_tells (client_kind sends.held) l (deal (asks_of shape) (answers_of shape) there.sid) sends.held packet (omega (arith, shaped.some_slots)) there.small
     (held_at Initiator (deal (asks_of shape) (answers_of shape) there.sid) (client_core s.client) (client_core sends.held) l.transcript.client on.stand.mine waits (there.mine up)) put.counted put.says
-wire_tells shape events s (Sent B packet opens) t sound run step clean =
+tells_at shape events s (OnWire (Sent B packet opens)) t sound run step clean =
     let l = log_of after (nothing_yet shape) events in
     let knows : Knows s l = run_knows shape events s sound run in
     let sends = step.1.step.1.0 in
@@ -320,11 +320,6 @@ wire_tells shape events s (Sent B packet opens) t sound run step clean =
     (server_holds_counting l.shape s.server rule held l.transcript.server l.work.server knows.rests.server knows.utters.server (server_free s.server at) sends.holds knows.counted.server)
     (put_says (is_none held.handshake.owed) held.link t.server.link l.transcript.server packet
     (server_blocked_rests s.server at held l.transcript.server sends.holds knows.rests.server).stands.link.follows sends.packet)
-wire_tells shape events s _ t sound run step clean = tt
-
-tells_at : (shape : Shape) (events : List DiskEvent) (s : LaneState) (event : DiskEvent) (t : LaneState) → IsShape shape → Run LaneStep (fresh shape) events s → LaneStep s event t
-    → (log_of after (nothing_yet shape) events).wire.forged ≡ false → TellsAt (log_of after (nothing_yet shape) events) event
-tells_at shape events s (OnWire event) t sound run step clean = wire_tells shape events s event t sound run step clean
 tells_at shape events s _ t sound run step clean = tt
 
 -- ALONG THE LOG

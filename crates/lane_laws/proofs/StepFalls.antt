@@ -9,7 +9,7 @@ use Rattle.channel_model.specs.WireEvent.{Blocked, ByStep, Giver, Idle, Joined, 
 use Rattle.disk_model.specs.ClientRule as client_rules
 use Rattle.disk_model.specs.ClientState.{ClientState}
 use Rattle.disk_model.specs.ClientStep.{ClientFails}
-use Rattle.disk_model.specs.DiskEvent.{Asks, Desc, DiskEvent, Done, Finished, Misplaced, Moved, Off, OnWire, Published, Calms, Started, Stopped, Stored, Switches, Worked, Works}
+use Rattle.disk_model.specs.DiskEvent.{Asks, DiskEvent, Misplaced, Off, OnWire, Calms, Started, Stopped, Switches, Worked, Works}
 use Rattle.disk_model.specs.LaneState.{IsShape, LaneState, Shape, fresh}
 use Rattle.disk_model.specs.LaneStep.{EndOnWire, LaneStep, ResetBy, reach}
 use Rattle.disk_model.specs.ServerRule as server_rules

@@ -8,9 +8,9 @@ use Rattle.lane_laws.specs.DiskLog.{DiskLog}
 use Rattle.lane_laws.specs.WorkLaws.{InClient, InServer, MayComplete, MayFetch, MayPublish, WorkNumbersAt}
 use Rattle.lane_laws.specs.WorkLog.{ClientCounts, ServerCounts}
 use Rattle.disk_model.specs.ClientStep.{ClientCompletes, ClientPublishes}
-use Rattle.disk_model.specs.DiskEvent.{Desc, DiskEvent, Done, Misplaced, Published, Worked, Works}
+use Rattle.disk_model.specs.DiskEvent.{Desc, DiskEvent, Done, Misplaced, Published, Works}
 use Rattle.disk_model.specs.LaneState.{IsShape, LaneState}
-use Rattle.disk_model.specs.LaneStep.{LaneStep, WorkStep, reach}
+use Rattle.disk_model.specs.LaneStep.{LaneStep, reach}
 use Rattle.channel_model.specs.Seeing.{Seen, seen}
 use Rattle.lane_laws.specs.Agreement.{WorkAgrees}
 use Rattle.channel_model.specs.Ranges.{wrapped}
@@ -142,13 +142,9 @@ fetches s t l at reached slot bytes grounded step =
     in_server l.work.server now.of.counts (MayFetch l slot) now.of.is
     (subst (λ (n : ℕ). MayFetch l n now.of.counts) (sym step.slot_is) (fetches_next s l step.session grounded free now))
 
-work_numbers : (s : LaneState) (l : DiskLog) (event : Worked) (t : LaneState) → Grounded s l → WorkStep s event t → WorkNumbersAt l (Works event)
-work_numbers s l (Published id) t grounded step = publishes s t l (at_client s) id grounded step.step
-work_numbers s l (Done id operation status bytes) t grounded step = completes s t l (at_client s) id operation status bytes grounded step.step
-work_numbers s l (Desc slot bytes) t grounded step = fetches s t l (at_server s) (reach s (at_server s).both) slot bytes grounded step.1.step.1.0
-work_numbers s l Misplaced t grounded step = absurd step
-work_numbers s l _ t grounded step = tt
-
 pub numbers_at : (s : LaneState) (l : DiskLog) (event : DiskEvent) (t : LaneState) → Grounded s l → LaneStep s event t → WorkNumbersAt l event
-numbers_at s l (Works event) t grounded step = work_numbers s l event t grounded step
+numbers_at s l (Works (Published id)) t grounded step = publishes s t l (at_client s) id grounded step.step
+numbers_at s l (Works (Done id operation status bytes)) t grounded step = completes s t l (at_client s) id operation status bytes grounded step.step
+numbers_at s l (Works (Desc slot bytes)) t grounded step = fetches s t l (at_server s) (reach s (at_server s).both) slot bytes grounded step.1.step.1.0
+numbers_at s l (Works Misplaced) t grounded step = absurd step
 numbers_at s l _ t grounded step = tt

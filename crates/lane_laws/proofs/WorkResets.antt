@@ -11,7 +11,7 @@ use Rattle.ldc_queue.specs.declared.end.End.{End}
 use Rattle.ldc_queue.specs.declared.end.End.TheVariants.{A, B}
 use Rattle.vio_tag.specs.declared.cause.Cause.{Cause}
 use Rattle.vio_tag.specs.declared.cause.Cause.TheVariants as the_cause
-use Rattle.channel_model.specs.WireEvent.{Reset, WireEvent}
+use Rattle.channel_model.specs.WireEvent.{Reset}
 use Rattle.lane_laws.specs.DiskLog.{DiskLog}
 use Rattle.lane_laws.specs.WorkLaws.{ClientFailed, FetchFailed, InRange, InServer, MayFetch, OwnReset, ResetOf, WorkResetAt}
 use Rattle.lane_laws.specs.WorkLog.{ServerCounts}
@@ -148,11 +148,7 @@ reset_in A s l the_cause.Tick packet lost t grounded lies step = asked_reset l A
 reset_in B s l the_cause.Tick packet lost t grounded lies step = absurd step
 reset_in e s l cause packet lost t grounded lies step = end_reset e s l cause packet lost t grounded lies step
 
-wire_resets : (s : LaneState) (l : DiskLog) (event : WireEvent) (t : LaneState) → Grounded s l → WireStep s event t → WorkResetAt l (OnWire event)
-wire_resets s l (Reset e cause packet lost) t grounded step =
-    reset_in e s l cause packet lost t grounded (by_giver e s l.transcript cause packet lost t (grounded.knows.all.sound, grounded.knows.rests) step).carried step
-wire_resets s l _ t grounded step = tt
-
 pub own_resets_at : (s : LaneState) (l : DiskLog) (event : DiskEvent) (t : LaneState) → Grounded s l → LaneStep s event t → WorkResetAt l event
-own_resets_at s l (OnWire event) t grounded step = wire_resets s l event t grounded step
+own_resets_at s l (OnWire (Reset e cause packet lost)) t grounded step =
+    reset_in e s l cause packet lost t grounded (by_giver e s l.transcript cause packet lost t (grounded.knows.all.sound, grounded.knows.rests) step).carried step
 own_resets_at s l _ t grounded step = tt
