@@ -5,8 +5,8 @@ use Rattle.runs.specs.Run.{Run}
 use Rattle.ldc_queue.specs.declared.end.End.{End}
 use Rattle.ldc_queue.specs.declared.end.End.TheVariants.{A, B}
 use Rattle.vio_tag.specs.declared.cause.Cause.{Cause}
-use Rattle.channel_model.specs.WireAt.{IsOwnReset, UnforgedReset, WireUnforgedAt}
-use Rattle.channel_model.specs.WireEvent.{ByStep, Giver, Reset, WireEvent, giver}
+use Rattle.channel_model.specs.WireAt.{IsOwnReset, UnforgedReset}
+use Rattle.channel_model.specs.WireEvent.{ByStep, Giver, Reset, giver}
 use Rattle.channel_model.specs.WireLog.{WireLog}
 use Rattle.lane_laws.specs.DiskLog.{DiskLog, after, nothing_yet}
 use Rattle.disk_model.specs.ClientRule as client_rules
@@ -14,7 +14,7 @@ use Rattle.disk_model.specs.ClientStep.{ClientFails}
 use Rattle.disk_model.specs.ClientTaking as client
 use Rattle.disk_model.specs.DiskEvent.{DiskEvent, OnWire}
 use Rattle.disk_model.specs.LaneState.{IsShape, LaneState, Shape, fresh}
-use Rattle.disk_model.specs.LaneStep.{EndOnWire, LaneStep, ResetBy, WireStep, reach}
+use Rattle.disk_model.specs.LaneStep.{EndOnWire, LaneStep, ResetBy, reach}
 use Rattle.channel_model.specs.Seeing.{seen}
 use Rattle.disk_model.specs.ServerRule as server_rules
 use Rattle.disk_model.specs.ServerState.{Ends, Progress, ServerSession, Work}
@@ -101,16 +101,11 @@ by_giver : (by : Giver) (w : WireLog) (cause : Cause) → (by ≡ ByStep → w.f
 by_giver ByStep w cause own = own refl
 by_giver _ w cause own = tt
 
-wire_unforged : (shape : Shape) (events : List DiskEvent) (s : LaneState) (event : WireEvent) (t : LaneState) → IsShape shape → Run LaneStep (fresh shape) events s → WireStep s event t
-    → WireUnforgedAt s.wire event
-wire_unforged shape events s (Reset e cause packet lost) t sound run step =
-    by_giver (giver cause) s.wire cause (λ by clean. own_reset shape events s e cause packet lost t sound run clean by step)
-wire_unforged shape events s _ t sound run step = tt
-
 event_unforged : (shape : Shape) (events : List DiskEvent) (s : LaneState) (event : DiskEvent) (t : LaneState) → IsShape shape → Run LaneStep (fresh shape) events s → LaneStep s event t
     → UnforgedAt (log_at shape events) event
-event_unforged shape events s (OnWire event) t sound run step =
-    subst (λ (w : WireLog). WireUnforgedAt w event) (run_knows shape events s sound run).all.stands.wire (wire_unforged shape events s event t sound run step)
+event_unforged shape events s (OnWire (Reset e cause packet lost)) t sound run step =
+    subst (λ (w : WireLog). UnforgedReset (giver cause) w cause) (run_knows shape events s sound run).all.stands.wire
+    (by_giver (giver cause) s.wire cause (λ by clean. own_reset shape events s e cause packet lost t sound run clean by step))
 event_unforged shape events s _ t sound run step = tt
 
 pub unforged_lawful : (shape : Shape) (events : List DiskEvent) (s : LaneState) → IsShape shape → Run LaneStep (fresh shape) events s → Lawful UnforgedAt after (nothing_yet shape) events

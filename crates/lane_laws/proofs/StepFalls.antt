@@ -9,7 +9,7 @@ use Rattle.channel_model.specs.WireEvent.{Blocked, ByStep, Giver, Idle, Joined, 
 use Rattle.disk_model.specs.ClientRule as client_rules
 use Rattle.disk_model.specs.ClientState.{ClientState}
 use Rattle.disk_model.specs.ClientStep.{ClientFails}
-use Rattle.disk_model.specs.DiskEvent.{Asks, DiskEvent, Misplaced, Off, OnWire, Calms, Started, Stopped, Switches, Worked, Works}
+use Rattle.disk_model.specs.DiskEvent.{DiskEvent, Misplaced, Off, OnWire, Switches, Works}
 use Rattle.disk_model.specs.LaneState.{IsShape, LaneState, Shape, fresh}
 use Rattle.disk_model.specs.LaneStep.{EndOnWire, LaneStep, ResetBy, reach}
 use Rattle.disk_model.specs.ServerRule as server_rules
@@ -73,25 +73,11 @@ wire_falls shape events s e (Blocked d) t sound run clean step own = inl (own, b
 wire_falls shape events s e (Reset d cause packet lost) t sound run clean step own = inr (own_falls shape events s d cause packet lost t sound run clean own.1 step)
 wire_falls shape events s e _ t sound run clean step own = absurd own
 
-work_falls : (shape : Shape) (events : List DiskEvent) (s : LaneState) (e : End) (event : Worked) (t : LaneState) → IsShape shape → Run LaneStep (fresh shape) events s → LaneStep s (Works event) t
-    → remaining t < remaining s
-work_falls shape events s e Misplaced t sound run step = absurd step
-work_falls shape events s e event t sound run step = steps_fall shape events s (Works event) t sound run step tt
-
-off_calm : (e : End) → IsStep e (Switches Off) → IsCalm e (Switches Off)
-off_calm A own = absurd own
-off_calm B own = tt
-
 pub step_falls : (shape : Shape) (events : List DiskEvent) (s : LaneState) (e : End) (event : DiskEvent) (t : LaneState) → IsShape shape → Run LaneStep (fresh shape) events s → s.wire.forged ≡ false
     → LaneStep s event t → IsStep e event → (IsCalm e event × (remaining t ≤ remaining s)) ⊎ (remaining t < remaining s)
 step_falls shape events s e (OnWire event) t sound run clean step own = wire_falls shape events s e event t sound run clean step own
-step_falls shape events s e (Works event) t sound run clean step own = inr (work_falls shape events s e event t sound run step)
-step_falls shape events s e (Switches Off) t sound run clean step own = inl (off_calm e own, same_remains s t step.1)
-step_falls shape events s A (Switches Stopped) t sound run clean step own = absurd own
-step_falls shape events s B (Switches Stopped) t sound run clean step own = absurd own
-step_falls shape events s A (Switches Started) t sound run clean step own = absurd own
-step_falls shape events s B (Switches Started) t sound run clean step own = absurd own
-step_falls shape events s A (Asks event) t sound run clean step own = absurd own
-step_falls shape events s B (Asks event) t sound run clean step own = absurd own
-step_falls shape events s A (Calms event) t sound run clean step own = absurd own
-step_falls shape events s B (Calms event) t sound run clean step own = absurd own
+step_falls shape events s e (Works Misplaced) t sound run clean step own = absurd step
+step_falls shape events s e (Works event) t sound run clean step own = inr (steps_fall shape events s (Works event) t sound run step tt)
+step_falls shape events s B (Switches Off) t sound run clean step own = inl (tt, same_remains s t step.1)
+step_falls shape events s A _ t sound run clean step own = absurd own
+step_falls shape events s B _ t sound run clean step own = absurd own
