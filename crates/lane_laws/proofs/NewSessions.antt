@@ -8,7 +8,7 @@ use Rattle.lane_laws.specs.DiskLog.{DiskLog, after, nothing_yet}
 use Rattle.disk_model.specs.LaneState.{Shape}
 use Rattle.lane_laws.specs.May.{IsLawful, May}
 use Rattle.channel_model.specs.WireAt.{IsUp}
-use Rattle.channel_model.specs.WireEvent.{Injected, Joined, Lost, Reset, Sent, Took, WireEvent}
+use Rattle.channel_model.specs.WireEvent.{Injected, Joined, Lost, Reset, Sent, Took}
 use Rattle.lane_laws.specs.WorkLaws.{FinishesPiece, InClient, InServer, MayComplete, MayFetch, MayPublish, MovesPiece, StoresPiece}
 use Rattle.lane_laws.specs.WorkLog.{ClientCounts, ServerCounts, WorkLog, change_client, change_server}
 use Rattle.lane_laws.proofs.SlotsStepping.{behind_up, upset_not}
@@ -42,42 +42,34 @@ ended_waits B l (Switches Stopped) was = λ up. refl
 ended_waits e l _ was = absurd was
 
 -- EACH EVENT opens its session, or it still waits: the client
-client_wire : (l : DiskLog) (event : WireEvent) → Waits A l → OpensAt A (OnWire event) ⊎ Waits A (after l (OnWire event))
-client_wire l (Took A packet true) waits = inl refl
-client_wire l (Took A packet false) waits = inr (λ up. none_client _ l.work.client (waits up))
-client_wire l (Sent A packet true) waits = inl refl
-client_wire l (Sent A packet false) waits = inr (λ up. none_client _ l.work.client (waits up))
-client_wire l (Joined A lost) waits = inr (λ up. refl)
-client_wire l (Joined B lost) waits = inr (λ up. waits (behind_up l.wire.wire.end_b l.wire.wire.end_a up).0)
-client_wire l (Reset A cause packet lost) waits = inr (λ up. refl)
-client_wire l (Reset B cause packet lost) waits = inr (λ up. waits (behind_up l.wire.wire.end_b l.wire.wire.end_a up).0)
-client_wire l (Lost A packet) waits = inr waits
-client_wire l (Injected A packet) waits = inr waits
-client_wire l _ waits = inr waits
-
 client_waits : (l : DiskLog) (event : DiskEvent) → Waits A l → OpensAt A event ⊎ Waits A (after l event)
-client_waits l (OnWire event) waits = client_wire l event waits
+client_waits l (OnWire (Took A packet true)) waits = inl refl
+client_waits l (OnWire (Took A packet false)) waits = inr (λ up. none_client _ l.work.client (waits up))
+client_waits l (OnWire (Sent A packet true)) waits = inl refl
+client_waits l (OnWire (Sent A packet false)) waits = inr (λ up. none_client _ l.work.client (waits up))
+client_waits l (OnWire (Joined A lost)) waits = inr (λ up. refl)
+client_waits l (OnWire (Joined B lost)) waits = inr (λ up. waits (behind_up l.wire.wire.end_b l.wire.wire.end_a up).0)
+client_waits l (OnWire (Reset A cause packet lost)) waits = inr (λ up. refl)
+client_waits l (OnWire (Reset B cause packet lost)) waits = inr (λ up. waits (behind_up l.wire.wire.end_b l.wire.wire.end_a up).0)
+client_waits l (OnWire (Lost A packet)) waits = inr waits
+client_waits l (OnWire (Injected A packet)) waits = inr waits
 client_waits l (Asks (Accepted id request)) waits = inr waits
 client_waits l (Works (Published id)) waits = inr (λ up. none_client _ l.work.client (waits up))
 client_waits l (Switches Stopped) waits = inr (λ up. absurd (upset_not l.wire.wire.end_a up))
 client_waits l _ waits = inr waits
 
 -- the server
-server_wire : (l : DiskLog) (event : WireEvent) → Waits B l → OpensAt B (OnWire event) ⊎ Waits B (after l (OnWire event))
-server_wire l (Took B packet true) waits = inl refl
-server_wire l (Took B packet false) waits = inr (λ up. none_server _ l.work.server (waits up))
-server_wire l (Sent B packet true) waits = inl refl
-server_wire l (Sent B packet false) waits = inr (λ up. none_server _ l.work.server (waits up))
-server_wire l (Joined B lost) waits = inr (λ up. refl)
-server_wire l (Joined A lost) waits = inr (λ up. waits (behind_up l.wire.wire.end_a l.wire.wire.end_b up).0)
-server_wire l (Reset B cause packet lost) waits = inr (λ up. refl)
-server_wire l (Reset A cause packet lost) waits = inr (λ up. waits (behind_up l.wire.wire.end_a l.wire.wire.end_b up).0)
-server_wire l (Lost A packet) waits = inr waits
-server_wire l (Injected A packet) waits = inr waits
-server_wire l _ waits = inr waits
-
 server_waits : (l : DiskLog) (event : DiskEvent) → Waits B l → OpensAt B event ⊎ Waits B (after l event)
-server_waits l (OnWire event) waits = server_wire l event waits
+server_waits l (OnWire (Took B packet true)) waits = inl refl
+server_waits l (OnWire (Took B packet false)) waits = inr (λ up. none_server _ l.work.server (waits up))
+server_waits l (OnWire (Sent B packet true)) waits = inl refl
+server_waits l (OnWire (Sent B packet false)) waits = inr (λ up. none_server _ l.work.server (waits up))
+server_waits l (OnWire (Joined B lost)) waits = inr (λ up. refl)
+server_waits l (OnWire (Joined A lost)) waits = inr (λ up. waits (behind_up l.wire.wire.end_a l.wire.wire.end_b up).0)
+server_waits l (OnWire (Reset B cause packet lost)) waits = inr (λ up. refl)
+server_waits l (OnWire (Reset A cause packet lost)) waits = inr (λ up. waits (behind_up l.wire.wire.end_a l.wire.wire.end_b up).0)
+server_waits l (OnWire (Lost A packet)) waits = inr waits
+server_waits l (OnWire (Injected A packet)) waits = inr waits
 server_waits l (Asks (Accepted id request)) waits = inr waits
 server_waits l (Works (Desc slot bytes)) waits = inr (λ up. none_server _ l.work.server (waits up))
 server_waits l (Works (Moved unit fault)) waits = inr (λ up. none_server _ l.work.server (waits up))

@@ -11,7 +11,7 @@ use Rattle.channel_model.specs.TranscriptLog.{TranscriptLog, hears, says}
 use Rattle.channel_model.specs.WireEvent.{Sent, Took}
 use Rattle.lane_laws.specs.DiskLog.{after, nothing_yet}
 use Rattle.lane_laws.specs.WorkLaws.{OpeningsAt, OpensRightly}
-use Rattle.disk_model.specs.DiskEvent.{Asks, DiskEvent, OnWire}
+use Rattle.disk_model.specs.DiskEvent.{DiskEvent, OnWire}
 use Rattle.disk_model.specs.LaneState.{IsShape, LaneState, Shape, fresh}
 use Rattle.disk_model.specs.LaneStep.{LaneStep}
 use Rattle.channel_laws.proofs.OpeningOrder.{opens_hearing, opens_saying}

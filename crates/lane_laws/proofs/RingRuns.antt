@@ -125,13 +125,9 @@ issued_behind s l (Switches Stopped) t stands few step = few
 issued_behind s l _ t stands few step = few
 
 -- where nobody forged after an event, nobody had before it
-wire_before : (l : DiskLog) (event : WireEvent) → (after l (OnWire event)).wire.forged ≡ false → l.wire.forged ≡ false
-wire_before l (Injected e packet) not = absurd (cc not)
-wire_before l (Poked e at bytes) not = absurd (cc not)
-wire_before l _ not = not
-
 pub before : (l : DiskLog) (event : DiskEvent) → (after l event).wire.forged ≡ false → l.wire.forged ≡ false
-before l (OnWire event) not = wire_before l event not
+before l (OnWire (Injected e packet)) not = absurd (cc not)
+before l (OnWire (Poked e at bytes)) not = absurd (cc not)
 before l (Switches Stopped) not = not
 before l _ not = not
 

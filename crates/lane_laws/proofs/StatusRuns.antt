@@ -7,7 +7,7 @@ use Rattle.runs.specs.Run.{Run, run_push}
 use Rattle.ldc_queue.specs.declared.end.End.TheVariants.{A, B}
 use Rattle.ldc_queue.specs.Transcript.{Said}
 use Rattle.channel_model.specs.Sayings.{half_heard, said}
-use Rattle.channel_model.specs.WireEvent.{Injected, Joined, Lost, Reset, Sent, Took, WireEvent}
+use Rattle.channel_model.specs.WireEvent.{Injected, Joined, Lost, Reset, Sent, Took}
 use Rattle.lane_laws.specs.DiskLog.{DiskLog, after, nothing_yet}
 use Rattle.lane_laws.specs.RingLog.{Done as IsDone, Free, SlotLog, finished_at, id_at}
 use Rattle.lane_laws.specs.WorkLaws.{IfClient, InClient, Unforged, WorkUnforgedAt, last_of}
@@ -73,30 +73,6 @@ sent_status true shape s l packet t now step stand = record {
 }
 
 -- THE WIRE
-wire_status : (shape : Shape) (s : LaneState) (l : DiskLog) (event : WireEvent) (t : LaneState) → Around shape s l (OnWire event) t → LaneStep s (OnWire event) t → StatusesStand l
-    → StatusesStand (after l (OnWire event))
-wire_status shape s l (Joined A lost) t now step stand = record { done = tt; last = λ up. last_gone l.work.server l.work.opened; named = tt }
-wire_status shape s l (Joined B lost) t now step stand = record { done = stand.done; last = λ up. tt; named = stand.named }
-wire_status shape s l (Reset A cause packet lost) t now step stand = record { done = tt; last = λ up. last_gone l.work.server l.work.opened; named = tt }
-wire_status shape s l (Reset B cause packet lost) t now step stand = record { done = stand.done; last = λ up. tt; named = stand.named }
-wire_status shape s l (Took A packet false) t now step stand = record {
-  done = keeps_changed _ l.work.client l.ring l.work.opened (λ k. refl) (λ k. refl) stand.done;
-  last = λ up. last_client _ l.work.server l.work.client l.work.opened (λ k. refl) (stand.last up);
-  named = named_changed _ l.work.client (said l.transcript.client) (λ k. refl) stand.named;
-}
-wire_status shape s l (Took A packet true) t now step stand = true_is_false (step.step.2)
-wire_status shape s l (Took B packet opens) t now step stand = took_status opens shape s l packet t now step stand
-wire_status shape s l (Sent A packet opens) t now step stand = sent_status opens shape s l packet t now step stand
-wire_status shape s l (Sent B packet true) t now step stand = absurd (sends_not shape s l packet t now step)
-wire_status shape s l (Sent B packet false) t now step stand = record {
-  done = stand.done;
-  last = λ up. last_server _ l.work.server l.work.client l.work.opened (λ d. refl) (stand.last up);
-  named = stand.named;
-}
-wire_status shape s l (Lost A packet) t now step stand = record { done = stand.done; last = stand.last; named = stand.named }
-wire_status shape s l (Injected A packet) t now step stand = record { done = stand.done; last = stand.last; named = stand.named }
-wire_status shape s l _ t now step stand = record { done = stand.done; last = stand.last; named = stand.named }
-
 -- THE WORK: a status is given
 abbrev finished_counts : ServerCounts → ServerCounts
 finished_counts c = record c { finished = c.finished + 1; owed = rest_of c.owed }
@@ -153,7 +129,26 @@ work_status s l Misplaced t known step stand = absurd step
 
 -- EACH EVENT
 event_status : (shape : Shape) (s : LaneState) (l : DiskLog) (event : DiskEvent) (t : LaneState) → Around shape s l event t → LaneStep s event t → StatusesStand l → StatusesStand (after l event)
-event_status shape s l (OnWire event) t now step stand = wire_status shape s l event t now step stand
+event_status shape s l (OnWire (Joined A lost)) t now step stand = record { done = tt; last = λ up. last_gone l.work.server l.work.opened; named = tt }
+event_status shape s l (OnWire (Joined B lost)) t now step stand = record { done = stand.done; last = λ up. tt; named = stand.named }
+event_status shape s l (OnWire (Reset A cause packet lost)) t now step stand = record { done = tt; last = λ up. last_gone l.work.server l.work.opened; named = tt }
+event_status shape s l (OnWire (Reset B cause packet lost)) t now step stand = record { done = stand.done; last = λ up. tt; named = stand.named }
+event_status shape s l (OnWire (Took A packet false)) t now step stand = record {
+  done = keeps_changed _ l.work.client l.ring l.work.opened (λ k. refl) (λ k. refl) stand.done;
+  last = λ up. last_client _ l.work.server l.work.client l.work.opened (λ k. refl) (stand.last up);
+  named = named_changed _ l.work.client (said l.transcript.client) (λ k. refl) stand.named;
+}
+event_status shape s l (OnWire (Took A packet true)) t now step stand = true_is_false (step.step.2)
+event_status shape s l (OnWire (Took B packet opens)) t now step stand = took_status opens shape s l packet t now step stand
+event_status shape s l (OnWire (Sent A packet opens)) t now step stand = sent_status opens shape s l packet t now step stand
+event_status shape s l (OnWire (Sent B packet true)) t now step stand = absurd (sends_not shape s l packet t now step)
+event_status shape s l (OnWire (Sent B packet false)) t now step stand = record {
+  done = stand.done;
+  last = λ up. last_server _ l.work.server l.work.client l.work.opened (λ d. refl) (stand.last up);
+  named = stand.named;
+}
+event_status shape s l (OnWire (Lost A packet)) t now step stand = record { done = stand.done; last = stand.last; named = stand.named }
+event_status shape s l (OnWire (Injected A packet)) t now step stand = record { done = stand.done; last = stand.last; named = stand.named }
 event_status shape s l (Asks (Accepted id request)) t now step stand = record { done = stand.done; last = stand.last; named = stand.named }
 event_status shape s l (Works event) t now step stand = work_status s l event t now.known step stand
 event_status shape s l (Switches Stopped) t now step stand = record { done = stand.done; last = λ up. tt; named = stand.named }

@@ -6,7 +6,7 @@ use Rattle.runs.specs.Run.{Run}
 use Rattle.cookie_copy.specs.declared.fault.CopyFault.{CopyFault}
 use Rattle.ldc_queue.specs.declared.end.End.TheVariants.{A, B}
 use Rattle.ldc_queue.specs.declared.end.ChannelState.{ChannelState}
-use Rattle.channel_model.specs.WireEvent.{Joined, Reset, Sent, Took, WireEvent}
+use Rattle.channel_model.specs.WireEvent.{Joined, Reset, Sent, Took}
 use Rattle.channel_laws.proofs.Apart.{some_same}
 use Rattle.lane_laws.specs.DiskLog.{DiskLog, after, nothing_yet}
 use Rattle.lane_laws.specs.RingLog.{Done as IsDone, Free, Ready, SlotLog, Zeros, cleared_if, fetched_at, finished_at, freed_at, published_at}
@@ -81,14 +81,6 @@ more_opened true sid sessions zeros = (tt, zeros)
 more_opened false sid sessions zeros = zeros
 
 -- EACH EVENT
-wire_zero : (l : DiskLog) (event : WireEvent) → StatusesZero l → StatusesZero (after l (OnWire event))
-wire_zero l (Joined A lost) zeros = record { ring = zeros.ring; opened = zeros.opened }
-wire_zero l (Reset A cause packet lost) zeros = record { ring = zeros.ring; opened = zeros.opened }
-wire_zero l (Took B packet opens) zeros = record { ring = zeros.ring; opened = more_opened opens _ l.work.opened zeros.opened }
-wire_zero l (Sent A packet opens) zeros = record { ring = cleared_zero opens l.shape.slots l.ring zeros.ring; opened = zeros.opened }
-wire_zero l (Sent B packet opens) zeros = record { ring = zeros.ring; opened = more_opened opens _ l.work.opened zeros.opened }
-wire_zero l _ zeros = record { ring = zeros.ring; opened = zeros.opened }
-
 -- a descriptor ends with the status that its progress has
 ends_zero : (s : LaneState) (l : DiskLog) (slot status : ℕ) (t : LaneState) → Before s l → ContentsStand (view_of s) → WorkStep s (Finished slot status) t → status ≡ 0
 ends_zero s l slot status t before contents step =
@@ -101,7 +93,11 @@ ends_zero s l slot status t before contents step =
     is.1
 
 event_zero : (s : LaneState) (l : DiskLog) (event : DiskEvent) (t : LaneState) → Before s l → ContentsStand (view_of s) → LaneStep s event t → StatusesZero l → StatusesZero (after l event)
-event_zero s l (OnWire event) t before contents step zeros = wire_zero l event zeros
+event_zero s l (OnWire (Joined A lost)) t before contents step zeros = record { ring = zeros.ring; opened = zeros.opened }
+event_zero s l (OnWire (Reset A cause packet lost)) t before contents step zeros = record { ring = zeros.ring; opened = zeros.opened }
+event_zero s l (OnWire (Took B packet opens)) t before contents step zeros = record { ring = zeros.ring; opened = more_opened opens _ l.work.opened zeros.opened }
+event_zero s l (OnWire (Sent A packet opens)) t before contents step zeros = record { ring = cleared_zero opens l.shape.slots l.ring zeros.ring; opened = zeros.opened }
+event_zero s l (OnWire (Sent B packet opens)) t before contents step zeros = record { ring = zeros.ring; opened = more_opened opens _ l.work.opened zeros.opened }
 event_zero s l (Asks (Accepted id request)) t before contents step zeros = record { ring = zeros.ring; opened = zeros.opened }
 event_zero s l (Works (Published id)) t before contents step zeros = record { ring = published_zero l.shape.slots l.work.client id l.ring zeros.ring; opened = zeros.opened }
 event_zero s l (Works (Done id operation status bytes)) t before contents step zeros = record { ring = freed_zero l.shape.slots l.work l.work.client l.ring zeros.ring; opened = zeros.opened }
