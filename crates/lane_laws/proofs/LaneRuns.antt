@@ -74,11 +74,7 @@ contents_behind : (s : LaneState) (l : DiskLog) (event : DiskEvent) (t : LaneSta
     → LaneStep s event t → ContentsStand (view_of t)
 contents_behind s l (Works (Stored operation block count failed)) t before contents facts clean well step =
     store_contents s l operation block count failed step.0 t before contents (stored_well s step.0 operation block count failed t step.1 well) step.1
-contents_behind s l (OnWire event) t before contents facts clean well step = changed_contents s l (OnWire event) t before contents (lane_changes s l (OnWire event) t before contents facts clean tt step)
-contents_behind s l (Asks event) t before contents facts clean well step = changed_contents s l (Asks event) t before contents (lane_changes s l (Asks event) t before contents facts clean tt step)
 contents_behind s l (Works Misplaced) t before contents facts clean well step = absurd step
-contents_behind s l (Switches event) t before contents facts clean well step = changed_contents s l (Switches event) t before contents (lane_changes s l (Switches event) t before contents facts clean tt step)
-contents_behind s l (Calms event) t before contents facts clean well step = changed_contents s l (Calms event) t before contents (lane_changes s l (Calms event) t before contents facts clean tt step)
 contents_behind s l event t before contents facts clean well step =
     changed_contents s l event t before contents (lane_changes s l event t before contents facts clean tt step)
 

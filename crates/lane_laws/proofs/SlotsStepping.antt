@@ -206,10 +206,10 @@ wire_slots s l (Sent B packet false) t step facts slots =
     keep_server l.shape.slots l.work (after l (OnWire (Sent B packet false))).work l.wire.wire (after l (OnWire (Sent B packet false))).wire.wire l.ring l.work.client refl
     (λ finished descs at. same_at l.wire.wire (after l (OnWire (Sent B packet false))).wire.wire (after l (OnWire (Sent B packet false))).work.server finished descs refl refl (at_changed l.wire.wire l.work.server _ finished descs (λ d. (refl, refl)) at)) slots
 wire_slots s l (Lost A packet) t step facts slots = keep_server l.shape.slots l.work (after l (OnWire (Lost A packet))).work l.wire.wire (after l (OnWire (Lost A packet))).wire.wire l.ring l.work.client refl (λ finished descs at. same_at l.wire.wire (after l (OnWire (Lost A packet))).wire.wire l.work.server finished descs refl refl at) slots
-wire_slots s l (Lost B packet) t step facts slots = keep_server l.shape.slots l.work (after l (OnWire (Lost B packet))).work l.wire.wire (after l (OnWire (Lost B packet))).wire.wire l.ring l.work.client refl (λ finished descs at. same_at l.wire.wire (after l (OnWire (Lost B packet))).wire.wire l.work.server finished descs refl refl at) slots
 wire_slots s l (Injected A packet) t step facts slots = keep_server l.shape.slots l.work (after l (OnWire (Injected A packet))).work l.wire.wire (after l (OnWire (Injected A packet))).wire.wire l.ring l.work.client refl (λ finished descs at. same_at l.wire.wire (after l (OnWire (Injected A packet))).wire.wire l.work.server finished descs refl refl at) slots
-wire_slots s l (Injected B packet) t step facts slots = keep_server l.shape.slots l.work (after l (OnWire (Injected B packet))).work l.wire.wire (after l (OnWire (Injected B packet))).wire.wire l.ring l.work.client refl (λ finished descs at. same_at l.wire.wire (after l (OnWire (Injected B packet))).wire.wire l.work.server finished descs refl refl at) slots
-wire_slots s l _ t step facts slots = slots
+wire_slots s l event t step facts slots =
+    keep_server l.shape.slots l.work (after l (OnWire event)).work l.wire.wire (after l (OnWire event)).wire.wire l.ring l.work.client refl
+    (λ finished descs at. same_at l.wire.wire (after l (OnWire event)).wire.wire l.work.server finished descs refl refl at) slots
 
 -- THE WORK: a request is published
 published_in : (s : LaneState) (l : DiskLog) (id : ℕ) (t : LaneState) → Known s l → WorkStep s (Published id) t → SlotsInOrder l → SlotsInOrder (after l (Works (Published id)))
