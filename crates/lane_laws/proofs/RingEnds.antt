@@ -1,5 +1,5 @@
 -- What a server's work on a fetched descriptor does to the ring: a unit goes after it, and the slot gets its status and is DONE.
-use Rattle.std.proofs.Common.{◌≡◌, ℕ, ◌+◌, ◌%◌, ◌^◌, ◌<◌, List, length, set, Option, Some, inl, refl, sym, ap, ◌∙◌, subst, arith}
+use Rattle.std.proofs.Common.{◌≡◌, ℕ, ◌+◌, ◌%◌, ◌^◌, ◌<◌, List, length, set, Option, Some, sym, ap, ◌∙◌, subst, arith}
 use Rattle.std.specs.Prelude.{slice_get}
 use Rattle.std.proofs.lemmas.Nat.{mod_below}
 use Rattle.cookie_copy.specs.declared.fault.CopyFault.{CopyFault}
@@ -20,7 +20,7 @@ use Rattle.disk_model.specs.ServerRule as server_rules
 use Rattle.disk_model.specs.ServerState.{Ends, Gathers, Gives, Progress, ServerSession, Work}
 use Rattle.cookie_copy.specs.Reach.{Reach}
 use Rattle.disk_model.specs.ServerWork.{MovesIn}
-use Rattle.lane_laws.proofs.RingLeaves.{LeavesRing, ids_stay, leaves_stand, work_changed}
+use Rattle.lane_laws.proofs.RingLeaves.{event_leaves, leaves_stand}
 use Rattle.lane_laws.proofs.RingServer.{ends_slot}
 use Rattle.lane_laws.proofs.RingSessions.{sizes_of}
 use Rattle.lane_laws.proofs.RingTable.{each_set, id_is, set_holds}
@@ -62,17 +62,6 @@ unit_behind (Gives u bytes) w ring r pages slot id unit fault next new sizes lon
 unit_behind (Gathers u) w ring r pages slot id unit fault next new sizes long identity holds moves = equal_slots ring.slots r.memory new moves.3
 unit_behind _ w ring r pages slot id unit fault next new sizes long identity holds moves = absurd moves
 
-pub moved_leaves : (l : DiskLog) (unit : ℕ) (fault : Option CopyFault) → LeavesRing l (Works (Moved unit fault))
-moved_leaves l unit fault = record {
-  ring = refl;
-  issued = refl;
-  done = refl;
-  client = ids_stay l.work.client;
-  server = work_changed _ l.work.server (λ c. record { descs = refl; finished = refl; desc = refl });
-  unforged = λ f. f;
-  live = λ up. inl up;
-}
-
 pub moved_in_ring : (s : LaneState) (l : DiskLog) (unit : ℕ) (fault : Option CopyFault) (t : LaneState) → Known s l → WorkStep s (Moved unit fault) t
     → InRing t (after l (Works (Moved unit fault)))
 moved_in_ring s l unit fault t known step =
@@ -85,7 +74,7 @@ moved_in_ring s l unit fault t known step =
     let slot = d.finished % l.shape.slots in
     let sizes = sizes_of s l slot known.pages (work_below s l d known) in
     let holds : HoldsIssued (ring_in l) slot has.inside.id 2 0 m.work.bytes = subst (HoldsIssued (ring_in l) slot has.inside.id 2 0) has.desc has.inside.fetched in
-    leaves_stand s l (Works (Moved unit fault)) t (moved_leaves l unit fault)
+    leaves_stand s l (Works (Moved unit fault)) t (event_leaves l (Works (Moved unit fault)) tt)
     (unit_behind m.work.progress m.work (ring_in l) (reach s at.both) (pages_of l.shape) slot has.inside.id unit fault m.next t.memory sizes (memory_is s l known) known.pages.identity holds m.moves)
     known.ring
 

@@ -27,7 +27,7 @@ use Rattle.lane_laws.proofs.Requesting.{held_kept}
 use Rattle.lane_laws.proofs.RingClient.{cleared_slot}
 use Rattle.lane_laws.proofs.RingEnds.{has_work, work_below}
 use Rattle.lane_laws.proofs.LaneViews.{ClientWrites, MemoryPoked, MemoryStays, MemoryView, ServerWrites, at_client, at_server, lane_view, reach_of}
-use Rattle.lane_laws.proofs.RingLeaves.{OpensNot, leaves_stand, wire_leaves}
+use Rattle.lane_laws.proofs.RingLeaves.{OpensNot, leaves_stand, event_leaves}
 use Rattle.lane_laws.proofs.RingServer.{end_refused}
 use Rattle.lane_laws.proofs.RingTable.{free_ids, free_ring}
 use Rattle.lane_laws.proofs.RingWork.{Known, at_work, numbered, slots_are}
@@ -138,7 +138,7 @@ wire_same s l event t not known step unforged = by event not unforged (lane_view
 quiet_in_ring : (s : LaneState) (l : DiskLog) (event : WireEvent) (t : LaneState) → OpensNot event → Known s l → WireStep s event t → (after l (OnWire event)).wire.forged ≡ false
     → InRing t (after l (OnWire event))
 quiet_in_ring s l event t not known step unforged =
-    leaves_stand s l (OnWire event) t (wire_leaves l event not) (equal_slots l.shape.slots s.memory t.memory (wire_same s l event t not known step unforged)) known.ring
+    leaves_stand s l (OnWire event) t (event_leaves l (OnWire event) not) (equal_slots l.shape.slots s.memory t.memory (wire_same s l event t not known step unforged)) known.ring
 
 sent_in_ring : (s : LaneState) (l : DiskLog) (e : End) (packet : List ℕ) (opens : Bool) (t : LaneState) → Known s l → SessionsAgree t (after l (OnWire (Sent e packet opens)))
     → WireStep s (Sent e packet opens) t → (after l (OnWire (Sent e packet opens))).wire.forged ≡ false → InRing t (after l (OnWire (Sent e packet opens)))
