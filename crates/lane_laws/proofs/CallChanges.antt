@@ -9,14 +9,14 @@ use Rattle.channel_model.specs.WireLog.{WireLog, wire_moved}
 use Rattle.channel_laws.proofs.Apart.{ends_differ, some_same}
 use Rattle.lane_laws.specs.DiskLog.{DiskLog, after}
 use Rattle.lane_laws.specs.WorkLaws.{IfServer}
-use Rattle.lane_laws.specs.WorkLog.{ClientCounts, ServerCounts}
+use Rattle.lane_laws.specs.WorkLog.{ServerCounts}
 use Rattle.disk_model.specs.ClientState.{ClientSession, ClientState, opened_session}
 use Rattle.disk_model.specs.DiskEvent.{Accepted, Admitted, Asks, Calm, DiskEvent, Full, Off, OnWire, Refused, Calms, Started, Stopped, Switched, Switches}
 use Rattle.disk_model.specs.LaneState.{LaneState, NearCounts}
 use Rattle.disk_model.specs.LaneStep.{LaneStep, RestStep, TurnStep, WireStep}
 use Rattle.channel_model.specs.Seeing.{seen}
 use Rattle.disk_model.specs.ServerState.{Work}
-use Rattle.lane_laws.proofs.RingWire.{sent_clears, wire_same}
+use Rattle.lane_laws.proofs.RingWire.{published_of, sent_clears, wire_same}
 use Rattle.lane_laws.proofs.SlotsStepping.{StepFacts}
 use Rattle.lane_laws.proofs.StandingSteps.{wire_only}
 use Rattle.lane_laws.specs.RingAgreed.{OneRing}
@@ -31,7 +31,7 @@ use Rattle.lane_laws.proofs.QuietWire.{wire_quiet, work_on_wire}
 use Rattle.lane_laws.proofs.Standing.{Before}
 use Rattle.lane_laws.proofs.WireChanges.{Changed, buffers_same, disturbed, reset_drops, view_is, wire_rests}
 use Rattle.lane_laws.proofs.WireCounts.{opens_k}
-use Rattle.lane_laws.proofs.WorkCounts.{calm}
+use Rattle.lane_laws.proofs.LaneViews.{calm_same as calm}
 
 -- A RESET
 wire_resets : (e : End) (s : LaneState) (l : DiskLog) (cause : Cause) (packet : Option (List ℕ)) (lost : ℕ) (t : LaneState) → Before s l → ContentsStand (view_of s)
@@ -49,20 +49,16 @@ wire_resets e s l cause packet lost t before contents clean gone same peer step 
     disturbed s l (OnWire event) t before contents (λ content. refl) only.kept.pending only.kept.slots (wire_same s l event t tt before.known step clean) work quiet.near quiet.client.keeps
 
 -- THE CLIENT'S SESSION OPENS
-published_in : Option ClientCounts → ℕ
-published_in None = 0
-published_in (Some c) = c.published
-
 idle_opening : (s : LaneState) (l : DiskLog) (packet : List ℕ) (t : LaneState) (o : Option Work) → Before s l → StepFacts s l (OnWire (Sent A packet true)) t
     → work_while s.wire.wire.end_b s.server.work ≡ o → o ≡ None
-unfolding published_in
+unfolding published_of
 idle_opening s l packet t None before facts is = refl
 idle_opening s l packet t (Some work) before facts is =
     let on = working s l work before is in
     let d = on.at.of.counts in
     let m = after l (OnWire (Sent A packet true)) in
     let one : OneRing t m.work d = subst (λ (q : Option ServerCounts). IfServer q (OneRing t m.work)) on.at.of.open_is (facts.agree.ring on.at.up) in
-    let nothing : 0 ≡ one.client.published = ap published_in one.open_is in
+    let nothing : 0 ≡ one.client.published = ap published_of one.open_is in
     let descs = one.descs in
     let asked = one.asked in
     let single = on.has.one in

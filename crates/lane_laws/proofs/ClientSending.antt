@@ -31,11 +31,11 @@ behind_counts ComesUp c counts = counts
 behind_counts EndsHandshake c counts = opened_counts (put_opens EndsHandshake c.handshake) c counts
 
 -- an INFO that isn't wholly put is still held
-not_announcing : (open_one : Option ClientSession) → is_announcing (announced open_one) ≡ false
+pub not_announcing : (open_one : Option ClientSession) → is_announcing (announced open_one) ≡ false
 not_announcing None = refl
 not_announcing (Some s) = refl
 
-opened_other : (b : Bool) (c : ClientState) → is_announcing c.session ≡ false → is_announcing (opened_if b c) ≡ false
+pub opened_other : (b : Bool) (c : ClientState) → is_announcing c.session ≡ false → is_announcing (opened_if b c) ≡ false
 opened_other true c other = refl
 opened_other false c other = other
 

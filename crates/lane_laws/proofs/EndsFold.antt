@@ -28,32 +28,28 @@ use Rattle.disk_model.specs.ServerPutting.{server_holds, server_kind}
 use Rattle.disk_model.specs.ServerRule as server_rules
 use Rattle.disk_model.specs.ServerRule.{answer}
 use Rattle.disk_model.specs.ServerState.{ServerSession, ServerState, SlotRange}
-use Rattle.disk_model.specs.ServerStep.{ServerSends}
+use Rattle.disk_model.specs.ServerStep.{ServerSends, ServerStep}
 use Rattle.channel_model.specs.WireEvent.{Blocked, Idle, Joined, Reset, Sent, Took}
 use Rattle.lane_laws.specs.WorkLog.{ServerCounts}
 use Rattle.lane_laws.proofs.ClientFolds.{ClientIs, client_admits_so, client_begins, client_blocks_so, client_completes_so, client_publishes_so, client_puts_so, client_takes_so, sends_some}
 use Rattle.channel_laws.proofs.MessagesHeld.{owed_held}
-use Rattle.lane_laws.proofs.Speaking.{client_blocked_rests}
+use Rattle.lane_laws.proofs.Speaking.{client_blocked_rests, client_blocked_utters, server_blocked_rests, server_blocked_utters, server_holds_owed}
 use Rattle.lane_laws.proofs.ClientTaken.{client_took_what}
-use Rattle.lane_laws.proofs.Speaking.{client_blocked_utters}
 use Rattle.channel_laws.proofs.Apart.{false_is_true, none_is_some, some_is_none, some_same}
 use Rattle.channel_laws.proofs.PutSayings.{put_says}
 use Rattle.channel_laws.proofs.EndStanding.{hears_sending, open_up}
 use Rattle.lane_laws.proofs.LaneViews.{ClientSide, ServerSide, at_client, at_server, client_keeps, reach_of, server_keeps}
-use Rattle.disk_model.specs.ServerStep.{ServerStep}
 use Rattle.disk_model.specs.ClientStep.{ClientStep}
 use Rattle.lane_laws.proofs.LaneCounting.{Knows, knows_step, run_knows}
 use Rattle.lane_laws.proofs.ClientMoves.{client_sending}
 use Rattle.lane_laws.proofs.ServerMoves.{server_hears}
 use Rattle.lane_laws.proofs.ClientPuts.{putting}
 use Rattle.lane_laws.proofs.RangeSums.{count_heard}
-use Rattle.lane_laws.proofs.RulesFree.{owes_nothing, takes_calm}
-use Rattle.lane_laws.proofs.RulesFree.{ServerFree, TakesFree, server_free}
+use Rattle.lane_laws.proofs.RulesFree.{ServerFree, TakesFree, owes_nothing, server_free, takes_calm}
 use Rattle.lane_laws.proofs.Ruling.{client_may}
 use Rattle.lane_laws.proofs.ServerFolds.{ServerIs, ranged, server_begins, server_blocks_so, server_fetches_so, server_finishes_so, server_moves_so, server_puts_so, server_restarts, server_stores_so, server_takes_so}
 use Rattle.lane_laws.proofs.ServerPutCounting.{server_holds_counting}
 use Rattle.lane_laws.proofs.ServerTaken.{server_took_what}
-use Rattle.lane_laws.proofs.Speaking.{server_blocked_rests, server_blocked_utters, server_holds_owed}
 use Rattle.channel_laws.specs.Cuts.{CarriesOwed, Cuts}
 use Rattle.lane_laws.specs.Counted.{HoldsAnswer, ServerOrder, range_count}
 use Rattle.lane_laws.specs.ChannelEnds.{client_core, server_core}

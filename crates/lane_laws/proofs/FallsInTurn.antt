@@ -1,5 +1,5 @@
 -- A packet that an end takes lowers what remains, after every run of a lane that nobody forged.
-use Rattle.std.proofs.Common.{◌≡◌, ℕ, ◌+◌, ◌-◌, ◌%◌, ◌^◌, ◌<◌, ◌≤◌, inl, inr, Bool, false, Option, Some, None, List, [], ◌∷◌, ◌++◌, length, map, refl, sym, ap, ◌∙◌, subst, arith}
+use Rattle.std.proofs.Common.{◌≡◌, ℕ, ◌+◌, ◌-◌, ◌%◌, ◌^◌, ◌<◌, ◌≤◌, inl, inr, Bool, false, Option, Some, List, [], ◌∷◌, ◌++◌, length, map, refl, sym, ap, ◌∙◌, subst, arith}
 use Rattle.std.proofs.lemmas.Nat.{mod_below}
 use Rattle.runs.specs.Lawful.{log_append, log_of}
 use Rattle.runs.specs.Run.{Run, run_push}
@@ -21,7 +21,7 @@ use Rattle.disk_model.specs.DiskEvent.{Desc, DiskEvent, Done, Finished, Moved, O
 use Rattle.disk_model.specs.LaneState.{IsShape, LaneState, Shape, fresh}
 use Rattle.disk_model.specs.LaneStep.{EndOnWire, LaneStep}
 use Rattle.disk_model.specs.ServerRule as server_rules
-use Rattle.disk_model.specs.ServerState.{ServerSession, ServerState, Work}
+use Rattle.disk_model.specs.ServerState.{ServerSession, ServerState}
 use Rattle.channel_laws.proofs.PacketsTaken.{unforged_took}
 use Rattle.channel_laws.specs.LaneCore.{end_of}
 use Rattle.channel_laws.specs.PacketsLeft.{packets_left}
@@ -38,16 +38,14 @@ use Rattle.lane_laws.proofs.RemainingServerTakes.{behind_ask, server_turns}
 use Rattle.lane_laws.proofs.RemainingTakes.{client_took_falls, server_took_falls}
 use Rattle.lane_laws.proofs.RulesFree.{ServerFree, TakesFree, server_free}
 use Rattle.lane_laws.proofs.Ruling.{server_may}
-use Rattle.lane_laws.proofs.ServerCounting.{opens_new}
+use Rattle.lane_laws.proofs.ServerCounting.{no_work, opens_new}
 use Rattle.lane_laws.proofs.ServerTaken.{ServerAsked, ServerTook, server_took_what}
-use Rattle.lane_laws.specs.Agreement.{ServerAgrees}
 use Rattle.lane_laws.specs.ChannelEnds.{core_event, core_of}
 use Rattle.lane_laws.specs.Counted.{range_sum}
 use Rattle.lane_laws.specs.DiskLog.{DiskLog, after, nothing_yet}
 use Rattle.lane_laws.specs.Remaining.{asked_in, remaining, total}
 use Rattle.lane_laws.specs.RemainingSteps.{AllDo, DoesSomething, ServerTurn, total_at}
 use Rattle.lane_laws.specs.RuleFacts.{ServerMay}
-use Rattle.lane_laws.specs.WorkLog.{ServerCounts}
 
 -- WHAT ITS END HAS STILL TO PUT doesn't grow
 took_packets : (shape : Shape) (events : List DiskEvent) (s : LaneState) (e : End) (packet : List ℕ) (opens : Bool) (t : LaneState) → IsShape shape → Run LaneStep (fresh shape) events s → s.wire.forged ≡ false
@@ -84,11 +82,6 @@ client_falls shape events s packet opens t sound run clean step =
     omega (arith, client_took_falls s packet opens t (falls_lower 0 0 s.client t.client (client_takes shape events s packet opens t sound run clean step)) step)
 
 -- THE SERVER
-none_work : (o : Option ServerSession) (w : Option Work) (q : Option ServerCounts) → o ≡ None → ServerAgrees o w q → w ≡ None
-none_work None w None is agrees = agrees
-none_work None w (Some c) is agrees = absurd agrees
-none_work (Some s) w q is agrees = absurd (cc is)
-
 -- it is asked for more
 more_asked : (slots before behind start end : ℕ) → before < 2 ^ 64 → before ≤ behind → behind ≡ wrapped (before + range_length slots start end) → 1 ≤ slots → slots ≤ 256 → before < behind
 more_asked slots before behind start end small less is some few = omega (arith, small, less, is, few, mod_below (end + slots - start % slots) slots some)
@@ -142,7 +135,7 @@ server_takes shape events s packet opens t sound run clean step =
     server_turns (total_at s.wire.wire.end_a s.client) s.server t.server l.transcript.server packet opens free (took_packets shape events s B packet opens t sound run clean step)
     (λ is.
     let none = opens_new s.server t.server l.transcript.server packet knows.rests.server (subst (λ (b : Bool). ServerTook s.server l.transcript.server packet t.server b) is took) in
-    (none, none_work s.server.session s.server.work l.work.server none knows.counted.server.agrees))
+    (none, no_work s.server.session s.server.work l.work.server none knows.counted.server.agrees))
     (by_asked shape events s packet opens t sound run clean may.0 step) took
 
 server_falls : (shape : Shape) (events : List DiskEvent) (s : LaneState) (packet : List ℕ) (opens : Bool) (t : LaneState) → IsShape shape → Run LaneStep (fresh shape) events s → s.wire.forged ≡ false

@@ -1,5 +1,5 @@
 -- A server's region begins at its disk's first block, along every run.
-use Rattle.std.proofs.Common.{◌≡◌, ℕ, Bool, Option, Some, None, List, [], ◌∷◌, inl, inr, refl, sym, ap, ◌∙◌}
+use Rattle.std.proofs.Common.{◌≡◌, ℕ, Bool, Option, Some, None, List, [], inl, inr, refl, sym, ap, ◌∙◌}
 use Rattle.std.specs.Prelude.{⊤}
 use Rattle.runs.specs.Lawful.{log_of, run_lawful}
 use Rattle.runs.specs.Run.{Run}
@@ -76,8 +76,3 @@ pub run_first : (shape : Shape) (events : List DiskEvent) (s : LaneState) → Is
 run_first shape events s sound run =
     (run_lawful LaneStep (λ (l : DiskLog) (e : DiskEvent). ⊤) after (AlongFirst shape) (first_step shape sound) (fresh shape) s (nothing_yet shape) events
     (record { along = along_run shape [] (fresh shape) sound (always_agree shape sound) refl; first = refl }) run).1.first
-
--- the log keeps its disk
-pub log_shape : (l : DiskLog) (events : List DiskEvent) → (log_of after l events).shape ≡ l.shape
-log_shape l [] = refl
-log_shape l (event ∷ events) = log_shape (after l event) events

@@ -17,11 +17,11 @@ use Rattle.disk_model.specs.LaneState.{IsShape, LaneState, Shape, fresh}
 use Rattle.disk_model.specs.LaneStep.{CallsReset, LaneStep, ResetBy, TurnStep, WireStep, WorkStep}
 use Rattle.disk_model.specs.ServerState.{ServerState, joined_server, restarted_server}
 use Rattle.lane_laws.proofs.FlightClient.{client_admits_flies, falls_fly}
-use Rattle.lane_laws.proofs.FlightRuns.{InFlight, StepKnown, at_client, at_server, began, client_anew, client_on, client_wire, end_wire, flight_is, knows_at, log_at, server_anew, server_on, server_wire}
+use Rattle.lane_laws.proofs.FlightRuns.{InFlight, StepKnown, began, client_anew, client_on, client_wire, end_wire, flight_is, knows_at, log_at, server_anew, server_on, server_wire}
+use Rattle.lane_laws.proofs.LaneViews.{at_client, at_server, calm_same}
 use Rattle.lane_laws.proofs.FlightServer.{server_fetches_flies, server_finishes_flies, server_moves_flies, server_stores_flies}
 use Rattle.lane_laws.proofs.FlightSums.{Flight, client_loses, server_closes, server_loses}
 use Rattle.lane_laws.proofs.LaneCounting.{run_knows}
-use Rattle.lane_laws.proofs.LaneViews.{calm_same}
 use Rattle.lane_laws.proofs.RemainingClientPuts.{completes_falls, publishes_falls}
 use Rattle.lane_laws.proofs.RingRuns.{before}
 use Rattle.lane_laws.proofs.RemainingTakes.{first_gone}

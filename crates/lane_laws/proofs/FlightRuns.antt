@@ -17,7 +17,6 @@ use Rattle.disk_model.specs.ClientState.{ClientState, joined_client}
 use Rattle.disk_model.specs.DiskEvent.{DiskEvent, OnWire}
 use Rattle.disk_model.specs.LaneState.{IsShape, LaneState, Shape, fresh}
 use Rattle.disk_model.specs.LaneStep.{EndOnWire, LaneStep}
-use Rattle.channel_model.specs.Seeing.{Seen, seen}
 use Rattle.disk_model.specs.ServerRule as server_rules
 use Rattle.disk_model.specs.ServerState.{ServerState, joined_server}
 use Rattle.channel_laws.specs.Standing.{EndStands}
@@ -43,6 +42,7 @@ use Rattle.lane_laws.specs.Counted.{range_count}
 use Rattle.lane_laws.specs.Remaining.{client_packets, server_packets}
 use Rattle.lane_laws.specs.RemainingSteps.{ServerTurn, total_at}
 use Rattle.lane_laws.specs.RuleFacts.{ClientMay, ServerMay}
+use Rattle.lane_laws.proofs.LaneViews.{at_client, at_server}
 
 -- a lane and what its client said and heard
 abbrev pub InFlight : LaneState → List Turn → Type 0
@@ -64,12 +64,6 @@ log_at shape events = log_of after (nothing_yet shape) events
 
 pub knows_at : (shape : Shape) (events : List DiskEvent) (s : LaneState) (event : DiskEvent) (t : LaneState) → StepKnown shape events s event t → Knows s (log_at shape events)
 knows_at shape events s event t known = run_knows shape events s known.sound known.run
-
-abbrev pub at_client : LaneState → Seen
-at_client s = seen A s.shape.entries s.wire.wire
-
-abbrev pub at_server : LaneState → Seen
-at_server s = seen B s.shape.entries s.wire.wire
 
 -- AN END that begins
 pub client_anew : (s : LaneState) (c : ClientState) (turns : List Turn) → EndStands Initiator (client_core s.client) turns → c ≡ joined_client s.client → InFlight s turns → Flight (wire_moved s.wire (Joined A 0)) c s.server []

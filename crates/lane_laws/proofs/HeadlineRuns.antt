@@ -1,5 +1,5 @@
 -- Along every run of a lane with its image: what completed reads show, and what the image holds.
-use Rattle.std.proofs.Common.{◌≡◌, ℕ, zero, suc, ◌+◌, ◌-◌, ◌*◌, ◌≤◌, ◌⊎◌, false, Some, None, List, [], ◌∷◌, ◌++◌, drop, take, length, inl, inr, refl, sym, ap, ◌∙◌, subst, arith}
+use Rattle.std.proofs.Common.{◌≡◌, ℕ, zero, suc, ◌+◌, ◌-◌, ◌*◌, ◌≤◌, ◌⊎◌, false, Some, None, List, [], ◌∷◌, drop, take, length, inl, inr, refl, sym, ap, ◌∙◌, subst, arith}
 use Rattle.std.specs.Prelude.{slice_get, ⊤}
 use Rattle.std.proofs.lemmas.List.{drop_all, take-append-le, take_all}
 use Rattle.std.proofs.lemmas.Option.{slice_get_within}
@@ -7,7 +7,6 @@ use Rattle.runs.specs.Lawful.{log_of, run_lawful}
 use Rattle.runs.specs.Run.{Run}
 use Rattle.vdisk_msg.specs.declared.request.Request.{Request}
 use Rattle.vdisk_msg.specs.declared.request.Request.TheVariants.{Flush, Read, Write}
-use Rattle.vdisk_msg.specs.Fills.{IsRequest}
 use Rattle.vdisk_msg.specs.Requests.{AreSound, defect}
 use Rattle.channel_model.specs.WireLog.{WireLog}
 use Rattle.lane_laws.specs.DiskLog.{DiskLog, after, nothing_yet}
@@ -32,6 +31,7 @@ use Rattle.lane_laws.proofs.LaneRuns.{AlongContents, contents_step, run_contents
 use Rattle.lane_laws.proofs.LastWrites.{last_write}
 use Rattle.lane_laws.proofs.NearRuns.{fresh_is_near, run_near, run_step}
 use Rattle.lane_laws.proofs.Statuses.{run_done_zero}
+use Rattle.lane_laws.proofs.MemorySteps.{sound_push}
 
 -- THE CONTENT of what is done, after an event
 front_content : (first : List ℕ) (issued : List Request) (done : ℕ) (pending : List Request) → pending ≡ drop done issued → 1 ≤ length pending
@@ -62,10 +62,6 @@ behind_done first s l (Switches Stopped) t stands step = refl
 behind_done first s l _ t stands step = refl
 
 -- EACH REQUEST that was accepted was admitted
-sound_push : (blocks : ℕ) (requests : List Request) (request : Request) → AreSound blocks requests → defect blocks request ≡ None → IsRequest request → AreSound blocks (requests ++ request ∷ [])
-sound_push blocks [] request sound admitted fill = (admitted, fill, tt)
-sound_push blocks (one ∷ requests) request sound admitted fill = (sound.0, sound.1, sound_push blocks requests request sound.2 admitted fill)
-
 sound_take : (blocks : ℕ) (requests : List Request) (n : ℕ) → AreSound blocks requests → AreSound blocks (take n requests)
 sound_take blocks requests zero sound = tt
 sound_take blocks [] (suc n) sound = tt

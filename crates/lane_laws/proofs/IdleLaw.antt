@@ -25,7 +25,9 @@ use Rattle.lane_laws.specs.Counted.{InServerOrder, RangeStands}
 use Rattle.lane_laws.specs.Sound.{InOrder}
 use Rattle.lane_laws.proofs.Counting.{OfServer, of_client, of_server}
 use Rattle.lane_laws.proofs.IdleRules.{ClientIdles, ServerIdles, client_idles, server_idles}
-use Rattle.lane_laws.proofs.WorkNumbers.{Grounded, at_client, at_server, finished_descs, order_of}
+use Rattle.lane_laws.proofs.WorkNumbers.{Grounded, order_of}
+use Rattle.lane_laws.proofs.ServerPutCounting.{work_most as finished_descs}
+use Rattle.lane_laws.proofs.LaneViews.{at_client, at_server}
 
 pub not_below : (a b : ℕ) → nat_lt a b ≡ false → b ≤ a
 not_below a b test = grind (arith, nat_tests, test)

@@ -29,16 +29,12 @@ use Rattle.lane_laws.proofs.CarriedRuns.{AllStand, all_step, fresh_all}
 use Rattle.lane_laws.proofs.ClientCounting.{acks_more, client_begins_counting, client_takes_counting}
 use Rattle.lane_laws.proofs.ClientHolding.{client_held}
 use Rattle.lane_laws.proofs.ClientPutCounting.{comes_counting, counts_as, goes_counting, own_counting, put_as}
-use Rattle.lane_laws.proofs.Speaking.{client_blocked_rests}
+use Rattle.lane_laws.proofs.Speaking.{client_blocked_rests, client_blocked_utters, fresh_rests, lane_utters, rests_step}
 use Rattle.lane_laws.proofs.ClientTaken.{client_took_what}
-use Rattle.lane_laws.proofs.Speaking.{client_blocked_utters}
 use Rattle.lane_laws.proofs.ClientWorkCounting.{client_admits_counting, client_completes_counting, client_holds_counting, client_publishes_counting, handshake_counting}
 use Rattle.channel_laws.proofs.PutSayings.{PutSays, put_says}
-use Rattle.lane_laws.proofs.Speaking.{fresh_rests, rests_step}
-use Rattle.lane_laws.proofs.Speaking.{lane_utters}
-use Rattle.lane_laws.proofs.RulesFree.{owes_nothing}
+use Rattle.lane_laws.proofs.RulesFree.{ServerFree, TakesFree, owes_nothing, server_free}
 use Rattle.lane_laws.proofs.Requesting.{KeepsRequests, first_done, held_kept}
-use Rattle.lane_laws.proofs.RulesFree.{ServerFree, TakesFree, server_free}
 use Rattle.lane_laws.proofs.Ruling.{client_may}
 use Rattle.lane_laws.proofs.ServerCounting.{server_begins_counting, server_restarts_counting, server_takes_counting}
 use Rattle.lane_laws.proofs.ServerEndCounting.{server_fetches_counting, server_finishes_counting, server_puts_counting}

@@ -1,5 +1,5 @@
 -- Along every run, what resets an end says why.
-use Rattle.std.proofs.Common.{◌≡◌, ℕ, Option, None, List, [], ◌∷◌, sym, subst}
+use Rattle.std.proofs.Common.{◌≡◌, ℕ, Option, None, List, sym, subst}
 use Rattle.runs.specs.Lawful.{Lawful, run_lawful}
 use Rattle.runs.specs.Run.{Run}
 use Rattle.ldc_queue.specs.declared.end.End.{End}
@@ -24,6 +24,7 @@ use Rattle.lane_laws.specs.LaneRests.{LaneRests}
 use Rattle.lane_laws.proofs.EndResets.{WhyReset, client_fails, server_fails}
 use Rattle.lane_laws.specs.Laws.{GapAt, ResetAt}
 use Rattle.lane_laws.specs.Sound.{ClientSound}
+use Rattle.lane_laws.proofs.StandingRuns.{lawful_by}
 
 abbrev pub Stands : LaneState → TranscriptLog → Type 0
 Stands s transcript = ClientSound s.client × LaneRests s transcript
@@ -75,15 +76,10 @@ all_lawful shape events s sound run =
     (λ (x : LaneState) (l : DiskLog) (e : DiskEvent) (y : LaneState) stands step. (says_at x l e y stands step, stands_step x l.transcript e y stands step))
     (fresh shape) s (nothing_yet shape) events (fresh_sound shape sound, fresh_rests shape sound) run).0
 
--- a law that stronger ones give
-lawful_of : (P Q : DiskLog → DiskEvent → Type 0) → ((l : DiskLog) (e : DiskEvent) → P l e → Q l e) → (l : DiskLog) (events : List DiskEvent) → Lawful P after l events → Lawful Q after l events
-lawful_of P Q more l [] lawful = tt
-lawful_of P Q more l (event ∷ events) lawful = (more l event lawful.0, lawful_of P Q more (after l event) events lawful.1)
-
 pub resets_lawful : (shape : Shape) (events : List DiskEvent) (s : LaneState) → IsShape shape → Run LaneStep (fresh shape) events s → Lawful ResetAt after (nothing_yet shape) events
 resets_lawful shape events s sound run =
-    lawful_of (λ (l : DiskLog) (e : DiskEvent). ResetAt l e × GapAt l e) ResetAt (λ l e both. both.0) (nothing_yet shape) events (all_lawful shape events s sound run)
+    lawful_by (λ (l : DiskLog) (e : DiskEvent). ResetAt l e × GapAt l e) ResetAt (λ l e both. both.0) (nothing_yet shape) events (all_lawful shape events s sound run)
 
 pub gaps_lawful : (shape : Shape) (events : List DiskEvent) (s : LaneState) → IsShape shape → Run LaneStep (fresh shape) events s → Lawful GapAt after (nothing_yet shape) events
 gaps_lawful shape events s sound run =
-    lawful_of (λ (l : DiskLog) (e : DiskEvent). ResetAt l e × GapAt l e) GapAt (λ l e both. both.1) (nothing_yet shape) events (all_lawful shape events s sound run)
+    lawful_by (λ (l : DiskLog) (e : DiskEvent). ResetAt l e × GapAt l e) GapAt (λ l e both. both.1) (nothing_yet shape) events (all_lawful shape events s sound run)

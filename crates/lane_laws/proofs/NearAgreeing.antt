@@ -33,7 +33,7 @@ use Rattle.lane_laws.proofs.QuietWire.{wire_quiet, work_on_wire}
 use Rattle.lane_laws.proofs.Standing.{Before, ever_count}
 use Rattle.lane_laws.proofs.StoredFew.{LaneRoom, lane_room, stored_few, work_room}
 use Rattle.lane_laws.proofs.WireChanges.{Undisturbed, near_quiet, reset_drops, work_quiet}
-use Rattle.lane_laws.proofs.WorkCounts.{calm}
+use Rattle.lane_laws.proofs.LaneViews.{calm_same as calm}
 
 -- THE LOG'S COUNTS, by what was ever published and what is done
 pub record NearSame (s : LaneState) (l : DiskLog) : Type 0 where

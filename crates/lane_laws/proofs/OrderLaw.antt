@@ -44,7 +44,8 @@ use Rattle.lane_laws.proofs.Ruling.{client_may}
 use Rattle.lane_laws.proofs.RulesFree.{ServerFree, TakesFree, owes_nothing, puts_calm, puts_owe, server_free, takes_calm}
 use Rattle.lane_laws.proofs.Sharing.{in_order}
 use Rattle.channel_laws.proofs.MessagesHeld.{owed_held}
-use Rattle.lane_laws.proofs.WorkNumbers.{Grounded, at_client, at_server, order_of}
+use Rattle.lane_laws.proofs.WorkNumbers.{Grounded, order_of}
+use Rattle.lane_laws.proofs.LaneViews.{at_client, at_server}
 
 -- THE CLIENT
 completed_in_log : (s : LaneState) (l : DiskLog) → Grounded s l → CompletedAll s.client → HasCompleted l

@@ -1,6 +1,6 @@
 -- Where nobody forged, an end resets itself for a gap alone, and only once a packet was lost.
 use Rattle.std.proofs.Common.{◌≡◌, ℕ, false, Option, List, refl, sym, ap, ◌∙◌, subst, inl, inr}
-use Rattle.runs.specs.Lawful.{Lawful, log_of}
+use Rattle.runs.specs.Lawful.{Lawful}
 use Rattle.runs.specs.Run.{Run}
 use Rattle.ldc_queue.specs.declared.end.End.{End}
 use Rattle.ldc_queue.specs.declared.end.End.TheVariants.{A, B}
@@ -8,7 +8,7 @@ use Rattle.vio_tag.specs.declared.cause.Cause.{Cause}
 use Rattle.channel_model.specs.WireAt.{IsOwnReset, UnforgedReset}
 use Rattle.channel_model.specs.WireEvent.{ByStep, Giver, Reset, giver}
 use Rattle.channel_model.specs.WireLog.{WireLog}
-use Rattle.lane_laws.specs.DiskLog.{DiskLog, after, nothing_yet}
+use Rattle.lane_laws.specs.DiskLog.{after, nothing_yet}
 use Rattle.disk_model.specs.ClientRule as client_rules
 use Rattle.disk_model.specs.ClientStep.{ClientFails}
 use Rattle.disk_model.specs.ClientTaking as client
@@ -27,10 +27,7 @@ use Rattle.lane_laws.proofs.ServerInSession.{server_hears_in_session}
 use Rattle.lane_laws.proofs.AlongRuns.{reached_lawful}
 use Rattle.lane_laws.proofs.PacketResets.{ClientHearsBadly, ServerHearsBadly, client_packet, server_packet}
 use Rattle.lane_laws.specs.Laws.{UnforgedAt}
-
--- the wire of a lane is that of its log
-abbrev log_at : Shape → List DiskEvent → DiskLog
-log_at shape events = log_of after (nothing_yet shape) events
+use Rattle.lane_laws.proofs.FlightRuns.{log_at}
 
 clean_log : (shape : Shape) (events : List DiskEvent) (s : LaneState) → IsShape shape → Run LaneStep (fresh shape) events s → s.wire.forged ≡ false → (log_at shape events).wire.forged ≡ false
 clean_log shape events s sound run clean = sym (ap (λ (w : WireLog). w.forged) (run_knows shape events s sound run).all.stands.wire) ∙ clean

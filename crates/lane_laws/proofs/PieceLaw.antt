@@ -26,7 +26,8 @@ use Rattle.disk_model.specs.ServerWork.{MovesIn, StoresIn, desc_of, slot_fetched
 use Rattle.lane_laws.proofs.RulesFree.{ServerFree, ServesFree, server_free}
 use Rattle.lane_laws.specs.Counted.{UnitFits, UnitIn}
 use Rattle.lane_laws.proofs.Counting.{OfServer, of_server}
-use Rattle.lane_laws.proofs.WorkNumbers.{Grounded, at_server, in_server, slot_in_log}
+use Rattle.lane_laws.proofs.WorkNumbers.{Grounded, in_server, slot_in_log}
+use Rattle.lane_laws.proofs.LaneViews.{at_server}
 use Rattle.lane_laws.specs.Units.{UnitIs, WorkIs}
 
 -- what is known of a lane besides: its server's work is what its progress says, and its table is as it began

@@ -27,7 +27,8 @@ use Rattle.channel_laws.proofs.AtRest as core
 use Rattle.channel_laws.proofs.AtRest.{HeardAll, heard_all, rests_open}
 use Rattle.channel_laws.specs.Sides.{sides_of}
 use Rattle.lane_laws.specs.ChannelEnds.{core_of}
-use Rattle.lane_laws.proofs.WorkNumbers.{Grounded, at_client, at_server, order_of}
+use Rattle.lane_laws.proofs.WorkNumbers.{Grounded, order_of}
+use Rattle.lane_laws.proofs.LaneViews.{at_client, at_server}
 
 -- TWO ENDS AT REST: resting is the next step of each
 pub record BothRest (s : LaneState) : Type 0 where

@@ -41,7 +41,7 @@ use Rattle.disk_model.specs.LaneState.{IsShape, LaneState}
 use Rattle.disk_model.specs.LaneStep.{EndOnWire, LaneStep}
 use Rattle.channel_model.specs.Ranges.{wrapped}
 use Rattle.dring.specs.Slots.{range_length}
-use Rattle.disk_model.specs.ServerState.{ServerSession, ServerState, SlotRange}
+use Rattle.disk_model.specs.ServerState.{ServerState, SlotRange}
 use Rattle.disk_model.specs.ServerStep.{ServerSends}
 use Rattle.channel_laws.proofs.Apart.{none_is_some, some_same, true_is_false}
 use Rattle.channel_laws.proofs.TurnCases.{heard_none, heard_some, said_none, said_some}
@@ -63,22 +63,17 @@ use Rattle.lane_laws.proofs.ServerFolds.{ranged}
 use Rattle.lane_laws.proofs.ServerPutCounting.{all_finished, server_holds_counting, none_is}
 use Rattle.lane_laws.proofs.ServerTaken.{ServerAsked, ServerTook, server_took_what}
 use Rattle.lane_laws.proofs.Sharing.{in_order}
-use Rattle.lane_laws.proofs.WorkNumbers.{in_client, in_server}
+use Rattle.lane_laws.proofs.WorkNumbers.{in_client, in_server, order_of}
 use Rattle.ldc_link.specs.declared.phase.Role.TheVariants.{Initiator}
 use Rattle.lane_laws.specs.ChannelEnds.{client_core}
 use Rattle.channel_laws.specs.Cuts.{CarriesOwed}
-use Rattle.lane_laws.specs.Counted.{ClientCounted, HoldsAnswer, InServerOrder, RangeStands, ServerCounted, ServerOrder}
+use Rattle.lane_laws.specs.Counted.{ClientCounted, HoldsAnswer, InServerOrder, RangeStands, ServerCounted}
 use Rattle.channel_laws.specs.HandshakeFits.{MayOwe, OwedFits}
 use Rattle.channel_laws.proofs.MessagesHeld.{owed_held}
 use Rattle.lane_laws.proofs.Speaking.{server_blocked_rests, server_holds_owed}
 use Rattle.lane_laws.specs.LaneRests.{ClientRests, ServerRests}
 use Rattle.lane_laws.specs.Sound.{ClientSound, InOrder}
 use Rattle.lane_laws.proofs.Counting.{OfClient, OfServer, of_client, of_server, slot_of_count}
-
-pub order_in : (slots : ℕ) (o : Option ServerSession) (session : ServerSession) (d : Option ServerCounts) (c : ServerCounts) (turns : List Turn) → o ≡ Some session → d ≡ Some c
-    → ServerOrder slots o d turns → InServerOrder slots session c turns
-order_in slots o session d c turns is counts order =
-    subst (λ (e : Option ServerCounts). ServerOrder slots (Some session) e turns) counts (subst (λ (p : Option ServerSession). ServerOrder slots p d turns) is order)
 
 -- A PACKET that ends a range, and one that ends none
 if_none : (range : Option (List ℕ)) (holds : List ℕ → Type 0) → range ≡ None → IfRange range holds
@@ -309,7 +304,7 @@ asks_for l packet s t opens sound shaken rests free counted asks =
     let bytes = asks.hears.bytes in
     let of : OfServer session s.work l.work.server = of_server s.session session s.work l.work.server asks.info.session_is counted.agrees in
     let c = of.counts in
-    let order : InServerOrder slots session c turns = order_in slots s.session session l.work.server c turns asks.info.session_is of.is counted.order in
+    let order : InServerOrder slots session c turns = order_of slots s.session session l.work.server c turns asks.info.session_is of.is counted.order in
     let own : s.handshake.draft.peer_slots ≡ slots = own_slots l.shape s turns l.work.server rests (ap is_some asks.info.session_is) counted in
     let fields : IsBody bytes range.seq asks.info.ident range.start range.end range.state = subst (SpellsBody bytes) asks.info.body_is asks.hears.spells.body in
     if_some (range_ended 1 (half_heard turns) packet) _ bytes
@@ -347,7 +342,7 @@ answers l packet held shaken sound in_work a counted last =
     let bytes = half_said turns ++ held.link.to_send in
     let of : OfServer a.session held.work l.work.server = of_server held.session a.session held.work l.work.server a.session_is counted.agrees in
     let c = of.counts in
-    let order : InServerOrder slots a.session c turns = order_in slots held.session a.session l.work.server c turns a.session_is of.is counted.order in
+    let order : InServerOrder slots a.session c turns = order_of slots held.session a.session l.work.server c turns a.session_is of.is counted.order in
     let stands : RangeStands slots (Some range) c = subst (λ (r : Option SlotRange). RangeStands slots r c) a.range_is order.range in
     let begun : range.start < 2 ^ 32 = omega (arith, stands.1, sound.most_slots) in
     let ended : range.end < 2 ^ 32 = omega (arith, stands.2, sound.most_slots) in

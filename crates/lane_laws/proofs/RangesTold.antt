@@ -54,7 +54,7 @@ use Rattle.channel_laws.proofs.PutSayings.{PutSays, put_says}
 use Rattle.lane_laws.proofs.LaneChannel.{OnLane, answers_of, asks_of, lane_meets}
 use Rattle.lane_laws.proofs.LaneCores.{lane_steps, shape_of}
 use Rattle.lane_laws.proofs.LaneCounting.{Knows, run_knows}
-use Rattle.lane_laws.proofs.RangeLaw.{order_in}
+use Rattle.lane_laws.proofs.WorkNumbers.{order_of as order_in}
 use Rattle.lane_laws.proofs.ClientPuts.{Putting, putting}
 use Rattle.lane_laws.proofs.RangesSaid.{IsNoPlain, envelope_reads}
 use Rattle.lane_laws.proofs.RingRuns.{before}

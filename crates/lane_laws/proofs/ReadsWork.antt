@@ -24,7 +24,8 @@ use Rattle.lane_laws.specs.ReadsNear.{BlocksShow, DoneShow, UnitsShow, WorkShows
 use Rattle.lane_laws.proofs.BlockWrites.{admitted_blocks}
 use Rattle.lane_laws.proofs.Buffers.{other_buffer, other_slot}
 use Rattle.lane_laws.proofs.Changes.{Fetches, Placed, Publishes, Serves, filled, first_of}
-use Rattle.lane_laws.proofs.ContentsSteps.{same_got, same_place}
+use Rattle.lane_laws.proofs.ContentsSteps.{same_place}
+use Rattle.lane_laws.proofs.SlotBytes.{same_request as same_got}
 
 -- OTHER BYTES that are the same where the blocks stand
 pub blocks_moved : (content : List ℕ) (pending : List Request) (m k block n place : ℕ) (buffers new : List ℕ)

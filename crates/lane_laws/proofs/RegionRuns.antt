@@ -8,7 +8,8 @@ use Rattle.disk_model.specs.LaneState.{IsShape, LaneState, Shape, fresh}
 use Rattle.disk_model.specs.LaneStep.{LaneStep, ServerWorks}
 use Rattle.disk_model.specs.Served as served
 use Rattle.lane_laws.specs.ImageStep.{ImageStep, SameAround, region_of}
-use Rattle.lane_laws.proofs.FirstStays.{log_shape, run_first}
+use Rattle.lane_laws.proofs.FirstStays.{run_first}
+use Rattle.lane_laws.proofs.LaneCores.{shape_of as log_shape}
 use Rattle.lane_laws.proofs.FailedRuns.{stored_well}
 use Rattle.lane_laws.proofs.NearRuns.{run_step}
 use Rattle.lane_laws.proofs.Regions.{InRegion, around_same, store_region}

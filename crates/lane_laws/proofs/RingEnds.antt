@@ -11,7 +11,7 @@ use Rattle.vdisk_msg.specs.Requested.{buffer_place, size_of}
 use Rattle.lane_laws.specs.Agreement.{WorkAgrees, owed_of}
 use Rattle.lane_laws.specs.DiskLog.{DiskLog, after}
 use Rattle.lane_laws.specs.RingLog.{Accepted, Done, SlotLog, finished_at, id_at}
-use Rattle.lane_laws.specs.WorkLog.{ClientCounts, ServerCounts, change_server, rest_of}
+use Rattle.lane_laws.specs.WorkLog.{ClientCounts, ServerCounts, change_server}
 use Rattle.disk_model.specs.DiskEvent.{Finished, Moved, Works}
 use Rattle.disk_model.specs.LaneState.{LaneState, pages_of}
 use Rattle.disk_model.specs.LaneStep.{WorkStep, reach}
@@ -32,6 +32,7 @@ use Rattle.lane_laws.specs.MemoryStands.{memory_long}
 use Rattle.lane_laws.specs.RingAgreed.{InRing, ring_in}
 use Rattle.lane_laws.specs.RingSlots.{HoldsIssued, IdStands, IdsStand, InWork, OwesStatus, RingHolds, RingOf, SameSlots, SlotStands, StatusStands, WorkStands}
 use Rattle.lane_laws.specs.RuleFacts.{ServerMay}
+use Rattle.lane_laws.proofs.ServerEndCounting.{finished_log}
 
 -- THE DESCRIPTOR IN WORK
 pub record HasWork (s : LaneState) (l : DiskLog) (w : Work) (d : ServerCounts) : Type 0 where
@@ -79,9 +80,6 @@ moved_in_ring s l unit fault t known step =
     known.ring
 
 -- THE END
-abbrev finished_counts : ServerCounts → ServerCounts
-finished_counts c = record c { finished = c.finished + 1; owed = rest_of c.owed }
-
 owed_small : (s : LaneState) (l : DiskLog) (w : Work) (d : ServerCounts) (status : ℕ) → StatusStands l.work.server → l.work.server ≡ Some d → HasWork s l w d → w.progress ≡ Ends status
     → status < 2 ^ 32
 owed_small s l w d status stands is has ends =
@@ -132,12 +130,12 @@ finished_in_ring s l slot status t known step =
     let ids : IdsStand l.shape.slots l.work.done (set l.ring slot (Done id status)) (Some k) =
     each_set (λ (j : ℕ) (is : SlotLog). SlotStands l.shape.slots l.work.done k j is) l.ring slot (Done id status) (omega (arith, below, known.ring.holds.long))
     (λ j is other got. ids_in s l k known client j is got) stands in
-    let none : (d.descs ≡ d.finished + 1 + 1) → InWork r (set l.ring slot (Done id status)) (finished_counts d) = λ two. absurd (omega (arith, two, single)) in
+    let none : (d.descs ≡ d.finished + 1 + 1) → InWork r (set l.ring slot (Done id status)) (finished_log d) = λ two. absurd (omega (arith, two, single)) in
     record {
       holds = subst (λ (x : List SlotLog). RingHolds r x t.memory) (sym table) holds;
       ids = subst (λ (q : Option ClientCounts). IdsStand l.shape.slots l.work.done (finished_at l.shape.slots l.work l.work.server slot status l.ring) q) (sym client)
           (subst (λ (x : List SlotLog). IdsStand l.shape.slots l.work.done x (Some k)) (sym table) ids);
       work = λ up.
-          subst (λ (x : List SlotLog). WorkStands r x (change_server finished_counts l.work.server)) (sym table)
-          (subst (λ (q : Option ServerCounts). WorkStands r (set l.ring slot (Done id status)) (change_server finished_counts q)) (sym work.of.open_is) none);
+          subst (λ (x : List SlotLog). WorkStands r x (change_server finished_log l.work.server)) (sym table)
+          (subst (λ (q : Option ServerCounts). WorkStands r (set l.ring slot (Done id status)) (change_server finished_log q)) (sym work.of.open_is) none);
     }

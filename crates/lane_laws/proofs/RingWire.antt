@@ -30,7 +30,8 @@ use Rattle.lane_laws.proofs.LaneViews.{ClientWrites, MemoryPoked, MemoryStays, M
 use Rattle.lane_laws.proofs.RingLeaves.{OpensNot, leaves_stand, event_leaves}
 use Rattle.lane_laws.proofs.RingServer.{end_refused}
 use Rattle.lane_laws.proofs.RingTable.{free_ids, free_ring}
-use Rattle.lane_laws.proofs.RingWork.{Known, at_work, numbered, slots_are}
+use Rattle.lane_laws.proofs.RingWork.{Known, at_work, numbered}
+use Rattle.lane_laws.proofs.StandingRuns.{slots_is as slots_are}
 use Rattle.lane_laws.proofs.RingWrites.{equal_slots}
 use Rattle.lane_laws.proofs.Ruling.{client_may, server_may}
 use Rattle.lane_laws.specs.RingAgreed.{InRing, OneRing, SessionsAgree, ring_in}
@@ -54,7 +55,7 @@ sent_clears s packet opens t new sends =
     }
 
 -- the session opens: all slots are free, and no descriptor is in work
-abbrev published_of : Option ClientCounts → ℕ
+abbrev pub published_of : Option ClientCounts → ℕ
 published_of None = 0
 published_of (Some c) = c.published
 

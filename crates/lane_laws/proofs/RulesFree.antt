@@ -118,7 +118,7 @@ middle_false true b c is = absurd (cc is)
 middle_false false true c is = absurd (cc is)
 middle_false false false c is = refl
 
-nothing_owed : (owed : Option Message) → is_some owed ≡ false → owed ≡ None
+pub nothing_owed : (owed : Option Message) → is_some owed ≡ false → owed ≡ None
 nothing_owed None is = refl
 nothing_owed (Some message) is = absurd (cc is)
 

@@ -139,7 +139,7 @@ closed : (o : Option ServerSession) (phase : Phase) → (is_some o ≡ true → 
 closed None phase opened never = refl
 closed (Some session) phase opened never = absurd (never (opened refl))
 
-no_work : (o : Option ServerSession) (w : Option Work) (d : Option ServerCounts) → o ≡ None → ServerAgrees o w d → w ≡ None
+pub no_work : (o : Option ServerSession) (w : Option Work) (d : Option ServerCounts) → o ≡ None → ServerAgrees o w d → w ≡ None
 no_work None w None is agrees = agrees
 no_work None w (Some c) is agrees = absurd agrees
 no_work (Some s) w d is agrees = absurd (cc is)

@@ -99,7 +99,7 @@ server_fetches_counting shape v at reach slot bytes t new turns d rests step cou
     })
 
 -- ONE GETS ITS STATUS
-abbrev finished_log : ServerCounts → ServerCounts
+abbrev pub finished_log : ServerCounts → ServerCounts
 finished_log c = record c { finished = c.finished + 1; owed = rest_of c.owed }
 
 range_finished : (slots : ℕ) (range : Option SlotRange) (c : ServerCounts) → RangeStands slots range c → RangeStands slots range (finished_log c)

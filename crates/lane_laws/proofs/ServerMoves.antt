@@ -38,7 +38,7 @@ use Rattle.channel_laws.specs.EndStep.{EndBegins, EndFails, EndHears, EndRenews,
 use Rattle.channel_laws.specs.EndStep as core
 use Rattle.lane_laws.proofs.ClientAnswers.{HandshakesTo}
 use Rattle.lane_laws.proofs.ClientMoves.{cleared_is, holds_and, holds_none}
-use Rattle.channel_laws.proofs.EndStanding.{up_empty}
+use Rattle.channel_laws.proofs.EndStanding.{holds_some, up_empty}
 use Rattle.lane_laws.proofs.Ruling.{server_may}
 use Rattle.lane_laws.proofs.RulesFree.{ServerFree, TakesFree, server_free}
 use Rattle.lane_laws.proofs.ServerAnswers.{Answers, comes_to, goes_by, heard_on, opened_or}
@@ -50,7 +50,7 @@ use Rattle.lane_laws.specs.ChannelEnds.{answers_to_begin, server_core}
 use Rattle.lane_laws.specs.RuleFacts.{ServerMay, ServerSays}
 
 -- THE ANSWERS that it owes and hasn't begun
-answers_less : (b : Bool) (ranges : ℕ) → answers_to_begin b ranges ≤ ranges
+pub answers_less : (b : Bool) (ranges : ℕ) → answers_to_begin b ranges ≤ ranges
 answers_less true ranges = omega arith
 answers_less false ranges = omega arith
 
@@ -88,14 +88,6 @@ quiet_holds k quiet = not_held (is_up k) (not (is_empty k.to_send)) (λ up. ap (
 
 down_holds : (k : LinkState) → is_up k ≡ false → holds k ≡ false
 down_holds k down = not_held (is_up k) (not (is_empty k.to_send)) (λ up. absurd (cc (sym up ∙ down)))
-
-some_holds : (k : LinkState) → is_up k ≡ true → 1 ≤ length k.to_send → holds k ≡ true
-some_holds k up some = both (is_up k) k.to_send up some
-  where
-    both : (b : Bool) (bytes : List ℕ) → b ≡ true → 1 ≤ length bytes → (b && not (is_empty bytes)) ≡ true
-    both true (byte ∷ bytes) up some = refl
-    both true [] up some = absurd (omega (arith, some))
-    both false bytes up some = absurd (cc up)
 
 -- whose the message of its link is
 and_owed : (b : Bool) (owed : Option Message) (message : Message) → owed ≡ Some message → (b && is_none owed) ≡ false
@@ -295,7 +287,7 @@ holds_answer s range session quiet owed is ranged =
         most = omega (arith, before, less);
         more = λ up.
             (let begun : answers_to_begin (holds link && is_none s.handshake.owed) (range_left s.session) ≡ 0 =
-            answers_begun (holds link) s.handshake.owed (range_left s.session) (some_holds link up (some_bytes (answer s range))) owed in
+            answers_begun (holds link) s.handshake.owed (range_left s.session) (holds_some link up (some_bytes (answer s range))) owed in
             omega (arith, before, one, begun));
       };
     }
@@ -374,7 +366,7 @@ parts_left : (v : ServerState) (last : Bool) → v.link.phase ≡ phase.Establis
 parts_left v true at short = last_left v v.handshake.owed refl
 parts_left v false at long =
     answers_later (holds (behind_put v.link)) (holds v.link) (is_none v.handshake.owed) (range_left v.session)
-    (some_holds (behind_put v.link) (ap (λ (p : LinkPhase). is_established (phase_behind_put p)) at)
+    (holds_some (behind_put v.link) (ap (λ (p : LinkPhase). is_established (phase_behind_put p)) at)
     (subst (λ (bytes : List ℕ). 1 ≤ length bytes) (sym (ap (λ (p : LinkPhase). left_behind_put p v.link.to_send) at))
     (omega (arith, leb-false (length v.link.to_send) 56 long, length-drop 56 v.link.to_send))))
 

@@ -192,7 +192,7 @@ record Answered (slots : ℕ) (session : ServerSession) (range : SlotRange) (n :
   finished : session.finished ≡ session.asked
   adds : range.start < slots → range.end < slots → n ≡ range_length slots range.start range.end
 
-work_most : (w : Option Work) (c : ServerCounts) → WorkAgrees w c → c.finished ≤ c.descs
+pub work_most : (w : Option Work) (c : ServerCounts) → WorkAgrees w c → c.finished ≤ c.descs
 work_most None c agrees = omega (arith, agrees.1)
 work_most (Some work) c agrees = omega (arith, agrees.2)
 

@@ -26,7 +26,7 @@ pending_is c w stand = ap length stand.pending ∙ length-drop w.done w.issued
 blocks_is : (s : LaneState) (l : DiskLog) → LaneInvariant s l → s.client.blocks ≡ l.shape.blocks
 blocks_is s l stands = stands.blocks ∙ ap (λ (y : Shape). y.blocks) stands.shape
 
-slots_is : (s : LaneState) (l : DiskLog) → LaneInvariant s l → s.client.slots ≡ l.shape.slots
+pub slots_is : (s : LaneState) (l : DiskLog) → LaneInvariant s l → s.client.slots ≡ l.shape.slots
 slots_is s l stands = stands.slots ∙ ap (λ (y : Shape). y.slots) stands.shape
 
 -- THE CLIENT, against the log of requests

@@ -12,7 +12,7 @@ use Rattle.lane_laws.specs.DiskLog.{DiskLog, after, nothing_yet}
 use Rattle.lane_laws.specs.RingLog.{Done as IsDone, Free, SlotLog, finished_at, id_at}
 use Rattle.lane_laws.specs.WorkLaws.{IfClient, InClient, Unforged, WorkUnforgedAt, last_of}
 use Rattle.channel_model.specs.Messages.{opening_sid}
-use Rattle.lane_laws.specs.WorkLog.{ClientCounts, Opened, ServerCounts, change_server, rest_of}
+use Rattle.lane_laws.specs.WorkLog.{ClientCounts, Opened, ServerCounts, change_server}
 use Rattle.disk_model.specs.DiskEvent.{Accepted, Asks, Desc, DiskEvent, Done, Finished, Misplaced, Moved, OnWire, Published, Stopped, Stored, Switches, Worked, Works}
 use Rattle.disk_model.specs.LaneState.{IsShape, LaneState, Shape, fresh}
 use Rattle.disk_model.specs.LaneStep.{LaneStep, WorkStep}
@@ -30,6 +30,7 @@ use Rattle.lane_laws.proofs.PieceLaw.{Working}
 use Rattle.lane_laws.proofs.WorkRuns.{fresh_working, working_step}
 use Rattle.lane_laws.specs.Statuses.{IsLast, IsNamed, KeepsStatus, LastIn, StatusesStand}
 use Rattle.channel_laws.proofs.Apart.{true_is_false}
+use Rattle.lane_laws.proofs.ServerEndCounting.{finished_log as finished_counts}
 
 -- A SESSION OPENS
 opened_last : (l : DiskLog) (packet : List ℕ) (o : Option ClientCounts) → IfClient o (λ (k : ClientCounts). IsNamed k.sid (said l.transcript.client))
@@ -74,9 +75,6 @@ sent_status true shape s l packet t now step stand = record {
 
 -- THE WIRE
 -- THE WORK: a status is given
-abbrev finished_counts : ServerCounts → ServerCounts
-finished_counts c = record c { finished = c.finished + 1; owed = rest_of c.owed }
-
 finished_status : (s : LaneState) (l : DiskLog) (slot status : ℕ) (t : LaneState) → Known s l → WorkStep s (Finished slot status) t → StatusesStand l → StatusesStand (after l (Works (Finished slot status)))
 finished_status s l slot status t known step stand =
     let at = seen B s.shape.entries s.wire.wire in

@@ -22,7 +22,7 @@ use Rattle.lane_laws.proofs.Ruling.{client_may, server_may}
 use Rattle.lane_laws.specs.Remaining.{remaining}
 use Rattle.lane_laws.specs.RuleFacts.{ClientMay, ServerMay}
 use Rattle.lane_laws.proofs.OwnResets.{own_reset}
-use Rattle.lane_laws.proofs.WorkNumbers.{at_client, at_server}
+use Rattle.lane_laws.proofs.LaneViews.{at_client, at_server}
 use Rattle.lane_laws.specs.CalmEnds.{IsCalm, IsStep, IsWireStep}
 
 -- it does nothing and leaves what remains, or lowers it

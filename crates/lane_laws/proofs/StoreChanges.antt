@@ -27,7 +27,8 @@ use Rattle.disk_model.specs.ServerRule as server_rules
 use Rattle.disk_model.specs.ServerState.{Ends, Flushes, Gives, Progress, Reads, ServerState, Work, Writes}
 use Rattle.disk_model.specs.ServerWork.{StoresIn, checked_progress, first_progress, first_progress_of, gathers_next, header_of, unit_length, with_word}
 use Rattle.lane_laws.proofs.RingServer.{header_long}
-use Rattle.lane_laws.proofs.RingWork.{fetched_next, slots_are}
+use Rattle.lane_laws.proofs.RingWork.{fetched_next}
+use Rattle.lane_laws.proofs.StandingRuns.{slots_is as slots_are}
 use Rattle.lane_laws.proofs.RulesFree.{ServerFree, server_free}
 use Rattle.lane_laws.proofs.Ruling.{server_may}
 use Rattle.lane_laws.proofs.SlotBytes.{reads_back, stated}

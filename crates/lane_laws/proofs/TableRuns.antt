@@ -44,10 +44,10 @@ abbrev make_sizes : ℕ → ℕ → Sizes
 make_sizes entries memory = record { entries = entries; memory = memory }
 
 -- what a rule tells of the end
-client_known : (s : LaneState) (rule : client_rules.ClientRule) → client_rules.client_rule s.client (at_client s) ≡ rule → ClientMay s.client (at_client s) rule
+pub client_known : (s : LaneState) (rule : client_rules.ClientRule) → client_rules.client_rule s.client (at_client s) ≡ rule → ClientMay s.client (at_client s) rule
 client_known s rule is = subst (ClientMay s.client (at_client s)) is (client_may s.client (at_client s))
 
-server_known : (s : LaneState) (rule : server_rules.ServerRule) → server_rules.server_rule s.server (at_server s) ≡ rule → ServerMay s.server (at_server s) rule
+pub server_known : (s : LaneState) (rule : server_rules.ServerRule) → server_rules.server_rule s.server (at_server s) ≡ rule → ServerMay s.server (at_server s) rule
 server_known s rule is = subst (ServerMay s.server (at_server s)) is (server_may s.server (at_server s))
 
 -- a queue that has no room is full

@@ -36,7 +36,7 @@ not_none : (o : Option ClientCounts) → is_some o ≡ true → o ≢ None
 not_none None some none = absurd (cc)
 not_none (Some c) some none = absurd (cc)
 
-nothing_of : (pending : List Request) → length pending ≡ 0 → is_nothing pending ≡ true
+pub nothing_of : (pending : List Request) → length pending ≡ 0 → is_nothing pending ≡ true
 nothing_of [] none = refl
 nothing_of (request ∷ pending) none = absurd (omega (arith, none))
 

@@ -27,7 +27,7 @@ use Rattle.lane_laws.proofs.LiveCounts.{counts_while, zero_where}
 use Rattle.lane_laws.proofs.PlacedViews.{IsLive, live, live_or_not, placed, working}
 use Rattle.lane_laws.proofs.QuietWire.{wire_quiet, work_on_wire}
 use Rattle.lane_laws.proofs.Standing.{Before, ever_count}
-use Rattle.lane_laws.proofs.WorkCounts.{calm}
+use Rattle.lane_laws.proofs.LaneViews.{calm_same as calm}
 
 -- A VIEW by its parts
 make_view : List Request → ℕ → Option ClientSession → Option Work → ℕ → ℕ → ℕ → List ℕ → View

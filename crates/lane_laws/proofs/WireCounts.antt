@@ -27,6 +27,7 @@ use Rattle.lane_laws.proofs.Leaving.{client_opened}
 use Rattle.lane_laws.proofs.LiveCounts.{KIs, counts_while, kis_client, kis_none, kis_server, not_live, not_up, peer_not_live, zero_where}
 use Rattle.lane_laws.proofs.QuietWire.{wire_quiet}
 use Rattle.lane_laws.proofs.Standing.{Before, EverStands, NearStands, ever_count}
+use Rattle.lane_laws.proofs.RingWire.{published_of}
 
 -- A SERVER'S SESSION opens: what is done was done before it
 opened_k : (x : ChannelState) (d : ServerCounts) (o : Option ClientCounts) (done k : ℕ) → d.finished ≡ 0 → ((c : ClientCounts) → o ≡ Some c → c.base ≡ done) → k ≡ 0 → KIs (counts_while x (Some d)) o done k
@@ -89,26 +90,22 @@ begins_k Up (Some d) (Some c) new done k same nothing based is =
     let none : k ≡ 0 = omega (arith, is, nothing d refl refl, based c refl) in (none, omega (arith, same, none, nothing d refl refl))
 begins_k _ _ o new done k same nothing based is = (is, is)
 
-work_first : (o : Option ServerSession) (w : Option Work) (q : Option ServerCounts) (d : ServerCounts) → q ≡ Some d → ServerAgrees o w q → d.finished ≤ d.descs
+pub work_first : (o : Option ServerSession) (w : Option Work) (q : Option ServerCounts) (d : ServerCounts) → q ≡ Some d → ServerAgrees o w q → d.finished ≤ d.descs
 work_first None w None d is agrees = absurd (cc is)
 work_first None w (Some c) d is agrees = absurd agrees
 work_first (Some s) w None d is agrees = absurd agrees
 work_first (Some s) None (Some c) d is agrees = let same : c ≡ d = some_same is in subst (λ (x : ServerCounts). x.finished ≤ x.descs) same (omega (arith, agrees.1.1))
 work_first (Some s) (Some work) (Some c) d is agrees = let same : c ≡ d = some_same is in subst (λ (x : ServerCounts). x.finished ≤ x.descs) same (omega (arith, agrees.1.2))
 
-published_in : Option ClientCounts → ℕ
-published_in None = 0
-published_in (Some c) = c.published
-
 pub opens_k : (s : LaneState) (l : DiskLog) (packet : List ℕ) (t : LaneState) → Before s l → StepFacts s l (OnWire (Sent A packet true)) t
     → (s.near.k ≡ 0) × KIs (counts_while l.wire.wire.end_b l.work.server) (after l (OnWire (Sent A packet true))).work.client l.work.done s.near.k
-unfolding published_in
+unfolding published_of
 opens_k s l packet t before facts =
     begins_k l.wire.wire.end_b l.work.server l.work.client _ l.work.done s.near.k refl
     (λ d up is.
     let m = after l (OnWire (Sent A packet true)) in
     let one : OneRing t m.work d = subst (λ (q : Option ServerCounts). IfServer q (OneRing t m.work)) is (facts.agree.ring up) in
-    let nothing : 0 ≡ one.client.published = ap published_in one.open_is in
+    let nothing : 0 ≡ one.client.published = ap published_of one.open_is in
     let descs = one.descs in
     let asked = one.asked in
     omega (arith, work_first t.server.session t.server.work m.work.server d is facts.agree.server, descs, asked, nothing))

@@ -32,7 +32,8 @@ use Rattle.lane_laws.proofs.Counting.{OfClient, of_client}
 use Rattle.lane_laws.proofs.EndResets.{LiesIn}
 use Rattle.lane_laws.proofs.LaneResets.{by_giver}
 use Rattle.channel_laws.specs.Resetting.{LiesInPacket}
-use Rattle.lane_laws.proofs.WorkNumbers.{Grounded, Serving, at_client, at_server, fetches_next, in_client, in_server, serving}
+use Rattle.lane_laws.proofs.WorkNumbers.{Grounded, Serving, fetches_next, in_client, in_server, serving}
+use Rattle.lane_laws.proofs.LaneViews.{at_client, at_server}
 
 -- what lies in a packet
 carried_reset : (l : DiskLog) (e : End) (cause : Cause) (packet : List ℕ) → LiesInPacket cause → ResetOf l e cause (Some packet)
