@@ -51,7 +51,6 @@ wire_resets e s l cause packet lost t before contents clean gone same peer step 
 -- THE CLIENT'S SESSION OPENS
 idle_opening : (s : LaneState) (l : DiskLog) (packet : List ℕ) (t : LaneState) (o : Option Work) → Before s l → StepFacts s l (OnWire (Sent A packet true)) t
     → work_while s.wire.wire.end_b s.server.work ≡ o → o ≡ None
-unfolding published_of
 idle_opening s l packet t None before facts is = refl
 idle_opening s l packet t (Some work) before facts is =
     let on = working s l work before is in

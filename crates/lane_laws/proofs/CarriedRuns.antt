@@ -38,7 +38,7 @@ all_step s l event t all step = (
   carries s l event t all.stands all.memory step,
   record {
     sound = sound_step s event t all.sound step;
-    stands = stands_step s l event t all.stands step;
+    stands = (stands_step s l event t all.stands step).stands;
     memory = memory_step s event t all.memory step;
   },
 )

@@ -20,6 +20,8 @@ use Rattle.lane_laws.proofs.LaneViews.{ServerSide, at_server, reach_of, server_k
 use Rattle.disk_model.specs.ServerStep.{ServerStep}
 use Rattle.lane_laws.proofs.RingAlong.{Along, along_run, along_step}
 use Rattle.lane_laws.proofs.ServerTaken.{ServerTook, server_took_what}
+-- the log keeps its disk
+pub use Rattle.lane_laws.proofs.LaneCores.{shape_of as log_shape}
 
 abbrev first_in : Option ServerState → ℕ → ℕ
 first_in None otherwise = otherwise

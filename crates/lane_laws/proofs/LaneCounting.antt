@@ -99,7 +99,7 @@ client_steps s l knows (OnWire (Took A packet opens)) t new step =
     let counted = client_takes_counting l.shape s.client t l.transcript.client packet l.work.done l.work.client knows.rests.client (owes_nothing s.client (at_client s) packet step.0)
     knows.counted.client took in
     subst (λ (b : Bool). ClientCounted l.shape t (Heard_ packet ∷ l.transcript.client) l.work.done
-        (opened_client b (opening_sid (half_heard l.transcript.client) packet) l.work.done (acks_more l.shape l.transcript.client packet l.work.client))) (sym step.2) counted
+    (opened_client b (opening_sid (half_heard l.transcript.client) packet) l.work.done (acks_more l.shape l.transcript.client packet l.work.client))) (sym step.2) counted
 client_steps s l knows (OnWire (Sent A packet opens)) t new step = client_puts s l packet opens t new (opening_sid (half_said l.transcript.client) packet) knows step
 client_steps s l knows (OnWire (Blocked A)) t new step =
     client_holds_counting l.shape s.client (at_client s) (client_rules.client_rule s.client (at_client s)) t l.transcript.client l.work.done l.work.client knows.all.sound knows.rests.client
@@ -130,7 +130,7 @@ server_steps s l knows (OnWire (Took B packet opens)) gave t new step =
 server_steps s l knows (OnWire (Sent B packet opens)) gave t new step =
     let both = server_puts_counting l.shape s.server (at_server s) packet opens t l.transcript.server l.work.server (few_slots s l knows) step.0 knows.rests.server knows.utters.server knows.counted.server in
     subst (λ (b : Bool). ServerCounted l.shape t (Said packet ∷ l.transcript.server)
-        (opened_counts b (opening_sid (half_said l.transcript.server) packet) (answers_more l.shape l.transcript.server packet l.work.server))) (sym both.1) both.0
+    (opened_counts b (opening_sid (half_said l.transcript.server) packet) (answers_more l.shape l.transcript.server packet l.work.server))) (sym both.1) both.0
 server_steps s l knows (OnWire (Blocked B)) gave t new step =
     server_holds_counting l.shape s.server (server_rules.server_rule s.server (at_server s)) t l.transcript.server l.work.server knows.rests.server knows.utters.server
     (server_free s.server (at_server s)) step.0 knows.counted.server

@@ -83,8 +83,8 @@ stopped_behind l (Asks (Accepted id request)) = refl
 stopped_behind l (Switches Stopped) = refl
 stopped_behind l _ = refl
 
-pub stands_step : (s : LaneState) (l : DiskLog) (event : DiskEvent) (t : LaneState) → LaneInvariant s l → LaneStep s event t → LaneInvariant t (after l event)
-stands_step s l event t stands step =
+invariant_step : (s : LaneState) (l : DiskLog) (event : DiskEvent) (t : LaneState) → LaneInvariant s l → LaneStep s event t → LaneInvariant t (after l event)
+invariant_step s l event t stands step =
     let view = lane_view s event t step in
     let shape : t.shape ≡ s.shape = ap (λ (x : LaneState). x.shape) view.is in
     let behind = client_behind s t l event stands.requests view.client in
@@ -130,6 +130,17 @@ turns_at s l (Calms (CalmReset A)) t stands step = absurd step
 turns_at s l (Switches Stopped) t stands step = sym stands.stopped ∙ step.0
 turns_at s l _ t stands step = sym stands.stopped ∙ step.0
 
+-- EACH EVENT: where it may stand, and what it keeps
+pub record Behind (s : LaneState) (l : DiskLog) (event : DiskEvent) (t : LaneState) : Type 0 where
+  pub may : MayOfRequests l event
+  pub stands : LaneInvariant t (after l event)
+
+pub stands_step : (s : LaneState) (l : DiskLog) (event : DiskEvent) (t : LaneState) → LaneInvariant s l → LaneStep s event t → Behind s l event t
+stands_step s l event t stands step = record {
+  may = record { admission = admission_at s l event t stands step; once = once_at s l event t stands step; turns = turns_at s l event t stands step };
+  stands = invariant_step s l event t stands step;
+}
+
 -- ALONG EVERY RUN
 pub fresh_stands : (shape : Shape) → LaneInvariant (fresh shape) (nothing_yet shape)
 fresh_stands shape = record {
@@ -142,8 +153,7 @@ fresh_stands shape = record {
 }
 
 requests_step : (s : LaneState) (l : DiskLog) (event : DiskEvent) (t : LaneState) → LaneInvariant s l → LaneStep s event t → MayOfRequests l event × LaneInvariant t (after l event)
-requests_step s l event t stands step =
-    (record { admission = admission_at s l event t stands step; once = once_at s l event t stands step; turns = turns_at s l event t stands step }, stands_step s l event t stands step)
+requests_step s l event t stands step = let behind = stands_step s l event t stands step in (behind.may, behind.stands)
 
 pub requests_lawful : (shape : Shape) (events : List DiskEvent) (s : LaneState) → IsShape shape → Run LaneStep (fresh shape) events s → Lawful MayOfRequests after (nothing_yet shape) events
 requests_lawful shape events s sound run =

@@ -99,7 +99,6 @@ work_first (Some s) (Some work) (Some c) d is agrees = let same : c ≡ d = some
 
 pub opens_k : (s : LaneState) (l : DiskLog) (packet : List ℕ) (t : LaneState) → Before s l → StepFacts s l (OnWire (Sent A packet true)) t
     → (s.near.k ≡ 0) × KIs (counts_while l.wire.wire.end_b l.work.server) (after l (OnWire (Sent A packet true))).work.client l.work.done s.near.k
-unfolding published_of
 opens_k s l packet t before facts =
     begins_k l.wire.wire.end_b l.work.server l.work.client _ l.work.done s.near.k refl
     (λ d up is.

@@ -11,13 +11,12 @@ use Rattle.disk_model.specs.LaneStep.{LaneStep, reach}
 use Rattle.channel_model.specs.Seeing.{Seen}
 use Rattle.disk_model.specs.ServerPutting.{server_holds}
 use Rattle.disk_model.specs.ServerRule as server
-use Rattle.disk_model.specs.ServerState.{ServerState, Work}
+use Rattle.disk_model.specs.ServerState.{ServerState, joined_server, restarted_server, Work}
 use Rattle.disk_model.specs.ServerStep.{ServerSends, ServerStep}
 use Rattle.disk_model.specs.ServerTaking.{GoesOn, Resets, ServerTake, ServerTakes}
 use Rattle.cookie_copy.specs.Reach.{Reach}
 use Rattle.channel_laws.proofs.Apart.{none_is_some}
-use Rattle.lane_laws.proofs.LaneViews.{ServerSide, at_server, reach_of, server_keeps}
-use Rattle.lane_laws.specs.DiskLog.{DiskLog}
+use Rattle.lane_laws.proofs.LaneViews.{ServerActs, ServerCalled, ServerRenewed, ServerStays, ServerStopped, ServerView, at_server, lane_view, reach_of}
 use Rattle.lane_laws.proofs.RulesFree.{ServerFree, server_free}
 use Rattle.lane_laws.proofs.ServerAnswers.{comes_to, goes_by}
 use Rattle.lane_laws.proofs.UnitsHeld.{fetched_is, moved_work, stored_work}
@@ -84,10 +83,18 @@ module _ (P : ℕ → Option Work → Type 0) (keeps : WorkKeeps P) where
   steps s is (Works event) gave t new step = keeps.works s.server (at_server s) (reach_of s) gave event t new step is
   steps s is _ gave t new step = absurd step
 
-  pub work_step : (s : LaneState) (l : DiskLog) (event : DiskEvent) (t : LaneState) → P s.server.blocks s.server.work → LaneStep s event t → P t.server.blocks t.server.work
-  work_step s l event t is step =
-      server_keeps (λ (v : ServerState) (side : ServerSide). P v.blocks v.work) s l event t
-      (record { now = is; acts = steps s is; joined = keeps.none s.server.blocks; renewed = keeps.none s.server.blocks }) step
+  pub work_step : (s : LaneState) (event : DiskEvent) (t : LaneState) → P s.server.blocks s.server.work → LaneStep s event t → P t.server.blocks t.server.work
+  work_step s event t is step = by event (lane_view s event t step).server
+    where
+      anew : (v : ServerState) → t.server ≡ v → v.blocks ≡ s.server.blocks → v.work ≡ None → P t.server.blocks t.server.work
+      anew v same blocks none = subst (λ (x : ServerState). P x.blocks x.work) (sym same) (work_by P v s.server.blocks None blocks none (keeps.none s.server.blocks))
+
+      by : (event : DiskEvent) → ServerView s t event → P t.server.blocks t.server.work
+      by _ (ServerActs event gave own does) = steps s is event gave t.server t.memory does
+      by _ (ServerCalled cause begins same) = anew (joined_server s.server) same refl refl
+      by _ (ServerRenewed cause renews same) = anew (restarted_server s.server) same refl refl
+      by _ (ServerStopped same) = anew (restarted_server s.server) same refl refl
+      by _ (ServerStays event beside same) = subst (λ (x : ServerState). P x.blocks x.work) (sym same) is
 
 -- ITS WORK is what its progress says
 abbrev pub OfWork : ℕ → Option Work → Type 0

@@ -28,7 +28,7 @@ use Rattle.lane_laws.specs.RuleFacts.{ClientMay}
 use Rattle.lane_laws.specs.Sound.{InOrder}
 use Rattle.channel_laws.proofs.LinkResets.{other_number}
 use Rattle.lane_laws.proofs.Counting.{OfClient, OfServer, of_client, of_server, slot_of_count}
-use Rattle.lane_laws.proofs.LaneViews.{at_client, at_server}
+pub use Rattle.lane_laws.proofs.LaneViews.{at_client, at_server}
 use Rattle.lane_laws.proofs.Requesting.{got_below}
 use Rattle.lane_laws.proofs.ServerPutCounting.{work_most}
 

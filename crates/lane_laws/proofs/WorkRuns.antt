@@ -74,7 +74,7 @@ idle_lawful = grounded_lawful IdleAt idle_at
 pub working_step : (s : LaneState) (l : DiskLog) (event : DiskEvent) (t : LaneState) → Working s l → LaneStep s event t → Working t (after l event)
 working_step s l event t working step = record {
   grounded = record { knows = (knows_step s l event t working.grounded.knows step).1; sound = working.grounded.sound };
-  work = work_step OfWork pieces_keep s l event t working.work step;
+  work = work_step OfWork pieces_keep s event t working.work step;
   table = (same_pages s event t step).table ∙ working.table;
 }
 
