@@ -13,13 +13,12 @@ use Rattle.dring.specs.Slots.{range_length}
 use Rattle.channel_model.specs.Sayings.{heard}
 use Rattle.channel_model.specs.Seeing.{seen}
 use Rattle.channel_model.specs.WireAt.{IsUp}
-use Rattle.channel_model.specs.WireEvent.{Joined, Sent, Took, WireEvent}
-use Rattle.channel_model.specs.WireLog.{wire_moved}
+use Rattle.channel_model.specs.WireEvent.{Injected, Joined, Poked, Sent, Took}
 use Rattle.disk_model.specs.ClientState.{ClientState}
 use Rattle.disk_model.specs.ClientTaking.{acknowledged}
-use Rattle.disk_model.specs.DiskEvent.{Desc, DiskEvent, Done, Finished, Moved, OnWire, Published, Stored, Works}
+use Rattle.disk_model.specs.DiskEvent.{DiskEvent, OnWire, Stopped, Switches, Works}
 use Rattle.disk_model.specs.LaneState.{IsShape, LaneState, Shape, fresh}
-use Rattle.disk_model.specs.LaneStep.{EndOnWire, LaneStep}
+use Rattle.disk_model.specs.LaneStep.{LaneStep}
 use Rattle.disk_model.specs.ServerRule as server_rules
 use Rattle.disk_model.specs.ServerState.{ServerSession, ServerState}
 use Rattle.channel_laws.proofs.PacketsTaken.{unforged_took}
@@ -29,6 +28,9 @@ use Rattle.lane_laws.proofs.Agreeing.{AskedWithin, asked_within}
 use Rattle.lane_laws.proofs.ClientTaken.{ClientTook, client_took_what}
 use Rattle.lane_laws.proofs.LaneChannel.{answers_of, asks_of, lane_matches}
 use Rattle.lane_laws.proofs.LaneCores.{lane_cores, lane_fits, lane_steps}
+use Rattle.lane_laws.proofs.LaneViews.{lane_view}
+use Rattle.lane_laws.specs.DiskLog.{DiskLog, after, after_wire, nothing_yet}
+use Rattle.channel_model.specs.WireLog.{WireLog}
 use Rattle.lane_laws.proofs.LaneCounting.{Knows, run_knows}
 use Rattle.lane_laws.proofs.OfferedRing.{four_cookies}
 use Rattle.lane_laws.proofs.RangeSums.{sum_front}
@@ -42,7 +44,6 @@ use Rattle.lane_laws.proofs.ServerCounting.{no_work, opens_new}
 use Rattle.lane_laws.proofs.ServerTaken.{ServerAsked, ServerTook, server_took_what}
 use Rattle.lane_laws.specs.ChannelEnds.{core_event, core_of}
 use Rattle.lane_laws.specs.Counted.{range_sum}
-use Rattle.lane_laws.specs.DiskLog.{DiskLog, after, nothing_yet}
 use Rattle.lane_laws.specs.Remaining.{asked_in, remaining, total}
 use Rattle.lane_laws.specs.RemainingSteps.{AllDo, DoesSomething, ServerTurn, total_at}
 use Rattle.lane_laws.specs.RuleFacts.{ServerMay}
@@ -143,36 +144,29 @@ server_falls : (shape : Shape) (events : List DiskEvent) (s : LaneState) (packet
 server_falls shape events s packet opens t sound run clean step =
     omega (arith, server_took_falls s packet opens t (server_takes shape events s packet opens t sound run clean step) step)
 
+pub took_falls : (shape : Shape) (events : List DiskEvent) (s : LaneState) (e : End) (packet : List ℕ) (opens : Bool) (t : LaneState) → IsShape shape → Run LaneStep (fresh shape) events s → s.wire.forged ≡ false
+    → LaneStep s (OnWire (Took e packet opens)) t → remaining t < remaining s
+took_falls shape events s A packet opens t sound run clean step = client_falls shape events s packet opens t sound run clean step
+took_falls shape events s B packet opens t sound run clean step = server_falls shape events s packet opens t sound run clean step
+
 -- EACH STEP by which an end does something
 does_falls : (shape : Shape) (events : List DiskEvent) (s : LaneState) (event : DiskEvent) (t : LaneState) → IsShape shape → Run LaneStep (fresh shape) events s → s.wire.forged ≡ false → LaneStep s event t
     → DoesSomething event → remaining t < remaining s
-does_falls shape events s (OnWire (Took A packet opens)) t sound run clean step does = client_falls shape events s packet opens t sound run clean step
-does_falls shape events s (OnWire (Took B packet opens)) t sound run clean step does = server_falls shape events s packet opens t sound run clean step
+does_falls shape events s (OnWire (Took e packet opens)) t sound run clean step does = took_falls shape events s e packet opens t sound run clean step
 does_falls shape events s (OnWire (Joined e lost)) t sound run clean step does = steps_fall shape events s (OnWire (Joined e lost)) t sound run step does
 does_falls shape events s (OnWire (Sent e packet opens)) t sound run clean step does = steps_fall shape events s (OnWire (Sent e packet opens)) t sound run step does
 does_falls shape events s (Works event) t sound run clean step does = steps_fall shape events s (Works event) t sound run step does
 does_falls shape events s _ t sound run clean step does = absurd does
 
-end_clean : (e : End) (s : LaneState) (event : WireEvent) (t : LaneState) → EndOnWire e s event t → (wire_moved s.wire event).forged ≡ s.wire.forged → s.wire.forged ≡ false → t.wire.forged ≡ false
-end_clean A s event t step same clean = ap (λ (x : LaneState). x.wire.forged) step.is ∙ same ∙ clean
-end_clean B s event t step same clean = ap (λ (x : LaneState). x.wire.forged) step.1.is ∙ same ∙ clean
+unforged_wire : (w : WireLog) (event : DiskEvent) → DoesSomething event → (after_wire w event).forged ≡ w.forged
+unforged_wire w (OnWire (Injected e packet)) does = absurd does
+unforged_wire w (OnWire (Poked e at bytes)) does = absurd does
+unforged_wire w (Switches Stopped) does = absurd does
+unforged_wire w (Switches event) does = absurd does
+unforged_wire w _ does = refl
 
 does_clean : (s : LaneState) (event : DiskEvent) (t : LaneState) → LaneStep s event t → DoesSomething event → s.wire.forged ≡ false → t.wire.forged ≡ false
-does_clean s (OnWire (Took e packet opens)) t step does clean = end_clean e s (Took e packet opens) t step refl clean
-does_clean s (OnWire (Joined e lost)) t step does clean = end_clean e s (Joined e lost) t step refl clean
-does_clean s (OnWire (Sent e packet opens)) t step does clean = end_clean e s (Sent e packet opens) t step refl clean
-does_clean s (Works (Published id)) t step does clean = ap (λ (x : LaneState). x.wire.forged) step.is ∙ clean
-does_clean s (Works (Done id operation status bytes)) t step does clean = ap (λ (x : LaneState). x.wire.forged) step.is ∙ clean
-does_clean s (Works (Desc slot bytes)) t step does clean = ap (λ (x : LaneState). x.wire.forged) step.1.is ∙ clean
-does_clean s (Works (Moved unit fault)) t step does clean = ap (λ (x : LaneState). x.wire.forged) step.1.is ∙ clean
-does_clean s (Works (Stored operation block count failed)) t step does clean = ap (λ (x : LaneState). x.wire.forged) step.1.is ∙ clean
-does_clean s (Works (Finished slot status)) t step does clean = ap (λ (x : LaneState). x.wire.forged) step.1.is ∙ clean
-does_clean s _ t step does clean = absurd does
-
-pub took_falls : (shape : Shape) (events : List DiskEvent) (s : LaneState) (e : End) (packet : List ℕ) (opens : Bool) (t : LaneState) → IsShape shape → Run LaneStep (fresh shape) events s → s.wire.forged ≡ false
-    → LaneStep s (OnWire (Took e packet opens)) t → remaining t < remaining s
-took_falls shape events s A packet opens t sound run clean step = client_falls shape events s packet opens t sound run clean step
-took_falls shape events s B packet opens t sound run clean step = server_falls shape events s packet opens t sound run clean step
+does_clean s event t step does clean = ap (λ (x : LaneState). x.wire.forged) (lane_view s event t step).is ∙ unforged_wire s.wire event does ∙ clean
 
 -- so many of them lower it by so much at least
 pub many_fall : (shape : Shape) (events : List DiskEvent) (s : LaneState) (more : List DiskEvent) (t : LaneState) → IsShape shape → Run LaneStep (fresh shape) events s → s.wire.forged ≡ false
