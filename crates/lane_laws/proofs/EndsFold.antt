@@ -4,13 +4,14 @@ use Rattle.std.specs.Prelude.{◌%◌, is_none, is_some, not, ◌&&◌, ◌||◌
 use Rattle.runs.specs.Lawful.{log_of, run_lawful}
 use Rattle.runs.specs.Run.{Run}
 use Rattle.ldc_link.specs.declared.phase.Role.TheVariants.{Initiator, Responder}
-use Rattle.ldc_link.specs.LinkState.{LinkState, is_up, offered}
+use Rattle.ldc_link.specs.LinkState.{LinkState, is_up}
 use Rattle.ldc_link.specs.Putting.{owes, owes_control}
 use Rattle.ldc_queue.specs.declared.end.End.TheVariants.{A, B}
 use Rattle.ldc_queue.specs.Messages.{is_empty}
 use Rattle.ldc_queue.specs.Transcript.{Heard as Heard_, Said, Turn}
 use Rattle.vio_tag.specs.declared.message.Message.{Message}
 use Rattle.vio_tag.specs.Spelling.{canonical}
+use Rattle.lane_laws.proofs.ServerSpeaking.{server_holds_link}
 use Rattle.lane_laws.specs.Agreement.{ClientEndAgrees, RangeAgrees, ServerEndAgrees}
 use Rattle.lane_laws.specs.BlockLog.{Blockage, Clear, is_stuck}
 use Rattle.disk_model.specs.ClientPutting.{announcement, client_kind, is_announcing}
@@ -35,7 +36,7 @@ use Rattle.lane_laws.proofs.ClientFolds.{ClientIs, client_admits_so, client_begi
 use Rattle.channel_laws.proofs.MessagesHeld.{owed_held}
 use Rattle.lane_laws.proofs.Speaking.{client_blocked_rests, client_blocked_utters, server_blocked_rests, server_blocked_utters, server_holds_owed}
 use Rattle.lane_laws.proofs.ClientTaken.{client_took_what}
-use Rattle.channel_laws.proofs.Apart.{false_is_true, none_is_some, some_is_none, some_same}
+use Rattle.channel_laws.proofs.Apart.{false_is_true, none_is_some, some_is_none}
 use Rattle.channel_laws.proofs.PutSayings.{put_says}
 use Rattle.channel_laws.proofs.EndStanding.{hears_sending, open_up}
 use Rattle.lane_laws.proofs.LaneViews.{ClientSide, ServerSide, at_client, at_server, client_keeps, reach_of, server_keeps}
@@ -70,10 +71,7 @@ pub record BothAre (s : LaneState) (l : DiskLog) : Type 0 where
 
 -- what a server holds leaves its session
 pub held_session : (s : ServerState) (rule : server_rules.ServerRule) (held : ServerState) → server_holds rule s ≡ Some held → held.session ≡ s.session
-held_session s server_rules.Puts held is = let same : s ≡ held = some_same is in ap (λ (x : ServerState). x.session) (sym same)
-held_session s (server_rules.Says message) held is =
-    let same : record s { link = offered (canonical message) s.link } ≡ held = cc is in ap (λ (x : ServerState). x.session) (sym same)
-held_session s _ held is = none_is_some is
+held_session s rule held is = ap (λ (x : ServerState). x.session) (server_holds_link s rule held is)
 
 -- THE CLIENT on the wire
 pub first_false : (a b c : Bool) → (a || b || c) ≡ false → a ≡ false

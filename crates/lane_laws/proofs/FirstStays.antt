@@ -1,12 +1,12 @@
 -- A server's region begins at its disk's first block, along every run.
-use Rattle.std.proofs.Common.{◌≡◌, ℕ, Bool, Option, Some, None, List, [], inl, inr, refl, sym, ap, ◌∙◌}
+use Rattle.std.proofs.Common.{◌≡◌, ℕ, Bool, Some, List, [], inl, inr, refl, ap, ◌∙◌}
 use Rattle.std.specs.Prelude.{⊤}
 use Rattle.runs.specs.Lawful.{log_of, run_lawful}
 use Rattle.runs.specs.Run.{Run}
 use Rattle.ldc_queue.specs.declared.end.End.TheVariants.{B}
 use Rattle.ldc_queue.specs.Transcript.{Turn}
 use Rattle.channel_model.specs.WireEvent.{Blocked, Idle, Joined, Reset, Sent, Took}
-use Rattle.channel_laws.proofs.Apart.{none_is_some}
+use Rattle.lane_laws.proofs.ServerSpeaking.{server_holds_link}
 use Rattle.lane_laws.specs.DiskLog.{DiskLog, after, nothing_yet}
 use Rattle.disk_model.specs.DiskEvent.{Desc, DiskEvent, Finished, Moved, OnWire, Stored, Works}
 use Rattle.disk_model.specs.LaneState.{IsShape, LaneState, Shape, fresh}
@@ -23,14 +23,8 @@ use Rattle.lane_laws.proofs.ServerTaken.{ServerTook, server_took_what}
 -- the log keeps its disk
 pub use Rattle.lane_laws.proofs.LaneCores.{shape_of as log_shape}
 
-abbrev first_in : Option ServerState → ℕ → ℕ
-first_in None otherwise = otherwise
-first_in (Some x) otherwise = x.first
-
 held_first : (s : ServerState) (rule : server.ServerRule) (held : ServerState) → server_holds rule s ≡ Some held → held.first ≡ s.first
-held_first s server.Puts held is = ap (λ (o : Option ServerState). first_in o 0) (sym is)
-held_first s (server.Says message) held is = ap (λ (o : Option ServerState). first_in o 0) (sym is)
-held_first s _ held is = none_is_some is
+held_first s rule held is = ap (λ (x : ServerState). x.first) (server_holds_link s rule held is)
 
 took_first : (s : ServerState) (turns : List Turn) (packet : List ℕ) (t : ServerState) (opens : Bool) → ServerTook s turns packet t opens → t.first ≡ s.first
 took_first s turns packet t opens (inl part) = ap (λ (x : ServerState). x.first) part.is

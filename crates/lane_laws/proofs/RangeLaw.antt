@@ -8,7 +8,7 @@ use Rattle.std.proofs.lemmas.Nat.{mod_below}
 use Rattle.ldc_packet.specs.declared.packet.Subtype.{Subtype}
 use Rattle.ldc_packet.specs.Spelling.{subtype_code}
 use Rattle.ldc_packet.specs.declared.packet.Subtype.TheVariants.{Ack, Info}
-use Rattle.ldc_link.specs.LinkState.{LinkState, offered}
+use Rattle.ldc_link.specs.LinkState.{LinkState}
 use Rattle.ldc_queue.specs.declared.end.End.TheVariants.{A, B}
 use Rattle.ldc_queue.specs.Transcript as turn
 use Rattle.ldc_queue.specs.Transcript.{Turn}
@@ -19,6 +19,7 @@ use Rattle.vio_tag.specs.declared.message.MsgBody.TheVariants.{DringData}
 use Rattle.vio_tag.specs.Spelling.{SpellsBody, canonical, envelope_code, subtype_at}
 use Rattle.channel_model.specs.Sayings.{half_heard, half_said, said}
 use Rattle.channel_model.specs.WireEvent.{Sent, Took}
+use Rattle.lane_laws.proofs.ServerSpeaking.{server_holds_link}
 use Rattle.lane_laws.specs.DiskLog.{DiskLog}
 use Rattle.lane_laws.specs.BlockLog.{Blockage, Clear}
 use Rattle.lane_laws.specs.EndLog.{ident_of, is_stuck_with_own, range_in_work, state_of}
@@ -140,10 +141,7 @@ client_shaken s (client_rules.Announces one) held is =
 client_shaken s _ held is = none_is_some is
 
 server_shaken : (s : ServerState) (rule : server_rules.ServerRule) (held : ServerState) → server_holds rule s ≡ Some held → held.handshake ≡ s.handshake
-server_shaken s server_rules.Puts held is = let same : s ≡ held = some_same is in ap (λ (x : ServerState). x.handshake) (sym same)
-server_shaken s (server_rules.Says message) held is =
-    let same : record s { link = offered (canonical message) s.link } ≡ held = cc is in ap (λ (x : ServerState). x.handshake) (sym same)
-server_shaken s _ held is = none_is_some is
+server_shaken s rule held is = ap (λ (x : ServerState). x.handshake) (server_holds_link s rule held is)
 
 -- AN INFO THAT IS SAID. A client that isn't blocked announces only once all that is pending is published.
 pub never_own : (s : ClientState) (b : Blockage) (session : ClientSession) → ClientIs s b → b ≡ Clear → s.session ≡ Some session → session.announcing ≡ true → true ≡ false

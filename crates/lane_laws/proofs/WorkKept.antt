@@ -1,9 +1,7 @@
 -- Each event of a lane keeps a condition on its server's work that each piece of the work keeps: so the work is what its progress says.
 use Rattle.std.proofs.Common.{◌≡◌, ℕ, Bool, Option, Some, None, List, refl, sym, ap, ◌∙◌, subst}
 use Rattle.std.specs.Prelude.{⊤}
-use Rattle.ldc_link.specs.LinkState.{offered}
 use Rattle.ldc_queue.specs.declared.end.End.TheVariants.{B}
-use Rattle.vio_tag.specs.Spelling.{canonical}
 use Rattle.channel_model.specs.WireEvent.{Blocked, Idle, Joined, Reset, Sent, Took}
 use Rattle.disk_model.specs.DiskEvent.{Desc, DiskEvent, Finished, Moved, OnWire, Stored, Worked, Works}
 use Rattle.disk_model.specs.LaneState.{LaneState}
@@ -15,7 +13,7 @@ use Rattle.disk_model.specs.ServerState.{ServerState, joined_server, restarted_s
 use Rattle.disk_model.specs.ServerStep.{ServerSends, ServerStep}
 use Rattle.disk_model.specs.ServerTaking.{GoesOn, Resets, ServerTake, ServerTakes}
 use Rattle.cookie_copy.specs.Reach.{Reach}
-use Rattle.channel_laws.proofs.Apart.{none_is_some}
+use Rattle.lane_laws.proofs.ServerSpeaking.{server_holds_link}
 use Rattle.lane_laws.proofs.LaneViews.{ServerActs, ServerCalled, ServerRenewed, ServerStays, ServerStopped, ServerView, at_server, lane_view, reach_of}
 use Rattle.lane_laws.proofs.RulesFree.{ServerFree, server_free}
 use Rattle.lane_laws.proofs.ServerAnswers.{comes_to, goes_by}
@@ -36,13 +34,9 @@ record SameWork (s t : ServerState) : Type 0 where
   blocks : t.blocks ≡ s.blocks
   work : t.work ≡ s.work
 
-same_as : (s one t : ServerState) → one ≡ t → SameWork s one → SameWork s t
-same_as s one t is same = subst (SameWork s) is same
-
 held_work : (s : ServerState) (rule : server.ServerRule) (held : ServerState) → server_holds rule s ≡ Some held → SameWork s held
-held_work s server.Puts held is = same_as s s held (cc is) (record { blocks = refl; work = refl })
-held_work s (server.Says message) held is = same_as s (record s { link = offered (canonical message) s.link }) held (cc is) (record { blocks = refl; work = refl })
-held_work s _ held is = none_is_some is
+held_work s rule held holds =
+    let is = server_holds_link s rule held holds in record { blocks = ap (λ (v : ServerState). v.blocks) is; work = ap (λ (v : ServerState). v.work) is }
 
 abbrev TookWork : ServerState → ServerTake → Type 0
 TookWork s (GoesOn t opens) = SameWork s t
