@@ -46,7 +46,8 @@ use Rattle.lane_laws.proofs.ClientMoves.{client_sending}
 use Rattle.lane_laws.proofs.ServerMoves.{server_hears}
 use Rattle.lane_laws.proofs.ClientPuts.{putting}
 use Rattle.lane_laws.proofs.RangeSums.{count_heard}
-use Rattle.lane_laws.proofs.RulesFree.{ServerFree, TakesFree, owes_nothing, server_free, takes_calm}
+use Rattle.lane_laws.proofs.RulesFree.{ServerFree, owes_nothing, server_free, takes_calm}
+use Rattle.lane_laws.proofs.RuleTests.{TakesFree}
 use Rattle.lane_laws.proofs.Ruling.{client_may}
 use Rattle.lane_laws.proofs.ServerFolds.{ServerIs, ranged, server_begins, server_blocks_so, server_fetches_so, server_finishes_so, server_moves_so, server_puts_so, server_restarts, server_stores_so, server_takes_so}
 use Rattle.lane_laws.proofs.ServerPutCounting.{server_holds_counting}

@@ -38,7 +38,8 @@ use Rattle.lane_laws.proofs.RemainingClientPuts.{ClientFalls, ClientSpends, fall
 use Rattle.lane_laws.proofs.RemainingRuns.{steps_fall}
 use Rattle.lane_laws.proofs.RemainingServerTakes.{behind_ask, server_turns}
 use Rattle.lane_laws.proofs.RemainingTakes.{client_took_falls, server_took_falls}
-use Rattle.lane_laws.proofs.RulesFree.{ServerFree, TakesFree, server_free}
+use Rattle.lane_laws.proofs.RulesFree.{ServerFree, server_free}
+use Rattle.lane_laws.proofs.RuleTests.{TakesFree}
 use Rattle.lane_laws.proofs.Ruling.{server_may}
 use Rattle.lane_laws.proofs.ServerCounting.{no_work, opens_new}
 use Rattle.lane_laws.proofs.ServerTaken.{ServerAsked, ServerTook, server_took_what}

@@ -24,7 +24,8 @@ use Rattle.lane_laws.proofs.Sharing.{in_order}
 use Rattle.lane_laws.specs.Counted.{InServerOrder, RangeStands}
 use Rattle.lane_laws.specs.Sound.{InOrder}
 use Rattle.lane_laws.proofs.Counting.{OfServer, of_client, of_server}
-use Rattle.lane_laws.proofs.IdleRules.{ClientIdles, ServerIdles, client_idles, server_idles}
+use Rattle.lane_laws.proofs.IdleRules.{ServerIdles, client_idles, server_idles}
+use Rattle.lane_laws.proofs.RuleTests.{ClientIdles}
 use Rattle.lane_laws.proofs.WorkNumbers.{Grounded, order_of}
 use Rattle.lane_laws.proofs.ServerPutCounting.{work_most as finished_descs}
 use Rattle.lane_laws.proofs.LaneViews.{at_client, at_server}
@@ -59,8 +60,8 @@ idle_client s l grounded idles =
     let order : InOrder (length s.client.pending) session =
     in_order (length s.client.pending) s.client.session session is grounded.knows.all.sound.counts in
     let stand = grounded.knows.all.stands.requests in
-    let acked = not_below session.completed session.acked (idles.completed session is) in
-    let has_done = idles.rests.rests.session session is in
+    let acked = not_below session.completed session.acked (idles.rests.completed session is) in
+    let has_done = idles.session session is in
     let announced = not_below session.announced session.published has_done.announced in
     let published = past_all s.client.pending (session.published - session.completed) has_done.published in
     subst (ClientIsIdle l) same (record {

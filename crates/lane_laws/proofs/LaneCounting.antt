@@ -33,7 +33,8 @@ use Rattle.lane_laws.proofs.Speaking.{client_blocked_rests, client_blocked_utter
 use Rattle.lane_laws.proofs.ClientTaken.{client_took_what}
 use Rattle.lane_laws.proofs.ClientWorkCounting.{client_admits_counting, client_completes_counting, client_holds_counting, client_publishes_counting, handshake_counting}
 use Rattle.channel_laws.proofs.PutSayings.{PutSays, put_says}
-use Rattle.lane_laws.proofs.RulesFree.{ServerFree, TakesFree, owes_nothing, server_free}
+use Rattle.lane_laws.proofs.RulesFree.{ServerFree, owes_nothing, server_free}
+use Rattle.lane_laws.proofs.RuleTests.{TakesFree}
 use Rattle.lane_laws.proofs.Requesting.{KeepsRequests, first_done, held_kept}
 use Rattle.lane_laws.proofs.Ruling.{client_may}
 use Rattle.lane_laws.proofs.ServerCounting.{server_begins_counting, server_restarts_counting, server_takes_counting}

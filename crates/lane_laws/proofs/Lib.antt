@@ -55,6 +55,7 @@ pub mod RingTable
 pub mod RingWire
 pub mod RingWork
 pub mod RingWrites
+pub mod RuleTests
 pub mod RulesFree
 pub mod Ruling
 pub mod ServerCounting

@@ -38,10 +38,11 @@ use Rattle.lane_laws.proofs.EndsFold.{BothAre, first_false}
 use Rattle.channel_laws.proofs.Apart.{none_is_some, some_same}
 use Rattle.channel_laws.proofs.EndsAtRest.{none_waits}
 use Rattle.lane_laws.proofs.IdleLaw.{not_below, past_all, same_waiting, some_client, some_server}
-use Rattle.lane_laws.proofs.IdleRules.{ClientGoes, ClientPublishesAt, CompletedAll, PublishedAll, client_goes, client_idles, control_in, published_all, server_idles}
+use Rattle.lane_laws.proofs.IdleRules.{client_idles, published_all, server_idles}
+use Rattle.lane_laws.proofs.RuleTests.{ClientTested, CompletedAll, PublishedAll, TakesFree, client_test, client_tested, control_in}
 use Rattle.lane_laws.proofs.RangeLaw.{never_own}
 use Rattle.lane_laws.proofs.Ruling.{client_may}
-use Rattle.lane_laws.proofs.RulesFree.{ServerFree, TakesFree, owes_nothing, puts_calm, puts_owe, server_free, takes_calm}
+use Rattle.lane_laws.proofs.RulesFree.{ServerFree, owes_nothing, puts_calm, puts_owe, server_free, takes_calm}
 use Rattle.lane_laws.proofs.Sharing.{in_order}
 use Rattle.channel_laws.proofs.MessagesHeld.{owed_held}
 use Rattle.lane_laws.proofs.WorkNumbers.{Grounded, order_of}
@@ -59,16 +60,16 @@ completed_in_log s l grounded all =
     let acked = not_below session.completed session.acked (all session is) in
     subst (λ (k : ClientCounts). l.work.done ≡ k.base + k.acked) same (omega (arith, of.agree.completed, of.agree.acked, acked, order.completed)))
 
-holds_completed : (s : ClientState) (at : Seen) (rule : client.ClientRule) (held : ClientState) → client_holds rule s ≡ Some held → ClientGoes s at rule → CompletedAll s
-holds_completed s at client.Puts held is goes = goes
-holds_completed s at (client.Says message) held is goes = goes
-holds_completed s at (client.Announces session) held is goes = goes.0
-holds_completed s at _ held is goes = none_is_some is
+holds_completed : (s : ClientState) (at : Seen) (rule : client.ClientRule) (held : ClientState) → client_holds rule s ≡ Some held → ClientTested s at rule → CompletedAll s
+holds_completed s at client.Puts held is test = test.0.completed
+holds_completed s at (client.Says message) held is test = test.0.completed
+holds_completed s at (client.Announces session) held is test = test.0.completed
+holds_completed s at _ held is test = none_is_some is
 
 putting_completed : (s : LaneState) (l : DiskLog) (held : ClientState) → Grounded s l → client_holds (client.client_rule s.client (at_client s)) s.client ≡ Some held → HasCompleted l
 putting_completed s l held grounded is =
     let at = at_client s in
-    completed_in_log s l grounded (holds_completed s.client at (client.client_rule s.client at) held is (client_goes s.client at))
+    completed_in_log s l grounded (holds_completed s.client at (client.client_rule s.client at) held is (client_tested s.client at))
 
 -- it owes nothing of its link's handshake where its link owes no packet
 control_free : (k : LinkState) (b : Bool) → owes_control k ≡ b → owes k ≡ false → b ≡ false
@@ -88,9 +89,8 @@ server_owes_nothing s l told free none = (
 publishes_order : (s : LaneState) (l : DiskLog) (session : ClientSession) (request : Request) → Told s l
     → client.client_rule s.client (at_client s) ≡ client.Publishes session request → PublishesAt l
 publishes_order s l session request told rule =
-    let goes : ClientGoes s.client (at_client s) (client.Publishes session request) = subst (ClientGoes s.client (at_client s)) rule (client_goes s.client (at_client s)) in
-    let rests : ClientPublishesAt s.client (at_client s) = goes.1 in (
-      completed_in_log s l told.grounded goes.0,
+    let rests = (client_test s.client (at_client s) (client.Publishes session request) rule).0 in (
+      completed_in_log s l told.grounded rests.completed,
       client_owes_nothing s l told (control_free s.client.link (owes_control s.client.link) refl rests.free) rests.owed,
       same_waiting A s l told.grounded (none_waits (waiting_for A s.wire.wire) rests.first),
       not_stuck s.client.link l.blocked.client told.both.client.link rests.free,
@@ -99,7 +99,7 @@ publishes_order s l session request told rule =
 -- IT TAKES
 client_may_take : (s : LaneState) (l : DiskLog) (packet : List ℕ) → Told s l → client.client_rule s.client (at_client s) ≡ client.Takes packet → TakesAt A l
 client_may_take s l packet told rule = (
-  completed_in_log s l told.grounded (subst (ClientGoes s.client (at_client s)) rule (client_goes s.client (at_client s))),
+  completed_in_log s l told.grounded (client_test s.client (at_client s) (client.Takes packet) rule).1,
   client_owes_nothing s l told
       (first_false (owes_control s.client.link) (is_some s.client.handshake.owed) (is_none s.client.session && owes s.client.link) (takes_calm s.client (at_client s) packet rule))
       (owes_nothing s.client (at_client s) packet rule),
@@ -242,7 +242,7 @@ reset_order ByTick B s l cause packet lost t told step = absurd step
 idle_order : (e : End) (s : LaneState) (l : DiskLog) (t : LaneState) → Told s l → EndOnWire e s (Idle e) t → OwesNothing e l
 idle_order A s l t told step =
     let idles = client_idles s.client (at_client s) step.step.0 in
-    client_owes_nothing s l told (control_free s.client.link (owes_control s.client.link) refl idles.rests.rests.free) idles.rests.rests.owed
+    client_owes_nothing s l told (control_free s.client.link (owes_control s.client.link) refl idles.rests.free) idles.rests.owed
 idle_order B s l t told step = let idles = server_idles s.server (at_server s) step.1.step.1.0 in server_owes_nothing s l told idles.free idles.owed
 
 -- EACH EVENT

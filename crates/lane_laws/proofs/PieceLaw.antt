@@ -23,7 +23,8 @@ use Rattle.disk_model.specs.LaneStep.{LaneStep, reach}
 use Rattle.disk_model.specs.ServerState.{Flushes, Gathers, Gives, Progress, Reads, ServerSession, Work, Writes}
 use Rattle.disk_model.specs.ServerStep.{ServerFetches, ServerFinishes, ServerMoves, ServerStores}
 use Rattle.disk_model.specs.ServerWork.{MovesIn, StoresIn, desc_of, slot_fetched, unit_length}
-use Rattle.lane_laws.proofs.RulesFree.{ServerFree, ServesFree, server_free}
+use Rattle.lane_laws.proofs.RulesFree.{ServerFree, server_free}
+use Rattle.lane_laws.proofs.RuleTests.{ServesFree}
 use Rattle.lane_laws.specs.Counted.{UnitFits, UnitIn}
 use Rattle.lane_laws.proofs.Counting.{OfServer, of_server}
 use Rattle.lane_laws.proofs.WorkNumbers.{Grounded, in_server, slot_in_log}

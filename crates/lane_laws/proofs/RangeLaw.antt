@@ -53,12 +53,13 @@ use Rattle.lane_laws.proofs.ClientPutCounting.{OwnInfo, own_info}
 use Rattle.channel_laws.proofs.PutSayings.{PutSays, SaysWhole, put_says}
 use Rattle.lane_laws.proofs.EndsFold.{BothAre, held_session, infos_are}
 use Rattle.lane_laws.proofs.IdleLaw.{past_all}
-use Rattle.lane_laws.proofs.IdleRules.{PublishedAll, published_all}
+use Rattle.lane_laws.proofs.IdleRules.{published_all}
+use Rattle.lane_laws.proofs.RuleTests.{PublishedAll, TakesFree}
 use Rattle.lane_laws.proofs.RangeTurns.{range_turns}
 use Rattle.lane_laws.proofs.RangesSaid.{data_no_group, end_is, heard_no_group, heard_no_range, ident_is, sid_is, no_data, other_subtype, owed_no_range, range_is, said_is, seq_is, start_is, state_is}
 use Rattle.lane_laws.proofs.Requesting.{held_kept}
 use Rattle.lane_laws.proofs.Ruling.{client_may}
-use Rattle.lane_laws.proofs.RulesFree.{ServerFree, TakesFree, server_free}
+use Rattle.lane_laws.proofs.RulesFree.{ServerFree, server_free}
 use Rattle.lane_laws.proofs.ServerCounting.{own_slots}
 use Rattle.lane_laws.proofs.ServerFolds.{ranged}
 use Rattle.lane_laws.proofs.ServerPutCounting.{all_finished, server_holds_counting, none_is}

@@ -7,7 +7,7 @@ use Rattle.dring.specs.Slots.{range_length}
 use Rattle.disk_model.specs.ServerState.{ServerSession, ServerState, SlotRange, Work, opened_server}
 use Rattle.channel_laws.specs.EndCore.{holds}
 use Rattle.channel_laws.specs.PacketsLeft.{packets_left}
-use Rattle.lane_laws.proofs.RulesFree.{TakesFree}
+use Rattle.lane_laws.proofs.RuleTests.{TakesFree}
 use Rattle.lane_laws.proofs.ServerAnswers.{opened_or}
 use Rattle.lane_laws.proofs.ServerTaken.{ServerAsked, ServerTook}
 use Rattle.lane_laws.specs.Budget.{one_range, range_left}

@@ -30,7 +30,8 @@ use Rattle.channel_laws.proofs.PutSayings.{PutSays}
 use Rattle.channel_laws.proofs.EndStanding.{SameSending, open_up, owing_up}
 use Rattle.channel_laws.proofs.TurnCases.{heard_none, heard_some, said_none, said_some}
 use Rattle.lane_laws.proofs.RangesSaid.{heard_no_range, is_data, no_data, owed_no_range, range_is}
-use Rattle.lane_laws.proofs.RulesFree.{AnswersFree, ServerFree, TakesFree, server_free}
+use Rattle.lane_laws.proofs.RulesFree.{ServerFree, server_free}
+use Rattle.lane_laws.proofs.RuleTests.{AnswersFree, TakesFree}
 use Rattle.lane_laws.proofs.ServerCounting.{opens_new}
 use Rattle.lane_laws.proofs.ServerPutCounting.{put_as, none_is}
 use Rattle.lane_laws.proofs.ServerAnswers.{opened_or}

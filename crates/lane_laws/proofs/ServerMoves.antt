@@ -40,7 +40,8 @@ use Rattle.lane_laws.proofs.ClientAnswers.{HandshakesTo}
 use Rattle.lane_laws.proofs.ClientMoves.{cleared_is, holds_and, holds_none}
 use Rattle.channel_laws.proofs.EndStanding.{holds_some, up_empty}
 use Rattle.lane_laws.proofs.Ruling.{server_may}
-use Rattle.lane_laws.proofs.RulesFree.{ServerFree, TakesFree, server_free}
+use Rattle.lane_laws.proofs.RulesFree.{ServerFree, server_free}
+use Rattle.lane_laws.proofs.RuleTests.{TakesFree}
 use Rattle.lane_laws.proofs.ServerAnswers.{Answers, comes_to, goes_by, heard_on, opened_or}
 use Rattle.lane_laws.proofs.ServerSpeaking.{range_few}
 use Rattle.lane_laws.proofs.Sharing.{some_left}

@@ -26,7 +26,8 @@ use Rattle.channel_laws.proofs.PutSayings.{SaysWhole, SaysOn}
 use Rattle.channel_laws.proofs.EndStanding.{open_up, owing_up, up_empty}
 use Rattle.lane_laws.proofs.RangeSums.{count_said, sum_more, sum_said}
 use Rattle.lane_laws.proofs.RangesSaid.{owed_no_range, said_range}
-use Rattle.lane_laws.proofs.RulesFree.{AnswersFree, ServerFree}
+use Rattle.lane_laws.proofs.RulesFree.{ServerFree}
+use Rattle.lane_laws.proofs.RuleTests.{AnswersFree}
 use Rattle.lane_laws.specs.Budget.{one_range}
 use Rattle.lane_laws.specs.Counted.{HoldsAnswer, InServerOrder, RangeStands, ServerCounted, ServerOrder, range_count, range_sum}
 use Rattle.lane_laws.specs.LaneRests.{ServerRests, ServerUtters}

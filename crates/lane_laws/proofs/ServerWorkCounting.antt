@@ -23,7 +23,8 @@ use Rattle.disk_model.specs.ServerWork as server_work
 use Rattle.cookie_copy.specs.Reach.{Reach}
 use Rattle.disk_model.specs.ServerWork.{MovesIn, StoresIn, desc_of, first_progress, gathers_next, or_ends}
 use Rattle.channel_laws.proofs.EndStanding.{open_up, up_empty}
-use Rattle.lane_laws.proofs.RulesFree.{ServerFree, ServesFree, server_free}
+use Rattle.lane_laws.proofs.RulesFree.{ServerFree, server_free}
+use Rattle.lane_laws.proofs.RuleTests.{ServesFree}
 use Rattle.lane_laws.specs.Counted.{RangeStands, ServerCounted, ServerHolds, ServerOrder, UnitFits, UnitIn}
 use Rattle.lane_laws.specs.LaneRests.{ServerRests}
 use Rattle.lane_laws.specs.ChannelEnds.{server_core}

@@ -26,7 +26,8 @@ use Rattle.disk_model.specs.ServerStep.{ServerFails, WorkFails}
 use Rattle.cookie_copy.specs.Reach.{Reach, copy_number}
 use Rattle.disk_model.specs.ServerWork.{EndFails, FetchFails, cause_of, fetch_fault, slot_at, slot_fetched}
 use Rattle.lane_laws.proofs.Ruling.{client_may}
-use Rattle.lane_laws.proofs.RulesFree.{ServerFree, ServesFree, server_free}
+use Rattle.lane_laws.proofs.RulesFree.{ServerFree, server_free}
+use Rattle.lane_laws.proofs.RuleTests.{ServesFree}
 use Rattle.lane_laws.specs.RuleFacts.{ClientMay}
 use Rattle.lane_laws.proofs.Counting.{OfClient, of_client}
 use Rattle.lane_laws.proofs.EndResets.{LiesIn}
