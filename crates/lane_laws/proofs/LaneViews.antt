@@ -24,6 +24,7 @@ use Rattle.lane_laws.specs.BlockLog.{Blockage, Clear}
 use Rattle.lane_laws.specs.DiskLog.{DiskLog, after, after_failed, after_wire}
 use Rattle.lane_laws.specs.WorkLog.{ClientCounts, ServerCounts}
 
+-- what an end sees of its wire, and what its server reaches
 abbrev pub at_client : LaneState → Seen
 at_client s = seen A s.shape.entries s.wire.wire
 
@@ -71,12 +72,14 @@ IsOwnStep _ = ⊤
 
 -- THE FEW WAYS. A reset that a call gives carries no packet and loses no frames.
 pub data ClientView (s t : LaneState) : DiskEvent → Type 0 where
+  -- a step of its own, what comes of a request, a reset that a call gives, or an event beside it
   ClientActs : (event : DiskEvent) → IsOwnStep event → ClientStep s.client (at_client s) s.memory event t.client t.memory → ClientView s t event
   ClientAsked : (request : Admitted) → ClientAdmits s.client request t.client → ClientView s t (Asks request)
   ClientCalled : (cause : Cause) → reset_move (giver cause) cause None ≡ Begins → t.client ≡ joined_client s.client → ClientView s t (OnWire (Reset A cause None 0))
   ClientStays : (event : DiskEvent) → Beside A event → t.client ≡ s.client → ClientView s t event
 
 pub data ServerView (s t : LaneState) : DiskEvent → Type 0 where
+  -- a step of its own, a reset that a call gives, one by a restart, a stop, or an event beside it
   ServerActs : (event : DiskEvent) (gave : List ℕ) → IsOwnStep event → ServerStep s.server (at_server s) (reach_of s) gave event t.server t.memory → ServerView s t event
   ServerCalled : (cause : Cause) → reset_move (giver cause) cause None ≡ Begins → t.server ≡ joined_server s.server → ServerView s t (OnWire (Reset B cause None 0))
   ServerRenewed : (cause : Cause) → reset_move (giver cause) cause None ≡ Renews → t.server ≡ restarted_server s.server → ServerView s t (OnWire (Reset B cause None 0))
@@ -84,6 +87,7 @@ pub data ServerView (s t : LaneState) : DiskEvent → Type 0 where
   ServerStays : (event : DiskEvent) → Beside B event → t.server ≡ s.server → ServerView s t event
 
 pub data MemoryView (s t : LaneState) : DiskEvent → Type 0 where
+  -- what an end's step makes of it, what somebody pokes into it, or nothing
   ClientWrites : (event : DiskEvent) → ClientStep s.client (at_client s) s.memory event t.client t.memory → MemoryView s t event
   ServerWrites : (event : DiskEvent) (gave : List ℕ) → ServerStep s.server (at_server s) (reach_of s) gave event t.server t.memory → MemoryView s t event
   MemoryPoked : (at : ℕ) (bytes : List ℕ) → at + length bytes ≤ length s.memory → t.memory ≡ put_at at bytes s.memory → MemoryView s t (OnWire (Poked A at bytes))
