@@ -1,4 +1,4 @@
-use Rattle.std.proofs.Common.{◌≡◌, ◌∙◌, List, length, ap, refl, subst, sym}
+use Rattle.std.proofs.Common.{◌∙◌, refl, subst, sym}
 use Rattle.ldom_entries.specs.JournalState.{JournalState}
 use Rattle.ldom_report.specs.declared.status.Status.{Status}
 use Rattle.script_laws.specs.Going.{RunsLines}
