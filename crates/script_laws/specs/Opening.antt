@@ -12,7 +12,8 @@ use Rattle.script_reader.specs.declared.lines.LinesStop.TheVariants.{Going}
 use Rattle.script_reader.specs.LinesState.{LinesState, to_come}
 
 -- After blank lines and declarations came this event. Where the reader goes on, each line had its line feed.
-pub record Opens (stop : LinesStop) (start left : Option (List ℕ)) (event : Event) (names : NamesState) (count : ℕ) : Type 0 where
+pub record Opens (stop : LinesStop) (start left : Option (List ℕ)) (event : Event) (names : NamesState)
+    (count : ℕ) : Type 0 where
   pub opening : List Event
   pub are : AreOpening opening
   pub read : ReadSoFar start left (opening ++ event ∷ []) names count

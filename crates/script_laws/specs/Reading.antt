@@ -17,7 +17,8 @@ use Rattle.script_reader.specs.LinesState.{LineEnds}
 use Rattle.domain_script.specs.Limits.{most_line_bytes, most_lines}
 
 -- the next line spells this event, and ended as the reader behind it says
-pub record ReadsEvent (stop : LinesStop) (rest left : Option (List ℕ)) (names : NamesState) (event : Event) (after : NamesState) : Type 0 where
+pub record ReadsEvent (stop : LinesStop) (rest left : Option (List ℕ)) (names : NamesState) (event : Event)
+    (after : NamesState) : Type 0 where
   pub text : List ℕ
   pub taken : TakesLine rest left text
   pub short : length text ≤ most_line_bytes

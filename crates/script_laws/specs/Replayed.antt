@@ -21,8 +21,8 @@ use Rattle.world_parts.specs.Declared.{bytes_needed, nets_of, world_of}
 use Rattle.world_parts.specs.Script.{ScriptParts, events_of}
 
 -- These events were read, and then no further line was taken up, where the journal has so many entries; the report counts
--- so many lines. The source has `now` left, and what was taken from it and is in no line is held. Where the source failed,
--- each line that was taken up had its line feed.
+-- so many lines. The source has `now` left, and what was taken from it and is in no line is held. Where the source
+-- failed, each line that was taken up had its line feed.
 pub record Stopped (start now : Option (List ℕ)) (why : Status) (events : List Event) (names : NamesState) (entries lines : ℕ) : Type 0 where
   pub left : Option (List ℕ)
   pub count : ℕ
