@@ -100,7 +100,8 @@ module _ (disks : List DiskDecl) (nets : List NetShape) (image : ImageState) (pa
         leaves = record {
           disk = λ k own. line_of_disk at line next k step own;
           region = λ k shape first store own there told long now.
-              own_region disks nets image first are told long before at line next k shape store split.1 step own there now;
+              own_region disks nets image first are told long before at line next k shape store split.1 step own there
+              now;
           port = λ k own. line_of_port at line next k step own;
         };
       }
@@ -116,9 +117,11 @@ module _ (disks : List DiskDecl) (nets : List NetShape) (image : ImageState) (pa
         leaves = record {
           disk = λ k own. disk_begun at (line_of line.0) starts.entries v k own starts.begins;
           region = λ k shape first store own there told long now.
-              begun_region disks nets image first are told long parts.whole at line v k shape store fits.run starts own there now;
+              begun_region disks nets image first are told long parts.whole at line v k shape store fits.run starts own
+              there now;
           port = λ k own.
-              as_told k line starts.entries at v starts.says (port_begun at (line_of line.0) starts.entries v k own starts.begins);
+              as_told k line starts.entries at v starts.says
+              (port_begun at (line_of line.0) starts.entries v k own starts.begins);
         };
       }
 
