@@ -42,11 +42,11 @@ use Rattle.script_laws.proofs.NamesAt.{ran_out}
 use Rattle.script_laws.proofs.PortsSettle.{FirstName, first_name, port_exact}
 use Rattle.script_laws.proofs.ReachedLanes.{AreLanes}
 use Rattle.script_laws.proofs.RoundSteps.{is_round, told_round}
-use Rattle.script_laws.proofs.SettleLines.{EachWhole, SettlesBehind, WholeSettle}
+use Rattle.script_laws.proofs.SettleLines.{EachWhole, SettlesBehind, WholeSettle, settles_whole}
 use Rattle.script_laws.proofs.TicksNeeded.{waits_by}
 use Rattle.script_laws.proofs.TicksStand.{MovedTo, moved_to}
 use Rattle.script_laws.proofs.Untold.{Untold, all_told, real_unsettled, told_happened, untold}
-use Rattle.script_laws.specs.LastRounds.{EachNamesExactly, IsTick, NamesDisk, NamesExactly, NamesLane}
+use Rattle.script_laws.specs.LastRounds.{EachNamesExactly, IsTick, NamesDisk, NamesExactly, NamesLane, RanOut}
 use Rattle.script_laws.specs.PortSettles.{is_port_tick}
 use Rattle.script_laws.specs.Settled.{EndsUnsettled, WaitsBy}
 use Rattle.script_laws.specs.Told.{log_at, told, told_by}
@@ -95,19 +95,43 @@ both_wait true stopped waits runs = absurd (waits refl)
 both_wait false true waits runs = absurd (cc runs)
 both_wait false false waits runs = refl
 
-module _ (disks : List DiskDecl) (nets : List NetShape) (image : ImageState) (are : AreLanes disks nets) (before : List (Event × List Entry))
-    (part : List SettleEntry) (of : SettlesBehind disks nets image before part)
-    (settle : SettlePart lanes (lanes_in of.at) of.real of.behind) (ends : EndsUnsettled part) where
+-- IT RAN OUT OF ROUNDS where it ends with names
+has_run_out : (disks : List DiskDecl) (nets : List NetShape) (image : ImageState) (before : List (Event × List Entry))
+    (part : List Entry) → WholeSettle disks nets image before part → EndsUnsettled (told_by (Settle, part))
+    → RanOut disks nets image before part
+has_run_out disks nets image before part whole ends =
+    let of : SettlesBehind disks nets image before (told_by (Settle, part)) =
+    settles_whole disks nets image before part whole in
+    let first : FirstName (told_by (Settle, part)) = first_name (told_by (Settle, part)) ends in
+    let at : Untold of.real first.so_far first.entry first.rest =
+    untold of.real first.so_far first.entry first.rest (sym of.told_is ∙ first.is) in
+    record {
+      at = whole.at;
+      run = whole.run;
+      next = whole.next;
+      step = whole.step;
+      out = ran_out (lanes_in whole.at) whole.step.entries (lanes_in whole.next) whole.step.moves.part_of first.entry
+          first.name at.past at.rest (at.is ∙ ap (λ (e : SettleEntry). at.past ++ e ∷ at.rest) (first.real at.real at.real_is));
+    }
+
+module _ (disks : List DiskDecl) (nets : List NetShape) (image : ImageState) (are : AreLanes disks nets)
+    (before : List (Event × List Entry)) (line : List Entry) (ran : RanOut disks nets image before line) where
+  abbrev part : List SettleEntry
+  part = told_by (Settle, line)
+
+  abbrev of : SettlesBehind disks nets image before part
+  of =
+      settles_whole disks nets image before line
+      (record { at = ran.at; run = ran.run; next = ran.next; step = ran.step })
+
   abbrev start : Lanes
   start = lanes_in of.at
 
-  out : RunsOut lanes start of.real of.behind
-  out =
-      let first : FirstName part = first_name part ends in
-      let at : Untold of.real first.so_far first.entry first.rest =
-      untold of.real first.so_far first.entry first.rest (sym of.told_is ∙ first.is) in
-      ran_out start of.real of.behind settle first.entry first.name at.past at.rest
-      (at.is ∙ ap (λ (e : SettleEntry). at.past ++ e ∷ at.rest) (first.real at.real at.real_is))
+  abbrev out : RunsOut lanes start of.real of.behind
+  out = ran.out
+
+  abbrev settle : SettlePart lanes start of.real of.behind
+  settle = inr ran.out
 
   abbrev round : List SettleEntry
   round = lanes.leaves out.last.steps
@@ -182,15 +206,13 @@ module _ (disks : List DiskDecl) (nets : List NetShape) (image : ImageState) (ar
           (disk_told x of.real (disk_named start of.real of.behind out x ended.state ended.there (back moved))),
     )
 
-  pub exactly : NamesExactly disks nets (told before) part
+  pub exactly : NamesExactly disks nets (told before) part (all_told (entries_of_rounds out.rounds)) round
   exactly =
       let steps = out.last.steps in
       let earlier : List SettleEntry = entries_of_rounds out.rounds in
       let ticks : List SettleEntry = (after_round start of.real of.behind out).ticks in
       let names : List SettleEntry = lanes.names steps of.behind in
       record {
-        earlier = all_told earlier;
-        round = round;
         ticks = all_told ticks;
         names = all_told names;
         is = of.told_is ∙ ap all_told (part_is start of.real of.behind out)
@@ -211,7 +233,8 @@ module _ (disks : List DiskDecl) (nets : List NetShape) (image : ImageState) (ar
       }
 
 pub names_exactly : (disks : List DiskDecl) (nets : List NetShape) (image : ImageState) (are : AreLanes disks nets)
-    (lines : List (Event × List Entry)) → EachWhole disks nets image lines → EachNamesExactly disks nets lines
-names_exactly disks nets image are lines each before part behind is ends =
-    let of : WholeSettle disks nets image before (told_by (Settle, part)) = each before part behind is in
-    exactly disks nets image are before (told_by (Settle, part)) of.settles of.whole ends
+    (lines : List (Event × List Entry)) → EachWhole disks nets image lines → EachNamesExactly disks nets image lines
+names_exactly disks nets image are lines each before part behind is ends = (
+  has_run_out disks nets image before part (each before part behind is) ends,
+  exactly disks nets image are before part,
+)

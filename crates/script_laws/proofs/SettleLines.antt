@@ -41,16 +41,32 @@ EachSettles disks nets image lines =
     (before : List (Event × List Entry)) (part : List Entry) (behind : List (Event × List Entry))
     → lines ≡ before ++ (Settle, part) ∷ behind → SettlesBehind disks nets image before (told_by (Settle, part))
 
--- and of whole parts each is one
-pub record WholeSettle (disks : List DiskDecl) (nets : List NetShape) (image : ImageState) (before : List (Event × List Entry))
-    (part : List SettleEntry) : Type 0 where
-  pub settles : SettlesBehind disks nets image before part
-  pub whole : SettlePart lanes (lanes_in settles.at) settles.real settles.behind
+-- a whole one, by the step of its line; and each of whole parts is one
+pub record WholeSettle (disks : List DiskDecl) (nets : List NetShape) (image : ImageState)
+    (before : List (Event × List Entry)) (part : List Entry) : Type 0 where
+  pub at : DomainState
+  pub run : Run EventStep (world_of disks nets image) before at
+  pub next : DomainState
+  pub step : EventStep at (Settle, part) next
+
+abbrev pub settles_whole : (disks : List DiskDecl) (nets : List NetShape) (image : ImageState)
+    (before : List (Event × List Entry)) (part : List Entry) → WholeSettle disks nets image before part
+    → SettlesBehind disks nets image before (told_by (Settle, part))
+settles_whole disks nets image before part of = record {
+  at = of.at;
+  run = of.run;
+  behind = lanes_in of.next;
+  real = of.step.entries;
+  told_is = says_told (Settle, part) of.step.entries of.step.says;
+  goes = inl of.step.moves.part_of;
+  next = of.next;
+  on = of.step.moves.run;
+}
 
 abbrev pub EachWhole : List DiskDecl → List NetShape → ImageState → List (Event × List Entry) → Type 0
 EachWhole disks nets image lines =
     (before : List (Event × List Entry)) (part : List Entry) (behind : List (Event × List Entry))
-    → lines ≡ before ++ (Settle, part) ∷ behind → WholeSettle disks nets image before (told_by (Settle, part))
+    → lines ≡ before ++ (Settle, part) ∷ behind → WholeSettle disks nets image before part
 
 pub each_whole : (disks : List DiskDecl) (nets : List NetShape) (image : ImageState) (lines : List (Event × List Entry))
     (v : DomainState) → Run EventStep (world_of disks nets image) lines v → EachWhole disks nets image lines
@@ -59,25 +75,12 @@ each_whole disks nets image lines v run before part behind is =
     let whole : Run EventStep start (before ++ (Settle, part) ∷ behind) v =
     subst (λ (l : List (Event × List Entry)). Run EventStep start l v) is run in
     let split = run_split EventStep start v before ((Settle, part) ∷ behind) whole in
-    let step = split.2.1 in
-    record {
-      settles = record {
-        at = split.0;
-        run = split.1;
-        behind = lanes_in split.2.0;
-        real = step.entries;
-        told_is = says_told (Settle, part) step.entries step.says;
-        goes = inl step.moves.part_of;
-        next = split.2.0;
-        on = step.moves.run;
-      };
-      whole = step.moves.part_of;
-    }
+    record { at = split.0; run = split.1; next = split.2.0; step = split.2.1 }
 
 pub whole_settles : (disks : List DiskDecl) (nets : List NetShape) (image : ImageState) (lines : List (Event × List Entry))
     (v : DomainState) → Run EventStep (world_of disks nets image) lines v → EachSettles disks nets image lines
 whole_settles disks nets image lines v run before part behind is =
-    (each_whole disks nets image lines v run before part behind is).settles
+    settles_whole disks nets image before part (each_whole disks nets image lines v run before part behind is)
 
 -- THE LAST OF THEM, cut off
 only_one : {X : Type 0} (x : X) (later : List X) (y : X) (behind : List X) → x ∷ [] ≡ later ++ y ∷ behind

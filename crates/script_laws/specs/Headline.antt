@@ -53,5 +53,5 @@ pub record Headline (disks : List DiskDecl) (nets : List NetShape) (start : Imag
   pub ports_many : length v.second ≡ length nets
   pub ports : PortsStand nets (told (all_lines parts)) v.second
   pub ports_settle : (k : ℕ) (shape : NetShape) → slice_get nets k ≡ Some shape → PortSettles shape k (all_lines parts)
-  pub names : EachNamesExactly disks nets parts.whole
+  pub names : EachNamesExactly disks nets start parts.whole
   pub apart : StandApart disks nets start parts v
