@@ -1,8 +1,8 @@
 ghost use Rattle.std.specs.Prelude.{◌≡◌, ◌<◌, ◌≤◌, true, ◌∷◌, length};
 ghost use Rattle.ldom_entries.specs.Beside.{Holds, Lists, made, rest_of, share_of};
-ghost use Rattle.ldom_entries.specs.Decoded.{a_whole, cause_in, descriptor_in, entry_of, first_entry, first_number, frame_in, framed};
-ghost use Rattle.ldom_entries.specs.Decoded.{kind_of, needs, one_where, packet_in, packet_where, read_in, request_in};
-ghost use Rattle.ldom_entries.specs.Decoded.{second_number, share, these, whole_in};
+ghost use Rattle.ldom_entries.specs.Decoded.{a_whole, cause_in, descriptor_in, entry_of, first_entry, first_number};
+ghost use Rattle.ldom_entries.specs.Decoded.{frame_in, framed, kind_of, needs, one_where, packet_in, packet_where};
+ghost use Rattle.ldom_entries.specs.Decoded.{read_in, request_in, second_number, share, these, whole_in};
 ghost use Rattle.kept_requests.specs.Bytes.{filled};
 ghost use Rattle.ldom_entries.specs.Told.{told};
 ghost use Rattle.ldom_entries.specs.declared.entry.Entry.TheVariants as the_entry;
