@@ -5,7 +5,7 @@ use Rattle.std.specs.Prelude.{◌||◌, slice_index_or}
 use Rattle.ldom_entries.specs.Beside.{Holds, Lists, rest_of}
 use Rattle.ldom_entries.specs.Decoded.{AreComplete, entries_of, first_entry, kind_of, share}
 use Rattle.ldom_entries.specs.Seen.{BeginsSeen, PassesUnseen, is_seen, may_be_seen}
-use Rattle.ldom_entries.specs.Whole.{AreKeptWhole, is_whole}
+use Rattle.ldom_entries.specs.Whole.{AreKeptWhole}
 use Rattle.ldom_entries.specs.declared.entry.Entry.{Entry}
 use Rattle.ldom_entries.specs.declared.entry.Entry.TheVariants as entry
 use Rattle.ldom_entries.specs.declared.header.Header.{Header}

@@ -42,7 +42,7 @@ impl<'a> Model for Beside<'a> {
     ghost Value = { Lists };
 
     ghost view = { λ b.
-      made b.numbers.now b.packets b.descriptors b.reads.now b.requests.now b.causes.now b.frames.items b.wholes.now };
+        made b.numbers.now b.packets b.descriptors b.reads.now b.requests.now b.causes.now b.frames.items b.wholes.now };
 }
 
 impl<'a> Beside<'a> {
@@ -59,7 +59,7 @@ impl<'a> Beside<'a> {
     ) -> Self
         ensures { result ≡
             made numbers.now packets.entry descriptors.entry reads.now requests.now causes.now frames.entry.items
-                wholes.now }
+            wholes.now }
     {
         Beside {
             numbers,

@@ -277,8 +277,7 @@ impl Journal {
         requires short { length bytes.now ≤ 1514 }
         ensures { PutsEntry self.old (the_entry.Queued port id (filled bytes.now)) self.new }
     {
-        self.kept
-            .push_frame(Header::Queued { port }, &[id], bytes);
+        self.kept.push_frame(Header::Queued { port }, &[id], bytes);
     }
 
     /// A frame that the switch took from a port, with the ports that have it and those whose queues were full.

@@ -117,11 +117,7 @@ fn put_words<K: Sink>(text: &mut Text, bytes: &Bytes, out: &mut K) -> Result<(),
 /// Puts what is left of an entry's line: the words of a read with status 0, or the bytes of a poke or a frame, and the
 /// line feed.
 #[tactic(auto, unfolding(kept_requests::specs::BlockWord::blocks_text))]
-fn put_rest<K: Sink>(
-    text: &mut Text,
-    entry: &EntryRef<'_>,
-    out: &mut K,
-) -> Result<(), Failed>
+fn put_rest<K: Sink>(text: &mut Text, entry: &EntryRef<'_>, out: &mut K) -> Result<(), Failed>
     requires { length text.old < TEXT_ROOM }
     ensures told { OnOk result (Gathers (K.written out.old) (K.written out.new) text.new
         (text.old ++ (tail_text (told entry.now) ++ codes "\n"))) }
@@ -131,7 +127,9 @@ fn put_rest<K: Sink>(
 {
     match entry {
         EntryRef::Whole(whole) => put_whole_rest(text, whole.entry(), out),
-        EntryRef::Queued { bytes, .. } | EntryRef::Frame { bytes, .. } => put_frame(text, bytes, out),
+        EntryRef::Queued { bytes, .. } | EntryRef::Frame { bytes, .. } => put_frame(
+            text, bytes, out,
+        ),
         EntryRef::Read {
             operation: VD_OP_BREAD,
             status: 0,

@@ -61,11 +61,7 @@ fn put_digits<K: Sink>(text: &mut Text, bytes: &Bytes, out: &mut K) -> Result<()
 }
 
 /// Puts what is left of the line of an entry that is kept whole: the bytes of a poke or of a frame, and the line feed.
-pub fn put_whole_rest<K: Sink>(
-    text: &mut Text,
-    entry: &Entry,
-    out: &mut K,
-) -> Result<(), Failed>
+pub fn put_whole_rest<K: Sink>(text: &mut Text, entry: &Entry, out: &mut K) -> Result<(), Failed>
     requires whole { is_whole entry.now ≡ true }
     requires room { length text.old < TEXT_ROOM }
     ensures told { OnOk result (Gathers (K.written out.old) (K.written out.new) text.new

@@ -1,4 +1,4 @@
-use Rattle.std.proofs.Common.{ℕ, Bool, true, false, List, Option, Ok, subst, sym}
+use Rattle.std.proofs.Common.{ℕ, Bool, false, List, Option, Ok, subst, sym}
 use Rattle.script_reader.specs.LinesState.{GivesLine, Reads, to_come}
 use Rattle.ldom_report.specs.Stops.{StopsReading}
 use Rattle.ldom_report.specs.declared.stop.Stop.{Stop}
