@@ -3,7 +3,7 @@ TOP=pathlib.Path('/tmp/h/lines41/clone/crates/domain_laws')
 P=[
  ('put_in has full for out','specs/Frames.antt','put_in k (Switched frame out full) = if bit_at out k == 1','put_in k (Switched frame out full) = if bit_at full k == 1'),
  ('Receives is an own entry','specs/Domain.antt','IsOwn (OnPort (Receives frame)) = ⊥','IsOwn (OnPort (Receives frame)) = ⊤'),
- ('ports turn before disks (round_turns)','specs/Lines.antt','round_turns w = both_ends (lanes_from DiskLane 0 (length w.first)) ++ both_ends (lanes_from PortLane 0 (length w.second))','round_turns w = both_ends (lanes_from PortLane 0 (length w.second)) ++ both_ends (lanes_from DiskLane 0 (length w.first))'),
+ ('ports turn before disks (turns_over: domain_laws proves it, script_laws refuses it)','specs/Lines.antt','turns_over n m = both_ends (lanes_from DiskLane 0 n) ++ both_ends (lanes_from PortLane 0 m)','turns_over n m = both_ends (lanes_from PortLane 0 m) ++ both_ends (lanes_from DiskLane 0 n)'),
  ('Blocked of a port moves','specs/Counts.antt','is_blocked (OnPort (OnLane (Steps e Blocked))) = true','is_blocked (OnPort (OnLane (Steps e Blocked))) = false'),
  ('forged ports hold no frame','specs/Settling.antt','  pub rests : port.IsUnforged t → HoldsNoFrame t','  pub rests : HoldsNoFrame t'),
  ('entries of disks may change ports','specs/Domain.antt','PortsStep lanes _ behind = behind ≡ lanes','PortsStep lanes _ behind = ⊤'),

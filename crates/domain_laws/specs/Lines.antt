@@ -149,9 +149,12 @@ abbrev pub both_ends : List LaneName → List EndTurn
 both_ends [] = []
 both_ends (lane ∷ lanes) = turn lane A ∷ turn lane B ∷ both_ends lanes
 
--- those of a round: over all disks, and then over all ports
+-- those of a round: over all disks, so many, and then over all ports
+abbrev pub turns_over : ℕ → ℕ → List EndTurn
+turns_over n m = both_ends (lanes_from DiskLane 0 n) ++ both_ends (lanes_from PortLane 0 m)
+
 abbrev pub round_turns : Lanes → List EndTurn
-round_turns w = both_ends (lanes_from DiskLane 0 (length w.first)) ++ both_ends (lanes_from PortLane 0 (length w.second))
+round_turns w = turns_over (length w.first) (length w.second)
 
 abbrev pub turns_of : ℕ → Lanes → List EndTurn
 turns_of zero w = []

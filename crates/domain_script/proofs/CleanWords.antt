@@ -9,7 +9,8 @@ use Rattle.std.proofs.lemmas.Fmt.{decimal_is_IsNumeral}
 use Rattle.std.proofs.lemmas.List.Folds.{list_all-append}
 use Rattle.std.proofs.lemmas.List.Splits.{join_with_byte-slice_split}
 use Rattle.std.proofs.lemmas.Str.Parse.{digit_from_value}
-use Rattle.domain_script.specs.declared.event.Name.{Name}
+use Rattle.domain_script.specs.Naming.{side_text}
+use Rattle.script_words.specs.declared.spelled.Name.{Name}
 use Rattle.domain_script.specs.declared.event.Side.{Side}
 use Rattle.domain_script.specs.declared.event.Side.TheVariants.{Client, Server}
 use Rattle.domain_script.specs.declared.event.EndName.{EndName}
@@ -20,13 +21,13 @@ use Rattle.domain_script.specs.declared.rows.RowKind.{RowKind}
 use Rattle.domain_script.specs.declared.rows.RowKind.TheVariants as row
 use Rattle.domain_script.specs.Faults.{is_empty}
 use Rattle.domain_script.specs.NamesState.{NamesState}
-use Rattle.domain_script.specs.Pieces.{HasNo}
+use Rattle.script_words.specs.Pieces.{HasNo}
 use Rattle.domain_script.specs.Rows.{row_of}
-use Rattle.domain_script.specs.Spells.{NamesEnd, NamesLane, SpellsField, SpellsFields, is_printable}
+use Rattle.domain_script.specs.Spells.{NamesEnd, NamesLane, SpellsField, SpellsFields}
 use Rattle.domain_script.specs.Values.{ValueOf, ValuesOf}
-use Rattle.domain_script.specs.Words.{IsNameWord, SpellsExactly, SpellsFront, SpellsName, SpellsNumber, is_lower_digit, is_name_byte, side_text, words}
-use Rattle.domain_script.proofs.WordLemmas.{words_none, words_space}
-use Rattle.domain_script.proofs.WordTests.{is_exactly_from, is_front_from}
+use Rattle.script_words.specs.Words.{IsNameWord, SpellsExactly, SpellsFront, SpellsName, SpellsNumber, is_lower_digit, is_name_byte, words, is_printable}
+use Rattle.script_words.proofs.WordLemmas.{words_none, words_space}
+use Rattle.script_words.proofs.WordTests.{is_exactly_from, is_front_from}
 use Rattle.domain_script.specs.LaneKinds.{lane_at}
 
 -- printable bytes without the space, and at least one

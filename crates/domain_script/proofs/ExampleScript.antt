@@ -3,10 +3,10 @@ use Rattle.std.proofs.Common.{ℕ, List, [], ◌∷◌, replicate, true}
 use Rattle.std.specs.Prelude.{codes}
 use Rattle.std.specs.Fmt.{digits}
 use Rattle.std.specs.Int.RustNames.{count_ones}
-use Rattle.vdisk_msg.specs.declared.request.Fill.{Fill}
-use Rattle.vdisk_msg.specs.declared.request.Request.TheVariants.{Read, Write}
+use Rattle.script_words.specs.vdisk_msg.declared.request.Fill.{Fill}
+use Rattle.script_words.specs.vdisk_msg.declared.request.Request.TheVariants.{Read, Write}
 use Rattle.domain_script.specs.declared.event.DiskDecl.{DiskDecl}
-use Rattle.domain_script.specs.declared.event.Piece.{Piece}
+use Rattle.script_words.specs.declared.spelled.Piece.{Piece}
 use Rattle.domain_script.specs.declared.event.PortDecl.{PortDecl}
 use Rattle.domain_script.specs.declared.event.Event.TheVariants.{Blank, Disk, Net, Issue, Send, Join, Settle, Step, Round, Restart, Stop, Tick, Poke}
 use Rattle.domain_script.specs.declared.event.Side.TheVariants.{Client, Server}

@@ -8,26 +8,27 @@ use Rattle.domain_script.specs.declared.event.Event.{Event}
 use Rattle.domain_script.specs.declared.event.Lane.{Lane}
 use Rattle.domain_script.specs.declared.event.LineFault.{LineFault}
 use Rattle.domain_script.specs.declared.event.LineFault.TheVariants as line_fault
-use Rattle.domain_script.specs.declared.event.Name.{Name}
+use Rattle.domain_script.proofs.FreeAddresses.{free_test}
+use Rattle.script_words.specs.declared.spelled.Name.{Name}
 use Rattle.domain_script.specs.declared.fields.Field.{Field}
 use Rattle.domain_script.specs.declared.fields.Field.TheVariants.{NewName, NewAddress, Named, LaneName, End, Number, Bytes, Frame, Packet, Group}
 use Rattle.domain_script.specs.declared.rows.RowKind.{RowKind}
-use Rattle.domain_script.specs.Addresses.{is_among, is_group, is_own}
+use Rattle.script_words.specs.Addresses.{is_among, is_group, is_own}
 use Rattle.domain_script.specs.Declarations.{addresses}
 use Rattle.domain_script.specs.Faults.{asks_other, faults, fields_of, first_fault, has_fault, is_blank, is_empty, is_wrong, placed, row_in}
 use Rattle.domain_script.specs.Naming.{first_named, lane_named, some_of_kind}
 use Rattle.domain_script.specs.NamesState.{IsFree, NamesState, count_of}
 use Rattle.domain_script.specs.Rows.{row_named, row_of}
-use Rattle.domain_script.specs.Spells.{IsBlank, Spells, SpellsField, SpellsFields, SpellsFound, SpellsRow, SpellsWords, is_printable}
+use Rattle.domain_script.specs.Spells.{IsBlank, Spells, SpellsField, SpellsFields, SpellsFound, SpellsRow, SpellsWords}
 use Rattle.domain_script.specs.Values.{ValueOf, ValuesOf}
-use Rattle.domain_script.specs.Words.{SpellsName, is_exactly, is_front, is_name, is_number, is_within, number_of, words}
+use Rattle.script_words.specs.Words.{SpellsName, is_exactly, is_front, is_name, is_number, is_within, number_of, words, is_printable}
 use Rattle.domain_script.proofs.CleanWords.{AreClean, IsClean, clean_more, fields_clean, line_prints, row_clean}
 use Rattle.domain_script.proofs.FieldValues.{as_many}
-use Rattle.domain_script.proofs.AddressTests.{free_test, group_test, own_test, tested}
+use Rattle.script_words.proofs.AddressTests.{group_test, own_test, tested}
 use Rattle.domain_script.proofs.NamingTests.{end_is, free_first, kind_is, kind_test, lane_is, lane_of_name}
 use Rattle.domain_script.proofs.OneEvent.{words_of_hash}
 use Rattle.domain_script.proofs.RowLemmas.{word_of_row}
-use Rattle.domain_script.proofs.WordTests.{is_exactly_from, is_front_from, is_name_from, is_number_from, name_is, number_is, within_test}
+use Rattle.script_words.proofs.WordTests.{is_exactly_from, is_front_from, is_name_from, is_number_from, name_is, number_is, within_test}
 
 -- A FIELD whose word spells a value
 not_taken : (names : NamesState) (word : List ℕ) (name : Name) → SpellsName word name → IsFree names name → is_some (lane_named names word) ≡ false

@@ -12,7 +12,8 @@ use Rattle.domain_script.specs.declared.fields.EndKind.{EndKind}
 use Rattle.domain_script.specs.declared.fields.Field.{Field}
 use Rattle.domain_script.specs.declared.fields.Field.TheVariants.{NewName, NewAddress, Named, LaneName, End, Number, Bytes, Frame, Packet, Group}
 use Rattle.domain_script.specs.declared.rows.RowKind.{RowKind}
-use Rattle.domain_script.specs.Addresses.{is_among, is_group, is_own}
+use Rattle.domain_script.proofs.FreeAddresses.{free_from_test}
+use Rattle.script_words.specs.Addresses.{is_among, is_group, is_own}
 use Rattle.domain_script.specs.Computed.{faultless_event, field_value, field_values, found_event, words_event}
 use Rattle.domain_script.specs.Declarations.{addresses}
 use Rattle.domain_script.specs.Faults.{asks_other, faults, fields_of, first_fault, has_fault, has_other_byte, has_wrong_field, is_blank, is_wrong, placed, row_in}
@@ -20,10 +21,10 @@ use Rattle.domain_script.specs.Naming.{end_named, lane_named, kind_named, some_o
 use Rattle.domain_script.specs.NamesState.{NamesState, count_of}
 use Rattle.domain_script.specs.Rows.{row_named, row_of}
 use Rattle.domain_script.specs.Spells.{IsBlank, IsOfKind, NamesEnd, NamesLane, Spells, SpellsField, SpellsFields, SpellsFound, SpellsWords}
-use Rattle.domain_script.specs.Words.{bytes_of, is_exactly, is_front, is_name, is_number, is_within, name_of, number_of, words}
-use Rattle.domain_script.proofs.AddressTests.{free_from_test, group_from_test, own_from_word}
+use Rattle.script_words.specs.Words.{bytes_of, is_exactly, is_front, is_name, is_number, is_within, name_of, number_of, words}
+use Rattle.script_words.proofs.AddressTests.{group_from_test, own_from_word}
 use Rattle.domain_script.proofs.NamingTests.{end_found, kind_found, kind_from_test, lane_found, lane_of_name, none_free}
-use Rattle.domain_script.proofs.WordTests.{exactly_spelled, front_spelled, name_spelled, number_spelled, within_from_test}
+use Rattle.script_words.proofs.WordTests.{exactly_spelled, front_spelled, name_spelled, number_spelled, within_from_test}
 use Rattle.domain_script.specs.LaneKinds.{disk_lane, lane_at}
 
 -- A FIELD whose word has no fault

@@ -1,25 +1,21 @@
 -- What the words of a row's fields spell: at most one value each, which fits its field.
-use Rattle.std.proofs.Common.{◌≡◌, ℕ, zero, suc, ◌<◌, List, [], ◌∷◌, length, get_or, Option, Some, None, IsSomeAnd, refl, sym, ◌∙◌, ap, subst, arith}
-use Rattle.std.proofs.lemmas.Fmt.{decimal_injective}
+use Rattle.std.proofs.Common.{◌≡◌, ℕ, zero, suc, ◌<◌, List, [], ◌∷◌, length, get_or, Option, Some, None, IsSomeAnd, refl, ◌∙◌, ap, subst, arith}
 use Rattle.domain_script.specs.declared.event.Lane.{Lane}
-use Rattle.domain_script.specs.declared.event.Name.{Name}
-use Rattle.domain_script.specs.declared.fields.Bounds.{Bounds}
-use Rattle.domain_script.specs.declared.fields.Bounds.TheVariants as numbers
+use Rattle.script_words.specs.declared.spelled.Name.{Name}
+use Rattle.script_words.specs.declared.numbers.Bounds.{Bounds}
+use Rattle.script_words.specs.declared.numbers.Bounds.TheVariants as numbers
 use Rattle.domain_script.specs.declared.fields.Field.{Field}
 use Rattle.domain_script.specs.declared.fields.Field.TheVariants.{NewName, NewAddress, Named, LaneName, End, Number, Bytes, Frame, Packet, Group}
 use Rattle.domain_script.specs.NamesState.{NamesState, lane_name, names_of}
 use Rattle.domain_script.specs.Printed.{AllCanStand, CanStand, HasName}
 use Rattle.domain_script.specs.Spells.{FitFields, FitsField, NamesLane, SpellsField, SpellsFields}
 use Rattle.domain_script.specs.Values.{ValueOf, ValuesOf}
-use Rattle.domain_script.specs.Words.{IsName, IsWithin, SpellsNumber}
-use Rattle.domain_script.proofs.HexWords.{one_exactly, one_fill, one_piece}
+use Rattle.script_words.specs.Words.{IsName, IsWithin, SpellsNumber}
+use Rattle.script_words.proofs.NumberLemmas.{one_number}
+use Rattle.script_words.proofs.HexWords.{one_exactly, one_fill, one_piece}
 use Rattle.domain_script.proofs.Naming.{lane_within, names_one_end, one_lane, one_name, one_number as one_number_of}
 use Rattle.domain_script.specs.LaneKinds.{lane_at}
 use Rattle.domain_script.proofs.Firsts.{first_there}
-
--- a word spells at most one number
-pub one_number : (word : List ℕ) (m n : ℕ) → SpellsNumber word m → SpellsNumber word n → m ≡ n
-one_number word m n first second = decimal_injective m n first.1 second.1 (sym first.0 ∙ second.0)
 
 one_value : (names : NamesState) (field : Field) (word : List ℕ) (a b : ValueOf field) → SpellsField names field word a → SpellsField names field word b → a ≡ b
 one_value names (NewName kind) word a b first second = one_name word a b first.0 second.0

@@ -1,20 +1,13 @@
 pub mod Disks
 pub mod Firsts
 pub mod Taken
-pub mod Feeds
 pub mod ScriptLemmas
-pub mod WordLemmas
-pub mod NumberLemmas
-pub mod DecimalDigits
-pub mod HexWords
-pub mod SameName
 pub mod LaneKinds
 pub mod LaneNames
 pub mod Noting
 pub mod Naming
-pub mod WordTests
-pub mod AddressTests
 pub mod NamingTests
+pub mod FreeAddresses
 pub mod FieldValues
 pub mod RowLemmas
 pub mod PowersOfTwo
@@ -28,4 +21,4 @@ pub mod PrintedLines
 pub mod PrintedScripts
 pub mod ComputedEvents
 mod ExampleScript
-pub mod LowerDigits
+pub use Rattle.script_words.proofs.Feeds

@@ -4,13 +4,14 @@ use Rattle.std.specs.Option.{is_some}
 use Rattle.std.proofs.lemmas.List.{append_cancel_right, same_from_push}
 use Rattle.domain_script.specs.declared.event.EndName.{EndName}
 use Rattle.domain_script.specs.declared.event.Lane.{Lane}
-use Rattle.domain_script.specs.declared.event.Name.{Name}
+use Rattle.domain_script.specs.Naming.{side_text}
+use Rattle.script_words.specs.declared.spelled.Name.{Name}
 use Rattle.domain_script.specs.declared.event.Side.{Side}
 use Rattle.domain_script.specs.declared.event.Side.TheVariants.{Client, Server}
 use Rattle.domain_script.specs.NamesState.{NamesState, IsFree, IsLane, IsNamed}
 use Rattle.domain_script.specs.Spells.{NamesEnd, NamesLane}
-use Rattle.domain_script.specs.Words.{side_text, SpellsName}
-use Rattle.domain_script.proofs.SameName.{same_end, same_name}
+use Rattle.script_words.specs.Words.{SpellsName}
+use Rattle.script_words.proofs.SameName.{same_name}
 use Rattle.domain_script.specs.declared.fields.LaneKind.{LaneKind}
 use Rattle.domain_script.specs.LaneKinds.{lane_at}
 use Rattle.domain_script.proofs.LaneNames.{named_within, none_named, one_named}
@@ -65,6 +66,13 @@ one_side xs ys Client Server same = let letter : 99 ≡ 115 = other_letter xs ys
 one_side xs ys Server Client same = let letter : 115 ≡ 99 = other_letter xs ys 115 99 same in absurd (omega (arith, letter))
 
 -- a word names at most one end
+-- ends by their fields
+pub same_end : (a b : EndName) → a.lane ≡ b.lane → a.side ≡ b.side → a ≡ b
+same_end a b lanes sides =
+    let first : a ≡ record { lane = b.lane; side = a.side } = ap (λ (l : Lane). let x : EndName = record { lane = l; side = a.side } in x) lanes in
+    let second : record { lane = b.lane; side = a.side } ≡ b = ap (λ (s : Side). let x : EndName = record { lane = b.lane; side = s } in x) sides in
+    first ∙ second
+
 pub names_one_end : (names : NamesState) (word : List ℕ) (a b : EndName) → NamesEnd names word a → NamesEnd names word b → a ≡ b
 names_one_end names word a b first second =
     let same = one_side first.name second.name a.side b.side (sym first.spelled ∙ second.spelled) in

@@ -8,18 +8,18 @@ use Rattle.std.proofs.lemmas.List.{drop_at, length-append, take-append-drop, tak
 use Rattle.std.proofs.lemmas.Slice.Eq.{bytes_eq-Decides}
 use Rattle.domain_script.specs.declared.event.EndName.{EndName}
 use Rattle.domain_script.specs.declared.event.Lane.{Lane}
-use Rattle.domain_script.specs.declared.event.Name.{Name}
+use Rattle.script_words.specs.declared.spelled.Name.{Name}
 use Rattle.domain_script.specs.declared.event.Side.{Side}
 use Rattle.domain_script.specs.declared.event.Side.TheVariants.{Client, Server}
 use Rattle.domain_script.specs.declared.fields.EndKind.{EndKind}
 use Rattle.domain_script.specs.declared.fields.EndKind.TheVariants as ends
-use Rattle.domain_script.specs.Naming.{among, before_two, end_at, end_named, first_named, is_disk, is_of_kind, is_server, lane_named, last_two, number_named, kind_named, same_name, side_of, some_of_kind}
+use Rattle.domain_script.specs.Naming.{among, before_two, end_at, end_named, first_named, is_disk, is_of_kind, is_server, lane_named, last_two, number_named, kind_named, same_name, side_of, some_of_kind, side_text}
 use Rattle.domain_script.specs.NamesState.{IsFree, IsNamed, NamesState, names_of}
 use Rattle.domain_script.specs.Spells.{IsOfKind, NamesEnd, NamesLane}
-use Rattle.domain_script.specs.Words.{is_name, name_of, side_text}
+use Rattle.script_words.specs.Words.{is_name, name_of}
 use Rattle.domain_script.proofs.Naming.{one_lane}
-use Rattle.domain_script.proofs.SameName.{name_from_test, not_from_test, test_from_name, test_from_other}
-use Rattle.domain_script.proofs.WordTests.{is_name_from, name_is, name_spelled}
+use Rattle.script_words.proofs.SameName.{name_from_test, not_from_test, test_from_name, test_from_other}
+use Rattle.script_words.proofs.WordTests.{is_name_from, name_is, name_spelled}
 use Rattle.domain_script.specs.declared.fields.LaneKind.{LaneKind}
 use Rattle.domain_script.specs.declared.fields.LaneKind.TheVariants as lanes
 use Rattle.domain_script.specs.Firsts.{IsFirst, IsNoneOf}

@@ -6,9 +6,9 @@ use Rattle.domain_script.specs.declared.rows.RowKind.{RowKind}
 use Rattle.domain_script.specs.NamesState.{NamesState}
 use Rattle.domain_script.specs.Rows.{row_named}
 use Rattle.domain_script.specs.Spells.{IsBlank, Spells, SpellsFound, SpellsWords}
-use Rattle.domain_script.specs.Words.{words}
+use Rattle.script_words.specs.Words.{words}
 use Rattle.domain_script.proofs.RowLemmas.{one_of_row}
-use Rattle.domain_script.proofs.WordLemmas.{words_cons}
+use Rattle.script_words.proofs.WordLemmas.{words_cons}
 
 -- the first word of a comment begins with #
 pub words_of_hash : (b : ℕ) (bs : List ℕ) → b ≡ 35 → words (b ∷ bs) ≡ onto_first 35 (words bs)

@@ -6,17 +6,19 @@ use Rattle.std.proofs.lemmas.List.Splits.{join_with_byte-slice_split}
 use Rattle.hex.proofs.HexLemmas.{decode_of-encode_lower}
 use Rattle.domain_script.specs.declared.event.Event.{Event}
 use Rattle.domain_script.specs.declared.event.Lane.{Lane}
-use Rattle.domain_script.specs.declared.event.Name.{Name}
+use Rattle.domain_script.specs.Naming.{side_text}
+use Rattle.script_words.specs.Texts.{name_text}
+use Rattle.script_words.specs.declared.spelled.Name.{Name}
 use Rattle.domain_script.specs.declared.fields.Field.{Field}
 use Rattle.domain_script.specs.declared.fields.Field.TheVariants.{NewName, NewAddress, Named, LaneName, End, Number, Bytes, Frame, Packet, Group}
 use Rattle.domain_script.specs.declared.rows.RowKind.{RowKind}
 use Rattle.domain_script.specs.declared.rows.RowKind.TheVariants as row
 use Rattle.domain_script.specs.NamesState.{NamesDiffer, NamesState, lane_name, names_of}
-use Rattle.domain_script.specs.Printed.{AllAreBytes, AllCanStand, AreBytes, CanPrint, CanStand, EventBytes, HasName, RowBytes, RowCanStand, field_text, field_texts, followed_by, lane_text, line_text, name_text, option_text, text_said}
+use Rattle.domain_script.specs.Printed.{AllAreBytes, AllCanStand, AreBytes, CanPrint, CanStand, EventBytes, HasName, RowBytes, RowCanStand, field_text, field_texts, followed_by, lane_text, line_text, option_text, text_said}
 use Rattle.domain_script.specs.Rows.{row_named, row_of}
 use Rattle.domain_script.specs.Spells.{FitFields, FitsField, FitsRow, IsBlank, NamesLane, Spells, SpellsField, SpellsFields, SpellsFound, SpellsRow, SpellsWords}
 use Rattle.domain_script.specs.Values.{Said, ValueOf, ValuesOf, said}
-use Rattle.domain_script.specs.Words.{IsName, SpellsName, side_text, words}
+use Rattle.script_words.specs.Words.{IsName, SpellsName, words}
 use Rattle.domain_script.proofs.CleanWords.{AreClean, clean_more, cut_again, fields_clean, row_clean}
 use Rattle.domain_script.proofs.RowLemmas.{IsMade, made_said, said_made, word_of_row}
 use Rattle.domain_script.specs.LaneKinds.{lane_at}

@@ -5,10 +5,11 @@ use Rattle.std.proofs.lemmas.Bool.{and_parts, leb-true}
 use Rattle.domain_script.specs.declared.event.Event.{Event}
 use Rattle.domain_script.specs.declared.event.LineFault.TheVariants as line_fault
 use Rattle.domain_script.specs.NamesState.{NamesState, noted}
-use Rattle.domain_script.specs.Pieces.{HasNoFeed}
+use Rattle.script_words.specs.Words.{is_printable}
+use Rattle.script_words.specs.Pieces.{HasNoFeed}
 use Rattle.domain_script.specs.ScriptEvents.{AllSpell}
 use Rattle.domain_script.specs.ScriptLines.{fed, script_lines}
-use Rattle.domain_script.specs.Spells.{Spells, is_printable}
+use Rattle.domain_script.specs.Spells.{Spells}
 use Rattle.domain_script.proofs.FaultLemmas.{faultless}
 use Rattle.domain_script.proofs.ScriptLemmas.{lines_feed}
 

@@ -3,13 +3,13 @@ use Rattle.std.proofs.Common.{◌≡◌, ◌≢◌, ℕ, zero, suc, ◌<◌, Lis
 use Rattle.std.specs.Prelude.{if◌then◌else◌}
 use Rattle.std.specs.Str.{bytes_eq}
 use Rattle.std.proofs.lemmas.Slice.Eq.{bytes_eq-Decides}
-use Rattle.vdisk_msg.specs.declared.request.Fill.{Fill}
-use Rattle.vdisk_msg.specs.declared.request.Request.TheVariants.{Read, Write, Flush}
+use Rattle.script_words.specs.vdisk_msg.declared.request.Fill.{Fill}
+use Rattle.script_words.specs.vdisk_msg.declared.request.Request.TheVariants.{Read, Write, Flush}
 use Rattle.domain_script.specs.declared.event.Event.{Event}
-use Rattle.domain_script.specs.declared.event.Piece.{Piece}
+use Rattle.script_words.specs.declared.spelled.Piece.{Piece}
 use Rattle.domain_script.specs.declared.event.EndName.{EndName}
 use Rattle.domain_script.specs.declared.event.Event.TheVariants.{Blank, Issue, Poke, Send}
-use Rattle.domain_script.specs.declared.fields.Bounds.TheVariants as numbers
+use Rattle.script_words.specs.declared.numbers.Bounds.TheVariants as numbers
 use Rattle.domain_script.specs.declared.fields.EndKind.TheVariants as ends
 use Rattle.domain_script.specs.declared.fields.Field.{Field}
 use Rattle.domain_script.specs.declared.fields.Field.TheVariants.{Number}
@@ -21,7 +21,7 @@ use Rattle.domain_script.specs.Printed.{CanPrint, RowCanStand}
 use Rattle.domain_script.specs.Rows.{row_among, row_named, row_of, rows}
 use Rattle.domain_script.specs.Spells.{FitsRow, IsOfKind, NamesEnd, NamesLane, SpellsFields, SpellsFound, SpellsRow}
 use Rattle.domain_script.specs.Values.{Said, ValuesOf, made, said}
-use Rattle.domain_script.specs.Words.{SpellsNumber, SpellsFill, SpellsPiece}
+use Rattle.script_words.specs.Words.{SpellsNumber, SpellsFill, SpellsPiece}
 use Rattle.domain_script.proofs.FieldValues.{SpellsNothing, as_many, fit_fields, nothing_at, one_values, stand_in_fields}
 
 -- AN EVENT AND WHAT IT IS MADE OF, there and back

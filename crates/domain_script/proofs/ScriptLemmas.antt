@@ -3,7 +3,7 @@ use Rattle.std.proofs.Common.{◌≡◌, ◌≢◌, inl, inr, ℕ, ◌+◌, ◌�
 use Rattle.std.proofs.lemmas.Bool.Decides.{eqb_tells}
 use Rattle.std.proofs.lemmas.List.{append-nil, length-append}
 use Rattle.domain_script.specs.ScriptLines.{script_lines, with_front, fed, AreBytesOf, AreShort, BeginsWithLonger, LinesTaken, TakesLine, TakesLines}
-use Rattle.domain_script.specs.Pieces.{HasNoFeed, IsTooLong}
+use Rattle.script_words.specs.Pieces.{HasNoFeed, IsTooLong}
 
 not_feed : (b : ℕ) → b ≢ 10 → eqb b 10 ≡ false
 not_feed b other = ⊎_elim (λ is. absurd (other is.1)) (λ is. is.0) (eqb_tells b 10)

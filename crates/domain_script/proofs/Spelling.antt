@@ -10,7 +10,7 @@ use Rattle.domain_script.specs.Declarations.{IsDisk, IsPort}
 use Rattle.domain_script.specs.NamesState.{CanDeclare, IsFree, IsFreeAddress, NamesState}
 use Rattle.domain_script.specs.Printed.{CanPrint}
 use Rattle.domain_script.specs.Rows.{row_named}
-use Rattle.domain_script.specs.Words.{words}
+use Rattle.script_words.specs.Words.{words}
 use Rattle.domain_script.specs.Spells.{IsBlank, IsDeclared, Spells, SpellsFound, SpellsWords}
 use Rattle.domain_script.proofs.PowersOfTwo.{power_from_bit}
 use Rattle.domain_script.proofs.RowLemmas.{row_printable}

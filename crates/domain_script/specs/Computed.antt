@@ -1,21 +1,21 @@
 -- The events of lines that are known byte for byte: `events_of` computes them.
 use Rattle.std.specs.Prelude.{ℕ, if◌then◌else◌, List, [], ◌∷◌, length, Option, Some, None, option_and_then, unwrap_or}
-use Rattle.vdisk_msg.specs.declared.request.Fill.{Fill}
+use Rattle.script_words.specs.vdisk_msg.declared.request.Fill.{Fill}
 use Rattle.domain_script.specs.declared.event.Event.{Event}
 use Rattle.domain_script.specs.declared.event.Event.TheVariants.{Blank}
 use Rattle.domain_script.specs.declared.event.LineFault.{LineFault}
-use Rattle.domain_script.specs.declared.event.Piece.{Piece}
+use Rattle.script_words.specs.declared.spelled.Piece.{Piece}
 use Rattle.domain_script.specs.declared.event.Side.TheVariants.{Client}
 use Rattle.domain_script.specs.declared.fields.Field.{Field}
 use Rattle.domain_script.specs.declared.fields.Field.TheVariants.{NewName, NewAddress, Named, LaneName, End, Number, Bytes, Frame, Packet, Group}
 use Rattle.domain_script.specs.declared.rows.RowKind.{RowKind}
 use Rattle.domain_script.specs.Faults.{first_fault, is_blank}
-use Rattle.domain_script.specs.Limits.{most_of_a_fill, most_of_a_piece}
+use Rattle.script_words.specs.Limits.{most_of_a_fill, most_of_a_piece}
 use Rattle.domain_script.specs.Naming.{end_named, lane_named, kind_named}
 use Rattle.domain_script.specs.NamesState.{NamesState, noted}
 use Rattle.domain_script.specs.Rows.{row_named, row_of}
 use Rattle.domain_script.specs.Values.{ValueOf, ValuesOf, made}
-use Rattle.domain_script.specs.Words.{bytes_of, in_room, name_of, number_of, words}
+use Rattle.script_words.specs.Words.{bytes_of, in_room, name_of, number_of, words}
 use Rattle.domain_script.specs.LaneKinds.{disk_lane}
 
 -- bytes in front of zeros

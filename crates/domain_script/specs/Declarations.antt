@@ -4,7 +4,7 @@ use Rattle.domain_script.specs.declared.event.DiskDecl.{DiskDecl}
 use Rattle.domain_script.specs.declared.event.PortDecl.{PortDecl}
 use Rattle.domain_script.specs.declared.fields.LaneKind.{LaneKind}
 use Rattle.domain_script.specs.declared.fields.LaneKind.TheVariants as lanes
-use Rattle.domain_script.specs.Addresses.{IsAddress}
+use Rattle.script_words.specs.Addresses.{IsAddress}
 use Rattle.domain_script.specs.Firsts.{AllDiffer, AreAll}
 
 -- a power of two

@@ -7,14 +7,13 @@ use Rattle.domain_script.specs.declared.event.LineFault.TheVariants as line_faul
 use Rattle.domain_script.specs.declared.fields.Field.{Field}
 use Rattle.domain_script.specs.declared.fields.Field.TheVariants.{NewName, NewAddress, Named, LaneName, End, Number, Bytes, Frame, Packet, Group}
 use Rattle.domain_script.specs.declared.rows.RowKind.{RowKind}
-use Rattle.domain_script.specs.Addresses.{is_among, is_group, is_own}
+use Rattle.script_words.specs.Addresses.{is_among, is_group, is_own}
 use Rattle.domain_script.specs.Declarations.{addresses}
-use Rattle.domain_script.specs.Limits.{address_bytes, most_of_a_fill, most_of_a_kind, most_of_a_piece, packet_bytes}
+use Rattle.script_words.specs.Limits.{address_bytes, most_of_a_fill, most_of_a_kind, most_of_a_piece, packet_bytes}
 use Rattle.domain_script.specs.Naming.{end_named, lane_named, kind_named, some_of_kind}
 use Rattle.domain_script.specs.NamesState.{NamesState, count_of}
 use Rattle.domain_script.specs.Rows.{row_named, row_of}
-use Rattle.domain_script.specs.Spells.{is_printable}
-use Rattle.domain_script.specs.Words.{bytes_of, is_exactly, is_front, is_name, is_number, is_within, number_of, words}
+use Rattle.script_words.specs.Words.{bytes_of, is_exactly, is_front, is_name, is_number, is_within, number_of, words, is_printable}
 
 -- an empty line, or a comment
 abbrev pub is_blank : List ℕ → Bool

@@ -1,13 +1,8 @@
-pub mod Limits
-pub mod Addresses
 pub mod Firsts
 pub mod Declarations
 pub mod LaneKinds
 pub mod NamesState
 pub mod ScriptLines
-pub mod Pieces
-pub mod Fills
-pub mod Words
 pub mod Rows
 pub mod Values
 pub mod Spells
@@ -16,3 +11,10 @@ pub mod Faults
 pub mod Printed
 pub mod ScriptEvents
 pub mod Computed
+pub use Rattle.script_words.specs.Limits
+pub use Rattle.script_words.specs.Addresses
+pub use Rattle.script_words.specs.Pieces
+pub use Rattle.script_words.specs.Fills
+pub use Rattle.script_words.specs.Words
+pub use Rattle.script_words.specs.declared.spelled
+pub use Rattle.script_words.specs.declared.numbers

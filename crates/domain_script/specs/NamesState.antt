@@ -5,12 +5,12 @@ use Rattle.domain_script.specs.declared.event.PortDecl.{PortDecl}
 use Rattle.domain_script.specs.declared.event.Event.{Event}
 use Rattle.domain_script.specs.declared.event.Event.TheVariants.{Blank, Disk, Net}
 use Rattle.domain_script.specs.declared.event.Lane.{Lane}
-use Rattle.domain_script.specs.declared.event.Name.{Name}
+use Rattle.script_words.specs.declared.spelled.Name.{Name}
 use Rattle.domain_script.specs.declared.fields.LaneKind.{LaneKind}
 use Rattle.domain_script.specs.declared.fields.LaneKind.TheVariants as lanes
 use Rattle.domain_script.specs.Declarations.{Declared, addresses, number_of_kind}
 use Rattle.domain_script.specs.Firsts.{IsFirst, IsNoneOf}
-use Rattle.domain_script.specs.Limits.{most_of_a_kind}
+use Rattle.script_words.specs.Limits.{most_of_a_kind}
 
 pub record NamesState : Type 0 where
   -- each in the order of declaration

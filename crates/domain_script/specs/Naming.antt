@@ -1,10 +1,10 @@
 -- The lane and the end that a word names, where it names one.
-use Rattle.std.specs.Prelude.{ℕ, suc, ◌-◌, ◌==◌, ◌&&◌, ◌||◌, not, if◌then◌else◌, Bool, true, false, List, [], ◌∷◌, length, take, drop, Option, Some, None, option_and_then, option_map}
+use Rattle.std.specs.Prelude.{ℕ, suc, ◌-◌, ◌==◌, ◌&&◌, ◌||◌, not, if◌then◌else◌, Bool, true, false, List, [], ◌∷◌, length, take, drop, codes, Option, Some, None, option_and_then, option_map}
 use Rattle.std.specs.Option.{option_or}
 use Rattle.std.specs.Str.{bytes_eq}
 use Rattle.domain_script.specs.declared.event.EndName.{EndName}
 use Rattle.domain_script.specs.declared.event.Lane.{Lane}
-use Rattle.domain_script.specs.declared.event.Name.{Name}
+use Rattle.script_words.specs.declared.spelled.Name.{Name}
 use Rattle.domain_script.specs.declared.event.Side.{Side}
 use Rattle.domain_script.specs.declared.event.Side.TheVariants.{Client, Server}
 use Rattle.domain_script.specs.declared.fields.EndKind.{EndKind}
@@ -12,7 +12,7 @@ use Rattle.domain_script.specs.declared.fields.EndKind.TheVariants as ends
 use Rattle.domain_script.specs.declared.fields.LaneKind.{LaneKind}
 use Rattle.domain_script.specs.declared.fields.LaneKind.TheVariants as lanes
 use Rattle.domain_script.specs.NamesState.{NamesState, names_of}
-use Rattle.domain_script.specs.Words.{is_name, name_of, side_text}
+use Rattle.script_words.specs.Words.{is_name, name_of}
 use Rattle.domain_script.specs.LaneKinds.{lane_at, number_if}
 
 -- whether two names are one, and the number of the first that is this one
@@ -36,6 +36,11 @@ lane_named names word = if is_name word then first_named names (name_of word) el
 
 abbrev pub kind_named : LaneKind → NamesState → List ℕ → Option ℕ
 kind_named kind names word = option_and_then (number_if kind) (lane_named names word)
+
+-- how the side of an end stands after its lane's name
+abbrev pub side_text : Side → List ℕ
+side_text Client = codes ".c"
+side_text Server = codes ".s"
 
 -- the last two bytes of a word, those before them, and the side that two bytes spell
 abbrev pub last_two : List ℕ → List ℕ

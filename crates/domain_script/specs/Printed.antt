@@ -4,20 +4,18 @@ use Rattle.hex.specs.Hex.{IsBytes, encode_lower}
 use Rattle.domain_script.specs.declared.event.EndName.{EndName}
 use Rattle.domain_script.specs.declared.event.Event.{Event}
 use Rattle.domain_script.specs.declared.event.Lane.{Lane}
-use Rattle.domain_script.specs.declared.event.Name.{Name}
 use Rattle.domain_script.specs.declared.fields.Field.{Field}
 use Rattle.domain_script.specs.declared.fields.Field.TheVariants.{NewName, NewAddress, Named, LaneName, End, Number, Bytes, Frame, Packet, Group}
 use Rattle.domain_script.specs.NamesState.{NamesState, CanDeclare, IsFreeAddress, lane_name}
 use Rattle.domain_script.specs.Rows.{row_of}
 use Rattle.domain_script.specs.Spells.{IsDeclared}
 use Rattle.domain_script.specs.Values.{Said, ValueOf, ValuesOf, said}
-use Rattle.domain_script.specs.Words.{side_text, IsName}
+use Rattle.domain_script.specs.Naming.{side_text}
+use Rattle.script_words.specs.Texts.{front_text, name_text}
+use Rattle.script_words.specs.Words.{IsName}
 use Rattle.domain_script.specs.LaneKinds.{lane_at}
 
--- a name; that of a declared lane, and nothing where there is none; an end
-abbrev pub name_text : Name → List ℕ
-name_text name = take name.len name.bytes
-
+-- the name of a declared lane, and nothing where there is none; an end
 abbrev pub option_text : {A : Type 0} → (A → List ℕ) → Option A → List ℕ
 option_text text None = []
 option_text text (Some x) = text x
@@ -27,10 +25,6 @@ lane_text names lane = option_text name_text (lane_name names lane)
 
 abbrev pub end_text : NamesState → EndName → List ℕ
 end_text names end = lane_text names end.lane ++ side_text end.side
-
--- bytes in hexadecimal: the first of them
-abbrev pub front_text : ℕ → List ℕ → List ℕ
-front_text len bytes = encode_lower (take len bytes)
 
 -- the word of a field's value
 abbrev pub field_text : NamesState → (field : Field) → ValueOf field → List ℕ

@@ -2,7 +2,7 @@
 -- kinds that they are declared with; an end is any end, a disk's server, or one with memory; a number has its bounds.
 use Rattle.std.specs.Prelude.{ℕ, if◌then◌else◌, List, [], ◌∷◌, codes, Option, Some, None}
 use Rattle.std.specs.Str.{bytes_eq}
-use Rattle.domain_script.specs.declared.fields.Bounds.TheVariants as numbers
+use Rattle.script_words.specs.declared.numbers.Bounds.TheVariants as numbers
 use Rattle.domain_script.specs.declared.fields.EndKind.TheVariants as ends
 use Rattle.domain_script.specs.declared.fields.Field.{Field}
 use Rattle.domain_script.specs.declared.fields.Field.TheVariants.{NewName, NewAddress, Named, LaneName, End, Number, Bytes, Frame, Packet, Group}

@@ -1,6 +1,6 @@
 -- The lines of a script: the pieces between line feeds. A last piece that is empty is no line.
 use Rattle.std.specs.Prelude.{◌≡◌, ℕ, ◌<◌, ◌≤◌, ◌⊎◌, ◌==◌, if◌then◌else◌, List, [], ◌∷◌, ◌++◌, length, Option, Some, None, ⊤}
-use Rattle.domain_script.specs.Limits.{most_line_bytes, most_lines}
+use Rattle.script_words.specs.Limits.{most_line_bytes, most_lines}
 
 -- the lines with this byte in front of the first
 abbrev pub with_front : ℕ → List (List ℕ) → List (List ℕ)

@@ -1,30 +1,27 @@
 -- The rows of a script: which event a line spells.
-use Rattle.std.specs.Prelude.{◌≡◌, ℕ, ◌^◌, ◌<◌, ◌⊎◌, nat_le, ◌&&◌, Bool, IsTrue, List, [], ◌∷◌, ◌++◌, length, Option, Some, None, ⊤}
+use Rattle.std.specs.Prelude.{◌≡◌, ℕ, ◌^◌, ◌<◌, ◌⊎◌, IsTrue, List, [], ◌∷◌, ◌++◌, length, Option, Some, None, ⊤}
 use Rattle.std.specs.List.{list_all}
 use Rattle.domain_script.specs.declared.event.Event.{Event}
 use Rattle.domain_script.specs.declared.event.EndName.{EndName}
 use Rattle.domain_script.specs.declared.event.Lane.{Lane}
 use Rattle.domain_script.specs.declared.event.Event.TheVariants.{Blank}
-use Rattle.domain_script.specs.declared.event.Name.{Name}
+use Rattle.script_words.specs.declared.spelled.Name.{Name}
 use Rattle.domain_script.specs.declared.event.Side.TheVariants.{Client, Server}
 use Rattle.domain_script.specs.declared.fields.EndKind.{EndKind}
 use Rattle.domain_script.specs.declared.fields.EndKind.TheVariants as ends
 use Rattle.domain_script.specs.declared.fields.Field.{Field}
 use Rattle.domain_script.specs.declared.fields.Field.TheVariants.{NewName, NewAddress, Named, LaneName, End, Number, Bytes, Frame, Packet, Group}
 use Rattle.domain_script.specs.declared.rows.RowKind.{RowKind}
-use Rattle.domain_script.specs.Addresses.{IsAddress, IsGroup}
-use Rattle.domain_script.specs.Fills.{IsFill, IsPiece}
-use Rattle.domain_script.specs.Limits.{address_bytes, packet_bytes}
+use Rattle.script_words.specs.Addresses.{IsAddress, IsGroup}
+use Rattle.script_words.specs.Fills.{IsFill, IsPiece}
+use Rattle.script_words.specs.Limits.{address_bytes, packet_bytes}
 use Rattle.domain_script.specs.declared.fields.LaneKind.TheVariants as lanes
 use Rattle.domain_script.specs.NamesState.{NamesState, CanDeclare, IsFreeAddress, IsLane, IsNamed, count_of}
+use Rattle.domain_script.specs.Naming.{side_text}
 use Rattle.domain_script.specs.Rows.{row_named, row_of}
 use Rattle.domain_script.specs.Values.{Said, ValueOf, ValuesOf, made, said}
-use Rattle.domain_script.specs.Words.{side_text, words, IsName, IsWithin, SpellsNumber, SpellsName, SpellsExactly, SpellsFill, SpellsPiece}
+use Rattle.script_words.specs.Words.{is_printable, words, IsName, IsWithin, SpellsNumber, SpellsName, SpellsExactly, SpellsFill, SpellsPiece}
 use Rattle.domain_script.specs.LaneKinds.{lane_at}
-
--- from the space to the tilde
-abbrev pub is_printable : ℕ → Bool
-is_printable b = nat_le 32 b && nat_le b 126
 
 -- an empty line, or a comment: # and printable bytes
 abbrev pub IsBlank : List ℕ → Type 0

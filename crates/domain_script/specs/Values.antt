@@ -1,13 +1,13 @@
 -- What the words of a row's fields say, and the event that they make.
 use Rattle.std.specs.Prelude.{ℕ, List, [], ◌∷◌, Option, Some, None}
-use Rattle.vdisk_msg.specs.declared.request.Fill.{Fill}
-use Rattle.vdisk_msg.specs.declared.request.Request.TheVariants.{Read, Write, Flush}
+use Rattle.script_words.specs.vdisk_msg.declared.request.Fill.{Fill}
+use Rattle.script_words.specs.vdisk_msg.declared.request.Request.TheVariants.{Read, Write, Flush}
 use Rattle.domain_script.specs.declared.event.EndName.{EndName}
 use Rattle.domain_script.specs.declared.event.Event.{Event}
 use Rattle.domain_script.specs.declared.event.Event.TheVariants.{Blank, Disk, Net, Send, Join, Issue, Settle, Step, Round, Reset, Restart, Stop, Start, Lose, Tick, Inject, Poke}
 use Rattle.domain_script.specs.declared.event.Lane.{Lane}
-use Rattle.domain_script.specs.declared.event.Name.{Name}
-use Rattle.domain_script.specs.declared.event.Piece.{Piece}
+use Rattle.script_words.specs.declared.spelled.Name.{Name}
+use Rattle.script_words.specs.declared.spelled.Piece.{Piece}
 use Rattle.domain_script.specs.declared.fields.Field.{Field}
 use Rattle.domain_script.specs.declared.fields.Field.TheVariants.{NewName, NewAddress, Named, LaneName, End, Number, Bytes, Frame, Packet, Group}
 use Rattle.domain_script.specs.declared.rows.RowKind.{RowKind}

@@ -1,11 +1,11 @@
 ghost use Rattle.std.specs.Prelude.{◌↔◌, IfNone, IfSome, IsTrue};
-ghost use Rattle.domain_script.specs.declared.event.Name.{Name as name_data};
+ghost use Rattle.script_words.specs.declared.spelled.Name.{Name as name_data};
 ghost use Rattle.domain_script.specs.NamesState.{CanDeclare};
-ghost use Rattle.domain_script.specs.Words.{SpellsName};
+ghost use Rattle.script_words.specs.Words.{SpellsName};
 
 use crate::fields::LaneKind;
-use crate::spellings::name;
 use crate::{Name, Names};
+use script_words::spellings::name;
 
 /// The name that a word spells, where a lane of this kind may be declared under it.
 pub fn new_name(word: &[u8], names: &Names, kind: LaneKind) -> Option<Name>

@@ -2,15 +2,15 @@ ghost use Rattle.std.specs.Prelude.{IfNone, OnSome};
 ghost use Rattle.domain_script.specs.declared.event.Event.{Event as event_data};
 ghost use Rattle.domain_script.specs.declared.rows.RowKind.TheVariants as row;
 ghost use Rattle.domain_script.specs.Spells.{SpellsRow};
-ghost use Rattle.domain_script.specs.Words.{words};
+ghost use Rattle.script_words.specs.Words.{words};
 
 use crate::declaring::new_name;
-use crate::fields::LaneKind;
+use crate::fields::{BLOCKS, DISK_RING, LaneKind, QUEUE};
 use crate::lane_words::{declared_number, one_number};
-use crate::numbers::{BLOCKS, DISK_RING, QUEUE, number, number_within};
-use crate::spellings::{NO_FILL, put_fill};
-use crate::words::{four_words, three_words};
 use crate::{DiskDecl, Event, Names, Request};
+use script_words::numbers::{number, number_within};
+use script_words::spellings::{NO_FILL, put_fill};
+use script_words::words::{four_words, three_words};
 
 /// `disk NAME BLOCKS RING QUEUE`, where the disk may be declared.
 pub fn disk_row(fields: &[u8], names: &Names, event: &mut Event) -> Option<()>

@@ -2,13 +2,13 @@ ghost use Rattle.std.specs.Prelude.{IfNone, OnSome};
 ghost use Rattle.domain_script.specs.declared.event.Event.{Event as event_data};
 ghost use Rattle.domain_script.specs.declared.rows.RowKind.TheVariants as row;
 ghost use Rattle.domain_script.specs.Spells.{SpellsRow};
-ghost use Rattle.domain_script.specs.Words.{words};
+ghost use Rattle.script_words.specs.Words.{words};
 
-use crate::fields::EndKind;
+use crate::fields::{EndKind, TURNS};
 use crate::lane_words::{declared_end, one_end, one_lane};
-use crate::numbers::{TURNS, number_within};
-use crate::words::{one_word, two_words};
 use crate::{Event, Names};
+use script_words::numbers::number_within;
+use script_words::words::{one_word, two_words};
 
 /// `step END K`
 pub fn step_row(fields: &[u8], names: &Names, event: &mut Event) -> Option<()>

@@ -1,14 +1,6 @@
 use crate::fields::LaneKind;
+use crate::{Fill, Name, Piece, Request};
 use thiserror::Error;
-use vdisk_msg::{Fill, Request};
-
-/// A name that a script declares: a letter a to z and up to seven letters a to z or digits. `len` bytes, 1 to 8, and
-/// zeros after them.
-#[derive(Clone, Copy, Debug, PartialEq, Eq)]
-pub struct Name {
-    pub len: u8,
-    pub bytes: [u8; 8],
-}
 
 /// A disk: its blocks of 512 bytes, 1 to 65,536; the slots of its descriptor ring, a power of two from 2 to 256. The
 /// entries of its channel's queues, a power of two from 8 to 256.
@@ -28,13 +20,6 @@ pub struct PortDecl {
     pub address: [u8; 6],
     pub ring: u32,
     pub queue: u32,
-}
-
-/// Bytes that are handed to a guest as a frame: `len` bytes, 1 to 1,540, and zeros after them.
-#[derive(Clone, Copy, Debug)]
-pub struct Piece {
-    pub len: u16,
-    pub bytes: [u8; 1540],
 }
 
 /// A lane by its kind and its number among the lanes of that kind, in the order of declaration and counted from 0.

@@ -4,13 +4,12 @@ ghost use Rattle.std.specs.List.{list_any};
 ghost use Rattle.domain_script.specs.declared.event.Event.{Event as event_data};
 ghost use Rattle.domain_script.specs.Faults.{first_fault, has_fault, has_no_row, has_other_byte, has_other_count, has_stray_space, is_blank, is_empty, row_in};
 ghost use Rattle.domain_script.specs.Spells.{Spells};
-ghost use Rattle.domain_script.specs.Words.{words};
+ghost use Rattle.script_words.specs.Words.{words};
 
 use crate::field_faults::has_wrong_field;
-use crate::parser::are_printable;
 use crate::rows::{RowKind, row_named};
-use crate::words::{count_words, split_once};
 use crate::{LineFault, Names};
+use script_words::words::{are_printable, count_words, split_once};
 
 /// The faults, in their order.
 const FAULTS: [LineFault; 12] = [

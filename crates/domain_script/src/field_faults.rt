@@ -2,16 +2,19 @@
 ghost use Rattle.std.specs.Prelude.{◌≡◌, zip};
 ghost use Rattle.std.specs.List.{list_any};
 ghost use Rattle.domain_script.specs.Faults.{has_wrong_field, is_misnamed, is_misplaced, is_no_bytes, is_no_number, is_one_too_many, is_out_of_bounds, is_taken, is_unknown, is_wrong};
-ghost use Rattle.domain_script.specs.Words.{words};
+ghost use Rattle.script_words.specs.Words.{words};
 
-use crate::addresses::{has_taken_address, is_no_group, is_no_own};
+use crate::addresses::has_taken_address;
 use crate::fields::Field;
 use crate::lane_words::{declared_end, declared_lane, declared_number};
-use crate::numbers::{is_number, is_within, number};
 use crate::rows::row_named;
-use crate::spellings::{ADDRESS, MOST_FILL, MOST_PIECE, PACKET, is_exactly, is_front, is_name};
-use crate::words::split_once;
 use crate::{LineFault, Names};
+use script_words::addresses::{is_no_group, is_no_own};
+use script_words::numbers::{is_number, is_within, number};
+use script_words::spellings::{
+    ADDRESS, MOST_FILL, MOST_PIECE, PACKET, is_exactly, is_front, is_name,
+};
+use script_words::words::split_once;
 
 /// Whether a field of a line's row has a word with this fault.
 pub fn has_wrong_field(fault: LineFault, line: &[u8], names: &Names) -> bool

@@ -1,3 +1,5 @@
+use script_words::numbers::Bounds;
+
 /// The kinds of lanes that a script declares. There are at most eight of each.
 #[derive(Clone, Copy, Debug, PartialEq, Eq)]
 pub enum LaneKind {
@@ -16,19 +18,6 @@ pub enum EndKind {
 
     /// An end that has memory of its own: a disk's client and not its server, or either end of a port.
     WithMemory,
-}
-
-/// The numbers that a line may have in a place.
-#[derive(Clone, Copy, Debug, PartialEq, Eq)]
-pub enum Bounds {
-    /// Any that it can spell.
-    Any,
-
-    /// Those from the least to the most.
-    Between { least: u32, most: u32 },
-
-    /// The powers of two among them.
-    PowerBetween { least: u32, most: u32 },
 }
 
 /// What a word in its place has to be.
@@ -64,3 +53,30 @@ pub enum Field {
     /// The six bytes of a group's address, likewise.
     Group,
 }
+
+/// The blocks of a disk.
+pub const BLOCKS: Bounds = Bounds::Between {
+    least: 1,
+    most: 65_536,
+};
+
+/// The slots of a disk's descriptor ring.
+pub const DISK_RING: Bounds = Bounds::PowerBetween {
+    least: 2,
+    most: 256,
+};
+
+/// The slots of each ring of a port.
+pub const PORT_RING: Bounds = Bounds::PowerBetween { least: 2, most: 64 };
+
+/// The entries of each queue of a channel.
+pub const QUEUE: Bounds = Bounds::PowerBetween {
+    least: 8,
+    most: 256,
+};
+
+/// The steps or rounds of a line.
+pub const TURNS: Bounds = Bounds::Between {
+    least: 1,
+    most: 100,
+};

@@ -2,14 +2,14 @@ ghost use Rattle.std.specs.Prelude.{IfNone, OnSome};
 ghost use Rattle.domain_script.specs.declared.event.Event.{Event as event_data};
 ghost use Rattle.domain_script.specs.declared.rows.RowKind.TheVariants as row;
 ghost use Rattle.domain_script.specs.Spells.{SpellsRow};
-ghost use Rattle.domain_script.specs.Words.{words};
+ghost use Rattle.script_words.specs.Words.{words};
 
 use crate::fields::EndKind;
 use crate::lane_words::declared_end;
-use crate::numbers::number;
-use crate::spellings::{NO_FILL, packet, put_fill};
-use crate::words::{three_words, two_words};
 use crate::{Event, Names};
+use script_words::numbers::number;
+use script_words::spellings::{NO_FILL, packet, put_fill};
+use script_words::words::{three_words, two_words};
 
 /// `inject END HEX`
 pub fn inject_row(fields: &[u8], names: &Names, event: &mut Event) -> Option<()>

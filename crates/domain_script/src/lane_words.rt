@@ -1,15 +1,17 @@
-ghost use Rattle.std.specs.Prelude.{◌↔◌, ℕ, [], ◌∷◌, IfNone, IfSome, IsTrue};
+ghost use Rattle.std.specs.Prelude.{◌≡◌, ◌≢◌, ◌↔◌, ℕ, List, [], ◌∷◌, ◌++◌, MatchOption, IfNone, IfSome, IsTrue};
 ghost use Rattle.domain_script.specs.declared.event.EndName.{EndName as end_data};
 ghost use Rattle.domain_script.specs.declared.event.Lane.{Lane as lane_data};
+ghost use Rattle.domain_script.specs.declared.event.Side.{Side as side_data};
 ghost use Rattle.domain_script.specs.LaneKinds.{lane_at};
+ghost use Rattle.domain_script.specs.Naming.{side_text};
 ghost use Rattle.domain_script.specs.Spells.{IsOfKind, NamesEnd, NamesLane, SpellsFields};
 ghost use Rattle.domain_script.specs.Values.{ValuesOf};
-ghost use Rattle.domain_script.specs.Words.{words};
+ghost use Rattle.script_words.specs.Words.{words};
 
 use crate::fields::{EndKind, Field, LaneKind};
-use crate::spellings::{name, name_and_side};
-use crate::words::one_word;
 use crate::{EndName, Lane, Names, Side};
+use script_words::spellings::name;
+use script_words::words::one_word;
 
 /// The lane that a word names.
 pub fn declared_lane(word: &[u8], names: &Names) -> Option<Lane>
@@ -26,6 +28,17 @@ pub fn declared_number(word: &[u8], names: &Names, kind: LaneKind) -> Option<u32
 {
     let lane = declared_lane(word, names)?;
     lane.number_if(kind)
+}
+
+/// The name and the side that a word spells: `.c` after a client's name, `.s` after a server's.
+pub fn name_and_side(word: &[u8]) -> Option<(&[u8], Side)>
+    ensures { MatchOption result ((name : List ℕ) (side : side_data) → word.now ≢ name ++ side_text side) (λ p. word.now ≡ p.0.now ++ side_text p.1) }
+{
+    match word {
+        [name @ .., b'.', b'c'] => Some((name, Side::Client)),
+        [name @ .., b'.', b's'] => Some((name, Side::Server)),
+        _ => None,
+    }
 }
 
 /// The end of this kind that a word names.

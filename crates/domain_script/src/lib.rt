@@ -5,7 +5,6 @@
 
 mod addresses;
 mod declaring;
-mod digits;
 mod disk_rows;
 mod end_rows;
 mod event;
@@ -16,21 +15,17 @@ mod forging_rows;
 mod lane_words;
 mod laws;
 mod names;
-mod numbers;
 mod parser;
 mod port_rows;
 mod printing;
 mod putting;
 mod rows;
-mod spellings;
-mod words;
 
-pub use digits::decode_lower;
-pub use event::{DiskDecl, EndName, Event, Lane, LineFault, Name, Piece, PortDecl, Side};
+pub use event::{DiskDecl, EndName, Event, Lane, LineFault, PortDecl, Side};
 pub use fields::LaneKind;
 pub use laws::{faulty_lines_spell_nothing, parsed_lines_are_printed, spells_at_most_one};
 pub use names::{MOST_DISKS, MOST_PORTS, Names};
-pub use numbers::number;
 pub use parser::{parse, parse_into};
 pub use printing::print;
-pub use vdisk_msg::{Fill, Request};
+pub use script_words::digits::decode_lower;
+pub use script_words::{Fill, Name, Piece, Request};

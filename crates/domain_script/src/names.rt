@@ -60,7 +60,7 @@ impl Model for Names {
 impl Names {
     ghost use Rattle.domain_script.specs.Declarations.{AddressesDiffer, addresses};
     ghost use Rattle.domain_script.specs.Firsts.{IsFirst, IsNoneOf};
-    ghost use Rattle.domain_script.specs.Limits.{most_of_a_kind};
+    ghost use Rattle.script_words.specs.Limits.{most_of_a_kind};
     ghost use Rattle.domain_script.specs.NamesState.{CanNote, IsFree, IsFreeAddress, IsNamed, NamesDiffer, count_of, lane_name, names_of, noted};
 
     /// Nothing is declared.

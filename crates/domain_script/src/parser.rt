@@ -1,15 +1,14 @@
 ghost use Rattle.std.specs.Prelude.{◌≡◌, ◌↔◌, IfErr, IfNone, IfOk, IsTrue, OnOk, OnSome};
-ghost use Rattle.std.specs.List.{list_all};
 ghost use Rattle.domain_script.specs.declared.event.Event.{Event as event_data};
 ghost use Rattle.domain_script.specs.Faults.{first_fault};
 ghost use Rattle.domain_script.specs.NamesState.{CanNote};
 ghost use Rattle.domain_script.specs.Printed.{CanPrint};
-ghost use Rattle.domain_script.specs.Spells.{is_printable, IsBlank, IsDeclared, Spells};
+ghost use Rattle.domain_script.specs.Spells.{IsBlank, IsDeclared, Spells};
 
 use crate::faults::fault_of;
 use crate::rows::{row_alone, row_with_fields};
-use crate::words::split_once;
 use crate::{Event, LineFault, Names};
+use script_words::words::{are_printable, split_once};
 
 /// The event that a line spells after the lines that were noted, or what is wrong with it: the first fault of the table
 /// that holds. A line, without its line feed, is empty or a comment, or one of the rows of a script, with one space
@@ -72,15 +71,4 @@ fn is_blank(line: &[u8]) -> bool
         [] => true,
         [first, rest @ ..] => *first == b'#' && are_printable(rest),
     }
-}
-
-/// Whether bytes are printable. Each is looked at, also after one that isn't, so that many can be at once.
-pub fn are_printable(bytes: &[u8]) -> bool
-    ensures { result ≡ list_all is_printable bytes.now }
-{
-    let mut all = true;
-    for byte in bytes {
-        all &= *byte >= b' ' && *byte <= b'~';
-    }
-    all
 }

@@ -2,16 +2,17 @@ ghost use Rattle.std.specs.Prelude.{IfNone, OnSome};
 ghost use Rattle.domain_script.specs.declared.event.Event.{Event as event_data};
 ghost use Rattle.domain_script.specs.declared.rows.RowKind.TheVariants as row;
 ghost use Rattle.domain_script.specs.Spells.{SpellsRow};
-ghost use Rattle.domain_script.specs.Words.{words};
+ghost use Rattle.script_words.specs.Words.{words};
 
-use crate::addresses::{group, new_address};
+use crate::addresses::new_address;
 use crate::declaring::new_name;
-use crate::fields::LaneKind;
+use crate::fields::{LaneKind, PORT_RING, QUEUE};
 use crate::lane_words::declared_number;
-use crate::numbers::{PORT_RING, QUEUE, number_within};
-use crate::spellings::{NO_PIECE, put_piece};
-use crate::words::{four_words, two_words};
 use crate::{Event, Names, PortDecl};
+use script_words::addresses::group;
+use script_words::numbers::number_within;
+use script_words::spellings::{NO_PIECE, put_piece};
+use script_words::words::{four_words, two_words};
 
 /// `net NAME ADDRESS RING QUEUE`, where the port may be declared.
 pub fn net_row(fields: &[u8], names: &Names, event: &mut Event) -> Option<()>

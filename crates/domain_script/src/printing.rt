@@ -3,17 +3,17 @@ ghost use Rattle.std.specs.Prelude.{◌≡◌, ◌≤◌, [], ◌∷◌, length,
 ghost use Rattle.hex.specs.Hex.{IsBytes, encode_lower};
 ghost use Rattle.domain_script.specs.declared.event.Event.TheVariants.{Issue as issue_event};
 ghost use Rattle.domain_script.specs.declared.rows.RowKind.TheVariants as row;
-ghost use Rattle.domain_script.specs.Printed.{CanPrint, EventBytes, HasName, end_text, followed_by, lane_text, line_text, name_text};
+ghost use Rattle.domain_script.specs.Printed.{CanPrint, EventBytes, HasName, end_text, followed_by, lane_text, line_text};
+ghost use Rattle.script_words.specs.Texts.{name_text};
 ghost use Rattle.domain_script.specs.LaneKinds.{disk_lane, port_lane};
 ghost use Rattle.domain_script.specs.Rows.{row_of};
 ghost use Rattle.domain_script.specs.Spells.{Spells};
-ghost use Rattle.domain_script.specs.Words.{IsName};
+ghost use Rattle.script_words.specs.Words.{IsName};
 
-use crate::putting::{
-    put_bytes, put_end, put_fill, put_lane, put_name, put_number, put_piece, put_row,
-};
+use crate::putting::{put_end, put_lane, put_row};
 use crate::rows::RowKind;
 use crate::{DiskDecl, EndName, Event, Lane, LaneKind, Names, PortDecl, Request};
+use script_words::putting::{put_bytes, put_fill, put_name, put_number, put_piece};
 
 /// Writes the one canonical line of an event, without its line feed, and answers how many bytes it has; what the buffer
 /// has after them isn't specified. The event's disks have to be declared and its ends of the kind that its line needs,

@@ -2,15 +2,15 @@ ghost use Rattle.std.specs.Prelude.{◌≡◌, ◌≤◌, [], ◌∷◌, length,
 ghost use Rattle.domain_script.specs.declared.event.Event.{Event as event_data};
 ghost use Rattle.domain_script.specs.Rows.{row_named, row_of};
 ghost use Rattle.domain_script.specs.Spells.{SpellsWords};
-ghost use Rattle.domain_script.specs.Words.{words};
+ghost use Rattle.script_words.specs.Words.{words};
 
 use crate::disk_rows::{disk_row, flush_row, read_row, start_row, stop_row, write_row};
 use crate::end_rows::{lose_row, reset_row, restart_row, round_row, step_row, tick_row};
-use crate::fields::{Bounds, EndKind, Field, LaneKind};
+use crate::fields::{BLOCKS, DISK_RING, EndKind, Field, LaneKind, PORT_RING, QUEUE, TURNS};
 use crate::forging_rows::{inject_row, poke_row};
-use crate::numbers::{BLOCKS, DISK_RING, PORT_RING, QUEUE, TURNS};
 use crate::port_rows::{join_row, net_row, send_row};
 use crate::{Event, Names};
+use script_words::numbers::Bounds;
 
 /// The rows of a script.
 #[derive(Clone, Copy, PartialEq, Eq)]

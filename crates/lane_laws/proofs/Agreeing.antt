@@ -36,7 +36,7 @@ use Rattle.lane_laws.specs.OneSession.{AreOneSession}
 use Rattle.channel_model.specs.Ranges.{wrapped}
 use Rattle.lane_laws.specs.Remaining.{total}
 use Rattle.lane_laws.specs.RingAgreed.{AlwaysAgree, OneRing}
-use Rattle.lane_laws.specs.Sound.{CountsInOrder, InOrder}
+use Rattle.lane_laws.proofs.Sharing.{in_order}
 
 -- THE IDS are below 2^64
 record Issued (s : LaneState) (l : DiskLog) : Type 0 where
@@ -78,9 +78,6 @@ counts_of (Some s) done (Some c) now agrees = record { session = s; counts = c; 
 
 pub front_sum : (slots subtype : ℕ) (xs ys : List (List ℕ)) → IsFront xs ys → range_sum slots subtype xs ≤ range_sum slots subtype ys
 front_sum slots subtype xs ys front = subst (λ (zs : List (List ℕ)). range_sum slots subtype xs ≤ range_sum slots subtype zs) (sym front.1) (sum_front slots subtype xs front.0)
-
-in_order : (pending : ℕ) (o : Option ClientSession) (session : ClientSession) → o ≡ Some session → CountsInOrder pending o → InOrder pending session
-in_order pending o session is order = subst (CountsInOrder pending) is order
 
 pub server_alive : (shape : Shape) (events : List DiskEvent) (s : LaneState) → IsShape shape → Run LaneStep (fresh shape) events s → s.wire.forged ≡ false → IsUp B s.wire.wire
     → (d : ServerCounts) → (log_of after (nothing_yet shape) events).work.server ≡ Some d → s.wire.wire.end_a ≡ Up

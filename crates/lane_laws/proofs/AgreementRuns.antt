@@ -10,7 +10,8 @@ use Rattle.disk_model.specs.LaneState.{IsShape, LaneState, Shape, fresh}
 use Rattle.disk_model.specs.LaneStep.{LaneStep}
 use Rattle.lane_laws.proofs.EndsFold.{client_end, run_both, server_end}
 use Rattle.lane_laws.proofs.FailedRuns.{run_failed}
-use Rattle.lane_laws.proofs.FirstStays.{log_shape, run_first}
+use Rattle.lane_laws.proofs.FirstStays.{run_first}
+use Rattle.lane_laws.proofs.LaneCores.{shape_of as log_shape}
 use Rattle.lane_laws.proofs.IdleRuns.{idle_agrees}
 use Rattle.lane_laws.proofs.LaneCounting.{run_knows}
 use Rattle.lane_laws.proofs.RingAlong.{run_ring}

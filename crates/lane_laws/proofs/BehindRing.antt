@@ -17,7 +17,7 @@ use Rattle.disk_model.specs.ClientStep.{filled_buffer, published_memory}
 use Rattle.disk_model.specs.ServerState.{ServerState, Work}
 use Rattle.cookie_copy.specs.Reach.{Reach}
 use Rattle.disk_model.specs.ServerWork.{header_of, with_done, with_status, with_word, word_fault}
-use Rattle.lane_laws.proofs.MemoryStanding.{desc_long, word_long}
+use Rattle.lane_laws.proofs.MemoryStanding.{desc_long, filled_long, word_long}
 use Rattle.lane_laws.proofs.RingServer.{Reaches, header_long, status_is_long}
 use Rattle.lane_laws.proofs.RingWrites.{ring_word}
 use Rattle.lane_laws.specs.MemoryStands.{memory_long}
@@ -57,13 +57,6 @@ filled_behind (Write block count fill) slots slot memory small below long =
     ap (λ (p : ℕ). drop (ring_end slots) (put_at p (written fill count) memory)) place
     ∙ drop_put (ring_end slots) (32768 * slot) (written fill count) memory (omega (arith, small, below, long, length-repeated fill 0 (512 * count)))
 filled_behind Flush slots slot memory small below long = refl
-
-filled_long : (request : Request) (slots slot : ℕ) (memory : List ℕ) → size_of request ≤ 32768 → slot < slots → length memory ≡ memory_long slots
-    → length (filled_buffer request (buffer_place slots slot) memory) ≡ length memory
-filled_long (Read block count) slots slot memory small below long = refl
-filled_long (Write block count fill) slots slot memory small below long =
-    length-put_at (buffer_place slots slot) (written fill count) memory (omega (arith, small, below, long, length-repeated fill 0 (512 * count)))
-filled_long Flush slots slot memory small below long = refl
 
 pub published_behind : (request : Request) (slots slot id : ℕ) (memory : List ℕ) → size_of request ≤ 32768 → slot < slots → length memory ≡ memory_long slots
     → drop (ring_end slots) (published_memory slots slot id request memory) ≡ filled request (32768 * slot) (drop (ring_end slots) memory)

@@ -35,7 +35,8 @@ use Rattle.lane_laws.proofs.Ruling.{client_may}
 use Rattle.lane_laws.proofs.ServerPutCounting.{all_finished}
 use Rattle.lane_laws.proofs.Sharing.{in_order}
 use Rattle.channel_laws.proofs.MessagesHeld.{owed_held}
-use Rattle.lane_laws.proofs.WorkNumbers.{Grounded, at_client, at_server, in_client, in_server, order_of}
+use Rattle.lane_laws.proofs.WorkNumbers.{Grounded, in_client, in_server, order_of}
+use Rattle.lane_laws.proofs.LaneViews.{at_client, at_server}
 
 -- what is known of both ends
 pub record Told (s : LaneState) (l : DiskLog) : Type 0 where

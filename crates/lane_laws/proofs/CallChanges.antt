@@ -4,19 +4,19 @@ use Rattle.ldc_queue.specs.declared.end.End.{End}
 use Rattle.ldc_queue.specs.declared.end.End.TheVariants.{A, B}
 use Rattle.ldc_queue.specs.Wire.{peer_behind}
 use Rattle.vio_tag.specs.declared.cause.Cause.{Cause}
-use Rattle.channel_model.specs.WireEvent.{Blocked, Declines, Idle, Injected, Joined, Lost, Poked, Reset, Sent, Took, WireEvent}
+use Rattle.channel_model.specs.WireEvent.{Reset, Sent, Took, WireEvent}
 use Rattle.channel_model.specs.WireLog.{WireLog, wire_moved}
 use Rattle.channel_laws.proofs.Apart.{ends_differ, some_same}
 use Rattle.lane_laws.specs.DiskLog.{DiskLog, after}
 use Rattle.lane_laws.specs.WorkLaws.{IfServer}
-use Rattle.lane_laws.specs.WorkLog.{ClientCounts, ServerCounts}
+use Rattle.lane_laws.specs.WorkLog.{ServerCounts}
 use Rattle.disk_model.specs.ClientState.{ClientSession, ClientState, opened_session}
 use Rattle.disk_model.specs.DiskEvent.{Accepted, Admitted, Asks, Calm, DiskEvent, Full, Off, OnWire, Refused, Calms, Started, Stopped, Switched, Switches}
 use Rattle.disk_model.specs.LaneState.{LaneState, NearCounts}
 use Rattle.disk_model.specs.LaneStep.{LaneStep, RestStep, TurnStep, WireStep}
 use Rattle.channel_model.specs.Seeing.{seen}
 use Rattle.disk_model.specs.ServerState.{Work}
-use Rattle.lane_laws.proofs.RingWire.{sent_clears, wire_same}
+use Rattle.lane_laws.proofs.RingWire.{published_of, sent_clears, wire_same}
 use Rattle.lane_laws.proofs.SlotsStepping.{StepFacts}
 use Rattle.lane_laws.proofs.StandingSteps.{wire_only}
 use Rattle.lane_laws.specs.RingAgreed.{OneRing}
@@ -31,7 +31,7 @@ use Rattle.lane_laws.proofs.QuietWire.{wire_quiet, work_on_wire}
 use Rattle.lane_laws.proofs.Standing.{Before}
 use Rattle.lane_laws.proofs.WireChanges.{Changed, buffers_same, disturbed, reset_drops, view_is, wire_rests}
 use Rattle.lane_laws.proofs.WireCounts.{opens_k}
-use Rattle.lane_laws.proofs.WorkCounts.{calm}
+use Rattle.lane_laws.proofs.LaneViews.{calm_same as calm}
 
 -- A RESET
 wire_resets : (e : End) (s : LaneState) (l : DiskLog) (cause : Cause) (packet : Option (List ℕ)) (lost : ℕ) (t : LaneState) → Before s l → ContentsStand (view_of s)
@@ -49,20 +49,15 @@ wire_resets e s l cause packet lost t before contents clean gone same peer step 
     disturbed s l (OnWire event) t before contents (λ content. refl) only.kept.pending only.kept.slots (wire_same s l event t tt before.known step clean) work quiet.near quiet.client.keeps
 
 -- THE CLIENT'S SESSION OPENS
-published_in : Option ClientCounts → ℕ
-published_in None = 0
-published_in (Some c) = c.published
-
 idle_opening : (s : LaneState) (l : DiskLog) (packet : List ℕ) (t : LaneState) (o : Option Work) → Before s l → StepFacts s l (OnWire (Sent A packet true)) t
     → work_while s.wire.wire.end_b s.server.work ≡ o → o ≡ None
-unfolding published_in
 idle_opening s l packet t None before facts is = refl
 idle_opening s l packet t (Some work) before facts is =
     let on = working s l work before is in
     let d = on.at.of.counts in
     let m = after l (OnWire (Sent A packet true)) in
     let one : OneRing t m.work d = subst (λ (q : Option ServerCounts). IfServer q (OneRing t m.work)) on.at.of.open_is (facts.agree.ring on.at.up) in
-    let nothing : 0 ≡ one.client.published = ap published_in one.open_is in
+    let nothing : 0 ≡ one.client.published = ap published_of one.open_is in
     let descs = one.descs in
     let asked = one.asked in
     let single = on.has.one in
@@ -100,18 +95,10 @@ pub wire_changes : (s : LaneState) (l : DiskLog) (event : WireEvent) (t : LaneSt
     → (after l (OnWire event)).wire.forged ≡ false → WireStep s event t → Changed s (OnWire event) t
 wire_changes s l (Sent A packet true) t before contents facts clean step = wire_opens s l packet t before facts step
 wire_changes s l (Sent A packet false) t before contents facts clean step = wire_rests s l (Sent A packet false) t before facts clean refl tt step
-wire_changes s l (Sent B packet opens) t before contents facts clean step = wire_rests s l (Sent B packet opens) t before facts clean tt tt step
 wire_changes s l (Took A packet opens) t before contents facts clean step = wire_rests s l (Took A packet opens) t before facts clean step.step.2 tt step
-wire_changes s l (Took B packet opens) t before contents facts clean step = wire_rests s l (Took B packet opens) t before facts clean tt tt step
-wire_changes s l (Joined e lost) t before contents facts clean step = wire_rests s l (Joined e lost) t before facts clean tt tt step
 wire_changes s l (Reset A cause packet lost) t before contents facts clean step = wire_resets A s l cause packet lost t before contents clean (λ is. ends_differ is) (λ is. refl) (λ is. refl) step
 wire_changes s l (Reset B cause packet lost) t before contents facts clean step = wire_resets B s l cause packet lost t before contents clean (λ is. refl) (λ is. ends_differ (sym is)) (λ is. ends_differ (sym is)) step
-wire_changes s l (Lost e packet) t before contents facts clean step = wire_rests s l (Lost e packet) t before facts clean tt tt step
-wire_changes s l (Injected e packet) t before contents facts clean step = wire_rests s l (Injected e packet) t before facts clean tt tt step
-wire_changes s l (Poked e at bytes) t before contents facts clean step = wire_rests s l (Poked e at bytes) t before facts clean tt tt step
-wire_changes s l (Idle e) t before contents facts clean step = wire_rests s l (Idle e) t before facts clean tt tt step
-wire_changes s l (Blocked e) t before contents facts clean step = wire_rests s l (Blocked e) t before facts clean tt tt step
-wire_changes s l (Declines d) t before contents facts clean step = wire_rests s l (Declines d) t before facts clean tt tt step
+wire_changes s l event t before contents facts clean step = wire_rests s l event t before facts clean tt tt step
 
 -- WHAT CHANGES NOTHING of it
 parts_same : (s : LaneState) (event : DiskEvent) (t : LaneState) → t.client ≡ s.client → t.wire ≡ s.wire → t.server ≡ s.server → t.near ≡ s.near → t.memory ≡ s.memory

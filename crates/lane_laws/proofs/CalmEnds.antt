@@ -13,7 +13,6 @@ use Rattle.ldc_queue.specs.declared.end.End.{End}
 use Rattle.ldc_queue.specs.declared.end.End.TheVariants.{A, B}
 use Rattle.ldc_queue.specs.OneStream.{IsFront}
 use Rattle.ldc_queue.specs.Wire.{peer_of}
-use Rattle.vdisk_msg.specs.declared.request.Request.{Request}
 use Rattle.channel_model.specs.Sayings.{heard, said}
 use Rattle.channel_model.specs.TranscriptLog.{TranscriptLog}
 use Rattle.channel_model.specs.WireEvent.{Idle}
@@ -30,7 +29,8 @@ use Rattle.disk_model.specs.ServerState.{ServerState}
 use Rattle.lane_laws.proofs.LaneCores.{transcript_is}
 use Rattle.lane_laws.proofs.HeardFront.{heard_messages}
 use Rattle.lane_laws.specs.LaneTranscripts.{transcript_behind}
-use Rattle.lane_laws.proofs.CalmSteps.{ClientCalm, ServerCalm, client_calm, no_room, server_calm, are_still, waits_up_a, waits_up_b}
+use Rattle.lane_laws.proofs.CalmSteps.{ClientCalm, ServerCalm, client_calm, server_calm, are_still, waits_up_a, waits_up_b}
+use Rattle.lane_laws.proofs.IdleLaw.{not_below as no_room}
 use Rattle.channel_laws.proofs.Apart.{true_is_false}
 use Rattle.channel_laws.proofs.EndsAtRest.{none_waits}
 use Rattle.lane_laws.proofs.IdleRules.{client_idles, server_idles}
@@ -43,9 +43,11 @@ use Rattle.vio_handshake.proofs.Places.{AllSaid}
 use Rattle.channel_laws.proofs.ManyWait.{many_wait}
 use Rattle.lane_laws.proofs.NeverBoth.{client_owes, holds_urgent, server_owes}
 use Rattle.lane_laws.proofs.QuietEnds.{BothRest, Finished, quiet_ends}
-use Rattle.lane_laws.proofs.WorkNumbers.{Grounded, at_client, at_server}
+use Rattle.lane_laws.proofs.WorkNumbers.{Grounded}
+use Rattle.lane_laws.proofs.LaneViews.{at_client, at_server}
 use Rattle.lane_laws.proofs.WorkRuns.{run_grounded}
 use Rattle.lane_laws.specs.CalmEnds.{AreStill, HaveFinished, IsCalm}
+use Rattle.lane_laws.proofs.TickLaw.{nothing_of}
 
 -- A reached lane that nobody forged
 pub record Reached (shape : Shape) (events : List DiskEvent) (s : LaneState) : Type 0 where
@@ -164,10 +166,6 @@ both_idle A shape events s one m next t at runs step calm then quiet = client_fi
 both_idle B shape events s one m next t at runs step calm then quiet = server_first shape events s one m next t at runs (server_calm s one m step calm) (client_calm m next t then quiet)
 
 -- AND HAVE FINISHED where nothing was lost
-nothing_left : (requests : List Request) → length requests ≡ 0 → is_nothing requests ≡ true
-nothing_left [] none = refl
-nothing_left (request ∷ requests) none = absurd (omega (arith, none))
-
 pub have_finished : (shape : Shape) (events : List DiskEvent) (s : LaneState) → Reached shape events s → s.wire.lossy ≡ false → BothRest s → HaveFinished s
 have_finished shape events s at whole rest =
     let l = log_of after (nothing_yet shape) events in
@@ -176,7 +174,7 @@ have_finished shape events s at whole rest =
     let stand = grounded.knows.all.stands.requests in
     let none : length s.client.pending ≡ 0 = omega (arith, ap length stand.pending, length-drop l.work.done l.work.issued, finished.at_rest.finished) in
     record {
-      finished = and_so (is_some s.client.session) (is_nothing s.client.pending) finished.client (nothing_left s.client.pending none);
+      finished = and_so (is_some s.client.session) (is_nothing s.client.pending) finished.client (nothing_of s.client.pending none);
       server = finished.server;
       to_client = none_waits s.wire.wire.to_a (client_idles s.client (at_client s) rest.client).rests.first;
       to_server = none_waits s.wire.wire.to_b (server_idles s.server (at_server s) rest.server).first;

@@ -1,7 +1,5 @@
 -- A calm step of an end leaves the wire and the other end as they were, and the end still.
-use Rattle.std.proofs.Common.{◌≡◌, ℕ, ◌+◌, ◌≤◌, ◌⊎◌, inl, inr, true, false, Some, length, refl, sym, ap, ◌∙◌, subst, arith}
-use Rattle.std.specs.Prelude.{nat_lt}
-use Rattle.std.proofs.lemmas.Bool.Decides.{nat_tests}
+use Rattle.std.proofs.Common.{◌≡◌, ◌+◌, ◌⊎◌, inl, inr, true, false, Some, length, refl, sym, ap, ◌∙◌, subst}
 use Rattle.ldc_queue.specs.declared.end.ChannelState.TheVariants.{Up}
 use Rattle.ldc_queue.specs.declared.end.End.{End}
 use Rattle.ldc_queue.specs.declared.end.End.TheVariants.{A, B}
@@ -22,9 +20,10 @@ use Rattle.lane_laws.proofs.Ruling.{client_may, server_may}
 use Rattle.lane_laws.proofs.ServerSpeaking.{server_holds_up}
 use Rattle.lane_laws.specs.RuleFacts.{ClientMay, ServerMay}
 use Rattle.channel_laws.proofs.EndsAtRest.{none_waits}
-use Rattle.lane_laws.proofs.IdleLaw.{idle_client, idle_server}
+use Rattle.lane_laws.proofs.IdleLaw.{idle_client, idle_server, not_below}
 use Rattle.lane_laws.proofs.IdleRules.{client_idles, server_idles}
-use Rattle.lane_laws.proofs.WorkNumbers.{Grounded, at_client, at_server}
+use Rattle.lane_laws.proofs.WorkNumbers.{Grounded}
+use Rattle.lane_laws.proofs.LaneViews.{at_client, at_server}
 use Rattle.lane_laws.specs.CalmEnds.{AreStill, IsCalm, IsStill}
 
 -- THE CLIENT idles, or finds no room
@@ -122,18 +121,15 @@ both_still B s one m next t step calm then quiet =
     (client_still m next t client, client_keeps m next t client (server_still s one m server))
 
 -- IN THE WORDS OF THE LOG
-pub no_room : (n entries : ℕ) → nat_lt n entries ≡ false → entries ≤ n
-no_room n entries full = grind (arith, nat_tests, full)
-
 is_still : (e : End) (s : LaneState) (l : DiskLog) → Grounded s l → StaysStill e s → IsStill e s l
 is_still A s l grounded (up, inl rule) =
     let idles = client_idles s.client (at_client s) rule in
     record { up = up; still = inl (none_waits s.wire.wire.to_a idles.rests.first, idle_client s l grounded idles) }
-is_still A s l grounded (up, inr full) = record { up = up; still = inr (no_room (length s.wire.wire.to_b + 1) s.shape.entries full) }
+is_still A s l grounded (up, inr full) = record { up = up; still = inr (not_below (length s.wire.wire.to_b + 1) s.shape.entries full) }
 is_still B s l grounded (up, inl rule) =
     let idles = server_idles s.server (at_server s) rule in
     record { up = up; still = inl (none_waits s.wire.wire.to_b idles.first, idle_server s l grounded idles) }
-is_still B s l grounded (up, inr full) = record { up = up; still = inr (no_room (length s.wire.wire.to_a + 1) s.shape.entries full) }
+is_still B s l grounded (up, inr full) = record { up = up; still = inr (not_below (length s.wire.wire.to_a + 1) s.shape.entries full) }
 
 server_is_still : (s : LaneState) (l : DiskLog) → Grounded s l → ServerStays s → (s.stopped ≡ true) ⊎ IsStill B s l
 server_is_still s l grounded (inl stopped) = inl stopped

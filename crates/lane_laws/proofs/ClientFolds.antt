@@ -16,7 +16,7 @@ use Rattle.vio_handshake.specs.declared.handshake.Handshake.{Handshake}
 use Rattle.vio_handshake.specs.State.{handshake_up}
 use Rattle.channel_laws.proofs.MessagesHeld.{owed_held}
 use Rattle.lane_laws.specs.BlockLog.{Blockage, Clear, Stuck, StuckBefore, hearing, is_stuck, stuck}
-use Rattle.disk_model.specs.ClientPutting.{announcement, announced, announcing, client_holds, client_kind, holding, is_announcing, opened_if, session_behind}
+use Rattle.disk_model.specs.ClientPutting.{announcement, announced, announcing, client_holds, client_kind, holding, is_announcing, session_behind}
 use Rattle.disk_model.specs.ClientRule.{Announces, ClientRule, Completes, Publishes, Puts, Says, client_rule}
 use Rattle.disk_model.specs.ClientState.{ClientSession, ClientState, joined_client, slot_in}
 use Rattle.disk_model.specs.ClientStep.{ClientAdmits, ClientCompletes, ClientPublishes}
@@ -31,8 +31,7 @@ use Rattle.lane_laws.proofs.ClientPutCounting.{own_info, put_as}
 use Rattle.lane_laws.proofs.ClientTaken.{ClientTook}
 use Rattle.channel_laws.proofs.Apart.{false_is_true, none_is_some, some_is_none, some_same, true_is_false}
 use Rattle.channel_laws.proofs.PutSayings.{PutSays}
-use Rattle.channel_laws.proofs.EndStanding.{open_up, owing_up}
-use Rattle.channel_laws.proofs.EndStanding.{SameSending}
+use Rattle.channel_laws.proofs.EndStanding.{SameSending, open_up, owing_up}
 use Rattle.lane_laws.proofs.RulesFree.{puts_owe}
 use Rattle.lane_laws.proofs.Ruling.{client_may}
 use Rattle.channel_laws.proofs.Short.{some_bytes}
@@ -41,6 +40,7 @@ use Rattle.lane_laws.specs.Counted.{ClientHolds}
 use Rattle.lane_laws.specs.LaneRests.{ClientRests, ClientUtters}
 use Rattle.lane_laws.specs.RuleFacts.{ClientMay}
 use Rattle.lane_laws.specs.ChannelEnds.{client_core}
+use Rattle.lane_laws.proofs.ClientSending.{not_announcing, opened_other}
 
 -- AN END AS ITS LOG HAS IT, by its parts: where it is stuck its link owes a packet, and where its link holds a message
 -- of which nothing was put it is stuck
@@ -61,8 +61,7 @@ link_begins k empty = record { owes = λ never. absurd (cc); left = λ fresh som
 
 hearing_stuck : (b : Blockage) → is_stuck (hearing b) ≡ is_stuck b
 hearing_stuck Clear = refl
-hearing_stuck Stuck = refl
-hearing_stuck StuckBefore = refl
+hearing_stuck _ = refl
 
 -- it takes a packet where its end isn't urgent
 pub owes_up : (k : LinkState) → is_up k ≡ true → 1 ≤ length k.to_send → owes k ≡ true
@@ -117,8 +116,7 @@ link_puts k quiet = record { owes = λ never. absurd (cc); left = λ fresh some.
 -- it is stuck with what it holds
 stuck_is : (b : Blockage) → is_stuck (stuck b) ≡ true
 stuck_is Clear = refl
-stuck_is Stuck = refl
-stuck_is StuckBefore = refl
+stuck_is _ = refl
 
 pub link_stuck : (k : LinkState) (b : Blockage) → owes k ≡ true → LinkIs k (stuck b)
 link_stuck k b owing = record { owes = λ now. owing; left = λ fresh some. stuck_is b }
@@ -178,10 +176,6 @@ and_false false = refl
 none_announced : (session : Option ClientSession) (h : Handshake) → is_announcing session ≡ false → Announcing session h Clear
 none_announced session h quiet = quiet ∙ sym (and_false (is_some session))
 
-announced_no_more : (o : Option ClientSession) → is_announcing (announced o) ≡ false
-announced_no_more None = refl
-announced_no_more (Some s) = refl
-
 own_ends : (k : LinkState) (own : Bool) → own ≡ true → is_up k ≡ true → length k.to_send ≤ 56 → put_kind k own ≡ EndsOwn
 own_ends k own sure up short = in_phase k.phase up
   where
@@ -214,10 +208,6 @@ quiet_unless kind c turns false is at rests holds never = refl
 quiet_unless kind c turns true is at rests holds never =
     absurd (never (sym at ∙ own_ends c.link (is_announcing c.session) is (announcing_up c turns c.session refl is rests) (own_length c turns is holds)))
 
-opened_quiet : (b : Bool) (c : ClientState) → is_announcing c.session ≡ false → is_announcing (opened_if b c) ≡ false
-opened_quiet true c quiet = refl
-opened_quiet false c quiet = quiet
-
 pub record Blocking (c : ClientState) (turns : List Turn) : Type 0 where
   pub rests : ClientRests c turns
   pub utters : ClientUtters c turns
@@ -232,9 +222,9 @@ client_puts_so turns packet Goes c at held says =
     puts_by c c.handshake c.session turns held (quiet_unless Goes c turns (is_announcing c.session) refl at held.rests held.holds (λ is. absurd (cc is)))
 client_puts_so turns packet ComesUp c at held says =
     puts_by c (handshake_up c.handshake) c.session turns held (quiet_unless ComesUp c turns (is_announcing c.session) refl at held.rests held.holds (λ is. absurd (cc is)))
-client_puts_so turns packet EndsOwn c at held says = puts_by c c.handshake (announced c.session) turns held (announced_no_more c.session)
+client_puts_so turns packet EndsOwn c at held says = puts_by c c.handshake (announced c.session) turns held (not_announcing c.session)
 client_puts_so turns packet EndsHandshake c at held says =
-    puts_by c (handshake_behind EndsHandshake c.handshake) (session_behind EndsHandshake c) turns held (opened_quiet (put_opens EndsHandshake c.handshake) c says.1)
+    puts_by c (handshake_behind EndsHandshake c.handshake) (session_behind EndsHandshake c) turns held (opened_other (put_opens EndsHandshake c.handshake) c says.1)
 
 -- IT IS BLOCKED
 stuck_again : (o : Option ClientSession) (h : Handshake) (b : Blockage) → Announcing o h b → (is_stuck b ≡ false → is_announcing o ≡ false → (is_some o && is_none h.owed) ≡ false)

@@ -33,7 +33,7 @@ use Rattle.channel_laws.specs.EndStep.{EndBegins, EndFails, EndHears, EndSays, E
 use Rattle.lane_laws.proofs.ClientAnswers.{Answers, HandshakesTo, comes_to, goes_by}
 use Rattle.lane_laws.proofs.ClientHolding.{client_held, not_own}
 use Rattle.channel_laws.proofs.EndStanding.{SameSending, heard_leaves, up_empty}
-use Rattle.lane_laws.proofs.RulesFree.{takes_calm}
+use Rattle.lane_laws.proofs.RulesFree.{nothing_owed, takes_calm}
 use Rattle.lane_laws.proofs.Ruling.{client_may}
 use Rattle.lane_laws.proofs.Sharing.{in_order, infos_few}
 use Rattle.lane_laws.specs.Budget.{infos_left, one_if}
@@ -50,10 +50,6 @@ pub infos_most : (s : ClientState) → ClientSound s → infos_left s.slots s.se
 infos_most s sound = omega (arith, infos_few s.slots (length s.pending) s.session sound.counts, sound.slots)
 
 -- IT TAKES a packet, where its rule is to take it
-not_some : (o : Option Message) → is_some o ≡ false → o ≡ None
-not_some None is = refl
-not_some (Some message) is = absurd (cc is)
-
 none_is : (o : Option ClientSession) → is_some o ≡ false → is_none o ≡ true
 none_is None is = refl
 none_is (Some session) is = absurd (cc is)
@@ -68,7 +64,7 @@ neither false false false d is = (refl, λ closed. absurd (cc closed))
 client_may_take : (s : ClientState) (at : Seen) (packet : List ℕ) → client_rule s at ≡ Takes packet → MayTake (client_core s)
 client_may_take s at packet rule =
     let free = neither (owes_control s.link) (is_some s.handshake.owed) (is_none s.session) (owes s.link) (takes_calm s at packet rule) in
-    record { owed = not_some s.handshake.owed free.0; quiet = λ closed. free.1 (none_is s.session closed) }
+    record { owed = nothing_owed s.handshake.owed free.0; quiet = λ closed. free.1 (none_is s.session closed) }
 
 -- what it comes to: it goes on with the link behind the packet, or resets itself
 record TookTo (s : ClientState) (k : LinkState) (t : ClientState) : Type 0 where

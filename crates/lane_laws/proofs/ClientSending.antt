@@ -31,11 +31,11 @@ behind_counts ComesUp c counts = counts
 behind_counts EndsHandshake c counts = opened_counts (put_opens EndsHandshake c.handshake) c counts
 
 -- an INFO that isn't wholly put is still held
-not_announcing : (open_one : Option ClientSession) → is_announcing (announced open_one) ≡ false
+pub not_announcing : (open_one : Option ClientSession) → is_announcing (announced open_one) ≡ false
 not_announcing None = refl
 not_announcing (Some s) = refl
 
-opened_other : (b : Bool) (c : ClientState) → is_announcing c.session ≡ false → is_announcing (opened_if b c) ≡ false
+pub opened_other : (b : Bool) (c : ClientState) → is_announcing c.session ≡ false → is_announcing (opened_if b c) ≡ false
 opened_other true c other = refl
 opened_other false c other = other
 
@@ -55,8 +55,6 @@ parts_own c false is own = omega (arith, length-drop 56 c.link.to_send, leb-fals
 own_in : (ph : LinkPhase) (c : ClientState) → ClientSound c → is_announcing (session_behind (kind_in ph c.link (is_announcing c.session)) c) ≡ true
     → 1 ≤ length (left_behind_put ph c.link.to_send)
 own_in phase.Established c sound own = parts_own c (nat_le (length c.link.to_send) 56) refl own
-own_in phase.OwesRdx c sound own = sound.own own
-own_in phase.OwesVersInfo c sound own = sound.own own
 own_in _ c sound own = sound.own own
 
 pub client_put_sound : (c : ClientState) → ClientSound c → ClientSound (client_put c)

@@ -1,6 +1,6 @@
 -- What each step of a client is to what always holds of it.
 use Rattle.std.proofs.Common.{◌≡◌, ℕ, ◌+◌, ◌-◌, ◌≤◌, ◌<◌, Bool, Option, Some, None, List, [], ◌∷◌, length, sym, ap, ◌∙◌, subst, arith, length-drop, length-append, ◌++◌}
-use Rattle.std.specs.Prelude.{zero, suc, slice_get}
+use Rattle.std.specs.Prelude.{slice_get}
 use Rattle.vdisk_msg.specs.declared.request.Request.{Request}
 use Rattle.disk_model.specs.ClientPutting.{client_holds, is_announcing}
 use Rattle.disk_model.specs.ClientRule.{Completes, Publishes, client_rule}
@@ -14,6 +14,7 @@ use Rattle.lane_laws.proofs.Ruling.{client_may}
 use Rattle.lane_laws.proofs.Sharing.{in_order}
 use Rattle.lane_laws.specs.RuleFacts.{ClientMay}
 use Rattle.lane_laws.specs.Sound.{ClientSound, CountsInOrder, InOrder}
+use Rattle.lane_laws.proofs.Requesting.{got_below}
 
 -- it begins
 pub client_joined : (c : ClientState) → ClientSound c → ClientSound (joined_client c)
@@ -55,18 +56,12 @@ client_admits s (Refused why request) t sound admits = subst ClientSound (sym ad
 client_admits s (Full request) t sound admits = subst ClientSound (sym admits.2) sound
 client_admits s (Accepted id request) t sound admits = subst ClientSound (sym admits.5) (accepted_sound s request admits.1 sound)
 
--- the request that is published is one that is pending
-is_pending : (pending : List Request) (n : ℕ) (request : Request) → slice_get pending n ≡ Some request → n < length pending
-is_pending [] n request is = absurd (cc)
-is_pending (one ∷ pending) zero request is = omega arith
-is_pending (one ∷ pending) (suc n) request is = omega (arith, is_pending pending n request is)
-
 pub client_publishes : (s : ClientState) (at : Seen) (memory : List ℕ) (id : ℕ) (t : ClientState) (new : List ℕ) → ClientSound s → ClientPublishes s at memory id t new
     → ClientSound t
 client_publishes s at memory id t new sound step =
     let may : ClientMay s at (Publishes step.session step.request) = subst (ClientMay s at) step.rule (client_may s at) in
     let counts : InOrder (length s.pending) step.session = in_order (length s.pending) s.session step.session may.1 sound.counts in
-    let some = is_pending s.pending (step.session.published - step.session.completed) step.request may.2 in
+    let some = got_below s.pending (step.session.published - step.session.completed) step.request may.2 in
     let own : is_announcing (Some (record step.session { published = step.session.published + 1 })) ≡ is_announcing s.session = ap is_announcing (sym may.1) in
     subst ClientSound (sym step.is)
     (record {
@@ -83,7 +78,7 @@ client_publishes s at memory id t new sound step =
     })
 
 -- one that is done was pending
-front_some : (pending : List Request) (request : Request) → slice_get pending 0 ≡ Some request → 1 ≤ length pending
+pub front_some : (pending : List Request) (request : Request) → slice_get pending 0 ≡ Some request → 1 ≤ length pending
 front_some [] request is = absurd (cc)
 front_some (one ∷ pending) request is = omega arith
 

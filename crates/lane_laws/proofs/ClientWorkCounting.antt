@@ -81,7 +81,7 @@ sums_same shape c turns packet last owed =
       infos = omega (arith, ap (range_count 1) last.messages, count_more 1 (said turns) bytes, ap one_in owed.none);
     }
 
-none_more : (n : ℕ) → n ≡ n + 0
+pub none_more : (n : ℕ) → n ≡ n + 0
 none_more n = omega arith
 
 handshake_as : (opens : Bool) (shape : Shape) (c : ClientState) (turns : List Turn) (packet : List ℕ) (sid done : ℕ) (k : Option ClientCounts) → opens_by_put c.handshake.role c.handshake.phase ≡ opens

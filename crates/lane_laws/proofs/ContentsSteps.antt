@@ -18,6 +18,7 @@ use Rattle.lane_laws.specs.LaneView.{View, place_of}
 use Rattle.lane_laws.proofs.Buffers.{other_buffer, other_slot}
 use Rattle.lane_laws.proofs.Changes.{Accepts, Completes, Disturbs, Keeps, Opens, Placed, Publishes, Unchanged, filled}
 use Rattle.lane_laws.proofs.NearSteps.{get_within}
+use Rattle.lane_laws.proofs.SlotBytes.{same_request}
 
 -- THE SESSION'S PLACES
 pub same_place : (slots i : ℕ) (one other : ClientSession) → one.completed ≡ other.completed → place_of slots one i ≡ place_of slots other i
@@ -80,9 +81,6 @@ holds_own place (Read block count) buffers room = tt
 holds_own place (Write block count fill) buffers room = range_at-put_at_same place (512 * count) (written fill count) buffers (length-repeated fill 0 (512 * count)) room
 holds_own place Flush buffers room = tt
 
-pub same_got : (pending : List Request) (i : ℕ) (one other : Request) → slice_get pending i ≡ Some one → slice_get pending i ≡ Some other → one ≡ other
-same_got pending i one other is also = let both : Some one ≡ Some other = sym is ∙ also in cc both
-
 writes_published : (blocks : ℕ) (v w : View) → Placed blocks v → (change : Publishes v w) → WritesStand v
     → WritesStand (record v { session = Some (record change.session { published = change.session.published + 1 }); buffers = filled change.request (32768 * (change.session.published % v.slots)) v.buffers })
 writes_published blocks v w placed change stand = λ session is i below other got.
@@ -109,7 +107,7 @@ writes_published blocks v w placed change stand = λ session is i below other go
           (stand c change.there i (omega (arith, less, number)) other got)
       | inr past ↦
           let here : i ≡ j = omega (arith, past, below, completed, published, number) in
-          let one : change.request ≡ other = same_got v.pending j change.request other change.next (subst (λ (n : ℕ). slice_get v.pending n ≡ Some other) here got) in
+          let one : change.request ≡ other = same_request v.pending j change.request other change.next (subst (λ (n : ℕ). slice_get v.pending n ≡ Some other) here got) in
           let place : 32768 * slot ≡ place_of v.slots c i = ap (λ (n : ℕ). 32768 * (n % v.slots)) (sym number) ∙ ap (place_of v.slots c) (sym here) in
           let room = placed.room in
           subst (λ (p : ℕ). HoldsWritten p other new) place

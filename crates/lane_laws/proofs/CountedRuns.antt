@@ -4,7 +4,7 @@ use Rattle.runs.specs.Lawful.{Lawful}
 use Rattle.runs.specs.Run.{Run}
 use Rattle.lane_laws.specs.DiskLog.{DiskLog, after, nothing_yet}
 use Rattle.lane_laws.specs.RequestLaws.{OnceAt}
-use Rattle.disk_model.specs.DiskEvent.{Accepted, Asks, Desc, DiskEvent, Done, Finished, Full, Misplaced, Moved, Off, OnWire, Published, Refused, Calms, Started, Stopped, Stored, Switches, Works}
+use Rattle.disk_model.specs.DiskEvent.{Accepted, Asks, DiskEvent, Done, OnWire, Stopped, Switches, Works}
 use Rattle.disk_model.specs.LaneState.{IsShape, LaneState, Shape, fresh}
 use Rattle.disk_model.specs.LaneStep.{LaneStep}
 use Rattle.lane_laws.proofs.StandingRuns.{once_lawful}
@@ -14,19 +14,9 @@ use Rattle.lane_laws.specs.CompletedIds.{CountsFrom, done_ids, id_in, with_id}
 counts_step : (l : DiskLog) (event : DiskEvent) (ids : List ℕ) → OnceAt l event → CountsFrom (after l event).work.done ids → CountsFrom l.work.done (with_id (id_in event) ids)
 counts_step l (OnWire event) ids once rest = subst (λ (n : ℕ). CountsFrom n ids) (wired_keeps l.shape.slots l.transcript l.work event).done rest
 counts_step l (Asks (Accepted id request)) ids once rest = rest
-counts_step l (Asks (Full request)) ids once rest = rest
-counts_step l (Asks (Refused why request)) ids once rest = rest
-counts_step l (Works (Published id)) ids once rest = rest
 counts_step l (Works (Done id operation status bytes)) ids once rest = (once.next, rest)
-counts_step l (Works (Desc slot bytes)) ids once rest = rest
-counts_step l (Works (Moved unit fault)) ids once rest = rest
-counts_step l (Works (Stored operation block count failed)) ids once rest = rest
-counts_step l (Works (Finished slot status)) ids once rest = rest
-counts_step l (Works Misplaced) ids once rest = rest
 counts_step l (Switches Stopped) ids once rest = rest
-counts_step l (Switches Started) ids once rest = rest
-counts_step l (Switches Off) ids once rest = rest
-counts_step l (Calms event) ids once rest = rest
+counts_step l _ ids once rest = rest
 
 counts_from : (l : DiskLog) (events : List DiskEvent) → Lawful OnceAt after l events → CountsFrom l.work.done (done_ids events)
 counts_from l [] lawful = tt

@@ -19,7 +19,8 @@ use Rattle.disk_model.specs.ServerState.{ServerState}
 use Rattle.disk_model.specs.ServerWork.{with_done}
 use Rattle.lane_laws.proofs.MemorySteps.{got_sound}
 use Rattle.lane_laws.proofs.RingEnds.{work_below}
-use Rattle.lane_laws.proofs.RingWork.{at_work, numbered, slots_are}
+use Rattle.lane_laws.proofs.RingWork.{at_work, numbered}
+use Rattle.lane_laws.proofs.StandingRuns.{slots_is as slots_are}
 use Rattle.lane_laws.proofs.Ruling.{client_may, server_may}
 use Rattle.lane_laws.specs.RingAgreed.{ring_in}
 use Rattle.lane_laws.specs.RingSlots.{HoldsIssued}

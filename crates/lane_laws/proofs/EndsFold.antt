@@ -4,57 +4,54 @@ use Rattle.std.specs.Prelude.{◌%◌, is_none, is_some, not, ◌&&◌, ◌||◌
 use Rattle.runs.specs.Lawful.{log_of, run_lawful}
 use Rattle.runs.specs.Run.{Run}
 use Rattle.ldc_link.specs.declared.phase.Role.TheVariants.{Initiator, Responder}
-use Rattle.ldc_link.specs.LinkState.{LinkState, is_up, offered}
+use Rattle.ldc_link.specs.LinkState.{LinkState, is_up}
 use Rattle.ldc_link.specs.Putting.{owes, owes_control}
-use Rattle.ldc_queue.specs.declared.end.End.{End}
 use Rattle.ldc_queue.specs.declared.end.End.TheVariants.{A, B}
 use Rattle.ldc_queue.specs.Messages.{is_empty}
 use Rattle.ldc_queue.specs.Transcript.{Heard as Heard_, Said, Turn}
-use Rattle.vio_tag.specs.declared.cause.Cause.{Cause}
 use Rattle.vio_tag.specs.declared.message.Message.{Message}
 use Rattle.vio_tag.specs.Spelling.{canonical}
+use Rattle.lane_laws.proofs.ServerSpeaking.{server_holds_link}
 use Rattle.lane_laws.specs.Agreement.{ClientEndAgrees, RangeAgrees, ServerEndAgrees}
 use Rattle.lane_laws.specs.BlockLog.{Blockage, Clear, is_stuck}
 use Rattle.disk_model.specs.ClientPutting.{announcement, client_kind, is_announcing}
 use Rattle.disk_model.specs.ClientRule as client_rules
-use Rattle.disk_model.specs.ClientState.{ClientSession, ClientState, joined_client}
-use Rattle.disk_model.specs.ClientStep.{ClientSends}
-use Rattle.disk_model.specs.DiskEvent.{Asks, Calm, CalmReset, CalmRestart, CalmStart, CalmStop, CalmTick, Desc, DiskEvent, Done, Finished, Misplaced, Moved, Off, OnWire, Published, Calms, Started, Stopped, Stored, Switched, Switches, Worked, Works}
+use Rattle.disk_model.specs.ClientState.{ClientSession, ClientState}
+use Rattle.disk_model.specs.DiskEvent.{Desc, DiskEvent, Done, Finished, Moved, OnWire, Published, Stored, Works}
 use Rattle.lane_laws.specs.DiskLog.{DiskLog, after, nothing_yet}
 use Rattle.lane_laws.specs.EndLog.{announced_or_owed, answer_left, client_left, has_begun, infos_heard, left_if, left_of, owed_left, range_in_work, range_left, server_left}
 use Rattle.disk_model.specs.LaneState.{IsShape, LaneState, Shape, fresh}
-use Rattle.disk_model.specs.LaneStep.{EndOnWire, LaneStep, ResetBy, RestStep, TurnStep, WireStep, WorkStep}
+use Rattle.disk_model.specs.LaneStep.{LaneStep}
 use Rattle.disk_model.specs.Offering.{client_offer, server_offer}
 use Rattle.channel_model.specs.Ranges.{wrapped}
 use Rattle.channel_model.specs.Sayings.{half_said, heard}
-use Rattle.channel_model.specs.Seeing.{seen}
 use Rattle.disk_model.specs.ServerPutting.{server_holds, server_kind}
 use Rattle.disk_model.specs.ServerRule as server_rules
 use Rattle.disk_model.specs.ServerRule.{answer}
-use Rattle.disk_model.specs.ServerState.{ServerSession, ServerState, SlotRange, joined_server, restarted_server}
-use Rattle.disk_model.specs.ServerStep.{ServerSends}
-use Rattle.channel_model.specs.WireEvent.{Blocked, ByRestart, ByScript, ByStep, ByTick, Declines, Giver, Idle, Injected, Joined, Lost, Poked, Reset, Sent, Took, WireEvent, giver}
+use Rattle.disk_model.specs.ServerState.{ServerSession, ServerState, SlotRange}
+use Rattle.disk_model.specs.ServerStep.{ServerSends, ServerStep}
+use Rattle.channel_model.specs.WireEvent.{Blocked, Idle, Joined, Reset, Sent, Took}
 use Rattle.lane_laws.specs.WorkLog.{ServerCounts}
 use Rattle.lane_laws.proofs.ClientFolds.{ClientIs, client_admits_so, client_begins, client_blocks_so, client_completes_so, client_publishes_so, client_puts_so, client_takes_so, sends_some}
 use Rattle.channel_laws.proofs.MessagesHeld.{owed_held}
-use Rattle.lane_laws.proofs.Speaking.{client_blocked_rests}
+use Rattle.lane_laws.proofs.Speaking.{client_blocked_rests, client_blocked_utters, server_blocked_rests, server_blocked_utters, server_holds_owed}
 use Rattle.lane_laws.proofs.ClientTaken.{client_took_what}
-use Rattle.lane_laws.proofs.Speaking.{client_blocked_utters}
-use Rattle.channel_laws.proofs.Apart.{false_is_true, none_is_some, some_is_none, some_same}
+use Rattle.channel_laws.proofs.Apart.{false_is_true, none_is_some, some_is_none}
 use Rattle.channel_laws.proofs.PutSayings.{put_says}
 use Rattle.channel_laws.proofs.EndStanding.{hears_sending, open_up}
+use Rattle.lane_laws.proofs.LaneViews.{ClientSide, ServerSide, at_client, at_server, client_keeps, reach_of, server_keeps}
+use Rattle.disk_model.specs.ClientStep.{ClientStep}
 use Rattle.lane_laws.proofs.LaneCounting.{Knows, knows_step, run_knows}
 use Rattle.lane_laws.proofs.ClientMoves.{client_sending}
 use Rattle.lane_laws.proofs.ServerMoves.{server_hears}
 use Rattle.lane_laws.proofs.ClientPuts.{putting}
 use Rattle.lane_laws.proofs.RangeSums.{count_heard}
-use Rattle.lane_laws.proofs.RulesFree.{owes_nothing, takes_calm}
-use Rattle.lane_laws.proofs.RulesFree.{ServerFree, TakesFree, server_free}
+use Rattle.lane_laws.proofs.RulesFree.{ServerFree, owes_nothing, server_free, takes_calm}
+use Rattle.lane_laws.proofs.RuleTests.{TakesFree}
 use Rattle.lane_laws.proofs.Ruling.{client_may}
 use Rattle.lane_laws.proofs.ServerFolds.{ServerIs, ranged, server_begins, server_blocks_so, server_fetches_so, server_finishes_so, server_moves_so, server_puts_so, server_restarts, server_stores_so, server_takes_so}
 use Rattle.lane_laws.proofs.ServerPutCounting.{server_holds_counting}
 use Rattle.lane_laws.proofs.ServerTaken.{server_took_what}
-use Rattle.lane_laws.proofs.Speaking.{server_blocked_rests, server_blocked_utters, server_holds_owed}
 use Rattle.channel_laws.specs.Cuts.{CarriesOwed, Cuts}
 use Rattle.lane_laws.specs.Counted.{HoldsAnswer, ServerOrder, range_count}
 use Rattle.lane_laws.specs.ChannelEnds.{client_core, server_core}
@@ -73,240 +70,102 @@ pub record BothAre (s : LaneState) (l : DiskLog) : Type 0 where
   pub client : ClientStands s l
   pub server : ServerStands s l
 
--- an end that stays
-same_client : (s t : LaneState) (l : DiskLog) → BothAre s l → t.client ≡ s.client → ClientIs t.client l.blocked.client
-same_client s t l both same = subst (λ (c : ClientState). ClientIs c l.blocked.client) (sym same) both.client
-
-same_server : (s t : LaneState) (l : DiskLog) → BothAre s l → t.server ≡ s.server → ServerIs t.server l.transcript.server l.blocked.server
-same_server s t l both same = subst (λ (v : ServerState). ServerIs v l.transcript.server l.blocked.server) (sym same) both.server
-
--- one that begins anew
-begun_client : (s : LaneState) (c : ClientState) → c ≡ joined_client s.client → ClientIs c Clear
-begun_client s c is = subst (λ (x : ClientState). ClientIs x Clear) (sym is) (client_begins s.client)
-
-begun_server : (s : LaneState) (v : ServerState) → v ≡ joined_server s.server → ServerIs v [] Clear
-begun_server s v is = subst (λ (x : ServerState). ServerIs x [] Clear) (sym is) (server_begins s.server)
-
-made_server : (s : LaneState) (v : ServerState) → v ≡ restarted_server s.server → ServerIs v [] Clear
-made_server s v is = subst (λ (x : ServerState). ServerIs x [] Clear) (sym is) (server_restarts s.server)
-
 -- what a server holds leaves its session
 pub held_session : (s : ServerState) (rule : server_rules.ServerRule) (held : ServerState) → server_holds rule s ≡ Some held → held.session ≡ s.session
-held_session s server_rules.Puts held is = let same : s ≡ held = some_same is in ap (λ (x : ServerState). x.session) (sym same)
-held_session s (server_rules.Says message) held is =
-    let same : record s { link = offered (canonical message) s.link } ≡ held = cc is in ap (λ (x : ServerState). x.session) (sym same)
-held_session s _ held is = none_is_some is
+held_session s rule held is = ap (λ (x : ServerState). x.session) (server_holds_link s rule held is)
 
 -- THE CLIENT on the wire
 pub first_false : (a b c : Bool) → (a || b || c) ≡ false → a ≡ false
 first_false false b c is = refl
 first_false true b c is = absurd (cc)
 
-client_takes : (s : LaneState) (l : DiskLog) (packet : List ℕ) (opens : Bool) (t : LaneState) → BothAre s l → EndOnWire A s (Took A packet opens) t → ClientStands t (after l (OnWire (Took A packet opens)))
-client_takes s l packet opens t both step =
+client_acts_so : (s : LaneState) (l : DiskLog) → BothAre s l → (event : DiskEvent) (t : ClientState) (new : List ℕ) → ClientStep s.client (at_client s) s.memory event t new
+    → ClientIs t (after l event).blocked.client
+client_acts_so s l both (OnWire (Joined A lost)) t new step = subst (λ (c : ClientState). ClientIs c Clear) (sym step.2) (client_begins s.client)
+client_acts_so s l both (OnWire (Took A packet opens)) t new step =
     let knows = both.knows in
-    let at = seen A s.shape.entries s.wire.wire in
-    client_takes_so s.client t.client l.transcript.client packet l.blocked.client (record {
-      same = client_sending s.client t.client packet step.step.1;
-      calm = first_false (owes_control s.client.link) (is_some s.client.handshake.owed) (is_none s.client.session && owes s.client.link) (takes_calm s.client at packet step.step.0);
-      owed = owes_nothing s.client at packet step.step.0;
+    client_takes_so s.client t l.transcript.client packet l.blocked.client (record {
+      same = client_sending s.client t packet step.1;
+      calm = first_false (owes_control s.client.link) (is_some s.client.handshake.owed) (is_none s.client.session && owes s.client.link) (takes_calm s.client (at_client s) packet step.0);
+      owed = owes_nothing s.client (at_client s) packet step.0;
     }) both.client
-    (client_took_what s.client l.transcript.client packet t.client knows.rests.client.stands.link.follows knows.rests.client.whole step.step.1)
-
-client_puts : (s : LaneState) (l : DiskLog) (packet : List ℕ) (opens : Bool) (t : LaneState) → BothAre s l → EndOnWire A s (Sent A packet opens) t → ClientStands t (after l (OnWire (Sent A packet opens)))
-client_puts s l packet opens t both step =
+    (client_took_what s.client l.transcript.client packet t knows.rests.client.stands.link.follows knows.rests.client.whole step.1)
+client_acts_so s l both (OnWire (Sent A packet opens)) t new step =
     let knows = both.knows in
-    let at = seen A s.shape.entries s.wire.wire in
-    let rule = client_rules.client_rule s.client at in
-    let sends : ClientSends s.client at s.memory packet opens t.client t.memory = step.step in
-    let held = sends.held in
-    let put = putting s l packet opens t.client t.memory knows sends in
-    subst (λ (x : ClientState). ClientIs x Clear) (sym sends.is)
+    let held = step.held in
+    let put = putting s l packet opens t new knows step in
+    subst (λ (x : ClientState). ClientIs x Clear) (sym step.is)
     (client_puts_so l.transcript.client packet (client_kind held) held refl (record {
-      rests = client_blocked_rests s.client at held l.transcript.client knows.all.sound sends.holds knows.rests.client;
-      utters = client_blocked_utters s.client at held l.transcript.client knows.all.sound sends.holds knows.rests.client;
+      rests = client_blocked_rests s.client (at_client s) held l.transcript.client knows.all.sound step.holds knows.rests.client;
+      utters = client_blocked_utters s.client (at_client s) held l.transcript.client knows.all.sound step.holds knows.rests.client;
       holds = put.counted.holds;
     }) put.says)
+client_acts_so s l both (OnWire (Blocked A)) t new step =
+    client_blocks_so s.client (at_client s) (client_rules.client_rule s.client (at_client s)) t l.transcript.client l.blocked.client refl (client_may s.client (at_client s)) step.0
+    (record { rests = both.knows.rests.client; utters = both.knows.utters.client; holds = both.knows.counted.client.holds }) both.client
+client_acts_so s l both (OnWire (Idle A)) t new step = subst (λ (c : ClientState). ClientIs c l.blocked.client) (sym step.1) both.client
+client_acts_so s l both (OnWire (Reset A cause packet lost)) t new step = subst (λ (c : ClientState). ClientIs c Clear) (sym step.2) (client_begins s.client)
+client_acts_so s l both (Works (Published id)) t new step = client_publishes_so s.client (at_client s) s.memory id t new l.blocked.client step both.client
+client_acts_so s l both (Works (Done id operation status bytes)) t new step = client_completes_so s.client (at_client s) s.memory id operation status bytes t new l.blocked.client step both.client
+client_acts_so s l both _ t new step = absurd step
 
-client_wire : (s : LaneState) (event : WireEvent) (t : LaneState) (l : DiskLog) → BothAre s l → EndOnWire A s event t
-    → ClientStands t (after l (OnWire event)) × ServerStands t (after l (OnWire event))
-client_wire s (Joined A lost) t l both step = (begun_client s t.client step.step.2, same_server s t l both (ap (λ (x : LaneState). x.server) step.is))
-client_wire s (Took A packet opens) t l both step = (client_takes s l packet opens t both step, same_server s t l both (ap (λ (x : LaneState). x.server) step.is))
-client_wire s (Sent A packet opens) t l both step = (client_puts s l packet opens t both step, same_server s t l both (ap (λ (x : LaneState). x.server) step.is))
-client_wire s (Blocked A) t l both step =
-    let at = seen A s.shape.entries s.wire.wire in
-    let rule = client_rules.client_rule s.client at in (
-      client_blocks_so s.client at rule t.client l.transcript.client l.blocked.client refl (client_may s.client at) step.step.0
-          (record { rests = both.knows.rests.client; utters = both.knows.utters.client; holds = both.knows.counted.client.holds }) both.client,
-      same_server s t l both (ap (λ (x : LaneState). x.server) step.is),
-    )
-client_wire s (Idle A) t l both step = (same_client s t l both step.step.1, same_server s t l both (ap (λ (x : LaneState). x.server) step.is))
-client_wire s (Reset A cause packet lost) t l both step = (begun_client s t.client step.step.2, same_server s t l both (ap (λ (x : LaneState). x.server) step.is))
-client_wire s (Joined B lost) t l both step = absurd step.step
-client_wire s (Took B packet opens) t l both step = absurd step.step
-client_wire s (Sent B packet opens) t l both step = absurd step.step
-client_wire s (Blocked B) t l both step = absurd step.step
-client_wire s (Idle B) t l both step = absurd step.step
-client_wire s (Reset B cause packet lost) t l both step = absurd step.step
-client_wire s (Lost e packet) t l both step = absurd step.step
-client_wire s (Injected e packet) t l both step = absurd step.step
-client_wire s (Poked e at bytes) t l both step = absurd step.step
-client_wire s (Declines d) t l both step = absurd step.step
+client_stands : (s : LaneState) (event : DiskEvent) (t : LaneState) (l : DiskLog) → BothAre s l → LaneStep s event t → ClientStands t (after l event)
+client_stands s event t l both step =
+    client_keeps (λ (c : ClientState) (side : ClientSide). ClientIs c side.blocked) s l event t (record {
+      now = both.client;
+      acts = client_acts_so s l both;
+      asked = λ request c admits. client_admits_so s.client request c l.blocked.client admits both.client;
+      joined = client_begins s.client;
+    }) step
 
--- THE SERVER on the wire
-server_takes : (s : LaneState) (l : DiskLog) (packet : List ℕ) (opens : Bool) (t : LaneState) → BothAre s l → EndOnWire B s (Took B packet opens) t → ServerStands t (after l (OnWire (Took B packet opens)))
-server_takes s l packet opens t both step =
+-- THE SERVER
+server_acts_so : (s : LaneState) (l : DiskLog) → BothAre s l → (event : DiskEvent) (gave : List ℕ) (t : ServerState) (new : List ℕ)
+    → ServerStep s.server (at_server s) (reach_of s) gave event t new → ServerIs t (after l event).transcript.server (after l event).blocked.server
+server_acts_so s l both (OnWire (Joined B lost)) gave t new step = subst (λ (v : ServerState). ServerIs v [] Clear) (sym step.2) (server_begins s.server)
+server_acts_so s l both (OnWire (Took B packet opens)) gave t new step =
     let knows = both.knows in
-    let at = seen B s.shape.entries s.wire.wire in
-    let free : TakesFree s.server = subst (ServerFree s.server) step.1.step.1.0 (server_free s.server at) in
-    server_takes_so s.server t.server l.transcript.server packet opens l.blocked.server (record {
-      same = hears_sending Responder (server_core s.server) (server_core t.server) packet opens
-          (server_hears s.server at packet t.server opens step.1.step.1.0 step.1.step.1.1);
+    let free : TakesFree s.server = subst (ServerFree s.server) step.0 (server_free s.server (at_server s)) in
+    server_takes_so s.server t l.transcript.server packet opens l.blocked.server (record {
+      same = hears_sending Responder (server_core s.server) (server_core t) packet opens (server_hears s.server (at_server s) packet t opens step.0 step.1);
       free = free;
     }) knows.rests.server both.server
-    (server_took_what s.server l.transcript.server packet t.server opens knows.rests.server.stands.link.follows knows.rests.server.whole step.1.step.1.1)
-
-server_puts_packet : (s : LaneState) (l : DiskLog) (packet : List ℕ) (opens : Bool) (t : LaneState) → BothAre s l → EndOnWire B s (Sent B packet opens) t → ServerStands t (after l (OnWire (Sent B packet opens)))
-server_puts_packet s l packet opens t both step =
+    (server_took_what s.server l.transcript.server packet t opens knows.rests.server.stands.link.follows knows.rests.server.whole step.1)
+server_acts_so s l both (OnWire (Sent B packet opens)) gave t new step =
     let knows = both.knows in
-    let at = seen B s.shape.entries s.wire.wire in
-    let rule = server_rules.server_rule s.server at in
-    let sends : ServerSends s.server at packet opens t.server = step.1.step.1.0 in
+    let rule = server_rules.server_rule s.server (at_server s) in
+    let sends : ServerSends s.server (at_server s) packet opens t = step.0 in
     let held = sends.held in
-    let counted = server_holds_counting l.shape s.server rule held l.transcript.server l.work.server knows.rests.server knows.utters.server (server_free s.server at) sends.holds knows.counted.server in
-    let rests = server_blocked_rests s.server at held l.transcript.server sends.holds knows.rests.server in
+    let counted = server_holds_counting l.shape s.server rule held l.transcript.server l.work.server knows.rests.server knows.utters.server (server_free s.server (at_server s)) sends.holds knows.counted.server in
+    let rests = server_blocked_rests s.server (at_server s) held l.transcript.server sends.holds knows.rests.server in
     subst (λ (x : ServerState). ServerIs x (Said packet ∷ l.transcript.server) Clear) (sym sends.is)
     (server_puts_so l.transcript.server packet (server_kind held) held (record {
       range = ap ranged (held_session s.server rule held sends.holds) ∙ both.server.range;
       owed = rests.fits.owed;
       rests = rests;
-      utters = server_blocked_utters s.server at held l.transcript.server sends.holds knows.rests.server;
+      utters = server_blocked_utters s.server (at_server s) held l.transcript.server sends.holds knows.rests.server;
       holds = counted.holds;
-    }) (put_says (is_none held.handshake.owed) held.link t.server.link l.transcript.server packet rests.stands.link.follows sends.packet))
+    }) (put_says (is_none held.handshake.owed) held.link t.link l.transcript.server packet rests.stands.link.follows sends.packet))
+server_acts_so s l both (OnWire (Blocked B)) gave t new step =
+    server_blocks_so s.server (server_rules.server_rule s.server (at_server s)) t l.transcript.server l.blocked.server (server_free s.server (at_server s)) step.0
+    (record { rests = both.knows.rests.server; utters = both.knows.utters.server }) both.server
+server_acts_so s l both (OnWire (Idle B)) gave t new step = subst (λ (v : ServerState). ServerIs v l.transcript.server l.blocked.server) (sym step.1) both.server
+server_acts_so s l both (OnWire (Reset B cause packet lost)) gave t new step = subst (λ (v : ServerState). ServerIs v [] Clear) (sym step.2) (server_begins s.server)
+server_acts_so s l both (Works (Desc slot bytes)) gave t new step = server_fetches_so s.server (at_server s) (reach_of s) slot bytes t new l.transcript.server l.blocked.server step.0 both.server
+server_acts_so s l both (Works (Moved unit fault)) gave t new step = server_moves_so s.server t (at_server s) (reach_of s) unit fault new l.transcript.server l.blocked.server step.0 both.server
+server_acts_so s l both (Works (Stored operation block count failed)) gave t new step =
+    server_stores_so s.server t (at_server s) operation block count failed gave l.transcript.server l.blocked.server step.0 both.server
+server_acts_so s l both (Works (Finished slot status)) gave t new step =
+    server_finishes_so s.server (at_server s) (reach_of s) slot status t new l.transcript.server l.blocked.server step.0 both.server
+server_acts_so s l both _ gave t new step = absurd step
 
-server_wire : (s : LaneState) (event : WireEvent) (t : LaneState) (l : DiskLog) → BothAre s l → EndOnWire B s event t
-    → ClientStands t (after l (OnWire event)) × ServerStands t (after l (OnWire event))
-server_wire s (Joined B lost) t l both step = (same_client s t l both (ap (λ (x : LaneState). x.client) step.1.is), begun_server s t.server step.1.step.1.2)
-server_wire s (Took B packet opens) t l both step = (same_client s t l both (ap (λ (x : LaneState). x.client) step.1.is), server_takes s l packet opens t both step)
-server_wire s (Sent B packet opens) t l both step = (same_client s t l both (ap (λ (x : LaneState). x.client) step.1.is), server_puts_packet s l packet opens t both step)
-server_wire s (Blocked B) t l both step =
-    let at = seen B s.shape.entries s.wire.wire in (
-      same_client s t l both (ap (λ (x : LaneState). x.client) step.1.is),
-      server_blocks_so s.server (server_rules.server_rule s.server at) t.server l.transcript.server l.blocked.server (server_free s.server at) step.1.step.1.0
-          (record { rests = both.knows.rests.server; utters = both.knows.utters.server }) both.server,
-    )
-server_wire s (Idle B) t l both step = (same_client s t l both (ap (λ (x : LaneState). x.client) step.1.is), same_server s t l both step.1.step.1.1)
-server_wire s (Reset B cause packet lost) t l both step = (same_client s t l both (ap (λ (x : LaneState). x.client) step.1.is), begun_server s t.server step.1.step.1.2)
-server_wire s (Joined A lost) t l both step = absurd step.1.step.1
-server_wire s (Took A packet opens) t l both step = absurd step.1.step.1
-server_wire s (Sent A packet opens) t l both step = absurd step.1.step.1
-server_wire s (Blocked A) t l both step = absurd step.1.step.1
-server_wire s (Idle A) t l both step = absurd step.1.step.1
-server_wire s (Reset A cause packet lost) t l both step = absurd step.1.step.1
-server_wire s (Lost e packet) t l both step = absurd step.1.step.1
-server_wire s (Injected e packet) t l both step = absurd step.1.step.1
-server_wire s (Poked e at bytes) t l both step = absurd step.1.step.1
-server_wire s (Declines d) t l both step = absurd step.1.step.1
-
-abbrev pub Stand : LaneState → DiskLog → Type 0
-Stand s l = ClientStands s l × ServerStands s l
-
-end_wire : (e : End) (s : LaneState) (event : WireEvent) (t : LaneState) (l : DiskLog) → BothAre s l → EndOnWire e s event t → Stand t (after l (OnWire event))
-end_wire A s event t l both step = client_wire s event t l both step
-end_wire B s event t l both step = server_wire s event t l both step
-
--- RESETS that no step gave, and what neither end does
-stays : (s t : LaneState) (l : DiskLog) → BothAre s l → t.client ≡ s.client → t.server ≡ s.server → Stand t l
-stays s t l both client server = (same_client s t l both client, same_server s t l both server)
-
-reset_by : (by : Giver) (e : End) (s : LaneState) (cause : Cause) (packet : Option (List ℕ)) (lost : ℕ) (t : LaneState) (l : DiskLog) → BothAre s l → ResetBy by e s cause packet lost t
-    → Stand t (after l (OnWire (Reset e cause packet lost)))
-reset_by ByStep A s cause packet lost t l both step = client_wire s (Reset A cause packet lost) t l both step
-reset_by ByStep B s cause packet lost t l both step = server_wire s (Reset B cause packet lost) t l both step
-reset_by ByScript A s cause packet lost t l both step =
-    (begun_client s t.client (ap (λ (x : LaneState). x.client) step.2), same_server s t l both (ap (λ (x : LaneState). x.server) step.2))
-reset_by ByScript B s cause packet lost t l both step =
-    (same_client s t l both (ap (λ (x : LaneState). x.client) step.1.2), begun_server s t.server (ap (λ (x : LaneState). x.server) step.1.2))
-reset_by ByRestart A s cause packet lost t l both step = absurd step
-reset_by ByRestart B s cause packet lost t l both step =
-    (same_client s t l both (ap (λ (x : LaneState). x.client) step.1.2), made_server s t.server (ap (λ (x : LaneState). x.server) step.1.2))
-reset_by ByTick A s cause packet lost t l both step =
-    (begun_client s t.client (ap (λ (x : LaneState). x.client) step.1.2), same_server s t l both (ap (λ (x : LaneState). x.server) step.1.2))
-reset_by ByTick B s cause packet lost t l both step = absurd step
-
-poked_by : (e : End) (s : LaneState) (at : ℕ) (bytes : List ℕ) (t : LaneState) (l : DiskLog) → BothAre s l → WireStep s (Poked e at bytes) t → Stand t (after l (OnWire (Poked e at bytes)))
-poked_by A s at bytes t l both step = stays s t l both (ap (λ (x : LaneState). x.client) step.1) (ap (λ (x : LaneState). x.server) step.1)
-poked_by B s at bytes t l both step = absurd step
-
-on_wire : (s : LaneState) (event : WireEvent) (t : LaneState) (l : DiskLog) → BothAre s l → WireStep s event t → Stand t (after l (OnWire event))
-on_wire s (Joined e lost) t l both step = end_wire e s (Joined e lost) t l both step
-on_wire s (Took e packet opens) t l both step = end_wire e s (Took e packet opens) t l both step
-on_wire s (Sent e packet opens) t l both step = end_wire e s (Sent e packet opens) t l both step
-on_wire s (Idle e) t l both step = end_wire e s (Idle e) t l both step
-on_wire s (Blocked e) t l both step = end_wire e s (Blocked e) t l both step
-on_wire s (Reset e cause packet lost) t l both step = reset_by (giver cause) e s cause packet lost t l both step
-on_wire s (Lost e packet) t l both step = stays s t l both (ap (λ (x : LaneState). x.client) step.1) (ap (λ (x : LaneState). x.server) step.1)
-on_wire s (Injected e packet) t l both step = stays s t l both (ap (λ (x : LaneState). x.client) step.2) (ap (λ (x : LaneState). x.server) step.2)
-on_wire s (Poked e at bytes) t l both step = poked_by e s at bytes t l both step
-on_wire s (Declines d) t l both step = stays s t l both (ap (λ (x : LaneState). x.client) step.1) (ap (λ (x : LaneState). x.server) step.1)
-
--- THE WORK, what is asked, stops, and what changes nothing
-works : (s : LaneState) (event : Worked) (t : LaneState) (l : DiskLog) → BothAre s l → WorkStep s event t → Stand t (after l (Works event))
-works s (Published id) t l both step = (
-  client_publishes_so s.client (seen A s.shape.entries s.wire.wire) s.memory id t.client t.memory l.blocked.client step.step both.client,
-  same_server s t l both (ap (λ (x : LaneState). x.server) step.is),
-)
-works s (Done id operation status bytes) t l both step = (
-  client_completes_so s.client (seen A s.shape.entries s.wire.wire) s.memory id operation status bytes t.client t.memory l.blocked.client step.step both.client,
-  same_server s t l both (ap (λ (x : LaneState). x.server) step.is),
-)
-works s (Desc slot bytes) t l both step = (
-  same_client s t l both (ap (λ (x : LaneState). x.client) step.1.is),
-  server_fetches_so s.server (seen B s.shape.entries s.wire.wire) _ slot bytes t.server t.memory l.transcript.server l.blocked.server step.1.step.1.0 both.server,
-)
-works s (Moved unit fault) t l both step = (
-  same_client s t l both (ap (λ (x : LaneState). x.client) step.1.is),
-  server_moves_so s.server t.server (seen B s.shape.entries s.wire.wire) _ unit fault t.memory l.transcript.server l.blocked.server step.1.step.1.0 both.server,
-)
-works s (Stored operation block count failed) t l both step = (
-  same_client s t l both (ap (λ (x : LaneState). x.client) step.1.is),
-  server_stores_so s.server t.server (seen B s.shape.entries s.wire.wire) operation block count failed step.0 l.transcript.server l.blocked.server step.1.step.1.0 both.server,
-)
-works s (Finished slot status) t l both step = (
-  same_client s t l both (ap (λ (x : LaneState). x.client) step.1.is),
-  server_finishes_so s.server (seen B s.shape.entries s.wire.wire) _ slot status t.server t.memory l.transcript.server l.blocked.server step.1.step.1.0 both.server,
-)
-works s Misplaced t l both step = absurd step
-
-turns_are : (s : LaneState) (event : Switched) (t : LaneState) (l : DiskLog) → BothAre s l → TurnStep s event t → Stand t (after l (Switches event))
-turns_are s Stopped t l both step =
-    (same_client s t l both (ap (λ (x : LaneState). x.client) step.1), made_server s t.server (ap (λ (x : LaneState). x.server) step.1))
-turns_are s Started t l both step = stays s t l both (ap (λ (x : LaneState). x.client) step.1) (ap (λ (x : LaneState). x.server) step.1)
-turns_are s Off t l both step = stays s t l both (ap (λ (x : LaneState). x.client) step.1) (ap (λ (x : LaneState). x.server) step.1)
-
-calm : (s : LaneState) (event : Calm) (t : LaneState) → RestStep s event t → t ≡ s
-calm s CalmTick t step = step.1
-calm s CalmStop t step = step.1
-calm s CalmStart t step = step.1
-calm s (CalmReset A) t step = absurd step
-calm s (CalmReset B) t step = step.1
-calm s CalmRestart t step = step.1
-
-stand_step : (s : LaneState) (event : DiskEvent) (t : LaneState) (l : DiskLog) → BothAre s l → LaneStep s event t → Stand t (after l event)
-stand_step s (OnWire event) t l both step = on_wire s event t l both step
-stand_step s (Asks event) t l both step = (
-  client_admits_so s.client event t.client l.blocked.client step.0 both.client,
-  same_server s t l both (ap (λ (x : LaneState). x.server) step.1),
-)
-stand_step s (Works event) t l both step = works s event t l both step
-stand_step s (Switches event) t l both step = turns_are s event t l both step
-stand_step s (Calms event) t l both step =
-    let same : t ≡ s = calm s event t step in stays s t l both (ap (λ (x : LaneState). x.client) same) (ap (λ (x : LaneState). x.server) same)
+server_stands : (s : LaneState) (event : DiskEvent) (t : LaneState) (l : DiskLog) → BothAre s l → LaneStep s event t → ServerStands t (after l event)
+server_stands s event t l both step =
+    server_keeps (λ (v : ServerState) (side : ServerSide). ServerIs v side.turns side.blocked) s l event t
+    (record { now = both.server; acts = server_acts_so s l both; joined = server_begins s.server; renewed = server_restarts s.server }) step
 
 both_step : (s : LaneState) (l : DiskLog) (event : DiskEvent) (t : LaneState) → BothAre s l → LaneStep s event t → ⊤ × BothAre t (after l event)
 both_step s l event t both step =
-    let stand = stand_step s event t l both step in
-    (tt, record { knows = (knows_step s l event t both.knows step).1; client = stand.0; server = stand.1 })
+    (tt, record { knows = (knows_step s l event t both.knows step).1; client = client_stands s event t l both step; server = server_stands s event t l both step })
 
 fresh_both : (shape : Shape) → IsShape shape → BothAre (fresh shape) (nothing_yet shape)
 fresh_both shape sound = record {

@@ -1,5 +1,5 @@
 -- A packet that an end takes lowers what remains, after every run of a lane that nobody forged.
-use Rattle.std.proofs.Common.{◌≡◌, ℕ, ◌+◌, ◌-◌, ◌%◌, ◌^◌, ◌<◌, ◌≤◌, inl, inr, Bool, false, Option, Some, None, List, [], ◌∷◌, ◌++◌, length, map, refl, sym, ap, ◌∙◌, subst, arith}
+use Rattle.std.proofs.Common.{◌≡◌, ℕ, ◌+◌, ◌-◌, ◌%◌, ◌^◌, ◌<◌, ◌≤◌, inl, inr, Bool, false, Option, Some, List, [], ◌∷◌, ◌++◌, length, map, refl, sym, ap, ◌∙◌, subst, arith}
 use Rattle.std.proofs.lemmas.Nat.{mod_below}
 use Rattle.runs.specs.Lawful.{log_append, log_of}
 use Rattle.runs.specs.Run.{Run, run_push}
@@ -13,15 +13,14 @@ use Rattle.dring.specs.Slots.{range_length}
 use Rattle.channel_model.specs.Sayings.{heard}
 use Rattle.channel_model.specs.Seeing.{seen}
 use Rattle.channel_model.specs.WireAt.{IsUp}
-use Rattle.channel_model.specs.WireEvent.{Joined, Sent, Took, WireEvent}
-use Rattle.channel_model.specs.WireLog.{wire_moved}
+use Rattle.channel_model.specs.WireEvent.{Injected, Joined, Poked, Sent, Took}
 use Rattle.disk_model.specs.ClientState.{ClientState}
 use Rattle.disk_model.specs.ClientTaking.{acknowledged}
-use Rattle.disk_model.specs.DiskEvent.{Desc, DiskEvent, Done, Finished, Misplaced, Moved, OnWire, Published, Stored, Works}
+use Rattle.disk_model.specs.DiskEvent.{DiskEvent, OnWire, Stopped, Switches, Works}
 use Rattle.disk_model.specs.LaneState.{IsShape, LaneState, Shape, fresh}
-use Rattle.disk_model.specs.LaneStep.{EndOnWire, LaneStep}
+use Rattle.disk_model.specs.LaneStep.{LaneStep}
 use Rattle.disk_model.specs.ServerRule as server_rules
-use Rattle.disk_model.specs.ServerState.{ServerSession, ServerState, Work}
+use Rattle.disk_model.specs.ServerState.{ServerSession, ServerState}
 use Rattle.channel_laws.proofs.PacketsTaken.{unforged_took}
 use Rattle.channel_laws.specs.LaneCore.{end_of}
 use Rattle.channel_laws.specs.PacketsLeft.{packets_left}
@@ -29,6 +28,9 @@ use Rattle.lane_laws.proofs.Agreeing.{AskedWithin, asked_within}
 use Rattle.lane_laws.proofs.ClientTaken.{ClientTook, client_took_what}
 use Rattle.lane_laws.proofs.LaneChannel.{answers_of, asks_of, lane_matches}
 use Rattle.lane_laws.proofs.LaneCores.{lane_cores, lane_fits, lane_steps}
+use Rattle.lane_laws.proofs.LaneViews.{lane_view}
+use Rattle.lane_laws.specs.DiskLog.{DiskLog, after, after_wire, nothing_yet}
+use Rattle.channel_model.specs.WireLog.{WireLog}
 use Rattle.lane_laws.proofs.LaneCounting.{Knows, run_knows}
 use Rattle.lane_laws.proofs.OfferedRing.{four_cookies}
 use Rattle.lane_laws.proofs.RangeSums.{sum_front}
@@ -36,18 +38,16 @@ use Rattle.lane_laws.proofs.RemainingClientPuts.{ClientFalls, ClientSpends, fall
 use Rattle.lane_laws.proofs.RemainingRuns.{steps_fall}
 use Rattle.lane_laws.proofs.RemainingServerTakes.{behind_ask, server_turns}
 use Rattle.lane_laws.proofs.RemainingTakes.{client_took_falls, server_took_falls}
-use Rattle.lane_laws.proofs.RulesFree.{ServerFree, TakesFree, server_free}
+use Rattle.lane_laws.proofs.RulesFree.{ServerFree, server_free}
+use Rattle.lane_laws.proofs.RuleTests.{TakesFree}
 use Rattle.lane_laws.proofs.Ruling.{server_may}
-use Rattle.lane_laws.proofs.ServerCounting.{opens_new}
+use Rattle.lane_laws.proofs.ServerCounting.{no_work, opens_new}
 use Rattle.lane_laws.proofs.ServerTaken.{ServerAsked, ServerTook, server_took_what}
-use Rattle.lane_laws.specs.Agreement.{ServerAgrees}
 use Rattle.lane_laws.specs.ChannelEnds.{core_event, core_of}
 use Rattle.lane_laws.specs.Counted.{range_sum}
-use Rattle.lane_laws.specs.DiskLog.{DiskLog, after, nothing_yet}
 use Rattle.lane_laws.specs.Remaining.{asked_in, remaining, total}
 use Rattle.lane_laws.specs.RemainingSteps.{AllDo, DoesSomething, ServerTurn, total_at}
 use Rattle.lane_laws.specs.RuleFacts.{ServerMay}
-use Rattle.lane_laws.specs.WorkLog.{ServerCounts}
 
 -- WHAT ITS END HAS STILL TO PUT doesn't grow
 took_packets : (shape : Shape) (events : List DiskEvent) (s : LaneState) (e : End) (packet : List ℕ) (opens : Bool) (t : LaneState) → IsShape shape → Run LaneStep (fresh shape) events s → s.wire.forged ≡ false
@@ -84,11 +84,6 @@ client_falls shape events s packet opens t sound run clean step =
     omega (arith, client_took_falls s packet opens t (falls_lower 0 0 s.client t.client (client_takes shape events s packet opens t sound run clean step)) step)
 
 -- THE SERVER
-none_work : (o : Option ServerSession) (w : Option Work) (q : Option ServerCounts) → o ≡ None → ServerAgrees o w q → w ≡ None
-none_work None w None is agrees = agrees
-none_work None w (Some c) is agrees = absurd agrees
-none_work (Some s) w q is agrees = absurd (cc is)
-
 -- it is asked for more
 more_asked : (slots before behind start end : ℕ) → before < 2 ^ 64 → before ≤ behind → behind ≡ wrapped (before + range_length slots start end) → 1 ≤ slots → slots ≤ 256 → before < behind
 more_asked slots before behind start end small less is some few = omega (arith, small, less, is, few, mod_below (end + slots - start % slots) slots some)
@@ -142,7 +137,7 @@ server_takes shape events s packet opens t sound run clean step =
     server_turns (total_at s.wire.wire.end_a s.client) s.server t.server l.transcript.server packet opens free (took_packets shape events s B packet opens t sound run clean step)
     (λ is.
     let none = opens_new s.server t.server l.transcript.server packet knows.rests.server (subst (λ (b : Bool). ServerTook s.server l.transcript.server packet t.server b) is took) in
-    (none, none_work s.server.session s.server.work l.work.server none knows.counted.server.agrees))
+    (none, no_work s.server.session s.server.work l.work.server none knows.counted.server.agrees))
     (by_asked shape events s packet opens t sound run clean may.0 step) took
 
 server_falls : (shape : Shape) (events : List DiskEvent) (s : LaneState) (packet : List ℕ) (opens : Bool) (t : LaneState) → IsShape shape → Run LaneStep (fresh shape) events s → s.wire.forged ≡ false
@@ -150,37 +145,29 @@ server_falls : (shape : Shape) (events : List DiskEvent) (s : LaneState) (packet
 server_falls shape events s packet opens t sound run clean step =
     omega (arith, server_took_falls s packet opens t (server_takes shape events s packet opens t sound run clean step) step)
 
+pub took_falls : (shape : Shape) (events : List DiskEvent) (s : LaneState) (e : End) (packet : List ℕ) (opens : Bool) (t : LaneState) → IsShape shape → Run LaneStep (fresh shape) events s → s.wire.forged ≡ false
+    → LaneStep s (OnWire (Took e packet opens)) t → remaining t < remaining s
+took_falls shape events s A packet opens t sound run clean step = client_falls shape events s packet opens t sound run clean step
+took_falls shape events s B packet opens t sound run clean step = server_falls shape events s packet opens t sound run clean step
+
 -- EACH STEP by which an end does something
 does_falls : (shape : Shape) (events : List DiskEvent) (s : LaneState) (event : DiskEvent) (t : LaneState) → IsShape shape → Run LaneStep (fresh shape) events s → s.wire.forged ≡ false → LaneStep s event t
     → DoesSomething event → remaining t < remaining s
-does_falls shape events s (OnWire (Took A packet opens)) t sound run clean step does = client_falls shape events s packet opens t sound run clean step
-does_falls shape events s (OnWire (Took B packet opens)) t sound run clean step does = server_falls shape events s packet opens t sound run clean step
+does_falls shape events s (OnWire (Took e packet opens)) t sound run clean step does = took_falls shape events s e packet opens t sound run clean step
 does_falls shape events s (OnWire (Joined e lost)) t sound run clean step does = steps_fall shape events s (OnWire (Joined e lost)) t sound run step does
 does_falls shape events s (OnWire (Sent e packet opens)) t sound run clean step does = steps_fall shape events s (OnWire (Sent e packet opens)) t sound run step does
 does_falls shape events s (Works event) t sound run clean step does = steps_fall shape events s (Works event) t sound run step does
 does_falls shape events s _ t sound run clean step does = absurd does
 
-end_clean : (e : End) (s : LaneState) (event : WireEvent) (t : LaneState) → EndOnWire e s event t → (wire_moved s.wire event).forged ≡ s.wire.forged → s.wire.forged ≡ false → t.wire.forged ≡ false
-end_clean A s event t step same clean = ap (λ (x : LaneState). x.wire.forged) step.is ∙ same ∙ clean
-end_clean B s event t step same clean = ap (λ (x : LaneState). x.wire.forged) step.1.is ∙ same ∙ clean
+unforged_wire : (w : WireLog) (event : DiskEvent) → DoesSomething event → (after_wire w event).forged ≡ w.forged
+unforged_wire w (OnWire (Injected e packet)) does = absurd does
+unforged_wire w (OnWire (Poked e at bytes)) does = absurd does
+unforged_wire w (Switches Stopped) does = absurd does
+unforged_wire w (Switches event) does = absurd does
+unforged_wire w _ does = refl
 
 does_clean : (s : LaneState) (event : DiskEvent) (t : LaneState) → LaneStep s event t → DoesSomething event → s.wire.forged ≡ false → t.wire.forged ≡ false
-does_clean s (OnWire (Took e packet opens)) t step does clean = end_clean e s (Took e packet opens) t step refl clean
-does_clean s (OnWire (Joined e lost)) t step does clean = end_clean e s (Joined e lost) t step refl clean
-does_clean s (OnWire (Sent e packet opens)) t step does clean = end_clean e s (Sent e packet opens) t step refl clean
-does_clean s (Works (Published id)) t step does clean = ap (λ (x : LaneState). x.wire.forged) step.is ∙ clean
-does_clean s (Works (Done id operation status bytes)) t step does clean = ap (λ (x : LaneState). x.wire.forged) step.is ∙ clean
-does_clean s (Works (Desc slot bytes)) t step does clean = ap (λ (x : LaneState). x.wire.forged) step.1.is ∙ clean
-does_clean s (Works (Moved unit fault)) t step does clean = ap (λ (x : LaneState). x.wire.forged) step.1.is ∙ clean
-does_clean s (Works (Stored operation block count failed)) t step does clean = ap (λ (x : LaneState). x.wire.forged) step.1.is ∙ clean
-does_clean s (Works (Finished slot status)) t step does clean = ap (λ (x : LaneState). x.wire.forged) step.1.is ∙ clean
-does_clean s (Works Misplaced) t step does clean = absurd does
-does_clean s _ t step does clean = absurd does
-
-pub took_falls : (shape : Shape) (events : List DiskEvent) (s : LaneState) (e : End) (packet : List ℕ) (opens : Bool) (t : LaneState) → IsShape shape → Run LaneStep (fresh shape) events s → s.wire.forged ≡ false
-    → LaneStep s (OnWire (Took e packet opens)) t → remaining t < remaining s
-took_falls shape events s A packet opens t sound run clean step = client_falls shape events s packet opens t sound run clean step
-took_falls shape events s B packet opens t sound run clean step = server_falls shape events s packet opens t sound run clean step
+does_clean s event t step does clean = ap (λ (x : LaneState). x.wire.forged) (lane_view s event t step).is ∙ unforged_wire s.wire event does ∙ clean
 
 -- so many of them lower it by so much at least
 pub many_fall : (shape : Shape) (events : List DiskEvent) (s : LaneState) (more : List DiskEvent) (t : LaneState) → IsShape shape → Run LaneStep (fresh shape) events s → s.wire.forged ≡ false

@@ -12,12 +12,13 @@ use Rattle.channel_model.specs.WireEvent.{Blocked, ByRestart, ByScript, ByStep, 
 use Rattle.channel_model.specs.WireLog.{WireLog, server_closed, wire_moved}
 use Rattle.lane_laws.specs.DiskLog.{DiskLog, after, nothing_yet}
 use Rattle.disk_model.specs.ClientState.{joined_client}
-use Rattle.disk_model.specs.DiskEvent.{Asks, Calm, CalmReset, CalmRestart, CalmStart, CalmStop, CalmTick, Desc, DiskEvent, Done, Finished, Misplaced, Moved, Off, OnWire, Published, Calms, Started, Stopped, Stored, Switched, Switches, Worked, Works}
+use Rattle.disk_model.specs.DiskEvent.{Asks, Desc, DiskEvent, Done, Finished, Misplaced, Moved, Off, OnWire, Published, Calms, Started, Stopped, Stored, Switched, Switches, Worked, Works}
 use Rattle.disk_model.specs.LaneState.{IsShape, LaneState, Shape, fresh}
-use Rattle.disk_model.specs.LaneStep.{CallsReset, LaneStep, ResetBy, RestStep, TurnStep, WireStep, WorkStep}
+use Rattle.disk_model.specs.LaneStep.{CallsReset, LaneStep, ResetBy, TurnStep, WireStep, WorkStep}
 use Rattle.disk_model.specs.ServerState.{ServerState, joined_server, restarted_server}
 use Rattle.lane_laws.proofs.FlightClient.{client_admits_flies, falls_fly}
-use Rattle.lane_laws.proofs.FlightRuns.{InFlight, StepKnown, at_client, at_server, began, client_anew, client_on, client_wire, end_wire, flight_is, knows_at, log_at, server_anew, server_on, server_wire}
+use Rattle.lane_laws.proofs.FlightRuns.{InFlight, StepKnown, began, client_anew, client_on, client_wire, end_wire, flight_is, knows_at, log_at, server_anew, server_on, server_wire}
+use Rattle.lane_laws.proofs.LaneViews.{at_client, at_server, calm_same}
 use Rattle.lane_laws.proofs.FlightServer.{server_fetches_flies, server_finishes_flies, server_moves_flies, server_stores_flies}
 use Rattle.lane_laws.proofs.FlightSums.{Flight, client_loses, server_closes, server_loses}
 use Rattle.lane_laws.proofs.LaneCounting.{run_knows}
@@ -126,14 +127,6 @@ turns_fly s Stopped t turns step flight =
 turns_fly s Started t turns step flight = flight_is (record s { stopped = false }) t turns step.1 flight
 turns_fly s Off t turns step flight = flight_is s t turns step.1 flight
 
-calm : (s : LaneState) (event : Calm) (t : LaneState) → RestStep s event t → t ≡ s
-calm s CalmTick t step = step.1
-calm s CalmStop t step = step.1
-calm s CalmStart t step = step.1
-calm s (CalmReset A) t step = absurd step
-calm s (CalmReset B) t step = step.1
-calm s CalmRestart t step = step.1
-
 flight_step : (shape : Shape) (events : List DiskEvent) (s : LaneState) (event : DiskEvent) (t : LaneState) → StepKnown shape events s event t → LaneStep s event t
     → InFlight s (log_at shape events).transcript.client → InFlight t (after (log_at shape events) event).transcript.client
 flight_step shape events s (OnWire event) t known step flight = on_wire shape events s event t known step flight
@@ -142,9 +135,8 @@ flight_step shape events s (Asks event) t known step flight =
 flight_step shape events s (Works event) t known step flight =
     works s event t (log_at shape events).transcript.client (knows_at shape events s (Works event) t known).all.sound step flight
 flight_step shape events s (Switches Stopped) t known step flight = turns_fly s Stopped t (log_at shape events).transcript.client step flight
-flight_step shape events s (Switches Started) t known step flight = turns_fly s Started t (log_at shape events).transcript.client step flight
-flight_step shape events s (Switches Off) t known step flight = turns_fly s Off t (log_at shape events).transcript.client step flight
-flight_step shape events s (Calms event) t known step flight = flight_is s t (log_at shape events).transcript.client (calm s event t step) flight
+flight_step shape events s (Switches event) t known step flight = turns_fly s event t (log_at shape events).transcript.client step flight
+flight_step shape events s (Calms event) t known step flight = flight_is s t (log_at shape events).transcript.client (calm_same s event t step) flight
 
 -- ALONG EVERY RUN
 record AlongFlight (shape : Shape) (s : LaneState) (l : DiskLog) : Type 0 where

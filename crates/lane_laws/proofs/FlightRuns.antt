@@ -7,7 +7,7 @@ use Rattle.ldc_queue.specs.declared.end.End.{End}
 use Rattle.ldc_queue.specs.declared.end.End.TheVariants.{A, B}
 use Rattle.ldc_queue.specs.Transcript.{Heard as Heard_, Said as Said_, Turn}
 use Rattle.channel_model.specs.Sayings.{half_heard, heard}
-use Rattle.channel_model.specs.WireEvent.{Blocked, Declines, Idle, Injected, Joined, Lost, Poked, Reset, Sent, Took, WireEvent}
+use Rattle.channel_model.specs.WireEvent.{Blocked, Idle, Joined, Reset, Sent, Took, WireEvent}
 use Rattle.channel_model.specs.WireLog.{WireLog, wire_moved}
 use Rattle.lane_laws.specs.DiskLog.{DiskLog, after, nothing_yet}
 use Rattle.channel_model.specs.Messages.{range_ended}
@@ -17,7 +17,6 @@ use Rattle.disk_model.specs.ClientState.{ClientState, joined_client}
 use Rattle.disk_model.specs.DiskEvent.{DiskEvent, OnWire}
 use Rattle.disk_model.specs.LaneState.{IsShape, LaneState, Shape, fresh}
 use Rattle.disk_model.specs.LaneStep.{EndOnWire, LaneStep}
-use Rattle.channel_model.specs.Seeing.{Seen, seen}
 use Rattle.disk_model.specs.ServerRule as server_rules
 use Rattle.disk_model.specs.ServerState.{ServerState, joined_server}
 use Rattle.channel_laws.specs.Standing.{EndStands}
@@ -43,6 +42,7 @@ use Rattle.lane_laws.specs.Counted.{range_count}
 use Rattle.lane_laws.specs.Remaining.{client_packets, server_packets}
 use Rattle.lane_laws.specs.RemainingSteps.{ServerTurn, total_at}
 use Rattle.lane_laws.specs.RuleFacts.{ClientMay, ServerMay}
+use Rattle.lane_laws.proofs.LaneViews.{at_client, at_server}
 
 -- a lane and what its client said and heard
 abbrev pub InFlight : LaneState → List Turn → Type 0
@@ -64,12 +64,6 @@ log_at shape events = log_of after (nothing_yet shape) events
 
 pub knows_at : (shape : Shape) (events : List DiskEvent) (s : LaneState) (event : DiskEvent) (t : LaneState) → StepKnown shape events s event t → Knows s (log_at shape events)
 knows_at shape events s event t known = run_knows shape events s known.sound known.run
-
-abbrev pub at_client : LaneState → Seen
-at_client s = seen A s.shape.entries s.wire.wire
-
-abbrev pub at_server : LaneState → Seen
-at_server s = seen B s.shape.entries s.wire.wire
 
 -- AN END that begins
 pub client_anew : (s : LaneState) (c : ClientState) (turns : List Turn) → EndStands Initiator (client_core s.client) turns → c ≡ joined_client s.client → InFlight s turns → Flight (wire_moved s.wire (Joined A 0)) c s.server []
@@ -156,16 +150,7 @@ client_wire shape events s (Idle A) t known step flight = flight_is s t (log_at 
 client_wire shape events s (Reset A cause packet lost) t known step flight =
     flight_is (record s { wire = wire_moved s.wire (Joined A 0); client = t.client; memory = t.memory; near = _ }) t [] step.is
     (client_anew s t.client (log_at shape events).transcript.client (knows_at shape events s (OnWire (Reset A cause packet lost)) t known).rests.client.stands step.step.2 flight)
-client_wire shape events s (Joined B lost) t known step flight = absurd step.step
-client_wire shape events s (Took B packet opens) t known step flight = absurd step.step
-client_wire shape events s (Sent B packet opens) t known step flight = absurd step.step
-client_wire shape events s (Blocked B) t known step flight = absurd step.step
-client_wire shape events s (Idle B) t known step flight = absurd step.step
-client_wire shape events s (Reset B cause packet lost) t known step flight = absurd step.step
-client_wire shape events s (Lost e packet) t known step flight = absurd step.step
-client_wire shape events s (Injected e packet) t known step flight = absurd step.step
-client_wire shape events s (Poked e at bytes) t known step flight = absurd step.step
-client_wire shape events s (Declines d) t known step flight = absurd step.step
+client_wire shape events s _ t known step flight = absurd step.step
 
 -- THE SERVER takes a packet, and puts one
 server_took : (shape : Shape) (events : List DiskEvent) (s : LaneState) (packet : List ℕ) (opens : Bool) (t : LaneState) → StepKnown shape events s (OnWire (Took B packet opens)) t
@@ -222,16 +207,7 @@ server_wire shape events s (Reset B cause packet lost) t known step flight =
     flight_is (record s { wire = wire_moved s.wire (Joined B 0); server = t.server; memory = t.memory; near = _ }) t (log_at shape events).transcript.client step.1.is
     (began s t.server (log_at shape events).transcript.client (log_at shape events).transcript.server (knows_at shape events s (OnWire (Reset B cause packet lost)) t known).rests.server.stands
     step.1.step.1.2 flight)
-server_wire shape events s (Joined A lost) t known step flight = absurd step.1.step.1
-server_wire shape events s (Took A packet opens) t known step flight = absurd step.1.step.1
-server_wire shape events s (Sent A packet opens) t known step flight = absurd step.1.step.1
-server_wire shape events s (Blocked A) t known step flight = absurd step.1.step.1
-server_wire shape events s (Idle A) t known step flight = absurd step.1.step.1
-server_wire shape events s (Reset A cause packet lost) t known step flight = absurd step.1.step.1
-server_wire shape events s (Lost e packet) t known step flight = absurd step.1.step.1
-server_wire shape events s (Injected e packet) t known step flight = absurd step.1.step.1
-server_wire shape events s (Poked e at bytes) t known step flight = absurd step.1.step.1
-server_wire shape events s (Declines d) t known step flight = absurd step.1.step.1
+server_wire shape events s _ t known step flight = absurd step.1.step.1
 
 pub end_wire : (e : End) (shape : Shape) (events : List DiskEvent) (s : LaneState) (event : WireEvent) (t : LaneState) → StepKnown shape events s (OnWire event) t → EndOnWire e s event t
     → InFlight s (log_at shape events).transcript.client → InFlight t (after (log_at shape events) (OnWire event)).transcript.client

@@ -66,13 +66,11 @@ server_goes x Resetting a b lossy c v u q i flies few = few
 -- AN END BEGINS, or is closed
 begins_small : (y : ChannelState) (v : ℕ) → live_count (upset y) 8 v ≡ 8
 begins_small Up v = refl
-begins_small Down v = refl
-begins_small Resetting v = refl
+begins_small _ v = refl
 
 begins_large : (x : ChannelState) (n c : ℕ) → live_count (upset x) n c ≡ n
 begins_large Up n c = refl
-begins_large Down n c = refl
-begins_large Resetting n c = refl
+begins_large _ n c = refl
 
 pub client_begins : (x y : ChannelState) (to_a to_b : List (List ℕ)) (lossy : Bool) (c t v q i : ℕ) → t ≡ 9 → FewFly x y (length to_a) (length to_b) lossy c v q i
     → FewFly Up (peer_behind x y) (length (queue_behind x to_a)) (length (queue_behind x to_b)) (lossy_behind x lossy) t v 0 0

@@ -6,12 +6,12 @@ use Rattle.runs.specs.Run.{Run}
 use Rattle.ldc_queue.specs.declared.end.End.{End}
 use Rattle.ldc_queue.specs.declared.end.End.TheVariants.{A, B}
 use Rattle.vio_tag.specs.declared.cause.Cause.{Cause}
-use Rattle.disk_model.specs.DiskEvent.{Asks, DiskEvent, OnWire, Calms, Switches, Works}
+use Rattle.disk_model.specs.DiskEvent.{DiskEvent, OnWire}
 use Rattle.lane_laws.specs.DiskLog.{DiskLog, after, nothing_yet}
 use Rattle.disk_model.specs.LaneState.{IsShape, LaneState, Shape, fresh}
-use Rattle.disk_model.specs.LaneStep.{EndOnWire, LaneStep, ResetBy, WireStep}
+use Rattle.disk_model.specs.LaneStep.{EndOnWire, LaneStep, ResetBy}
 use Rattle.channel_model.specs.WireAt.{WireLostAt}
-use Rattle.channel_model.specs.WireEvent.{Blocked, ByRestart, ByScript, ByStep, ByTick, Declines, Giver, Idle, Injected, Joined, Lost, Poked, Reset, Sent, Took, WireEvent, giver}
+use Rattle.channel_model.specs.WireEvent.{ByRestart, ByScript, ByStep, ByTick, Giver, Joined, Reset, WireEvent, giver}
 use Rattle.lane_laws.specs.Laws.{LostAt}
 
 -- BY A STEP of the end
@@ -24,14 +24,7 @@ end_lost B s (Joined B lost) t step = step.1.step.1.1
 end_lost B s (Joined A lost) t step = absurd step.1.step.1
 end_lost B s (Reset B cause packet lost) t step = step.1.step.1.1
 end_lost B s (Reset A cause packet lost) t step = absurd step.1.step.1
-end_lost e s (Took f packet opens) t step = tt
-end_lost e s (Sent f packet opens) t step = tt
-end_lost e s (Idle f) t step = tt
-end_lost e s (Blocked f) t step = tt
-end_lost e s (Lost f packet) t step = tt
-end_lost e s (Injected f packet) t step = tt
-end_lost e s (Poked f at bytes) t step = tt
-end_lost e s (Declines d) t step = tt
+end_lost e s _ t step = tt
 
 -- BY A CALL of the lane, and by any event of the wire
 reset_lost : (by : Giver) (e : End) (s : LaneState) (cause : Cause) (packet : Option (List ℕ)) (lost : ℕ) (t : LaneState)
@@ -44,24 +37,10 @@ reset_lost ByRestart B s cause packet lost t step = step.1.1
 reset_lost ByTick A s cause packet lost t step = step.1.1
 reset_lost ByTick B s cause packet lost t step = absurd step
 
-wire_lost : (s : LaneState) (event : WireEvent) (t : LaneState) → WireStep s event t → WireLostAt event
-wire_lost s (Joined e lost) t step = end_lost e s (Joined e lost) t step
-wire_lost s (Reset e cause packet lost) t step = reset_lost (giver cause) e s cause packet lost t step
-wire_lost s (Took e packet opens) t step = tt
-wire_lost s (Sent e packet opens) t step = tt
-wire_lost s (Idle e) t step = tt
-wire_lost s (Blocked e) t step = tt
-wire_lost s (Lost e packet) t step = tt
-wire_lost s (Injected e packet) t step = tt
-wire_lost s (Poked e at bytes) t step = tt
-wire_lost s (Declines d) t step = tt
-
 lost_at : (s : LaneState) (l : DiskLog) (event : DiskEvent) (t : LaneState) → LaneStep s event t → LostAt l event
-lost_at s l (OnWire event) t step = wire_lost s event t step
-lost_at s l (Asks event) t step = tt
-lost_at s l (Works event) t step = tt
-lost_at s l (Switches event) t step = tt
-lost_at s l (Calms event) t step = tt
+lost_at s l (OnWire (Joined e lost)) t step = end_lost e s (Joined e lost) t step
+lost_at s l (OnWire (Reset e cause packet lost)) t step = reset_lost (giver cause) e s cause packet lost t step
+lost_at s l _ t step = tt
 
 -- ALONG EVERY RUN
 pub lost_lawful : (shape : Shape) (events : List DiskEvent) (s : LaneState) → IsShape shape → Run LaneStep (fresh shape) events s

@@ -1,5 +1,5 @@
 -- Along every run of a lane with its image: what completed reads show, and what the image holds.
-use Rattle.std.proofs.Common.{◌≡◌, ℕ, zero, suc, ◌+◌, ◌-◌, ◌*◌, ◌≤◌, ◌⊎◌, false, Some, None, List, [], ◌∷◌, ◌++◌, drop, take, length, inl, inr, refl, sym, ap, ◌∙◌, subst, arith}
+use Rattle.std.proofs.Common.{◌≡◌, ℕ, zero, suc, ◌+◌, ◌-◌, ◌*◌, ◌≤◌, ◌⊎◌, false, Some, None, List, [], ◌∷◌, drop, take, length, inl, inr, refl, sym, ap, ◌∙◌, subst, arith}
 use Rattle.std.specs.Prelude.{slice_get, ⊤}
 use Rattle.std.proofs.lemmas.List.{drop_all, take-append-le, take_all}
 use Rattle.std.proofs.lemmas.Option.{slice_get_within}
@@ -7,11 +7,10 @@ use Rattle.runs.specs.Lawful.{log_of, run_lawful}
 use Rattle.runs.specs.Run.{Run}
 use Rattle.vdisk_msg.specs.declared.request.Request.{Request}
 use Rattle.vdisk_msg.specs.declared.request.Request.TheVariants.{Flush, Read, Write}
-use Rattle.vdisk_msg.specs.Fills.{IsRequest}
 use Rattle.vdisk_msg.specs.Requests.{AreSound, defect}
 use Rattle.channel_model.specs.WireLog.{WireLog}
 use Rattle.lane_laws.specs.DiskLog.{DiskLog, after, nothing_yet}
-use Rattle.disk_model.specs.DiskEvent.{Accepted, Asks, Desc, DiskEvent, Done, Finished, Full, Misplaced, Moved, Off, OnWire, Published, Refused, Calms, Started, Stopped, Stored, Switches, Works}
+use Rattle.disk_model.specs.DiskEvent.{Accepted, Asks, DiskEvent, Done, OnWire, Published, Stopped, Switches, Works}
 use Rattle.disk_model.specs.LaneState.{IsShape, LaneState, Shape, fresh}
 use Rattle.disk_model.specs.LaneStep.{LaneStep}
 use Rattle.lane_laws.proofs.RingClientSteps.{got_at}
@@ -32,6 +31,7 @@ use Rattle.lane_laws.proofs.LaneRuns.{AlongContents, contents_step, run_contents
 use Rattle.lane_laws.proofs.LastWrites.{last_write}
 use Rattle.lane_laws.proofs.NearRuns.{fresh_is_near, run_near, run_step}
 use Rattle.lane_laws.proofs.Statuses.{run_done_zero}
+use Rattle.lane_laws.proofs.MemorySteps.{sound_push}
 
 -- THE CONTENT of what is done, after an event
 front_content : (first : List ℕ) (issued : List Request) (done : ℕ) (pending : List Request) → pending ≡ drop done issued → 1 ≤ length pending
@@ -55,27 +55,13 @@ behind_done : (first : List ℕ) (s : LaneState) (l : DiskLog) (event : DiskEven
 behind_done first s l (OnWire event) t stands step =
     let keeps = wired_keeps l.shape.slots l.transcript l.work event in same_done first s l (OnWire event) keeps.done keeps.issued refl
 behind_done first s l (Asks (Accepted id request)) t stands step = ap (after_requests first) (sym (take-append-le l.work.done l.work.issued (request ∷ []) stands.done))
-behind_done first s l (Asks (Full request)) t stands step = refl
-behind_done first s l (Asks (Refused why request)) t stands step = refl
-behind_done first s l (Works (Published id)) t stands step = refl
 behind_done first s l (Works (Done id operation status bytes)) t stands step =
     let within = slice_get_within s.client.pending 0 step.step.request step.step.front in
     front_content first l.work.issued l.work.done s.client.pending stands.pending (omega (arith, within))
-behind_done first s l (Works (Desc slot bytes)) t stands step = refl
-behind_done first s l (Works (Moved unit fault)) t stands step = refl
-behind_done first s l (Works (Stored operation block count failed)) t stands step = refl
-behind_done first s l (Works (Finished slot status)) t stands step = refl
-behind_done first s l (Works Misplaced) t stands step = refl
 behind_done first s l (Switches Stopped) t stands step = refl
-behind_done first s l (Switches Started) t stands step = refl
-behind_done first s l (Switches Off) t stands step = refl
-behind_done first s l (Calms event) t stands step = refl
+behind_done first s l _ t stands step = refl
 
 -- EACH REQUEST that was accepted was admitted
-sound_push : (blocks : ℕ) (requests : List Request) (request : Request) → AreSound blocks requests → defect blocks request ≡ None → IsRequest request → AreSound blocks (requests ++ request ∷ [])
-sound_push blocks [] request sound admitted fill = (admitted, fill, tt)
-sound_push blocks (one ∷ requests) request sound admitted fill = (sound.0, sound.1, sound_push blocks requests request sound.2 admitted fill)
-
 sound_take : (blocks : ℕ) (requests : List Request) (n : ℕ) → AreSound blocks requests → AreSound blocks (take n requests)
 sound_take blocks requests zero sound = tt
 sound_take blocks [] (suc n) sound = tt
@@ -89,19 +75,9 @@ sound_behind : (blocks : ℕ) (s : LaneState) (l : DiskLog) (event : DiskEvent) 
 sound_behind blocks s l (OnWire event) t same sound step = subst (AreSound blocks) (sym (wired_keeps l.shape.slots l.transcript l.work event).issued) sound
 sound_behind blocks s l (Asks (Accepted id request)) t same sound step =
     sound_push blocks l.work.issued request sound (subst (λ (n : ℕ). defect n request ≡ None) same step.0.0) step.0.2
-sound_behind blocks s l (Asks (Full request)) t same sound step = sound
-sound_behind blocks s l (Asks (Refused why request)) t same sound step = sound
 sound_behind blocks s l (Works (Published id)) t same sound step = sound
-sound_behind blocks s l (Works (Done id operation status bytes)) t same sound step = sound
-sound_behind blocks s l (Works (Desc slot bytes)) t same sound step = sound
-sound_behind blocks s l (Works (Moved unit fault)) t same sound step = sound
-sound_behind blocks s l (Works (Stored operation block count failed)) t same sound step = sound
-sound_behind blocks s l (Works (Finished slot status)) t same sound step = sound
-sound_behind blocks s l (Works Misplaced) t same sound step = sound
 sound_behind blocks s l (Switches Stopped) t same sound step = sound
-sound_behind blocks s l (Switches Started) t same sound step = sound
-sound_behind blocks s l (Switches Off) t same sound step = sound
-sound_behind blocks s l (Calms event) t same sound step = sound
+sound_behind blocks s l _ t same sound step = sound
 
 -- ALONG A RUN with the image
 record AlongImage (shape : Shape) (first : List ℕ) (a : Imaged) (l : DiskLog) : Type 0 where

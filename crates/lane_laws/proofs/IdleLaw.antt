@@ -6,7 +6,7 @@ use Rattle.ldc_queue.specs.declared.end.End.{End}
 use Rattle.ldc_queue.specs.declared.end.End.TheVariants.{A, B}
 use Rattle.ldc_queue.specs.Wire.{waiting_for}
 use Rattle.vdisk_msg.specs.declared.request.Request.{Request}
-use Rattle.channel_model.specs.WireEvent.{Blocked, Declines, Idle, Injected, Joined, Lost, Poked, Reset, Sent, Took, WireEvent}
+use Rattle.channel_model.specs.WireEvent.{Idle}
 use Rattle.channel_model.specs.WireLog.{WireLog}
 use Rattle.channel_laws.proofs.Apart.{some_same}
 use Rattle.channel_laws.proofs.EndsAtRest.{none_waits}
@@ -16,16 +16,19 @@ use Rattle.lane_laws.specs.QuietLaws.{ClientIsIdle, EndIsIdle, IdleAt, ServerIsI
 use Rattle.lane_laws.specs.WorkLaws.{IfClient, IfServer}
 use Rattle.lane_laws.specs.WorkLog.{ClientCounts, ServerCounts}
 use Rattle.disk_model.specs.ClientState.{ClientSession}
-use Rattle.disk_model.specs.DiskEvent.{Asks, DiskEvent, OnWire, Calms, Switches, Works}
+use Rattle.disk_model.specs.DiskEvent.{DiskEvent, OnWire}
 use Rattle.disk_model.specs.LaneState.{LaneState}
-use Rattle.disk_model.specs.LaneStep.{EndOnWire, LaneStep, WireStep}
+use Rattle.disk_model.specs.LaneStep.{EndOnWire, LaneStep}
 use Rattle.disk_model.specs.ServerState.{ServerSession, Work}
 use Rattle.lane_laws.proofs.Sharing.{in_order}
 use Rattle.lane_laws.specs.Counted.{InServerOrder, RangeStands}
 use Rattle.lane_laws.specs.Sound.{InOrder}
 use Rattle.lane_laws.proofs.Counting.{OfServer, of_client, of_server}
-use Rattle.lane_laws.proofs.IdleRules.{ClientIdles, ServerIdles, client_idles, server_idles}
-use Rattle.lane_laws.proofs.WorkNumbers.{Grounded, at_client, at_server, finished_descs, order_of}
+use Rattle.lane_laws.proofs.IdleRules.{ServerIdles, client_idles, server_idles}
+use Rattle.lane_laws.proofs.RuleTests.{ClientIdles}
+use Rattle.lane_laws.proofs.WorkNumbers.{Grounded, order_of}
+use Rattle.lane_laws.proofs.ServerPutCounting.{work_most as finished_descs}
+use Rattle.lane_laws.proofs.LaneViews.{at_client, at_server}
 
 pub not_below : (a b : ℕ) → nat_lt a b ≡ false → b ≤ a
 not_below a b test = grind (arith, nat_tests, test)
@@ -57,8 +60,8 @@ idle_client s l grounded idles =
     let order : InOrder (length s.client.pending) session =
     in_order (length s.client.pending) s.client.session session is grounded.knows.all.sound.counts in
     let stand = grounded.knows.all.stands.requests in
-    let acked = not_below session.completed session.acked (idles.completed session is) in
-    let has_done = idles.rests.rests.session session is in
+    let acked = not_below session.completed session.acked (idles.rests.completed session is) in
+    let has_done = idles.session session is in
     let announced = not_below session.announced session.published has_done.announced in
     let published = past_all s.client.pending (session.published - session.completed) has_done.published in
     subst (ClientIsIdle l) same (record {
@@ -101,21 +104,6 @@ idle_end B s l t grounded step =
     let idles = server_idles s.server (at_server s) step.1.step.1.0 in
     (same_waiting B s l grounded (none_waits (waiting_for B s.wire.wire) idles.first), idle_server s l grounded idles)
 
-wire_idle : (s : LaneState) (l : DiskLog) (event : WireEvent) (t : LaneState) → Grounded s l → WireStep s event t → IdleAt l (OnWire event)
-wire_idle s l (Idle e) t grounded step = idle_end e s l t grounded step
-wire_idle s l (Joined e lost) t grounded step = tt
-wire_idle s l (Took e packet opens) t grounded step = tt
-wire_idle s l (Sent e packet opens) t grounded step = tt
-wire_idle s l (Blocked e) t grounded step = tt
-wire_idle s l (Reset e cause packet lost) t grounded step = tt
-wire_idle s l (Lost e packet) t grounded step = tt
-wire_idle s l (Injected e packet) t grounded step = tt
-wire_idle s l (Poked e at bytes) t grounded step = tt
-wire_idle s l (Declines d) t grounded step = tt
-
 pub idle_at : (s : LaneState) (l : DiskLog) (event : DiskEvent) (t : LaneState) → Grounded s l → LaneStep s event t → IdleAt l event
-idle_at s l (OnWire event) t grounded step = wire_idle s l event t grounded step
-idle_at s l (Asks event) t grounded step = tt
-idle_at s l (Works event) t grounded step = tt
-idle_at s l (Switches event) t grounded step = tt
-idle_at s l (Calms event) t grounded step = tt
+idle_at s l (OnWire (Idle e)) t grounded step = idle_end e s l t grounded step
+idle_at s l _ t grounded step = tt

@@ -5,13 +5,13 @@ use Rattle.runs.specs.Lawful.{log_of, run_lawful}
 use Rattle.runs.specs.Run.{Run}
 use Rattle.ldc_queue.specs.declared.end.End.{End}
 use Rattle.ldc_queue.specs.declared.end.End.TheVariants.{A, B}
-use Rattle.channel_model.specs.WireEvent.{Blocked, Declines, Idle, Injected, Joined, Lost, Poked, Reset, Sent, Took, WireEvent}
+use Rattle.channel_model.specs.WireEvent.{Idle}
 use Rattle.lane_laws.specs.Agreement.{IdleAgrees}
-use Rattle.lane_laws.specs.DiskLog.{DiskLog, after, idle_in, nothing_yet}
+use Rattle.lane_laws.specs.DiskLog.{DiskLog, after, nothing_yet}
 use Rattle.disk_model.specs.ClientState.{ClientState}
-use Rattle.disk_model.specs.DiskEvent.{Asks, DiskEvent, OnWire, Calms, Switches, Works}
+use Rattle.disk_model.specs.DiskEvent.{DiskEvent, OnWire}
 use Rattle.disk_model.specs.LaneState.{IsShape, LaneState, Shape, fresh}
-use Rattle.disk_model.specs.LaneStep.{EndOnWire, LaneStep, WireStep}
+use Rattle.disk_model.specs.LaneStep.{EndOnWire, LaneStep}
 use Rattle.disk_model.specs.ServerState.{ServerState}
 
 with_client : LaneState → ClientState → List ℕ → LaneState
@@ -37,24 +37,9 @@ idle_end : (e : End) (s : LaneState) (t : LaneState) → EndOnWire e s (Idle e) 
 idle_end A s t step = subst (λ (x : LaneState). IdleAgrees x (Some A)) (sym (client_same s t step)) step.step.0
 idle_end B s t step = subst (λ (x : LaneState). IdleAgrees x (Some B)) (sym (server_same s t step)) (step.1.step.0, step.1.step.1.0)
 
-idle_wire : (s : LaneState) (event : WireEvent) (t : LaneState) → WireStep s event t → IdleAgrees t (idle_in event)
-idle_wire s (Idle e) t step = idle_end e s t step
-idle_wire s (Joined e lost) t step = tt
-idle_wire s (Took e packet opens) t step = tt
-idle_wire s (Sent e packet opens) t step = tt
-idle_wire s (Blocked e) t step = tt
-idle_wire s (Reset e cause packet lost) t step = tt
-idle_wire s (Lost e packet) t step = tt
-idle_wire s (Injected e packet) t step = tt
-idle_wire s (Poked e at bytes) t step = tt
-idle_wire s (Declines d) t step = tt
-
 idle_step : (s : LaneState) (l : DiskLog) (event : DiskEvent) (t : LaneState) → LaneStep s event t → IdleAgrees t (after l event).last_idle
-idle_step s l (OnWire event) t step = idle_wire s event t step
-idle_step s l (Asks event) t step = tt
-idle_step s l (Works event) t step = tt
-idle_step s l (Switches event) t step = tt
-idle_step s l (Calms event) t step = tt
+idle_step s l (OnWire (Idle e)) t step = idle_end e s t step
+idle_step s l _ t step = tt
 
 pub idle_agrees : (shape : Shape) (events : List DiskEvent) (s : LaneState) → IsShape shape → Run LaneStep (fresh shape) events s → IdleAgrees s (log_of after (nothing_yet shape) events).last_idle
 idle_agrees shape events s sound run =

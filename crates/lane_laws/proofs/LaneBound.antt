@@ -102,10 +102,7 @@ most_in Up Down a b lossy c v answers facts = client_up a b lossy c answers (fac
 most_in Up Resetting a b lossy c v answers facts = client_up a b lossy c answers (facts.client refl (λ up. cc up)) facts.few
 most_in Down Up a b lossy c v answers facts = server_up a b lossy c v (facts.server refl (λ up. cc up)) facts.few
 most_in Resetting Up a b lossy c v answers facts = server_up a b lossy c v (facts.server refl (λ up. cc up)) facts.few
-most_in Down Down a b lossy c v answers facts = none_up a b (one_where lossy) (length c.pending) facts.few
-most_in Down Resetting a b lossy c v answers facts = none_up a b (one_where lossy) (length c.pending) facts.few
-most_in Resetting Down a b lossy c v answers facts = none_up a b (one_where lossy) (length c.pending) facts.few
-most_in Resetting Resetting a b lossy c v answers facts = none_up a b (one_where lossy) (length c.pending) facts.few
+most_in _ _ a b lossy c v answers facts = none_up a b (one_where lossy) (length c.pending) facts.few
 
 life_most : (shape : Shape) (events : List DiskEvent) (s : LaneState) → IsShape shape → Run LaneStep (fresh shape) events s → s.wire.forged ≡ false
     → life s.wire.wire s.client s.server + 3 * one_where s.wire.lossy ≤ 36 + 16 * length s.client.pending

@@ -4,7 +4,7 @@ use Rattle.runs.specs.Lawful.{Lawful, log_append, log_of}
 use Rattle.runs.specs.Run.{Run, run_push}
 use Rattle.ldc_link.specs.declared.phase.Role.{Role}
 use Rattle.ldc_link.specs.declared.phase.Role.TheVariants.{Initiator, Responder}
-use Rattle.ldc_queue.specs.declared.end.End.TheVariants.{A, B}
+use Rattle.ldc_queue.specs.declared.end.End.TheVariants.{A}
 use Rattle.ldc_queue.specs.Transcript.{Turn}
 use Rattle.vio_handshake.specs.declared.session.Offer.{Offer}
 use Rattle.vio_handshake.specs.Offers.{Match}
@@ -13,8 +13,8 @@ use Rattle.channel_model.proofs.SameSayings.{half_heard_is}
 use Rattle.lane_laws.specs.Agreement.{LinkAgrees}
 use Rattle.channel_model.specs.TranscriptLog.{TranscriptLog}
 use Rattle.channel_model.specs.WireAt.{WireHeardAt, WireSaidAt, counts_next}
-use Rattle.channel_model.specs.WireEvent.{Blocked, Declines, Idle, Injected, Joined, Lost, Poked, Reset, Sent, Took, WireEvent}
-use Rattle.disk_model.specs.DiskEvent.{Asks, Calms, DiskEvent, Off, OnWire, Started, Stopped, Switches, Works}
+use Rattle.channel_model.specs.WireEvent.{Joined, Reset, Sent, Took, WireEvent}
+use Rattle.disk_model.specs.DiskEvent.{DiskEvent, OnWire, Stopped, Switches}
 use Rattle.lane_laws.specs.DiskLog.{DiskLog, after, after_transcript, nothing_yet}
 use Rattle.disk_model.specs.LaneState.{IsShape, LaneState, Shape, fresh}
 use Rattle.disk_model.specs.LaneStep.{LaneStep}
@@ -57,10 +57,7 @@ answers_of shape = server_offer shape.blocks shape.slots
 -- A LAW OF THE CHANNEL'S EVENTS, by what was said and heard, is one of the lane's
 of_wire : (P : TranscriptLog → WireEvent → Type 0) (x y : TranscriptLog) (event : DiskEvent) → x ≡ y → OfChannel (P x) (core_event event) → OfWire (P y) event
 of_wire P x y (OnWire event) same may = subst (λ (l : TranscriptLog). P l event) same may
-of_wire P x y (Asks event) same may = tt
-of_wire P x y (Works event) same may = tt
-of_wire P x y (Switches event) same may = tt
-of_wire P x y (Calms event) same may = tt
+of_wire P x y _ same may = tt
 
 of_channel : (P : TranscriptLog → WireEvent → Type 0) (c : CoreLog) (l : DiskLog) (events : List DiskEvent) → c.transcript ≡ l.transcript
     → Lawful (λ (x : CoreLog) (e : CoreEvent). OfChannel (P x.transcript) e) core_log.after c (map core_event events)
@@ -176,28 +173,15 @@ lane_meets_other shape events s sound run clean =
 -- THE CLIENT'S LAST SID is how often its link came up
 wire_coming : (event : WireEvent) (l : TranscriptLog) → comings_after l.links (core_event (OnWire event)) ≡ (after_transcript l (OnWire event)).links
 wire_coming (Sent A packet opens) l = refl
-wire_coming (Sent B packet opens) l = refl
 wire_coming (Reset A cause packet lost) l = refl
-wire_coming (Reset B cause packet lost) l = refl
 wire_coming (Joined A lost) l = refl
-wire_coming (Joined B lost) l = refl
 wire_coming (Took A packet opens) l = refl
-wire_coming (Took B packet opens) l = refl
-wire_coming (Idle e) l = refl
-wire_coming (Blocked e) l = refl
-wire_coming (Lost e packet) l = refl
-wire_coming (Injected e packet) l = refl
-wire_coming (Poked e at bytes) l = refl
-wire_coming (Declines d) l = refl
+wire_coming _ l = refl
 
 coming : (event : DiskEvent) (l : TranscriptLog) → comings_after l.links (core_event event) ≡ (after_transcript l event).links
 coming (OnWire event) l = wire_coming event l
-coming (Asks event) l = refl
-coming (Works event) l = refl
 coming (Switches Stopped) l = refl
-coming (Switches Started) l = refl
-coming (Switches Off) l = refl
-coming (Calms event) l = refl
+coming _ l = refl
 
 comings : (l : DiskLog) (events : List DiskEvent) → log_of comings_after l.transcript.links (map core_event events) ≡ (log_of after l events).transcript.links
 comings l [] = refl

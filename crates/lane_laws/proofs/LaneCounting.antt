@@ -3,42 +3,39 @@ use Rattle.std.proofs.Common.{◌≡◌, ℕ, ◌-◌, ◌≤◌, length, Bool, 
 use Rattle.std.specs.Prelude.{⊤}
 use Rattle.runs.specs.Lawful.{log_of, run_lawful}
 use Rattle.runs.specs.Run.{Run}
-use Rattle.ldc_queue.specs.declared.end.End.{End}
 use Rattle.ldc_queue.specs.declared.end.End.TheVariants.{A, B}
 use Rattle.ldc_queue.specs.Transcript.{Heard as Heard_, Said, Turn}
-use Rattle.vio_tag.specs.declared.cause.Cause.{Cause}
 use Rattle.vdisk_msg.specs.declared.request.Request.{Request}
 use Rattle.channel_model.specs.TranscriptLog.{nothing_said}
 use Rattle.channel_model.specs.Sayings.{half_heard, half_said}
-use Rattle.channel_model.specs.WireEvent.{Blocked, ByRestart, ByScript, ByStep, ByTick, Declines, Giver, Idle, Injected, Joined, Lost, Poked, Reset, Sent, Took, WireEvent, giver}
+use Rattle.channel_model.specs.WireEvent.{Blocked, Idle, Joined, Reset, Sent, Took}
 use Rattle.lane_laws.specs.DiskLog.{DiskLog, after, nothing_yet}
 use Rattle.channel_model.specs.Messages.{opening_sid}
 use Rattle.lane_laws.specs.WorkLog.{ClientCounts, opened_client, opened_counts}
 use Rattle.disk_model.specs.ClientPutting.{client_kind, client_opens, is_announcing}
 use Rattle.disk_model.specs.ClientRule as client_rules
 use Rattle.disk_model.specs.ClientState.{ClientState, first_id, joined_client}
-use Rattle.disk_model.specs.ClientStep.{ClientSends}
-use Rattle.disk_model.specs.DiskEvent.{Accepted, Admitted, Asks, Calm, CalmReset, CalmRestart, CalmStart, CalmStop, CalmTick, Desc, DiskEvent, Done, Finished, Full, Misplaced, Moved, Off, OnWire, Published, Refused, Calms, Started, Stopped, Stored, Switched, Switches, Worked, Works}
+use Rattle.disk_model.specs.ClientStep.{ClientSends, ClientStep}
+use Rattle.disk_model.specs.DiskEvent.{Desc, DiskEvent, Done, Finished, Moved, OnWire, Published, Stored, Works}
 use Rattle.channel_model.specs.EndPuts.{ComesUp, EndsOwn, EndsHandshake, Goes, PutKind, put_opens}
 use Rattle.disk_model.specs.LaneState.{IsShape, LaneState, Shape, fresh}
-use Rattle.disk_model.specs.LaneStep.{EndOnWire, LaneStep, ResetBy, RestStep, TurnStep, WireStep, WorkStep}
+use Rattle.disk_model.specs.LaneStep.{LaneStep}
 use Rattle.channel_model.specs.Seeing.{seen}
 use Rattle.disk_model.specs.ServerRule as server_rules
-use Rattle.disk_model.specs.ServerState.{ServerState, joined_server, restarted_server}
+use Rattle.disk_model.specs.ServerState.{ServerState, joined_server}
+use Rattle.lane_laws.proofs.LaneViews.{ClientSide, ServerSide, at_client, at_server, client_keeps, client_side, reach_of, server_keeps, server_side}
+use Rattle.disk_model.specs.ServerStep.{ServerStep}
 use Rattle.lane_laws.proofs.CarriedRuns.{AllStand, all_step, fresh_all}
 use Rattle.lane_laws.proofs.ClientCounting.{acks_more, client_begins_counting, client_takes_counting}
 use Rattle.lane_laws.proofs.ClientHolding.{client_held}
 use Rattle.lane_laws.proofs.ClientPutCounting.{comes_counting, counts_as, goes_counting, own_counting, put_as}
-use Rattle.lane_laws.proofs.Speaking.{client_blocked_rests}
+use Rattle.lane_laws.proofs.Speaking.{client_blocked_rests, client_blocked_utters, fresh_rests, lane_utters, rests_step}
 use Rattle.lane_laws.proofs.ClientTaken.{client_took_what}
-use Rattle.lane_laws.proofs.Speaking.{client_blocked_utters}
 use Rattle.lane_laws.proofs.ClientWorkCounting.{client_admits_counting, client_completes_counting, client_holds_counting, client_publishes_counting, handshake_counting}
 use Rattle.channel_laws.proofs.PutSayings.{PutSays, put_says}
-use Rattle.lane_laws.proofs.Speaking.{fresh_rests, rests_step}
-use Rattle.lane_laws.proofs.Speaking.{lane_utters}
-use Rattle.lane_laws.proofs.RulesFree.{owes_nothing}
+use Rattle.lane_laws.proofs.RulesFree.{ServerFree, owes_nothing, server_free}
+use Rattle.lane_laws.proofs.RuleTests.{TakesFree}
 use Rattle.lane_laws.proofs.Requesting.{KeepsRequests, first_done, held_kept}
-use Rattle.lane_laws.proofs.RulesFree.{ServerFree, TakesFree, server_free}
 use Rattle.lane_laws.proofs.Ruling.{client_may}
 use Rattle.lane_laws.proofs.ServerCounting.{server_begins_counting, server_restarts_counting, server_takes_counting}
 use Rattle.lane_laws.proofs.ServerEndCounting.{server_fetches_counting, server_finishes_counting, server_puts_counting}
@@ -56,28 +53,8 @@ pub record Knows (s : LaneState) (l : DiskLog) : Type 0 where
   pub utters : LaneUtters s l.transcript
   pub counted : LaneCounted s l
 
--- an end that stays
-same_server : (s t : LaneState) (l : DiskLog) → Knows s l → t.server ≡ s.server → ServerCounted l.shape t.server l.transcript.server l.work.server
-same_server s t l knows same = subst (λ (v : ServerState). ServerCounted l.shape v l.transcript.server l.work.server) (sym same) knows.counted.server
-
-same_client : (s t : LaneState) (l : DiskLog) → Knows s l → t.client ≡ s.client → ClientCounted l.shape t.client l.transcript.client l.work.done l.work.client
-same_client s t l knows same = subst (λ (c : ClientState). ClientCounted l.shape c l.transcript.client l.work.done l.work.client) (sym same) knows.counted.client
-
 pub few_slots : (s : LaneState) (l : DiskLog) → Knows s l → l.shape.slots ≤ 256
 few_slots s l knows = omega (arith, knows.counted.client.slots, knows.all.sound.slots)
-
-begun_client : (s : LaneState) (l : DiskLog) (c : ClientState) → Knows s l → c ≡ joined_client s.client → ClientCounted l.shape c [] l.work.done None
-begun_client s l c knows is =
-    subst (λ (x : ClientState). ClientCounted l.shape x [] l.work.done None) (sym is)
-    (client_begins_counting l.shape s.client l.transcript.client l.work.done l.work.client knows.counted.client)
-
-begun_server : (s : LaneState) (l : DiskLog) (v : ServerState) → Knows s l → v ≡ joined_server s.server → ServerCounted l.shape v [] None
-begun_server s l v knows is =
-    subst (λ (x : ServerState). ServerCounted l.shape x [] None) (sym is) (server_begins_counting l.shape s.server l.transcript.server l.work.server knows.counted.server)
-
-made_server : (s : LaneState) (l : DiskLog) (v : ServerState) → Knows s l → v ≡ restarted_server s.server → ServerCounted l.shape v [] None
-made_server s l v knows is =
-    subst (λ (x : ServerState). ServerCounted l.shape x [] None) (sym is) (server_restarts_counting l.shape s.server l.transcript.server l.work.server knows.counted.server)
 
 -- THE CLIENT puts a packet
 put_counting : (kind : PutKind) (shape : Shape) (c : ClientState) (turns : List Turn) (packet : List ℕ) (sid done : ℕ) (k : Option ClientCounts) → ClientSound c → ClientRests c turns
@@ -108,201 +85,84 @@ client_puts s l packet opens t new sid knows sends =
     (subst (λ (x : ClientState). ClientCounted l.shape x (Said packet ∷ l.transcript.client) l.work.done (counts_as l.shape (client_opens held) l.transcript.client packet sid l.work.done l.work.client)) (sym sends.is)
     (put_counting (client_kind held) l.shape held l.transcript.client packet sid l.work.done l.work.client sound rests utters first says counted))
 
--- THE CLIENT ON THE WIRE
-client_wire : (s : LaneState) (event : WireEvent) (t : LaneState) (l : DiskLog) → Knows s l → EndOnWire A s event t → LaneCounted t (after l (OnWire event))
-client_wire s (Joined A lost) t l knows step =
-    record { client = begun_client s l t.client knows step.step.2; server = same_server s t l knows (ap (λ (x : LaneState). x.server) step.is) }
-client_wire s (Took A packet opens) t l knows step =
-    let at = seen A s.shape.entries s.wire.wire in
-    let took = client_took_what s.client l.transcript.client packet t.client knows.rests.client.stands.link.follows knows.rests.client.whole step.step.1 in
-    let counted = client_takes_counting l.shape s.client t.client l.transcript.client packet l.work.done l.work.client knows.rests.client (owes_nothing s.client at packet step.step.0)
+-- THE CLIENT's steps
+abbrev CountsClient : DiskLog → ClientState → ClientSide → Type 0
+CountsClient l c side = ClientCounted l.shape c side.turns side.done side.counts
+
+client_joins : (s : LaneState) (l : DiskLog) → Knows s l → ClientCounted l.shape (joined_client s.client) [] l.work.done None
+client_joins s l knows = client_begins_counting l.shape s.client l.transcript.client l.work.done l.work.client knows.counted.client
+
+client_steps : (s : LaneState) (l : DiskLog) → Knows s l → (event : DiskEvent) (t : ClientState) (new : List ℕ) → ClientStep s.client (at_client s) s.memory event t new
+    → CountsClient l t (client_side (after l event))
+client_steps s l knows (OnWire (Joined A lost)) t new step = subst (λ (c : ClientState). ClientCounted l.shape c [] l.work.done None) (sym step.2) (client_joins s l knows)
+client_steps s l knows (OnWire (Took A packet opens)) t new step =
+    let took = client_took_what s.client l.transcript.client packet t knows.rests.client.stands.link.follows knows.rests.client.whole step.1 in
+    let counted = client_takes_counting l.shape s.client t l.transcript.client packet l.work.done l.work.client knows.rests.client (owes_nothing s.client (at_client s) packet step.0)
     knows.counted.client took in
-    record {
-      client = subst (λ (b : Bool). ClientCounted l.shape t.client (Heard_ packet ∷ l.transcript.client) l.work.done
-          (opened_client b (opening_sid (half_heard l.transcript.client) packet) l.work.done (acks_more l.shape l.transcript.client packet l.work.client))) (sym step.step.2) counted;
-      server = same_server s t l knows (ap (λ (x : LaneState). x.server) step.is);
-    }
-client_wire s (Sent A packet opens) t l knows step =
-    record {
-      client = client_puts s l packet opens t.client t.memory (opening_sid (half_said l.transcript.client) packet) knows step.step;
-      server = same_server s t l knows (ap (λ (x : LaneState). x.server) step.is);
-    }
-client_wire s (Blocked A) t l knows step =
-    let at = seen A s.shape.entries s.wire.wire in
-    record {
-      client = client_holds_counting l.shape s.client at (client_rules.client_rule s.client at) t.client l.transcript.client l.work.done l.work.client knows.all.sound knows.rests.client
-          knows.utters.client (client_may s.client at) step.step.0 knows.counted.client;
-      server = same_server s t l knows (ap (λ (x : LaneState). x.server) step.is);
-    }
-client_wire s (Idle A) t l knows step =
-    record { client = same_client s t l knows step.step.1; server = same_server s t l knows (ap (λ (x : LaneState). x.server) step.is) }
-client_wire s (Reset A cause packet lost) t l knows step =
-    record { client = begun_client s l t.client knows step.step.2; server = same_server s t l knows (ap (λ (x : LaneState). x.server) step.is) }
-client_wire s (Joined B lost) t l knows step = absurd step.step
-client_wire s (Took B packet opens) t l knows step = absurd step.step
-client_wire s (Sent B packet opens) t l knows step = absurd step.step
-client_wire s (Blocked B) t l knows step = absurd step.step
-client_wire s (Idle B) t l knows step = absurd step.step
-client_wire s (Reset B cause packet lost) t l knows step = absurd step.step
-client_wire s (Lost e packet) t l knows step = absurd step.step
-client_wire s (Injected e packet) t l knows step = absurd step.step
-client_wire s (Poked e at bytes) t l knows step = absurd step.step
-client_wire s (Declines d) t l knows step = absurd step.step
+    subst (λ (b : Bool). ClientCounted l.shape t (Heard_ packet ∷ l.transcript.client) l.work.done
+    (opened_client b (opening_sid (half_heard l.transcript.client) packet) l.work.done (acks_more l.shape l.transcript.client packet l.work.client))) (sym step.2) counted
+client_steps s l knows (OnWire (Sent A packet opens)) t new step = client_puts s l packet opens t new (opening_sid (half_said l.transcript.client) packet) knows step
+client_steps s l knows (OnWire (Blocked A)) t new step =
+    client_holds_counting l.shape s.client (at_client s) (client_rules.client_rule s.client (at_client s)) t l.transcript.client l.work.done l.work.client knows.all.sound knows.rests.client
+    knows.utters.client (client_may s.client (at_client s)) step.0 knows.counted.client
+client_steps s l knows (OnWire (Idle A)) t new step = subst (λ (c : ClientState). CountsClient l c (client_side l)) (sym step.1) knows.counted.client
+client_steps s l knows (OnWire (Reset A cause packet lost)) t new step = subst (λ (c : ClientState). ClientCounted l.shape c [] l.work.done None) (sym step.2) (client_joins s l knows)
+client_steps s l knows (Works (Published id)) t new step =
+    client_publishes_counting l.shape s.client (at_client s) s.memory id t new l.transcript.client l.work.done l.work.client knows.all.sound knows.rests.client step knows.counted.client
+client_steps s l knows (Works (Done id operation status bytes)) t new step =
+    client_completes_counting l.shape s.client (at_client s) s.memory id operation status bytes t new l.transcript.client l.work.done l.work.client step knows.counted.client
+client_steps s l knows _ t new step = absurd step
 
--- THE SERVER ON THE WIRE
-server_wire : (s : LaneState) (event : WireEvent) (t : LaneState) (l : DiskLog) → Knows s l → EndOnWire B s event t → LaneCounted t (after l (OnWire event))
-server_wire s (Joined B lost) t l knows step =
-    record { client = same_client s t l knows (ap (λ (x : LaneState). x.client) step.1.is); server = begun_server s l t.server knows step.1.step.1.2 }
-server_wire s (Took B packet opens) t l knows step =
-    let at = seen B s.shape.entries s.wire.wire in
-    let took = server_took_what s.server l.transcript.server packet t.server opens knows.rests.server.stands.link.follows knows.rests.server.whole step.1.step.1.1 in
-    let free : TakesFree s.server = subst (ServerFree s.server) step.1.step.1.0 (server_free s.server at) in
-    record {
-      client = same_client s t l knows (ap (λ (x : LaneState). x.client) step.1.is);
-      server = server_takes_counting l.shape s.server t.server l.transcript.server packet (opening_sid (half_heard l.transcript.server) packet) l.work.server opens knows.rests.server knows.utters.server free
-          knows.counted.server took;
-    }
-server_wire s (Sent B packet opens) t l knows step =
-    let both = server_puts_counting l.shape s.server (seen B s.shape.entries s.wire.wire) packet opens t.server l.transcript.server l.work.server (few_slots s l knows)
-    step.1.step.1.0 knows.rests.server knows.utters.server knows.counted.server in
-    record {
-      client = same_client s t l knows (ap (λ (x : LaneState). x.client) step.1.is);
-      server = subst (λ (b : Bool). ServerCounted l.shape t.server (Said packet ∷ l.transcript.server)
-          (opened_counts b (opening_sid (half_said l.transcript.server) packet) (answers_more l.shape l.transcript.server packet l.work.server))) (sym both.1) both.0;
-    }
-server_wire s (Blocked B) t l knows step =
-    let at = seen B s.shape.entries s.wire.wire in
-    record {
-      client = same_client s t l knows (ap (λ (x : LaneState). x.client) step.1.is);
-      server = server_holds_counting l.shape s.server (server_rules.server_rule s.server at) t.server l.transcript.server l.work.server knows.rests.server knows.utters.server
-          (server_free s.server at) step.1.step.1.0 knows.counted.server;
-    }
-server_wire s (Idle B) t l knows step =
-    record { client = same_client s t l knows (ap (λ (x : LaneState). x.client) step.1.is); server = same_server s t l knows step.1.step.1.1 }
-server_wire s (Reset B cause packet lost) t l knows step =
-    record { client = same_client s t l knows (ap (λ (x : LaneState). x.client) step.1.is); server = begun_server s l t.server knows step.1.step.1.2 }
-server_wire s (Joined A lost) t l knows step = absurd step.1.step.1
-server_wire s (Took A packet opens) t l knows step = absurd step.1.step.1
-server_wire s (Sent A packet opens) t l knows step = absurd step.1.step.1
-server_wire s (Blocked A) t l knows step = absurd step.1.step.1
-server_wire s (Idle A) t l knows step = absurd step.1.step.1
-server_wire s (Reset A cause packet lost) t l knows step = absurd step.1.step.1
-server_wire s (Lost e packet) t l knows step = absurd step.1.step.1
-server_wire s (Injected e packet) t l knows step = absurd step.1.step.1
-server_wire s (Poked e at bytes) t l knows step = absurd step.1.step.1
-server_wire s (Declines d) t l knows step = absurd step.1.step.1
+-- THE SERVER's steps
+abbrev CountsServer : DiskLog → ServerState → ServerSide → Type 0
+CountsServer l v side = ServerCounted l.shape v side.turns side.counts
 
-end_wire : (e : End) (s : LaneState) (event : WireEvent) (t : LaneState) (l : DiskLog) → Knows s l → EndOnWire e s event t → LaneCounted t (after l (OnWire event))
-end_wire A s event t l knows step = client_wire s event t l knows step
-end_wire B s event t l knows step = server_wire s event t l knows step
+server_joins : (s : LaneState) (l : DiskLog) → Knows s l → ServerCounted l.shape (joined_server s.server) [] None
+server_joins s l knows = server_begins_counting l.shape s.server l.transcript.server l.work.server knows.counted.server
 
--- neither end steps
-stays : (s t : LaneState) (l : DiskLog) → Knows s l → t.client ≡ s.client → t.server ≡ s.server → LaneCounted t l
-stays s t l knows client server = record { client = same_client s t l knows client; server = same_server s t l knows server }
+server_steps : (s : LaneState) (l : DiskLog) → Knows s l → (event : DiskEvent) (gave : List ℕ) (t : ServerState) (new : List ℕ)
+    → ServerStep s.server (at_server s) (reach_of s) gave event t new → CountsServer l t (server_side (after l event))
+server_steps s l knows (OnWire (Joined B lost)) gave t new step = subst (λ (v : ServerState). ServerCounted l.shape v [] None) (sym step.2) (server_joins s l knows)
+server_steps s l knows (OnWire (Took B packet opens)) gave t new step =
+    let took = server_took_what s.server l.transcript.server packet t opens knows.rests.server.stands.link.follows knows.rests.server.whole step.1 in
+    let free : TakesFree s.server = subst (ServerFree s.server) step.0 (server_free s.server (at_server s)) in
+    server_takes_counting l.shape s.server t l.transcript.server packet (opening_sid (half_heard l.transcript.server) packet) l.work.server opens knows.rests.server knows.utters.server free
+    knows.counted.server took
+server_steps s l knows (OnWire (Sent B packet opens)) gave t new step =
+    let both = server_puts_counting l.shape s.server (at_server s) packet opens t l.transcript.server l.work.server (few_slots s l knows) step.0 knows.rests.server knows.utters.server knows.counted.server in
+    subst (λ (b : Bool). ServerCounted l.shape t (Said packet ∷ l.transcript.server)
+    (opened_counts b (opening_sid (half_said l.transcript.server) packet) (answers_more l.shape l.transcript.server packet l.work.server))) (sym both.1) both.0
+server_steps s l knows (OnWire (Blocked B)) gave t new step =
+    server_holds_counting l.shape s.server (server_rules.server_rule s.server (at_server s)) t l.transcript.server l.work.server knows.rests.server knows.utters.server
+    (server_free s.server (at_server s)) step.0 knows.counted.server
+server_steps s l knows (OnWire (Idle B)) gave t new step = subst (λ (v : ServerState). CountsServer l v (server_side l)) (sym step.1) knows.counted.server
+server_steps s l knows (OnWire (Reset B cause packet lost)) gave t new step = subst (λ (v : ServerState). ServerCounted l.shape v [] None) (sym step.2) (server_joins s l knows)
+server_steps s l knows (Works (Desc slot bytes)) gave t new step =
+    server_fetches_counting l.shape s.server (at_server s) (reach_of s) slot bytes t new l.transcript.server l.work.server knows.rests.server step.0 knows.counted.server
+server_steps s l knows (Works (Moved unit fault)) gave t new step =
+    server_moves_counting l.shape s.server (at_server s) (reach_of s) unit fault t new l.transcript.server l.work.server knows.rests.server step.0 knows.counted.server
+server_steps s l knows (Works (Stored operation block count failed)) gave t new step =
+    server_stores_counting l.shape s.server (at_server s) operation block count failed gave t l.transcript.server l.work.server knows.rests.server step.0 knows.counted.server
+server_steps s l knows (Works (Finished slot status)) gave t new step =
+    server_finishes_counting l.shape s.server (at_server s) (reach_of s) slot status t new l.transcript.server l.work.server knows.rests.server step.0 knows.counted.server
+server_steps s l knows _ gave t new step = absurd step
 
--- RESETS that no step gave
-reset_by : (by : Giver) (e : End) (s : LaneState) (cause : Cause) (packet : Option (List ℕ)) (lost : ℕ) (t : LaneState) (l : DiskLog) → Knows s l → ResetBy by e s cause packet lost t
-    → LaneCounted t (after l (OnWire (Reset e cause packet lost)))
-reset_by ByStep A s cause packet lost t l knows step = client_wire s (Reset A cause packet lost) t l knows step
-reset_by ByStep B s cause packet lost t l knows step = server_wire s (Reset B cause packet lost) t l knows step
-reset_by ByScript A s cause packet lost t l knows step =
-    record { client = begun_client s l t.client knows (ap (λ (x : LaneState). x.client) step.2); server = same_server s t l knows (ap (λ (x : LaneState). x.server) step.2) }
-reset_by ByScript B s cause packet lost t l knows step =
-    record { client = same_client s t l knows (ap (λ (x : LaneState). x.client) step.1.2); server = begun_server s l t.server knows (ap (λ (x : LaneState). x.server) step.1.2) }
-reset_by ByRestart A s cause packet lost t l knows step = absurd step
-reset_by ByRestart B s cause packet lost t l knows step =
-    record { client = same_client s t l knows (ap (λ (x : LaneState). x.client) step.1.2); server = made_server s l t.server knows (ap (λ (x : LaneState). x.server) step.1.2) }
-reset_by ByTick A s cause packet lost t l knows step =
-    record { client = begun_client s l t.client knows (ap (λ (x : LaneState). x.client) step.1.2); server = same_server s t l knows (ap (λ (x : LaneState). x.server) step.1.2) }
-reset_by ByTick B s cause packet lost t l knows step = absurd step
-
-poked_by : (e : End) (s : LaneState) (at : ℕ) (bytes : List ℕ) (t : LaneState) (l : DiskLog) → Knows s l → WireStep s (Poked e at bytes) t → LaneCounted t (after l (OnWire (Poked e at bytes)))
-poked_by A s at bytes t l knows step =
-    record { client = same_client s t l knows (ap (λ (x : LaneState). x.client) step.1); server = same_server s t l knows (ap (λ (x : LaneState). x.server) step.1) }
-poked_by B s at bytes t l knows step = absurd step
-
--- THE WIRE
-on_wire : (s : LaneState) (event : WireEvent) (t : LaneState) (l : DiskLog) → Knows s l → WireStep s event t → LaneCounted t (after l (OnWire event))
-on_wire s (Joined e lost) t l knows step = end_wire e s (Joined e lost) t l knows step
-on_wire s (Took e packet opens) t l knows step = end_wire e s (Took e packet opens) t l knows step
-on_wire s (Sent e packet opens) t l knows step = end_wire e s (Sent e packet opens) t l knows step
-on_wire s (Idle e) t l knows step = end_wire e s (Idle e) t l knows step
-on_wire s (Blocked e) t l knows step = end_wire e s (Blocked e) t l knows step
-on_wire s (Reset e cause packet lost) t l knows step = reset_by (giver cause) e s cause packet lost t l knows step
-on_wire s (Lost e packet) t l knows step =
-    record { client = same_client s t l knows (ap (λ (x : LaneState). x.client) step.1); server = same_server s t l knows (ap (λ (x : LaneState). x.server) step.1) }
-on_wire s (Injected e packet) t l knows step =
-    record { client = same_client s t l knows (ap (λ (x : LaneState). x.client) step.2); server = same_server s t l knows (ap (λ (x : LaneState). x.server) step.2) }
-on_wire s (Poked e at bytes) t l knows step = poked_by e s at bytes t l knows step
-on_wire s (Declines d) t l knows step =
-    record { client = same_client s t l knows (ap (λ (x : LaneState). x.client) step.1); server = same_server s t l knows (ap (λ (x : LaneState). x.server) step.1) }
-
--- THE WORK
-works : (s : LaneState) (event : Worked) (t : LaneState) (l : DiskLog) → Knows s l → WorkStep s event t → LaneCounted t (after l (Works event))
-works s (Published id) t l knows step = record {
-  client = client_publishes_counting l.shape s.client (seen A s.shape.entries s.wire.wire) s.memory id t.client t.memory l.transcript.client l.work.done l.work.client knows.all.sound
-      knows.rests.client step.step knows.counted.client;
-  server = same_server s t l knows (ap (λ (x : LaneState). x.server) step.is);
-}
-works s (Done id operation status bytes) t l knows step = record {
-  client = client_completes_counting l.shape s.client (seen A s.shape.entries s.wire.wire) s.memory id operation status bytes t.client t.memory l.transcript.client l.work.done l.work.client step.step
-      knows.counted.client;
-  server = same_server s t l knows (ap (λ (x : LaneState). x.server) step.is);
-}
-works s (Desc slot bytes) t l knows step = record {
-  client = same_client s t l knows (ap (λ (x : LaneState). x.client) step.1.is);
-  server = server_fetches_counting l.shape s.server (seen B s.shape.entries s.wire.wire) _ slot bytes t.server t.memory l.transcript.server l.work.server knows.rests.server step.1.step.1.0
-      knows.counted.server;
-}
-works s (Moved unit fault) t l knows step = record {
-  client = same_client s t l knows (ap (λ (x : LaneState). x.client) step.1.is);
-  server = server_moves_counting l.shape s.server (seen B s.shape.entries s.wire.wire) _ unit fault t.server t.memory l.transcript.server l.work.server knows.rests.server step.1.step.1.0
-      knows.counted.server;
-}
-works s (Stored operation block count failed) t l knows step = record {
-  client = same_client s t l knows (ap (λ (x : LaneState). x.client) step.1.is);
-  server = server_stores_counting l.shape s.server (seen B s.shape.entries s.wire.wire) operation block count failed step.0 t.server l.transcript.server l.work.server knows.rests.server step.1.step.1.0
-      knows.counted.server;
-}
-works s (Finished slot status) t l knows step = record {
-  client = same_client s t l knows (ap (λ (x : LaneState). x.client) step.1.is);
-  server = server_finishes_counting l.shape s.server (seen B s.shape.entries s.wire.wire) _ slot status t.server t.memory l.transcript.server l.work.server knows.rests.server step.1.step.1.0
-      knows.counted.server;
-}
-works s Misplaced t l knows step = absurd step
-
--- WHAT IS ASKED, STOPS, and what changes nothing
-asks : (s : LaneState) (event : Admitted) (t : LaneState) (l : DiskLog) → Knows s l → ClientCounted l.shape t.client l.transcript.client l.work.done l.work.client → t.server ≡ s.server
-    → LaneCounted t (after l (Asks event))
-asks s (Refused why request) t l knows client server = record { client = client; server = same_server s t l knows server }
-asks s (Full request) t l knows client server = record { client = client; server = same_server s t l knows server }
-asks s (Accepted id request) t l knows client server = record { client = client; server = same_server s t l knows server }
-
-turns_count : (s : LaneState) (event : Switched) (t : LaneState) (l : DiskLog) → Knows s l → TurnStep s event t → LaneCounted t (after l (Switches event))
-turns_count s Stopped t l knows step =
-    record { client = same_client s t l knows (ap (λ (x : LaneState). x.client) step.1); server = made_server s l t.server knows (ap (λ (x : LaneState). x.server) step.1) }
-turns_count s Started t l knows step =
-    record { client = same_client s t l knows (ap (λ (x : LaneState). x.client) step.1); server = same_server s t l knows (ap (λ (x : LaneState). x.server) step.1) }
-turns_count s Off t l knows step =
-    record { client = same_client s t l knows (ap (λ (x : LaneState). x.client) step.1); server = same_server s t l knows (ap (λ (x : LaneState). x.server) step.1) }
-
-calm : (s : LaneState) (event : Calm) (t : LaneState) → RestStep s event t → t ≡ s
-calm s CalmTick t step = step.1
-calm s CalmStop t step = step.1
-calm s CalmStart t step = step.1
-calm s (CalmReset A) t step = absurd step
-calm s (CalmReset B) t step = step.1
-calm s CalmRestart t step = step.1
-
+-- EACH EVENT
 counted_step : (s : LaneState) (event : DiskEvent) (t : LaneState) (l : DiskLog) → Knows s l → LaneStep s event t → LaneCounted t (after l event)
-counted_step s (OnWire event) t l knows step = on_wire s event t l knows step
-counted_step s (Asks event) t l knows step =
-    asks s event t l knows (client_admits_counting l.shape s.client event t.client l.transcript.client l.work.done l.work.client step.0 knows.counted.client) (ap (λ (x : LaneState). x.server) step.1)
-counted_step s (Works event) t l knows step = works s event t l knows step
-counted_step s (Switches event) t l knows step = turns_count s event t l knows step
-counted_step s (Calms event) t l knows step =
-    let same : t ≡ s = calm s event t step in
-    record { client = same_client s t l knows (ap (λ (x : LaneState). x.client) same); server = same_server s t l knows (ap (λ (x : LaneState). x.server) same) }
+counted_step s event t l knows step = record {
+  client = client_keeps (CountsClient l) s l event t (record {
+    now = knows.counted.client;
+    acts = client_steps s l knows;
+    asked = λ request c admits. client_admits_counting l.shape s.client request c l.transcript.client l.work.done l.work.client admits knows.counted.client;
+    joined = client_joins s l knows;
+  }) step;
+  server = server_keeps (CountsServer l) s l event t (record {
+    now = knows.counted.server;
+    acts = server_steps s l knows;
+    joined = server_joins s l knows;
+    renewed = server_restarts_counting l.shape s.server l.transcript.server l.work.server knows.counted.server;
+  }) step;
+}
 
 -- ALONG EVERY RUN
 pub knows_step : (s : LaneState) (l : DiskLog) (event : DiskEvent) (t : LaneState) → Knows s l → LaneStep s event t → ⊤ × Knows t (after l event)

@@ -1,5 +1,5 @@
 -- Along every run, what resets an end says why.
-use Rattle.std.proofs.Common.{◌≡◌, ℕ, Option, None, List, [], ◌∷◌, sym, subst}
+use Rattle.std.proofs.Common.{◌≡◌, ℕ, Option, None, List, sym, subst}
 use Rattle.runs.specs.Lawful.{Lawful, run_lawful}
 use Rattle.runs.specs.Run.{Run}
 use Rattle.ldc_queue.specs.declared.end.End.{End}
@@ -10,10 +10,10 @@ use Rattle.vio_tag.specs.declared.cause.Cause.TheVariants as the_cause
 use Rattle.channel_model.specs.ResetSays.{WireResetAt}
 use Rattle.channel_model.specs.TranscriptLog.{TranscriptLog, transcript_of}
 use Rattle.channel_model.specs.WireAt.{WireGapAt}
-use Rattle.channel_model.specs.WireEvent.{Blocked, Declines, Idle, Injected, Joined, Lost, Poked, Reset, Sent, Took, WireEvent}
+use Rattle.channel_model.specs.WireEvent.{Reset, WireEvent}
 use Rattle.lane_laws.specs.DiskLog.{DiskLog, after, after_transcript, nothing_yet}
 use Rattle.disk_model.specs.ClientRule.{client_rule}
-use Rattle.disk_model.specs.DiskEvent.{Asks, DiskEvent, OnWire, Calms, Switches, Works}
+use Rattle.disk_model.specs.DiskEvent.{DiskEvent, OnWire}
 use Rattle.disk_model.specs.LaneState.{IsShape, LaneState, Shape, fresh}
 use Rattle.disk_model.specs.LaneStep.{EndOnWire, LaneStep, WireStep, reach}
 use Rattle.channel_model.specs.Seeing.{seen}
@@ -24,6 +24,7 @@ use Rattle.lane_laws.specs.LaneRests.{LaneRests}
 use Rattle.lane_laws.proofs.EndResets.{WhyReset, client_fails, server_fails}
 use Rattle.lane_laws.specs.Laws.{GapAt, ResetAt}
 use Rattle.lane_laws.specs.Sound.{ClientSound}
+use Rattle.lane_laws.proofs.StandingRuns.{lawful_by}
 
 abbrev pub Stands : LaneState → TranscriptLog → Type 0
 Stands s transcript = ClientSound s.client × LaneRests s transcript
@@ -49,24 +50,7 @@ by_giver A s transcript the_cause.Restart packet lost t stands step = absurd ste
 by_giver B s transcript the_cause.Restart packet lost t stands step = asked_why transcript.server the_cause.Restart packet step.1.0 (record { says = tt; gap = tt; carried = tt })
 by_giver A s transcript the_cause.Tick packet lost t stands step = asked_why transcript.client the_cause.Tick packet step.1.0 (record { says = tt; gap = tt; carried = tt })
 by_giver B s transcript the_cause.Tick packet lost t stands step = absurd step
-by_giver e s transcript (the_cause.Packet fault) packet lost t stands step = end_why e s transcript (the_cause.Packet fault) packet lost t stands step
-by_giver e s transcript (the_cause.Gap expected found) packet lost t stands step = end_why e s transcript (the_cause.Gap expected found) packet lost t stands step
-by_giver e s transcript (the_cause.Mode found) packet lost t stands step = end_why e s transcript (the_cause.Mode found) packet lost t stands step
-by_giver e s transcript the_cause.Version packet lost t stands step = end_why e s transcript the_cause.Version packet lost t stands step
-by_giver e s transcript the_cause.Unexpected packet lost t stands step = end_why e s transcript the_cause.Unexpected packet lost t stands step
-by_giver e s transcript the_cause.Fragment packet lost t stands step = end_why e s transcript the_cause.Fragment packet lost t stands step
-by_giver e s transcript (the_cause.Tag fault) packet lost t stands step = end_why e s transcript (the_cause.Tag fault) packet lost t stands step
-by_giver e s transcript (the_cause.Sid expected found) packet lost t stands step = end_why e s transcript (the_cause.Sid expected found) packet lost t stands step
-by_giver e s transcript the_cause.Order packet lost t stands step = end_why e s transcript the_cause.Order packet lost t stands step
-by_giver e s transcript the_cause.Refused packet lost t stands step = end_why e s transcript the_cause.Refused packet lost t stands step
-by_giver e s transcript (the_cause.Ident expected found) packet lost t stands step = end_why e s transcript (the_cause.Ident expected found) packet lost t stands step
-by_giver e s transcript (the_cause.Seq expected found) packet lost t stands step = end_why e s transcript (the_cause.Seq expected found) packet lost t stands step
-by_giver e s transcript (the_cause.Slot expected found) packet lost t stands step = end_why e s transcript (the_cause.Slot expected found) packet lost t stands step
-by_giver e s transcript (the_cause.RangeEnd found) packet lost t stands step = end_why e s transcript (the_cause.RangeEnd found) packet lost t stands step
-by_giver e s transcript (the_cause.NotReady slot state) packet lost t stands step = end_why e s transcript (the_cause.NotReady slot state) packet lost t stands step
-by_giver e s transcript (the_cause.NotDone slot state) packet lost t stands step = end_why e s transcript (the_cause.NotDone slot state) packet lost t stands step
-by_giver e s transcript (the_cause.Frame size count) packet lost t stands step = end_why e s transcript (the_cause.Frame size count) packet lost t stands step
-by_giver e s transcript (the_cause.Copy fault) packet lost t stands step = end_why e s transcript (the_cause.Copy fault) packet lost t stands step
+by_giver e s transcript cause packet lost t stands step = end_why e s transcript cause packet lost t stands step
 
 -- both laws of an event
 pub record SaysAt (transcript : TranscriptLog) (event : WireEvent) : Type 0 where
@@ -76,22 +60,11 @@ pub record SaysAt (transcript : TranscriptLog) (event : WireEvent) : Type 0 wher
 wire_says : (s : LaneState) (transcript : TranscriptLog) (event : WireEvent) (t : LaneState) → Stands s transcript → WireStep s event t → SaysAt transcript event
 wire_says s transcript (Reset e cause packet lost) t stands step =
     let why = by_giver e s transcript cause packet lost t stands step in record { says = why.says; gap = why.gap }
-wire_says s transcript (Joined e lost) t stands step = record { says = tt; gap = tt }
-wire_says s transcript (Took e packet opens) t stands step = record { says = tt; gap = tt }
-wire_says s transcript (Sent e packet opens) t stands step = record { says = tt; gap = tt }
-wire_says s transcript (Idle e) t stands step = record { says = tt; gap = tt }
-wire_says s transcript (Blocked e) t stands step = record { says = tt; gap = tt }
-wire_says s transcript (Lost e packet) t stands step = record { says = tt; gap = tt }
-wire_says s transcript (Injected e packet) t stands step = record { says = tt; gap = tt }
-wire_says s transcript (Poked e at bytes) t stands step = record { says = tt; gap = tt }
-wire_says s transcript (Declines d) t stands step = record { says = tt; gap = tt }
+wire_says s transcript _ t stands step = record { says = tt; gap = tt }
 
 says_at : (s : LaneState) (l : DiskLog) (event : DiskEvent) (t : LaneState) → Stands s l.transcript → LaneStep s event t → ResetAt l event × GapAt l event
 says_at s l (OnWire event) t stands step = let says = wire_says s l.transcript event t stands step in (says.says, says.gap)
-says_at s l (Asks event) t stands step = (tt, tt)
-says_at s l (Works event) t stands step = (tt, tt)
-says_at s l (Switches event) t stands step = (tt, tt)
-says_at s l (Calms event) t stands step = (tt, tt)
+says_at s l _ t stands step = (tt, tt)
 
 stands_step : (s : LaneState) (transcript : TranscriptLog) (event : DiskEvent) (t : LaneState) → Stands s transcript → LaneStep s event t → Stands t (after_transcript transcript event)
 stands_step s transcript event t (sound, rests) step = (sound_step s event t sound step, rests_step s event t transcript sound rests step)
@@ -103,15 +76,10 @@ all_lawful shape events s sound run =
     (λ (x : LaneState) (l : DiskLog) (e : DiskEvent) (y : LaneState) stands step. (says_at x l e y stands step, stands_step x l.transcript e y stands step))
     (fresh shape) s (nothing_yet shape) events (fresh_sound shape sound, fresh_rests shape sound) run).0
 
--- a law that stronger ones give
-lawful_of : (P Q : DiskLog → DiskEvent → Type 0) → ((l : DiskLog) (e : DiskEvent) → P l e → Q l e) → (l : DiskLog) (events : List DiskEvent) → Lawful P after l events → Lawful Q after l events
-lawful_of P Q more l [] lawful = tt
-lawful_of P Q more l (event ∷ events) lawful = (more l event lawful.0, lawful_of P Q more (after l event) events lawful.1)
-
 pub resets_lawful : (shape : Shape) (events : List DiskEvent) (s : LaneState) → IsShape shape → Run LaneStep (fresh shape) events s → Lawful ResetAt after (nothing_yet shape) events
 resets_lawful shape events s sound run =
-    lawful_of (λ (l : DiskLog) (e : DiskEvent). ResetAt l e × GapAt l e) ResetAt (λ l e both. both.0) (nothing_yet shape) events (all_lawful shape events s sound run)
+    lawful_by (λ (l : DiskLog) (e : DiskEvent). ResetAt l e × GapAt l e) ResetAt (λ l e both. both.0) (nothing_yet shape) events (all_lawful shape events s sound run)
 
 pub gaps_lawful : (shape : Shape) (events : List DiskEvent) (s : LaneState) → IsShape shape → Run LaneStep (fresh shape) events s → Lawful GapAt after (nothing_yet shape) events
 gaps_lawful shape events s sound run =
-    lawful_of (λ (l : DiskLog) (e : DiskEvent). ResetAt l e × GapAt l e) GapAt (λ l e both. both.1) (nothing_yet shape) events (all_lawful shape events s sound run)
+    lawful_by (λ (l : DiskLog) (e : DiskEvent). ResetAt l e × GapAt l e) GapAt (λ l e both. both.1) (nothing_yet shape) events (all_lawful shape events s sound run)

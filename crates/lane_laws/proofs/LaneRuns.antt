@@ -74,21 +74,9 @@ contents_behind : (s : LaneState) (l : DiskLog) (event : DiskEvent) (t : LaneSta
     → LaneStep s event t → ContentsStand (view_of t)
 contents_behind s l (Works (Stored operation block count failed)) t before contents facts clean well step =
     store_contents s l operation block count failed step.0 t before contents (stored_well s step.0 operation block count failed t step.1 well) step.1
-contents_behind s l (OnWire event) t before contents facts clean well step = changed_contents s l (OnWire event) t before contents (lane_changes s l (OnWire event) t before contents facts clean tt step)
-contents_behind s l (Asks event) t before contents facts clean well step = changed_contents s l (Asks event) t before contents (lane_changes s l (Asks event) t before contents facts clean tt step)
-contents_behind s l (Works (Published id)) t before contents facts clean well step =
-    changed_contents s l (Works (Published id)) t before contents (lane_changes s l (Works (Published id)) t before contents facts clean tt step)
-contents_behind s l (Works (Done id operation status bytes)) t before contents facts clean well step =
-    changed_contents s l (Works (Done id operation status bytes)) t before contents (lane_changes s l (Works (Done id operation status bytes)) t before contents facts clean tt step)
-contents_behind s l (Works (Desc slot bytes)) t before contents facts clean well step =
-    changed_contents s l (Works (Desc slot bytes)) t before contents (lane_changes s l (Works (Desc slot bytes)) t before contents facts clean tt step)
-contents_behind s l (Works (Moved unit fault)) t before contents facts clean well step =
-    changed_contents s l (Works (Moved unit fault)) t before contents (lane_changes s l (Works (Moved unit fault)) t before contents facts clean tt step)
-contents_behind s l (Works (Finished slot status)) t before contents facts clean well step =
-    changed_contents s l (Works (Finished slot status)) t before contents (lane_changes s l (Works (Finished slot status)) t before contents facts clean tt step)
 contents_behind s l (Works Misplaced) t before contents facts clean well step = absurd step
-contents_behind s l (Switches event) t before contents facts clean well step = changed_contents s l (Switches event) t before contents (lane_changes s l (Switches event) t before contents facts clean tt step)
-contents_behind s l (Calms event) t before contents facts clean well step = changed_contents s l (Calms event) t before contents (lane_changes s l (Calms event) t before contents facts clean tt step)
+contents_behind s l event t before contents facts clean well step =
+    changed_contents s l event t before contents (lane_changes s l event t before contents facts clean tt step)
 
 -- ALONG A RUN
 pub before_of : (shape : Shape) (events : List DiskEvent) (s : LaneState) → IsShape shape → Run LaneStep (fresh shape) events s → (log_of after (nothing_yet shape) events).wire.forged ≡ false

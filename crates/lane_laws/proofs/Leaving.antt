@@ -11,10 +11,11 @@ use Rattle.channel_model.specs.EndPuts.{ComesUp, EndsOwn, EndsHandshake, Goes, P
 use Rattle.channel_model.specs.Seeing.{Seen}
 use Rattle.disk_model.specs.ServerPutting.{server_holds}
 use Rattle.disk_model.specs.ServerRule as server
-use Rattle.disk_model.specs.ServerState.{ServerState, Work}
+use Rattle.disk_model.specs.ServerState.{ServerState}
 use Rattle.disk_model.specs.ServerStep.{ServerSends}
 use Rattle.disk_model.specs.ServerTaking.{ServerTakes, GoesOn as ServerGoesOn}
 use Rattle.channel_laws.proofs.Apart.{none_is_some, some_same}
+use Rattle.lane_laws.proofs.ServerSpeaking.{server_holds_link}
 use Rattle.lane_laws.proofs.ClientTaken.{ClientTook, client_took_what}
 use Rattle.lane_laws.proofs.Ruling.{client_may}
 use Rattle.lane_laws.proofs.ServerTaken.{ServerTook, server_took_what}
@@ -99,10 +100,8 @@ client_sent c at memory packet t new sends =
 
 -- its session opens: nothing is published in it
 opened_behind : (kind : PutKind) (c : ClientState) → put_opens kind c.handshake ≡ true → session_behind kind c ≡ Some (opened_session (first_id c))
-opened_behind EndsOwn c is = absurd (cc is)
-opened_behind Goes c is = absurd (cc is)
-opened_behind ComesUp c is = absurd (cc is)
 opened_behind EndsHandshake c is = ap (λ (b : Bool). opened_if b c) is
+opened_behind _ c is = absurd (cc is)
 
 pub record ClientOpened (c t : ClientState) : Type 0 where
   pub ever : t.ever_published ≡ c.ever_published
@@ -128,14 +127,8 @@ pub server_took : (s : ServerState) (turns : List Turn) (packet : List ℕ) (t :
     → ServerTakes s packet (ServerGoesOn t opens) → t.work ≡ s.work
 server_took s turns packet t opens follows none takes = took_work s turns packet t opens (server_took_what s turns packet t opens follows none takes)
 
-abbrev work_in : Option ServerState → Option Work
-work_in None = None
-work_in (Some x) = x.work
-
 pub server_held : (s : ServerState) (rule : server.ServerRule) (held : ServerState) → server_holds rule s ≡ Some held → held.work ≡ s.work
-server_held s server.Puts held is = ap work_in (sym is)
-server_held s (server.Says message) held is = ap work_in (sym is)
-server_held s _ held is = none_is_some is
+server_held s rule held is = ap (λ (x : ServerState). x.work) (server_holds_link s rule held is)
 
 pub server_sent : (s : ServerState) (at : Seen) (packet : List ℕ) (opens : Bool) (t : ServerState) → ServerSends s at packet opens t → t.work ≡ s.work
 server_sent s at packet opens t sends = ap (λ (x : ServerState). x.work) sends.is ∙ server_held s (server.server_rule s at) sends.held sends.holds

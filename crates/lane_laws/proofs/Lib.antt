@@ -18,6 +18,7 @@ pub mod HeardFront
 pub mod IdleRuns
 pub mod LaneCounting
 pub mod LaneStepping
+pub mod LaneViews
 pub mod MemoryStanding
 pub mod MemorySteps
 pub mod OfferedRing
@@ -54,6 +55,7 @@ pub mod RingTable
 pub mod RingWire
 pub mod RingWork
 pub mod RingWrites
+pub mod RuleTests
 pub mod RulesFree
 pub mod Ruling
 pub mod ServerCounting

@@ -30,6 +30,7 @@ use Rattle.lane_laws.specs.LaneTranscripts.{transcript_behind}
 use Rattle.lane_laws.specs.Remaining.{asked_in, requests_left, serving_left, total, unfinished, work_left}
 use Rattle.lane_laws.specs.Sound.{InOrder}
 use Rattle.channel_laws.proofs.Apart.{true_is_false}
+use Rattle.lane_laws.proofs.ServerPutCounting.{work_most}
 
 -- THE REQUESTS of two ends that are up: what remains of them, and two packets for each INFO that isn't answered, are at most 16 for each
 -- that is pending
@@ -79,10 +80,6 @@ serving_of s l session knows is =
     serving_by l.work.server s l session refl (subst (λ (p : Option ServerSession). ServerAgrees p s.server.work l.work.server) is server.agrees)
     (subst (λ (p : Option ServerSession). ServerOrder l.shape.slots p l.work.server l.transcript.server) is server.order)
 
-finished_most : (work : Option Work) (d : ServerCounts) → WorkAgrees work d → d.finished ≤ d.descs
-finished_most None d agrees = omega (arith, agrees.1)
-finished_most (Some work) d agrees = omega (arith, agrees.2)
-
 working_more : (work : Option Work) (d : ServerCounts) → WorkAgrees work d → d.descs ≤ d.asked → work ≢ None → d.finished + 1 ≤ d.asked
 working_more None d agrees most some = absurd (some refl)
 working_more (Some work) d agrees most some = omega (arith, agrees.2, most)
@@ -122,7 +119,7 @@ both_open shape events s c v sound run clean up_a up_b is_c is_v pieces =
     let d = serves.counts in
     let within = asked_within shape events s v sound run clean up_b is_v in
     let asked : v.asked ≡ d.asked = within.asked ∙ sym serves.order.asked in
-    let finished_descs = finished_most s.server.work d serves.work in
+    let finished_descs = work_most s.server.work d serves.work in
     let finished : v.finished ≡ d.finished = small_same v.finished d.finished d.asked v.asked serves.agree.finished asked within.small (omega (arith, finished_descs, serves.order.descs)) in
     let fetched : v.finished ≤ v.asked = omega (arith, finished, asked, finished_descs, serves.order.descs) in
     let left : unfinished v + v.finished ≡ v.asked = left_of v.asked v.finished (omega (arith, within.small)) fetched in

@@ -20,11 +20,8 @@ KIs (Some d) (Some c) done k = c.base + d.finished ≡ done + k
 -- THE COUNTS that change leave what is finished
 pub kis_server : (x : ChannelState) (q : Option ServerCounts) (g : ServerCounts → ServerCounts) (o : Option ClientCounts) (done k : ℕ) → ((d : ServerCounts) → (g d).finished ≡ d.finished)
     → KIs (counts_while x q) o done k → KIs (counts_while x (change_server g q)) o done k
-kis_server Down q g o done k same is = is
-kis_server Resetting q g o done k same is = is
-kis_server Up None g o done k same is = is
-kis_server Up (Some d) g None done k same is = is
 kis_server Up (Some d) g (Some c) done k same is = omega (arith, is, same d)
+kis_server _ _ g _ done k same is = is
 
 pub kis_client : (q : Option ServerCounts) (f : ClientCounts → ClientCounts) (o : Option ClientCounts) (done k : ℕ) → ((c : ClientCounts) → (f c).base ≡ c.base) → KIs q o done k
     → KIs q (change_client f o) done k
@@ -42,10 +39,8 @@ zero_where (Some d) o done k none is = absurd (cc none)
 
 -- where the client's end isn't up no server works on
 pub not_live : (x y : ChannelState) (q : Option ServerCounts) → ((d : ServerCounts) → y ≡ Up → q ≡ Some d → x ≡ Up) → x ≢ Up → counts_while y q ≡ None
-not_live x Down q alive not = refl
-not_live x Resetting q alive not = refl
-not_live x Up None alive not = refl
 not_live x Up (Some d) alive not = absurd (not (alive d refl refl))
+not_live x _ _ alive not = refl
 
 pub not_up : (x : ChannelState) (q : Option ServerCounts) → x ≢ Up → counts_while x q ≡ None
 not_up Down q not = refl

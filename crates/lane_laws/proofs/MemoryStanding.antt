@@ -46,7 +46,7 @@ desc_long id request slot slots = omega arith
 admitted_size : (blocks : ℕ) (request : Request) → defect blocks request ≡ None → size_of request ≤ 32768
 admitted_size blocks request none = (is_admitted blocks request none).most
 
-filled_long : (request : Request) (slots slot : ℕ) (memory : List ℕ) → size_of request ≤ 32768 → slot < slots → length memory ≡ memory_long slots
+pub filled_long : (request : Request) (slots slot : ℕ) (memory : List ℕ) → size_of request ≤ 32768 → slot < slots → length memory ≡ memory_long slots
     → length (filled_buffer request (buffer_place slots slot) memory) ≡ length memory
 filled_long (Read block count) slots slot memory few below long = refl
 filled_long (Write block count fill) slots slot memory few below long =

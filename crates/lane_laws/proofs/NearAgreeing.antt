@@ -8,7 +8,7 @@ use Rattle.ldc_queue.specs.declared.end.End.{End}
 use Rattle.ldc_queue.specs.declared.end.End.TheVariants.{A, B}
 use Rattle.ldc_queue.specs.Wire.{peer_behind}
 use Rattle.vio_tag.specs.declared.cause.Cause.{Cause}
-use Rattle.channel_model.specs.WireEvent.{Blocked, Declines, Idle, Injected, Joined, Lost, Poked, Reset, Sent, Took, WireEvent}
+use Rattle.channel_model.specs.WireEvent.{Joined, Reset, Sent, Took, WireEvent}
 use Rattle.channel_model.specs.WireLog.{WireLog, wire_moved}
 use Rattle.channel_laws.proofs.Apart.{ends_differ}
 use Rattle.lane_laws.specs.Agreement.{NearAgrees}
@@ -33,7 +33,7 @@ use Rattle.lane_laws.proofs.QuietWire.{wire_quiet, work_on_wire}
 use Rattle.lane_laws.proofs.Standing.{Before, ever_count}
 use Rattle.lane_laws.proofs.StoredFew.{LaneRoom, lane_room, stored_few, work_room}
 use Rattle.lane_laws.proofs.WireChanges.{Undisturbed, near_quiet, reset_drops, work_quiet}
-use Rattle.lane_laws.proofs.WorkCounts.{calm}
+use Rattle.lane_laws.proofs.LaneViews.{calm_same as calm}
 
 -- THE LOG'S COUNTS, by what was ever published and what is done
 pub record NearSame (s : LaneState) (l : DiskLog) : Type 0 where
@@ -107,19 +107,11 @@ wire_disturbs e s l cause packet lost t before gone kept peer done step same =
 wire_same_near : (s : LaneState) (l : DiskLog) (event : WireEvent) (t : LaneState) → Before s l → StepFacts s l (OnWire event) t → WireStep s event t → NearSame s l → NearSame t (after l (OnWire event))
 wire_same_near s l (Sent A packet true) t before facts step same = wire_opens s l packet t step same
 wire_same_near s l (Sent A packet false) t before facts step same = wire_stays s l (Sent A packet false) t before facts refl tt refl refl step same
-wire_same_near s l (Sent B packet opens) t before facts step same = wire_stays s l (Sent B packet opens) t before facts tt tt refl refl step same
 wire_same_near s l (Took A packet opens) t before facts step same = wire_stays s l (Took A packet opens) t before facts step.step.2 tt refl refl step same
-wire_same_near s l (Took B packet opens) t before facts step same = wire_stays s l (Took B packet opens) t before facts tt tt refl refl step same
 wire_same_near s l (Joined A lost) t before facts step same = wire_stays s l (Joined A lost) t before facts tt tt refl refl step same
-wire_same_near s l (Joined B lost) t before facts step same = wire_stays s l (Joined B lost) t before facts tt tt refl refl step same
 wire_same_near s l (Reset A cause packet lost) t before facts step same = wire_disturbs A s l cause packet lost t before (λ is. ends_differ is) (λ is. refl) (λ is. refl) refl step same
 wire_same_near s l (Reset B cause packet lost) t before facts step same = wire_disturbs B s l cause packet lost t before (λ is. refl) (λ is. ends_differ (sym is)) (λ is. ends_differ (sym is)) refl step same
-wire_same_near s l (Lost e packet) t before facts step same = wire_stays s l (Lost e packet) t before facts tt tt refl refl step same
-wire_same_near s l (Injected e packet) t before facts step same = wire_stays s l (Injected e packet) t before facts tt tt refl refl step same
-wire_same_near s l (Poked e at bytes) t before facts step same = wire_stays s l (Poked e at bytes) t before facts tt tt refl refl step same
-wire_same_near s l (Idle e) t before facts step same = wire_stays s l (Idle e) t before facts tt tt refl refl step same
-wire_same_near s l (Blocked e) t before facts step same = wire_stays s l (Blocked e) t before facts tt tt refl refl step same
-wire_same_near s l (Declines d) t before facts step same = wire_stays s l (Declines d) t before facts tt tt refl refl step same
+wire_same_near s l event t before facts step same = wire_stays s l event t before facts tt tt refl refl step same
 
 -- THE WORK
 blocks_same : (operation count : ℕ) (failed : Bool) (u : ℕ) → (operation ≡ 2 → u + count ≤ 128) → stored_blocks operation count failed u ≡ stored_more operation count failed u
@@ -198,8 +190,7 @@ asks_ever s (Refused why request) t step = ap (λ (c : ClientState). c.ever_publ
 
 asks_log : (l : DiskLog) (event : Admitted) → (after l (Asks event)).work.done ≡ l.work.done
 asks_log l (Accepted id request) = refl
-asks_log l (Full request) = refl
-asks_log l (Refused why request) = refl
+asks_log l _ = refl
 
 event_same : (s : LaneState) (l : DiskLog) (event : DiskEvent) (t : LaneState) → Before s l → StepFacts s l event t → LaneStep s event t → NearSame s l → NearSame t (after l event)
 event_same s l (OnWire event) t before facts step same = wire_same_near s l event t before facts step same

@@ -2,7 +2,7 @@
 use Rattle.std.proofs.Common.{◌≡◌, ◌⊎◌, ℕ, ◌-◌, ◌≤◌, false, None, List, inl, inr, sym, ap, ◌∙◌, arith}
 use Rattle.runs.specs.Lawful.{Lawful, log_of}
 use Rattle.runs.specs.Run.{Run}
-use Rattle.disk_model.specs.DiskEvent.{Asks, Desc, DiskEvent, Done, Finished, Misplaced, Moved, OnWire, Published, Calms, Stored, Switches, Works}
+use Rattle.disk_model.specs.DiskEvent.{DiskEvent, Done, Works}
 use Rattle.lane_laws.specs.DiskLog.{DiskLog, after, nothing_yet}
 use Rattle.disk_model.specs.LaneState.{IsShape, LaneState, Shape, fresh}
 use Rattle.disk_model.specs.LaneStep.{LaneStep}
@@ -90,16 +90,7 @@ near_at shape events s (Works (Done id operation status bytes)) t sound run step
     let wire = (all_behind shape events s sound run).stands.wire in
     let some = done_finished shape events s id operation status bytes t sound run step (ap (λ (w : WireLog). w.forged) wire ∙ clean) in
     omega (arith, agrees.k, some)
-near_at shape events s (Works (Published id)) t sound run step = tt
-near_at shape events s (Works (Desc slot bytes)) t sound run step = tt
-near_at shape events s (Works (Moved unit fault)) t sound run step = tt
-near_at shape events s (Works (Stored operation block count failed)) t sound run step = tt
-near_at shape events s (Works (Finished slot status)) t sound run step = tt
-near_at shape events s (Works Misplaced) t sound run step = tt
-near_at shape events s (OnWire event) t sound run step = tt
-near_at shape events s (Asks event) t sound run step = tt
-near_at shape events s (Switches event) t sound run step = tt
-near_at shape events s (Calms event) t sound run step = tt
+near_at shape events s _ t sound run step = tt
 
 pub near_lawful : (shape : Shape) (events : List DiskEvent) (s : LaneState) → IsShape shape → Run LaneStep (fresh shape) events s
     → Lawful NearAt after (nothing_yet shape) events

@@ -12,7 +12,7 @@ use Rattle.runs.specs.Run.{Run}
 use Rattle.channel_laws.proofs.Apart.{some_same}
 use Rattle.lane_laws.specs.DiskLog.{DiskLog, after, nothing_yet}
 use Rattle.disk_model.specs.ClientStep.{given_bytes}
-use Rattle.disk_model.specs.DiskEvent.{Asks, Desc, DiskEvent, Done, Finished, Misplaced, Moved, OnWire, Published, Calms, Stored, Switches, Works}
+use Rattle.disk_model.specs.DiskEvent.{DiskEvent, Misplaced, Stored, Works}
 use Rattle.disk_model.specs.LaneState.{IsShape, LaneState, Shape, fresh}
 use Rattle.disk_model.specs.LaneStep.{LaneStep, ServerWorks}
 use Rattle.channel_model.specs.WireLog.{WireLog}
@@ -67,25 +67,9 @@ event_near : (s : LaneState) (l : DiskLog) (event : DiskEvent) (t : LaneState) (
     → NearView s.client.blocks (content_after s content event) (view_of t) next
 event_near s l (Works (Stored operation block count failed)) t content image next before contents facts clean well step does near =
     store_near s l operation block count failed t content image next before contents (stored_well s does.gave operation block count failed t does.step well) does near
-event_near s l (OnWire event) t content image next before contents facts clean well step does near =
-    changed_near s l (OnWire event) t content image next before contents (lane_changes s l (OnWire event) t before contents facts clean tt step) does near
-event_near s l (Asks event) t content image next before contents facts clean well step does near =
-    changed_near s l (Asks event) t content image next before contents (lane_changes s l (Asks event) t before contents facts clean tt step) does near
-event_near s l (Works (Published id)) t content image next before contents facts clean well step does near =
-    changed_near s l (Works (Published id)) t content image next before contents (lane_changes s l (Works (Published id)) t before contents facts clean tt step) does near
-event_near s l (Works (Done id operation status bytes)) t content image next before contents facts clean well step does near =
-    changed_near s l (Works (Done id operation status bytes)) t content image next before contents (lane_changes s l (Works (Done id operation status bytes)) t before contents facts clean tt step) does near
-event_near s l (Works (Desc slot bytes)) t content image next before contents facts clean well step does near =
-    changed_near s l (Works (Desc slot bytes)) t content image next before contents (lane_changes s l (Works (Desc slot bytes)) t before contents facts clean tt step) does near
-event_near s l (Works (Moved unit fault)) t content image next before contents facts clean well step does near =
-    changed_near s l (Works (Moved unit fault)) t content image next before contents (lane_changes s l (Works (Moved unit fault)) t before contents facts clean tt step) does near
-event_near s l (Works (Finished slot status)) t content image next before contents facts clean well step does near =
-    changed_near s l (Works (Finished slot status)) t content image next before contents (lane_changes s l (Works (Finished slot status)) t before contents facts clean tt step) does near
 event_near s l (Works Misplaced) t content image next before contents facts clean well step does near = absurd step
-event_near s l (Switches event) t content image next before contents facts clean well step does near =
-    changed_near s l (Switches event) t content image next before contents (lane_changes s l (Switches event) t before contents facts clean tt step) does near
-event_near s l (Calms event) t content image next before contents facts clean well step does near =
-    changed_near s l (Calms event) t content image next before contents (lane_changes s l (Calms event) t before contents facts clean tt step) does near
+event_near s l event t content image next before contents facts clean well step does near =
+    changed_near s l event t content image next before contents (lane_changes s l event t before contents facts clean tt step) does near
 
 -- after a run
 pub record RunStep (shape : Shape) (events : List DiskEvent) (s : LaneState) (event : DiskEvent) (t : LaneState) : Type 0 where

@@ -21,21 +21,17 @@ use Rattle.lane_laws.proofs.PendingWrites.{earlier, shows_done, shows_pushed, wi
 
 -- THE FIRST BLOCKS of a write
 among_or_not : (o : Option Request) (u b : ℕ) → IsAmong o u b ⊎ (IsAmong o u b → ⊥)
-among_or_not None u b = inr (λ never. never)
-among_or_not (Some (Read block count)) u b = inr (λ never. never)
 among_or_not (Some (Write block count fill)) u b = by_range (in_or_out block u b)
   where
     by_range : (((block ≤ b) × (b < block + u)) ⊎ ((b < block) ⊎ (block + u ≤ b))) → IsAmong (Some (Write block count fill)) u b ⊎ (IsAmong (Some (Write block count fill)) u b → ⊥)
     by_range (inl inside) = inl inside
     by_range (inr (inl before)) = inr (λ among. absurd (omega (arith, before, among.0)))
     by_range (inr (inr behind)) = inr (λ among. absurd (omega (arith, behind, among.1)))
-among_or_not (Some Flush) u b = inr (λ never. never)
+among_or_not _ u b = inr (λ never. never)
 
 pub none_among : (o : Option Request) (b : ℕ) → IsAmong o 0 b → ⊥
-none_among None b among = among
-none_among (Some (Read block count)) b among = among
 none_among (Some (Write block count fill)) b among = absurd (omega (arith, among.0, among.1))
-none_among (Some Flush) b among = among
+none_among _ b among = among
 
 -- A REQUEST IS ACCEPTED
 pub get_within : (pending : List Request) (request : Request) (k : ℕ) → k < length pending → slice_get (pending ++ request ∷ []) k ≡ slice_get pending k

@@ -3,12 +3,12 @@ use Rattle.std.proofs.Common.{◌≡◌, true, false, Option, Some, None, List, 
 use Rattle.runs.specs.Lawful.{Lawful, lawful_split, log_of}
 use Rattle.ldc_queue.specs.declared.end.End.{End}
 use Rattle.ldc_queue.specs.declared.end.End.TheVariants.{A, B}
-use Rattle.disk_model.specs.DiskEvent.{Accepted, Asks, Desc, DiskEvent, Done, Finished, Full, Misplaced, Moved, Off, OnWire, Published, Refused, Calms, Started, Stopped, Stored, Switches, Worked, Works}
+use Rattle.disk_model.specs.DiskEvent.{Accepted, Asks, Desc, DiskEvent, Done, Finished, Moved, OnWire, Published, Stopped, Stored, Switches, Worked, Works}
 use Rattle.lane_laws.specs.DiskLog.{DiskLog, after, nothing_yet}
 use Rattle.disk_model.specs.LaneState.{Shape}
 use Rattle.lane_laws.specs.May.{IsLawful, May}
 use Rattle.channel_model.specs.WireAt.{IsUp}
-use Rattle.channel_model.specs.WireEvent.{Blocked, Declines, Idle, Injected, Joined, Lost, Poked, Reset, Sent, Took, WireEvent}
+use Rattle.channel_model.specs.WireEvent.{Injected, Joined, Lost, Reset, Sent, Took}
 use Rattle.lane_laws.specs.WorkLaws.{FinishesPiece, InClient, InServer, MayComplete, MayFetch, MayPublish, MovesPiece, StoresPiece}
 use Rattle.lane_laws.specs.WorkLog.{ClientCounts, ServerCounts, WorkLog, change_client, change_server}
 use Rattle.lane_laws.proofs.SlotsStepping.{behind_up, upset_not}
@@ -39,96 +39,44 @@ ended_waits B l (OnWire (Reset A cause packet lost)) was = λ up. absurd ((behin
 ended_waits B l (OnWire (Reset B cause packet lost)) was = λ up. refl
 ended_waits A l (Switches Stopped) was = λ up. absurd (upset_not l.wire.wire.end_a up)
 ended_waits B l (Switches Stopped) was = λ up. refl
-ended_waits e l (OnWire (Joined f lost)) was = absurd was
-ended_waits e l (OnWire (Took f packet opens)) was = absurd was
-ended_waits e l (OnWire (Sent f packet opens)) was = absurd was
-ended_waits e l (OnWire (Idle f)) was = absurd was
-ended_waits e l (OnWire (Blocked f)) was = absurd was
-ended_waits e l (OnWire (Lost f packet)) was = absurd was
-ended_waits e l (OnWire (Injected f packet)) was = absurd was
-ended_waits e l (OnWire (Poked f at bytes)) was = absurd was
-ended_waits e l (OnWire (Declines d)) was = absurd was
-ended_waits e l (Asks event) was = absurd was
-ended_waits e l (Works event) was = absurd was
-ended_waits e l (Switches Started) was = absurd was
-ended_waits e l (Switches Off) was = absurd was
-ended_waits e l (Calms event) was = absurd was
+ended_waits e l _ was = absurd was
 
 -- EACH EVENT opens its session, or it still waits: the client
-client_wire : (l : DiskLog) (event : WireEvent) → Waits A l → OpensAt A (OnWire event) ⊎ Waits A (after l (OnWire event))
-client_wire l (Took A packet true) waits = inl refl
-client_wire l (Took A packet false) waits = inr (λ up. none_client _ l.work.client (waits up))
-client_wire l (Took B packet opens) waits = inr waits
-client_wire l (Sent A packet true) waits = inl refl
-client_wire l (Sent A packet false) waits = inr (λ up. none_client _ l.work.client (waits up))
-client_wire l (Sent B packet opens) waits = inr waits
-client_wire l (Joined A lost) waits = inr (λ up. refl)
-client_wire l (Joined B lost) waits = inr (λ up. waits (behind_up l.wire.wire.end_b l.wire.wire.end_a up).0)
-client_wire l (Reset A cause packet lost) waits = inr (λ up. refl)
-client_wire l (Reset B cause packet lost) waits = inr (λ up. waits (behind_up l.wire.wire.end_b l.wire.wire.end_a up).0)
-client_wire l (Lost A packet) waits = inr waits
-client_wire l (Lost B packet) waits = inr waits
-client_wire l (Injected A packet) waits = inr waits
-client_wire l (Injected B packet) waits = inr waits
-client_wire l (Poked e at bytes) waits = inr waits
-client_wire l (Idle e) waits = inr waits
-client_wire l (Blocked e) waits = inr waits
-client_wire l (Declines d) waits = inr waits
-
 client_waits : (l : DiskLog) (event : DiskEvent) → Waits A l → OpensAt A event ⊎ Waits A (after l event)
-client_waits l (OnWire event) waits = client_wire l event waits
+client_waits l (OnWire (Took A packet true)) waits = inl refl
+client_waits l (OnWire (Took A packet false)) waits = inr (λ up. none_client _ l.work.client (waits up))
+client_waits l (OnWire (Sent A packet true)) waits = inl refl
+client_waits l (OnWire (Sent A packet false)) waits = inr (λ up. none_client _ l.work.client (waits up))
+client_waits l (OnWire (Joined A lost)) waits = inr (λ up. refl)
+client_waits l (OnWire (Joined B lost)) waits = inr (λ up. waits (behind_up l.wire.wire.end_b l.wire.wire.end_a up).0)
+client_waits l (OnWire (Reset A cause packet lost)) waits = inr (λ up. refl)
+client_waits l (OnWire (Reset B cause packet lost)) waits = inr (λ up. waits (behind_up l.wire.wire.end_b l.wire.wire.end_a up).0)
+client_waits l (OnWire (Lost A packet)) waits = inr waits
+client_waits l (OnWire (Injected A packet)) waits = inr waits
 client_waits l (Asks (Accepted id request)) waits = inr waits
-client_waits l (Asks (Full request)) waits = inr waits
-client_waits l (Asks (Refused why request)) waits = inr waits
 client_waits l (Works (Published id)) waits = inr (λ up. none_client _ l.work.client (waits up))
-client_waits l (Works (Done id operation status bytes)) waits = inr waits
-client_waits l (Works (Desc slot bytes)) waits = inr waits
-client_waits l (Works (Moved unit fault)) waits = inr waits
-client_waits l (Works (Stored operation block count failed)) waits = inr waits
-client_waits l (Works (Finished slot status)) waits = inr waits
-client_waits l (Works Misplaced) waits = inr waits
 client_waits l (Switches Stopped) waits = inr (λ up. absurd (upset_not l.wire.wire.end_a up))
-client_waits l (Switches Started) waits = inr waits
-client_waits l (Switches Off) waits = inr waits
-client_waits l (Calms event) waits = inr waits
+client_waits l _ waits = inr waits
 
 -- the server
-server_wire : (l : DiskLog) (event : WireEvent) → Waits B l → OpensAt B (OnWire event) ⊎ Waits B (after l (OnWire event))
-server_wire l (Took B packet true) waits = inl refl
-server_wire l (Took B packet false) waits = inr (λ up. none_server _ l.work.server (waits up))
-server_wire l (Took A packet opens) waits = inr waits
-server_wire l (Sent B packet true) waits = inl refl
-server_wire l (Sent B packet false) waits = inr (λ up. none_server _ l.work.server (waits up))
-server_wire l (Sent A packet opens) waits = inr waits
-server_wire l (Joined B lost) waits = inr (λ up. refl)
-server_wire l (Joined A lost) waits = inr (λ up. waits (behind_up l.wire.wire.end_a l.wire.wire.end_b up).0)
-server_wire l (Reset B cause packet lost) waits = inr (λ up. refl)
-server_wire l (Reset A cause packet lost) waits = inr (λ up. waits (behind_up l.wire.wire.end_a l.wire.wire.end_b up).0)
-server_wire l (Lost A packet) waits = inr waits
-server_wire l (Lost B packet) waits = inr waits
-server_wire l (Injected A packet) waits = inr waits
-server_wire l (Injected B packet) waits = inr waits
-server_wire l (Poked e at bytes) waits = inr waits
-server_wire l (Idle e) waits = inr waits
-server_wire l (Blocked e) waits = inr waits
-server_wire l (Declines d) waits = inr waits
-
 server_waits : (l : DiskLog) (event : DiskEvent) → Waits B l → OpensAt B event ⊎ Waits B (after l event)
-server_waits l (OnWire event) waits = server_wire l event waits
+server_waits l (OnWire (Took B packet true)) waits = inl refl
+server_waits l (OnWire (Took B packet false)) waits = inr (λ up. none_server _ l.work.server (waits up))
+server_waits l (OnWire (Sent B packet true)) waits = inl refl
+server_waits l (OnWire (Sent B packet false)) waits = inr (λ up. none_server _ l.work.server (waits up))
+server_waits l (OnWire (Joined B lost)) waits = inr (λ up. refl)
+server_waits l (OnWire (Joined A lost)) waits = inr (λ up. waits (behind_up l.wire.wire.end_a l.wire.wire.end_b up).0)
+server_waits l (OnWire (Reset B cause packet lost)) waits = inr (λ up. refl)
+server_waits l (OnWire (Reset A cause packet lost)) waits = inr (λ up. waits (behind_up l.wire.wire.end_a l.wire.wire.end_b up).0)
+server_waits l (OnWire (Lost A packet)) waits = inr waits
+server_waits l (OnWire (Injected A packet)) waits = inr waits
 server_waits l (Asks (Accepted id request)) waits = inr waits
-server_waits l (Asks (Full request)) waits = inr waits
-server_waits l (Asks (Refused why request)) waits = inr waits
-server_waits l (Works (Published id)) waits = inr waits
-server_waits l (Works (Done id operation status bytes)) waits = inr waits
 server_waits l (Works (Desc slot bytes)) waits = inr (λ up. none_server _ l.work.server (waits up))
 server_waits l (Works (Moved unit fault)) waits = inr (λ up. none_server _ l.work.server (waits up))
 server_waits l (Works (Stored operation block count failed)) waits = inr (λ up. none_server _ l.work.server (waits up))
 server_waits l (Works (Finished slot status)) waits = inr (λ up. none_server _ l.work.server (waits up))
-server_waits l (Works Misplaced) waits = inr waits
 server_waits l (Switches Stopped) waits = inr (λ up. refl)
-server_waits l (Switches Started) waits = inr waits
-server_waits l (Switches Off) waits = inr waits
-server_waits l (Calms event) waits = inr waits
+server_waits l _ waits = inr waits
 
 goes_on : (e : End) (l : DiskLog) (event : DiskEvent) → Waits e l → OpensAt e event ⊎ Waits e (after l event)
 goes_on A l event waits = client_waits l event waits
@@ -144,19 +92,12 @@ no_server P d none holds = subst (λ (o : Option ServerCounts). InServer o P) no
 never : (e : End) (l : DiskLog) (event : Worked) → Waits e l → May l (Works event) → WorkOf e event → ⊥
 never A l (Published id) waits may work = no_client (MayPublish l id) l.work.client (waits may.works) may.numbers
 never A l (Done id operation status bytes) waits may work = no_client (MayComplete id) l.work.client (waits may.works) may.numbers
-never A l (Desc slot bytes) waits may work = work
-never A l (Moved unit fault) waits may work = work
-never A l (Stored operation block count failed) waits may work = work
-never A l (Finished slot status) waits may work = work
-never A l Misplaced waits may work = work
-never B l (Published id) waits may work = work
-never B l (Done id operation status bytes) waits may work = work
 never B l (Desc slot bytes) waits may work = no_server (MayFetch l slot) l.work.server (waits may.works) may.numbers
 never B l (Moved unit fault) waits may work = no_server (MovesPiece l unit fault) l.work.server (waits may.works) may.pieces
 never B l (Stored operation block count failed) waits may work =
     no_server (StoresPiece operation block count) l.work.server (waits may.works) may.pieces
 never B l (Finished slot status) waits may work = no_server (FinishesPiece l slot status) l.work.server (waits may.works) may.pieces
-never B l Misplaced waits may work = work
+never _ l _ waits may work = work
 
 -- AMONG THE EVENTS up to its work its session opens
 or_later : {X Y Z : Type 0} → X ⊎ Y → (Y → Z) → X ⊎ Z

@@ -1,7 +1,7 @@
 -- On a lane that nobody forged no end resets itself for what it finds in the ring: an acknowledged slot is DONE, the next slot of a range is
 -- READY, and no copy of a slot is refused.
 use Rattle.std.proofs.Common.{◌≡◌, ◌≢◌, ℕ, ◌+◌, ◌*◌, ◌%◌, ◌<◌, ◌≤◌, inl, inr, Bool, true, false, Option, Some, None, List, refl, sym, ap, ◌∙◌, subst, arith}
-use Rattle.std.specs.Prelude.{◌&&◌, ◌==◌, slice_index}
+use Rattle.std.specs.Prelude.{◌==◌, slice_index}
 use Rattle.std.proofs.lemmas.Bool.Decides.{nat_tests}
 use Rattle.std.proofs.lemmas.Nat.{mod_below}
 use Rattle.std.specs.List.{list_all}
@@ -10,13 +10,12 @@ use Rattle.runs.specs.Run.{Run}
 use Rattle.cookie_copy.proofs.OwnPages.{no_fault_range}
 use Rattle.cookie_copy.specs.declared.fault.Access.TheVariants as access
 use Rattle.cookie_copy.specs.declared.fault.CopyFault.{CopyFault}
-use Rattle.cookie_copy.specs.Faults.{both_up, first_copy_fault, is_aligned, is_aligned_cookie, is_even_word, is_up}
+use Rattle.cookie_copy.specs.Faults.{both_up, first_copy_fault, is_aligned, is_aligned_cookie, is_even_word}
 use Rattle.dring.proofs.Turning.{slot_fits}
 use Rattle.dring.specs.declared.peer.RingFault.{RingFault}
 use Rattle.dring.specs.declared.peer.RingFault.TheVariants as refused
 use Rattle.dring.specs.Reaching.{RefusesFetch}
 use Rattle.dring.specs.Slots.{done_state, slot_bytes}
-use Rattle.ldc_queue.specs.declared.end.ChannelState.{ChannelState}
 use Rattle.ldc_queue.specs.declared.end.ChannelState.TheVariants.{Up}
 use Rattle.ldc_queue.specs.declared.end.End.TheVariants.{A, B}
 use Rattle.map_table.specs.declared.cookie.Cookie.{Cookie}
@@ -46,19 +45,20 @@ use Rattle.lane_laws.proofs.RingAlong.{run_ring}
 use Rattle.lane_laws.proofs.RingCookies.{ring_bytes}
 use Rattle.lane_laws.proofs.RingRuns.{known_of}
 use Rattle.lane_laws.proofs.RingServer.{Reaches}
-use Rattle.lane_laws.proofs.RingSessions.{OfClient, of_client}
-use Rattle.lane_laws.proofs.RingWork.{AtWork, Known, at_work, numbered, slots_are, some_slots, turn_in}
+use Rattle.lane_laws.proofs.RingSessions.{OfClient, of_client, sizes_of}
+use Rattle.lane_laws.proofs.RingWork.{AtWork, Known, at_work, numbered, some_slots, turn_in}
+use Rattle.lane_laws.proofs.StandingRuns.{slots_is as slots_are}
 use Rattle.lane_laws.proofs.RingWrites.{ring_fetched, ring_word_answered}
 use Rattle.lane_laws.proofs.RulesFree.{ServerFree, server_free}
 use Rattle.lane_laws.proofs.Ruling.{client_may, server_may}
 use Rattle.lane_laws.proofs.SlotBytes.{reads_back, ready_byte}
-use Rattle.lane_laws.proofs.RingSessions.{sizes_of}
 use Rattle.lane_laws.proofs.SlotsAlong.{run_order}
 use Rattle.lane_laws.specs.RingAgreed.{ring_in}
 use Rattle.lane_laws.specs.RingSlots.{HoldsIssued}
 use Rattle.lane_laws.specs.RuleFacts.{ClientMay, ServerMay}
 use Rattle.lane_laws.specs.SlotsInOrder.{RingInOrder}
 use Rattle.channel_laws.proofs.Apart.{none_is_some}
+use Rattle.lane_laws.proofs.WorkUnits.{both_are}
 
 -- WHAT IS KNOWN after a run
 pub run_known : (shape : Shape) (events : List DiskEvent) (s : LaneState) → IsShape shape → Run LaneStep (fresh shape) events s
@@ -66,9 +66,6 @@ pub run_known : (shape : Shape) (events : List DiskEvent) (s : LaneState) → Is
 run_known shape events s sound run clean =
     known_of s (log_of after (nothing_yet shape) events) (run_knows shape events s sound run).all (run_ring shape events s sound run)
     (always_agree shape sound events s run clean) clean
-
-both_are : (a b : ChannelState) → a ≡ Up → b ≡ Up → (is_up a && is_up b) ≡ true
-both_are a b up_a up_b = ap (λ (x : ChannelState). is_up x && is_up b) up_a ∙ ap is_up up_b
 
 -- a server at work is up, and so is its client
 pub record Working (s : LaneState) (l : DiskLog) (v : ServerSession) : Type 0 where

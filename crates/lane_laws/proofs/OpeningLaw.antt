@@ -8,10 +8,10 @@ use Rattle.ldc_queue.specs.declared.end.End.TheVariants.{A, B}
 use Rattle.ldc_queue.specs.Transcript.{Heard, Said}
 use Rattle.channel_model.specs.HandshakeOrder.{HandshakeOrder}
 use Rattle.channel_model.specs.TranscriptLog.{TranscriptLog, hears, says}
-use Rattle.channel_model.specs.WireEvent.{Joined, Sent, Took, WireEvent}
+use Rattle.channel_model.specs.WireEvent.{Sent, Took}
 use Rattle.lane_laws.specs.DiskLog.{after, nothing_yet}
 use Rattle.lane_laws.specs.WorkLaws.{OpeningsAt, OpensRightly}
-use Rattle.disk_model.specs.DiskEvent.{Asks, DiskEvent, OnWire}
+use Rattle.disk_model.specs.DiskEvent.{DiskEvent, OnWire}
 use Rattle.disk_model.specs.LaneState.{IsShape, LaneState, Shape, fresh}
 use Rattle.disk_model.specs.LaneStep.{LaneStep}
 use Rattle.channel_laws.proofs.OpeningOrder.{opens_hearing, opens_saying}
@@ -49,17 +49,10 @@ took_opens shape events s B packet true t at step =
     (opens_hearing shape.entries (asks_of shape) (answers_of shape) (map core_event events) (core_of s) B packet (core_of t) (lane_fits shape at.sound) (lane_cores shape events s at.sound at.run)
     (lane_steps shape events s (OnWire (Took B packet true)) t at.sound at.run step))
 
-wire_opens : (shape : Shape) (events : List DiskEvent) (s : LaneState) (event : WireEvent) (t : LaneState) → At shape events s → LaneStep s (OnWire event) t
-    → OpeningsAt (log_of after (nothing_yet shape) events) (OnWire event)
-wire_opens shape events s (Sent e packet opens) t at step = sent_opens shape events s e packet opens t at step
-wire_opens shape events s (Took e packet opens) t at step = took_opens shape events s e packet opens t at step
-wire_opens shape events s (Joined e lost) t at step = tt
-wire_opens shape events s _ t at step = tt
-
 opening_at : (shape : Shape) (events : List DiskEvent) (s : LaneState) (event : DiskEvent) (t : LaneState) → At shape events s → LaneStep s event t
     → OpeningsAt (log_of after (nothing_yet shape) events) event
-opening_at shape events s (OnWire event) t at step = wire_opens shape events s event t at step
-opening_at shape events s (Asks event) t at step = tt
+opening_at shape events s (OnWire (Sent e packet opens)) t at step = sent_opens shape events s e packet opens t at step
+opening_at shape events s (OnWire (Took e packet opens)) t at step = took_opens shape events s e packet opens t at step
 opening_at shape events s _ t at step = tt
 
 pub openings_lawful : (shape : Shape) (events : List DiskEvent) (s : LaneState) → IsShape shape → Run LaneStep (fresh shape) events s

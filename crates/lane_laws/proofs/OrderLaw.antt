@@ -12,14 +12,14 @@ use Rattle.vdisk_msg.specs.declared.request.Request.{Request}
 use Rattle.vio_handshake.specs.declared.handshake.Handshake.{Handshake}
 use Rattle.vio_tag.specs.declared.cause.Cause.{Cause}
 use Rattle.channel_model.specs.Seeing.{Seen}
-use Rattle.channel_model.specs.WireEvent.{Blocked, ByRestart, ByScript, ByStep, ByTick, Declines, Giver, Idle, Injected, Joined, Lost, Poked, Reset, Sent, Took, WireEvent, giver}
+use Rattle.channel_model.specs.WireEvent.{Blocked, ByRestart, ByScript, ByStep, ByTick, Giver, Idle, Reset, Sent, Took, giver}
 use Rattle.disk_model.specs.ClientPutting.{client_holds, is_announcing}
 use Rattle.disk_model.specs.ClientRule as client
 use Rattle.disk_model.specs.ClientState.{ClientSession, ClientState, joined_client}
 use Rattle.disk_model.specs.ClientStep.{ClientFails}
-use Rattle.disk_model.specs.DiskEvent.{Asks, Calms, Desc, DiskEvent, Done, Finished, Misplaced, Moved, OnWire, Published, Stored, Switches, Worked, Works}
+use Rattle.disk_model.specs.DiskEvent.{Desc, DiskEvent, Done, Misplaced, OnWire, Published, Works}
 use Rattle.disk_model.specs.LaneState.{LaneState}
-use Rattle.disk_model.specs.LaneStep.{CallsReset, EndOnWire, LaneStep, ResetBy, WireStep, WorkStep, reach}
+use Rattle.disk_model.specs.LaneStep.{CallsReset, EndOnWire, LaneStep, ResetBy, reach}
 use Rattle.disk_model.specs.ServerRule as server
 use Rattle.disk_model.specs.ServerState.{ServerSession, ServerState, SlotRange, Work, joined_server, restarted_server}
 use Rattle.disk_model.specs.ServerStep.{ServerFails}
@@ -38,13 +38,15 @@ use Rattle.lane_laws.proofs.EndsFold.{BothAre, first_false}
 use Rattle.channel_laws.proofs.Apart.{none_is_some, some_same}
 use Rattle.channel_laws.proofs.EndsAtRest.{none_waits}
 use Rattle.lane_laws.proofs.IdleLaw.{not_below, past_all, same_waiting, some_client, some_server}
-use Rattle.lane_laws.proofs.IdleRules.{ClientGoes, ClientPublishesAt, CompletedAll, PublishedAll, client_goes, client_idles, control_in, published_all, server_idles}
+use Rattle.lane_laws.proofs.IdleRules.{client_idles, published_all, server_idles}
+use Rattle.lane_laws.proofs.RuleTests.{ClientTested, CompletedAll, PublishedAll, TakesFree, client_test, client_tested, control_in}
 use Rattle.lane_laws.proofs.RangeLaw.{never_own}
 use Rattle.lane_laws.proofs.Ruling.{client_may}
-use Rattle.lane_laws.proofs.RulesFree.{ServerFree, TakesFree, owes_nothing, puts_calm, puts_owe, server_free, takes_calm}
+use Rattle.lane_laws.proofs.RulesFree.{ServerFree, owes_nothing, puts_calm, puts_owe, server_free, takes_calm}
 use Rattle.lane_laws.proofs.Sharing.{in_order}
 use Rattle.channel_laws.proofs.MessagesHeld.{owed_held}
-use Rattle.lane_laws.proofs.WorkNumbers.{Grounded, at_client, at_server, order_of}
+use Rattle.lane_laws.proofs.WorkNumbers.{Grounded, order_of}
+use Rattle.lane_laws.proofs.LaneViews.{at_client, at_server}
 
 -- THE CLIENT
 completed_in_log : (s : LaneState) (l : DiskLog) → Grounded s l → CompletedAll s.client → HasCompleted l
@@ -58,16 +60,16 @@ completed_in_log s l grounded all =
     let acked = not_below session.completed session.acked (all session is) in
     subst (λ (k : ClientCounts). l.work.done ≡ k.base + k.acked) same (omega (arith, of.agree.completed, of.agree.acked, acked, order.completed)))
 
-holds_completed : (s : ClientState) (at : Seen) (rule : client.ClientRule) (held : ClientState) → client_holds rule s ≡ Some held → ClientGoes s at rule → CompletedAll s
-holds_completed s at client.Puts held is goes = goes
-holds_completed s at (client.Says message) held is goes = goes
-holds_completed s at (client.Announces session) held is goes = goes.0
-holds_completed s at _ held is goes = none_is_some is
+holds_completed : (s : ClientState) (at : Seen) (rule : client.ClientRule) (held : ClientState) → client_holds rule s ≡ Some held → ClientTested s at rule → CompletedAll s
+holds_completed s at client.Puts held is test = test.0.completed
+holds_completed s at (client.Says message) held is test = test.0.completed
+holds_completed s at (client.Announces session) held is test = test.0.completed
+holds_completed s at _ held is test = none_is_some is
 
 putting_completed : (s : LaneState) (l : DiskLog) (held : ClientState) → Grounded s l → client_holds (client.client_rule s.client (at_client s)) s.client ≡ Some held → HasCompleted l
 putting_completed s l held grounded is =
     let at = at_client s in
-    completed_in_log s l grounded (holds_completed s.client at (client.client_rule s.client at) held is (client_goes s.client at))
+    completed_in_log s l grounded (holds_completed s.client at (client.client_rule s.client at) held is (client_tested s.client at))
 
 -- it owes nothing of its link's handshake where its link owes no packet
 control_free : (k : LinkState) (b : Bool) → owes_control k ≡ b → owes k ≡ false → b ≡ false
@@ -87,9 +89,8 @@ server_owes_nothing s l told free none = (
 publishes_order : (s : LaneState) (l : DiskLog) (session : ClientSession) (request : Request) → Told s l
     → client.client_rule s.client (at_client s) ≡ client.Publishes session request → PublishesAt l
 publishes_order s l session request told rule =
-    let goes : ClientGoes s.client (at_client s) (client.Publishes session request) = subst (ClientGoes s.client (at_client s)) rule (client_goes s.client (at_client s)) in
-    let rests : ClientPublishesAt s.client (at_client s) = goes.1 in (
-      completed_in_log s l told.grounded goes.0,
+    let rests = (client_test s.client (at_client s) (client.Publishes session request) rule).0 in (
+      completed_in_log s l told.grounded rests.completed,
       client_owes_nothing s l told (control_free s.client.link (owes_control s.client.link) refl rests.free) rests.owed,
       same_waiting A s l told.grounded (none_waits (waiting_for A s.wire.wire) rests.first),
       not_stuck s.client.link l.blocked.client told.both.client.link rests.free,
@@ -98,7 +99,7 @@ publishes_order s l session request told rule =
 -- IT TAKES
 client_may_take : (s : LaneState) (l : DiskLog) (packet : List ℕ) → Told s l → client.client_rule s.client (at_client s) ≡ client.Takes packet → TakesAt A l
 client_may_take s l packet told rule = (
-  completed_in_log s l told.grounded (subst (ClientGoes s.client (at_client s)) rule (client_goes s.client (at_client s))),
+  completed_in_log s l told.grounded (client_test s.client (at_client s) (client.Takes packet) rule).1,
   client_owes_nothing s l told
       (first_false (owes_control s.client.link) (is_some s.client.handshake.owed) (is_none s.client.session && owes s.client.link) (takes_calm s.client (at_client s) packet rule))
       (owes_nothing s.client (at_client s) packet rule),
@@ -108,12 +109,7 @@ client_fails : (s : ClientState) (rule : client.ClientRule) (memory : List ℕ) 
     → ((bytes : List ℕ) → rule ≡ client.Takes bytes → P) → P
 client_fails s (client.Takes bytes) memory cause packet P fails taking = taking bytes refl
 client_fails s (client.Completes session) memory cause packet P fails taking = let never : Some packet ≡ None = fails.0 in absurd (cc)
-client_fails s client.Joins memory cause packet P fails taking = absurd fails
-client_fails s client.Puts memory cause packet P fails taking = absurd fails
-client_fails s (client.Says message) memory cause packet P fails taking = absurd fails
-client_fails s (client.Announces session) memory cause packet P fails taking = absurd fails
-client_fails s (client.Publishes session request) memory cause packet P fails taking = absurd fails
-client_fails s client.Idles memory cause packet P fails taking = absurd fails
+client_fails s _ memory cause packet P fails taking = absurd fails
 
 -- IT PUTS: where it owes nothing it isn't urgent, and announces
 quiet_link : (s : LaneState) (l : DiskLog) (session : Option ClientSession) (b : Bool) → Told s l → owes_control s.client.link ≡ false → s.client.handshake.owed ≡ None
@@ -127,9 +123,7 @@ quiet_link s l None true told calm none is owing =
 
 all_false : (a b c : Bool) → a ≡ false → b ≡ false → c ≡ false → (a || b || c) ≡ false
 all_false false false false no_a no_b no_c = refl
-all_false true b c no_a no_b no_c = absurd (cc)
-all_false false true c no_a no_b no_c = absurd (cc)
-all_false false false true no_a no_b no_c = absurd (cc)
+all_false _ _ _ no_a no_b no_c = absurd (cc)
 
 client_calm : (s : LaneState) (l : DiskLog) → Told s l → OwesNothing A l → client.is_urgent s.client ≡ false
 client_calm s l told nothing =
@@ -161,11 +155,7 @@ holds_published s l (client.Announces one) held session told nothing rule is now
     let both : Some one ≡ Some session = sym may.3 ∙ now in
     let same : one ≡ session = cc in
     subst (PublishedAll s.client) same (published_all s.client (at_client s) one rule)
-holds_published s l client.Joins held session told nothing rule is now clear = absurd (cc)
-holds_published s l (client.Completes one) held session told nothing rule is now clear = absurd (cc)
-holds_published s l (client.Takes packet) held session told nothing rule is now clear = absurd (cc)
-holds_published s l (client.Publishes one request) held session told nothing rule is now clear = absurd (cc)
-holds_published s l client.Idles held session told nothing rule is now clear = absurd (cc)
+holds_published s l _ held session told nothing rule is now clear = absurd (cc)
 
 published_in_log : (s : LaneState) (l : DiskLog) (held : ClientState) → Told s l → OwesNothing A l → client_holds (client.client_rule s.client (at_client s)) s.client ≡ Some held → HasPublished l
 published_in_log s l held told nothing is =
@@ -229,10 +219,7 @@ server_fails : (s : ServerState) (rule : server.ServerRule) (reach : Reach) (cau
 server_fails s (server.Takes bytes) reach cause packet new P fails taking = taking bytes refl
 server_fails s (server.Fetches session) reach cause packet new P fails taking = let never : Some packet ≡ None = fails.0 in absurd (cc)
 server_fails s (server.Serves session work) reach cause packet new P fails taking = let never : Some packet ≡ None = fails.0 in absurd (cc)
-server_fails s server.Joins reach cause packet new P fails taking = absurd fails
-server_fails s server.Puts reach cause packet new P fails taking = absurd fails
-server_fails s (server.Says message) reach cause packet new P fails taking = absurd fails
-server_fails s server.Idles reach cause packet new P fails taking = absurd fails
+server_fails s _ reach cause packet new P fails taking = absurd fails
 
 -- A RESET that carries a packet is one by the end's own step, which takes it
 calls_none : (s behind : LaneState) (cause : Cause) (e : End) (packet : List ℕ) (lost : ℕ) (t : LaneState) → CallsReset s behind cause e (Some packet) lost t → ⊥
@@ -255,38 +242,22 @@ reset_order ByTick B s l cause packet lost t told step = absurd step
 idle_order : (e : End) (s : LaneState) (l : DiskLog) (t : LaneState) → Told s l → EndOnWire e s (Idle e) t → OwesNothing e l
 idle_order A s l t told step =
     let idles = client_idles s.client (at_client s) step.step.0 in
-    client_owes_nothing s l told (control_free s.client.link (owes_control s.client.link) refl idles.rests.rests.free) idles.rests.rests.owed
+    client_owes_nothing s l told (control_free s.client.link (owes_control s.client.link) refl idles.rests.free) idles.rests.owed
 idle_order B s l t told step = let idles = server_idles s.server (at_server s) step.1.step.1.0 in server_owes_nothing s l told idles.free idles.owed
 
 -- EACH EVENT
-wire_order : (s : LaneState) (l : DiskLog) (event : WireEvent) (t : LaneState) → Told s l → WireStep s event t → OrderAt l (OnWire event)
-wire_order s l (Took A packet opens) t told step = client_may_take s l packet told step.step.0
-wire_order s l (Took B packet opens) t told step = server_may_take s l packet told step.1.step.1.0
-wire_order s l (Sent A packet opens) t told step = client_may_put s l step.step.held told step.step.holds
-wire_order s l (Sent B packet opens) t told step = server_to_put s l step.1.step.1.0.held told step.1.step.1.0.holds
-wire_order s l (Blocked A) t told step = client_may_put s l t.client told step.step.0
-wire_order s l (Blocked B) t told step = server_to_put s l t.server told step.1.step.1.0
-wire_order s l (Reset e cause (Some packet) lost) t told step = reset_order (giver cause) e s l cause packet lost t told step
-wire_order s l (Reset e cause None lost) t told step = tt
-wire_order s l (Idle e) t told step = idle_order e s l t told step
-wire_order s l (Joined e lost) t told step = tt
-wire_order s l (Lost e packet) t told step = tt
-wire_order s l (Injected e packet) t told step = tt
-wire_order s l (Poked e at bytes) t told step = tt
-wire_order s l (Declines d) t told step = tt
-
-work_order : (s : LaneState) (l : DiskLog) (event : Worked) (t : LaneState) → Told s l → WorkStep s event t → OrderAt l (Works event)
-work_order s l (Published id) t told step = publishes_order s l step.step.session step.step.request told step.step.rule
-work_order s l (Done id operation status bytes) t told step = tt
-work_order s l (Desc slot bytes) t told step = fetches_clear s l step.1.step.1.0.session told step.1.step.1.0.rule
-work_order s l (Moved unit fault) t told step = serves_clear s l step.1.step.1.0.session step.1.step.1.0.work told step.1.step.1.0.rule
-work_order s l (Stored operation block count failed) t told step = serves_clear s l step.1.step.1.0.session step.1.step.1.0.work told step.1.step.1.0.rule
-work_order s l (Finished slot status) t told step = serves_clear s l step.1.step.1.0.session step.1.step.1.0.work told step.1.step.1.0.rule
-work_order s l Misplaced t told step = tt
-
 pub order_at : (s : LaneState) (l : DiskLog) (event : DiskEvent) (t : LaneState) → Told s l → LaneStep s event t → OrderAt l event
-order_at s l (OnWire event) t told step = wire_order s l event t told step
-order_at s l (Works event) t told step = work_order s l event t told step
-order_at s l (Asks event) t told step = tt
-order_at s l (Switches event) t told step = tt
-order_at s l (Calms event) t told step = tt
+order_at s l (OnWire (Took A packet opens)) t told step = client_may_take s l packet told step.step.0
+order_at s l (OnWire (Took B packet opens)) t told step = server_may_take s l packet told step.1.step.1.0
+order_at s l (OnWire (Sent A packet opens)) t told step = client_may_put s l step.step.held told step.step.holds
+order_at s l (OnWire (Sent B packet opens)) t told step = server_to_put s l step.1.step.1.0.held told step.1.step.1.0.holds
+order_at s l (OnWire (Blocked A)) t told step = client_may_put s l t.client told step.step.0
+order_at s l (OnWire (Blocked B)) t told step = server_to_put s l t.server told step.1.step.1.0
+order_at s l (OnWire (Reset e cause (Some packet) lost)) t told step = reset_order (giver cause) e s l cause packet lost t told step
+order_at s l (OnWire (Idle e)) t told step = idle_order e s l t told step
+order_at s l (Works (Published id)) t told step = publishes_order s l step.step.session step.step.request told step.step.rule
+order_at s l (Works (Done id operation status bytes)) t told step = tt
+order_at s l (Works (Desc slot bytes)) t told step = fetches_clear s l step.1.step.1.0.session told step.1.step.1.0.rule
+order_at s l (Works Misplaced) t told step = tt
+order_at s l (Works _) t told step = serves_clear s l step.1.step.1.0.session step.1.step.1.0.work told step.1.step.1.0.rule
+order_at s l _ t told step = tt

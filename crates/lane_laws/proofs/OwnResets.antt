@@ -1,20 +1,20 @@
 -- Where nobody forged, an end resets itself for a gap alone, and only once a packet was lost.
 use Rattle.std.proofs.Common.{◌≡◌, ℕ, false, Option, List, refl, sym, ap, ◌∙◌, subst, inl, inr}
-use Rattle.runs.specs.Lawful.{Lawful, log_of}
+use Rattle.runs.specs.Lawful.{Lawful}
 use Rattle.runs.specs.Run.{Run}
 use Rattle.ldc_queue.specs.declared.end.End.{End}
 use Rattle.ldc_queue.specs.declared.end.End.TheVariants.{A, B}
 use Rattle.vio_tag.specs.declared.cause.Cause.{Cause}
-use Rattle.channel_model.specs.WireAt.{IsOwnReset, UnforgedReset, WireUnforgedAt}
-use Rattle.channel_model.specs.WireEvent.{Blocked, ByRestart, ByScript, ByStep, ByTick, Declines, Giver, Idle, Injected, Joined, Lost, Poked, Reset, Sent, Took, WireEvent, giver}
+use Rattle.channel_model.specs.WireAt.{IsOwnReset, UnforgedReset}
+use Rattle.channel_model.specs.WireEvent.{ByStep, Giver, Reset, giver}
 use Rattle.channel_model.specs.WireLog.{WireLog}
-use Rattle.lane_laws.specs.DiskLog.{DiskLog, after, nothing_yet}
+use Rattle.lane_laws.specs.DiskLog.{after, nothing_yet}
 use Rattle.disk_model.specs.ClientRule as client_rules
 use Rattle.disk_model.specs.ClientStep.{ClientFails}
 use Rattle.disk_model.specs.ClientTaking as client
-use Rattle.disk_model.specs.DiskEvent.{Asks, DiskEvent, OnWire, Calms, Switches, Works}
+use Rattle.disk_model.specs.DiskEvent.{DiskEvent, OnWire}
 use Rattle.disk_model.specs.LaneState.{IsShape, LaneState, Shape, fresh}
-use Rattle.disk_model.specs.LaneStep.{EndOnWire, LaneStep, ResetBy, WireStep, reach}
+use Rattle.disk_model.specs.LaneStep.{EndOnWire, LaneStep, ResetBy, reach}
 use Rattle.channel_model.specs.Seeing.{seen}
 use Rattle.disk_model.specs.ServerRule as server_rules
 use Rattle.disk_model.specs.ServerState.{Ends, Progress, ServerSession, Work}
@@ -27,10 +27,7 @@ use Rattle.lane_laws.proofs.ServerInSession.{server_hears_in_session}
 use Rattle.lane_laws.proofs.AlongRuns.{reached_lawful}
 use Rattle.lane_laws.proofs.PacketResets.{ClientHearsBadly, ServerHearsBadly, client_packet, server_packet}
 use Rattle.lane_laws.specs.Laws.{UnforgedAt}
-
--- the wire of a lane is that of its log
-abbrev log_at : Shape → List DiskEvent → DiskLog
-log_at shape events = log_of after (nothing_yet shape) events
+use Rattle.lane_laws.proofs.FlightRuns.{log_at}
 
 clean_log : (shape : Shape) (events : List DiskEvent) (s : LaneState) → IsShape shape → Run LaneStep (fresh shape) events s → s.wire.forged ≡ false → (log_at shape events).wire.forged ≡ false
 clean_log shape events s sound run clean = sym (ap (λ (w : WireLog). w.forged) (run_knows shape events s sound run).all.stands.wire) ∙ clean
@@ -99,32 +96,14 @@ own_reset shape events s e cause packet lost t sound run clean by step =
 -- IN THE LOG
 by_giver : (by : Giver) (w : WireLog) (cause : Cause) → (by ≡ ByStep → w.forged ≡ false → IsOwnReset w cause) → UnforgedReset by w cause
 by_giver ByStep w cause own = own refl
-by_giver ByScript w cause own = tt
-by_giver ByRestart w cause own = tt
-by_giver ByTick w cause own = tt
-
-wire_unforged : (shape : Shape) (events : List DiskEvent) (s : LaneState) (event : WireEvent) (t : LaneState) → IsShape shape → Run LaneStep (fresh shape) events s → WireStep s event t
-    → WireUnforgedAt s.wire event
-wire_unforged shape events s (Reset e cause packet lost) t sound run step =
-    by_giver (giver cause) s.wire cause (λ by clean. own_reset shape events s e cause packet lost t sound run clean by step)
-wire_unforged shape events s (Joined e lost) t sound run step = tt
-wire_unforged shape events s (Took e packet opens) t sound run step = tt
-wire_unforged shape events s (Sent e packet opens) t sound run step = tt
-wire_unforged shape events s (Idle e) t sound run step = tt
-wire_unforged shape events s (Blocked e) t sound run step = tt
-wire_unforged shape events s (Lost e packet) t sound run step = tt
-wire_unforged shape events s (Injected e packet) t sound run step = tt
-wire_unforged shape events s (Poked e at bytes) t sound run step = tt
-wire_unforged shape events s (Declines d) t sound run step = tt
+by_giver _ w cause own = tt
 
 event_unforged : (shape : Shape) (events : List DiskEvent) (s : LaneState) (event : DiskEvent) (t : LaneState) → IsShape shape → Run LaneStep (fresh shape) events s → LaneStep s event t
     → UnforgedAt (log_at shape events) event
-event_unforged shape events s (OnWire event) t sound run step =
-    subst (λ (w : WireLog). WireUnforgedAt w event) (run_knows shape events s sound run).all.stands.wire (wire_unforged shape events s event t sound run step)
-event_unforged shape events s (Asks event) t sound run step = tt
-event_unforged shape events s (Works event) t sound run step = tt
-event_unforged shape events s (Switches event) t sound run step = tt
-event_unforged shape events s (Calms event) t sound run step = tt
+event_unforged shape events s (OnWire (Reset e cause packet lost)) t sound run step =
+    subst (λ (w : WireLog). UnforgedReset (giver cause) w cause) (run_knows shape events s sound run).all.stands.wire
+    (by_giver (giver cause) s.wire cause (λ by clean. own_reset shape events s e cause packet lost t sound run clean by step))
+event_unforged shape events s _ t sound run step = tt
 
 pub unforged_lawful : (shape : Shape) (events : List DiskEvent) (s : LaneState) → IsShape shape → Run LaneStep (fresh shape) events s → Lawful UnforgedAt after (nothing_yet shape) events
 unforged_lawful shape events s sound run =

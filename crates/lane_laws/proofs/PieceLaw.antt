@@ -16,17 +16,19 @@ use Rattle.lane_laws.specs.Agreement.{WorkAgrees, owed_of}
 use Rattle.lane_laws.specs.DiskLog.{DiskLog}
 use Rattle.lane_laws.specs.WorkLaws.{FinishesPiece, InServer, MovesPiece, Owes, PiecesAt, StoresPiece, access_of, block_in, count_in, desc_in, unit_fault}
 use Rattle.lane_laws.specs.WorkLog.{ServerCounts}
-use Rattle.disk_model.specs.DiskEvent.{Asks, Desc, DiskEvent, Done, Finished, Misplaced, Moved, OnWire, Published, Calms, Stored, Switches, Worked, Works}
+use Rattle.disk_model.specs.DiskEvent.{Desc, DiskEvent, Finished, Moved, Stored, Works}
 use Rattle.channel_model.specs.OwnMemory.{own_table}
 use Rattle.disk_model.specs.LaneState.{LaneState, pages_of}
-use Rattle.disk_model.specs.LaneStep.{LaneStep, WorkStep, reach}
-use Rattle.disk_model.specs.ServerState.{Ends, Flushes, Gathers, Gives, Progress, Reads, ServerSession, Work, Writes}
+use Rattle.disk_model.specs.LaneStep.{LaneStep, reach}
+use Rattle.disk_model.specs.ServerState.{Flushes, Gathers, Gives, Progress, Reads, ServerSession, Work, Writes}
 use Rattle.disk_model.specs.ServerStep.{ServerFetches, ServerFinishes, ServerMoves, ServerStores}
 use Rattle.disk_model.specs.ServerWork.{MovesIn, StoresIn, desc_of, slot_fetched, unit_length}
-use Rattle.lane_laws.proofs.RulesFree.{ServerFree, ServesFree, server_free}
+use Rattle.lane_laws.proofs.RulesFree.{ServerFree, server_free}
+use Rattle.lane_laws.proofs.RuleTests.{ServesFree}
 use Rattle.lane_laws.specs.Counted.{UnitFits, UnitIn}
 use Rattle.lane_laws.proofs.Counting.{OfServer, of_server}
-use Rattle.lane_laws.proofs.WorkNumbers.{Grounded, at_server, in_server, slot_in_log}
+use Rattle.lane_laws.proofs.WorkNumbers.{Grounded, in_server, slot_in_log}
+use Rattle.lane_laws.proofs.LaneViews.{at_server}
 use Rattle.lane_laws.specs.Units.{UnitIs, WorkIs}
 
 -- what is known of a lane besides: its server's work is what its progress says, and its table is as it began
@@ -100,10 +102,7 @@ moves_in (Gathers u) s l work unit why next new working within is moves = (
   subst (λ (v : ℕ). Owes (write_pieces u (unit_count (desc_of work).size - u) ++ Finishes 0 ∷ []) (Moves v)) (sym moves.0) (owes_write u (unit_count (desc_of work).size) (Finishes 0 ∷ []) within),
   moves.1 ∙ same_fault s l (desc_of work) u Read working (ap access_of is) ∙ ap (unit_fault l (desc_of work)) (sym moves.0),
 )
-moves_in (Reads u) s l work unit why next new working within is moves = absurd moves
-moves_in (Writes u bytes) s l work unit why next new working within is moves = absurd moves
-moves_in Flushes s l work unit why next new working within is moves = absurd moves
-moves_in (Ends status) s l work unit why next new working within is moves = absurd moves
+moves_in _ s l work unit why next new working within is moves = absurd moves
 
 moved_piece : (s t : LaneState) (l : DiskLog) (unit : ℕ) (why : Option CopyFault) → Working s l
     → ServerMoves s.server (at_server s) (reach s (at_server s).both) unit why t.server t.memory → InServer l.work.server (MovesPiece l unit why)
@@ -156,9 +155,7 @@ stores_in Flushes work operation block count failed gave next within is stores =
   block_is = stores.1 ∙ sym (ap (λ (n : ℕ). if n == 3 then 0 else (desc_of work).offset + 16 * 0) is);
   count_is = stores.2 ∙ sym (ap (λ (n : ℕ). if n == 3 then 0 else min 8192 ((desc_of work).size - 8192 * 0) / 512) is);
 }
-stores_in (Gives u bytes) work operation block count failed gave next within is stores = absurd stores
-stores_in (Gathers u) work operation block count failed gave next within is stores = absurd stores
-stores_in (Ends status) work operation block count failed gave next within is stores = absurd stores
+stores_in _ work operation block count failed gave next within is stores = absurd stores
 
 stored_piece : (s t : LaneState) (l : DiskLog) (operation block count : ℕ) (failed : Bool) (gave : List ℕ) → Working s l
     → ServerStores s.server (at_server s) operation block count failed gave t.server → InServer l.work.server (StoresPiece operation block count)
@@ -192,18 +189,9 @@ fetched_ready s t slot bytes fetches =
     ap (λ (xs : List ℕ). slice_index xs 0) fetches.bytes_are
     ∙ eqb-true (slice_index (slot_fetched s.server (reach s (at_server s).both) slot) 0) ready_state fetches.fetched.1
 
-work_pieces : (s : LaneState) (l : DiskLog) (event : Worked) (t : LaneState) → Working s l → WorkStep s event t → PiecesAt l (Works event)
-work_pieces s l (Moved unit why) t working step = moved_piece s t l unit why working step.1.step.1.0
-work_pieces s l (Stored operation block count failed) t working step = stored_piece s t l operation block count failed step.0 working step.1.step.1.0
-work_pieces s l (Finished slot status) t working step = finished_piece s t l slot status working step.1.step.1.0
-work_pieces s l (Published id) t working step = tt
-work_pieces s l (Done id operation status bytes) t working step = tt
-work_pieces s l (Desc slot bytes) t working step = fetched_ready s t slot bytes step.1.step.1.0
-work_pieces s l Misplaced t working step = tt
-
 pub pieces_at : (s : LaneState) (l : DiskLog) (event : DiskEvent) (t : LaneState) → Working s l → LaneStep s event t → PiecesAt l event
-pieces_at s l (Works event) t working step = work_pieces s l event t working step
-pieces_at s l (OnWire event) t working step = tt
-pieces_at s l (Asks event) t working step = tt
-pieces_at s l (Switches event) t working step = tt
-pieces_at s l (Calms event) t working step = tt
+pieces_at s l (Works (Moved unit why)) t working step = moved_piece s t l unit why working step.1.step.1.0
+pieces_at s l (Works (Stored operation block count failed)) t working step = stored_piece s t l operation block count failed step.0 working step.1.step.1.0
+pieces_at s l (Works (Finished slot status)) t working step = finished_piece s t l slot status working step.1.step.1.0
+pieces_at s l (Works (Desc slot bytes)) t working step = fetched_ready s t slot bytes step.1.step.1.0
+pieces_at s l _ t working step = tt

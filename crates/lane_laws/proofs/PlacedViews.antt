@@ -12,15 +12,14 @@ use Rattle.lane_laws.specs.WorkLog.{ClientCounts, ServerCounts}
 use Rattle.disk_model.specs.ClientState.{ClientSession}
 use Rattle.disk_model.specs.LaneState.{LaneState}
 use Rattle.disk_model.specs.ServerState.{ServerSession, Work}
-use Rattle.lane_laws.proofs.RingClientSteps.{got_at}
+use Rattle.lane_laws.proofs.RingClientSteps.{got_at, in_order}
 use Rattle.lane_laws.proofs.RingEnds.{HasWork, has_work}
 use Rattle.lane_laws.proofs.RingSessions.{one_ring}
 use Rattle.lane_laws.proofs.RingTable.{id_is}
-use Rattle.lane_laws.proofs.RingWork.{AtWork, Known, at_work, ids_in, turn_in}
+use Rattle.lane_laws.proofs.RingWork.{AtWork, at_work, ids_in, turn_in}
 use Rattle.lane_laws.specs.MemoryStands.{memory_long}
 use Rattle.lane_laws.specs.RingAgreed.{OneRing, ring_in}
 use Rattle.lane_laws.specs.RingSlots.{HoldsIssued}
-use Rattle.lane_laws.specs.Sound.{CountsInOrder, InOrder}
 use Rattle.lane_laws.specs.LaneView.{view_of, work_while}
 use Rattle.lane_laws.proofs.Changes.{Placed}
 use Rattle.lane_laws.proofs.LiveCounts.{KIs, counts_while, zero_where}
@@ -34,10 +33,8 @@ pub record IsLive (x : ChannelState) (q : Option ServerCounts) : Type 0 where
   pub there : q ≡ Some counts
 
 pub live_or_not : (x : ChannelState) (q : Option ServerCounts) → (counts_while x q ≡ None) ⊎ IsLive x q
-live_or_not Down q = inl refl
-live_or_not Resetting q = inl refl
-live_or_not Up None = inl refl
 live_or_not Up (Some d) = inr (record { counts = d; up = refl; there = refl })
+live_or_not _ _ = inl refl
 
 pub live_work : (x : ChannelState) (w : Option Work) (work : Work) → work_while x w ≡ Some work → (x ≡ Up) × (w ≡ Some work)
 live_work Up w work is = (refl, is)
@@ -59,9 +56,6 @@ client_there None done None k is agrees = absurd (cc is)
 client_there None done (Some x) k is agrees = absurd agrees
 client_there (Some c) done None k is agrees = absurd agrees
 client_there (Some c) done (Some x) k is agrees = let same : x ≡ k = some_same is in (c, refl, subst (ClientCountsAgree c done) same agrees)
-
-pub in_order : (s : LaneState) (l : DiskLog) (session : ClientSession) → Known s l → s.client.session ≡ Some session → InOrder (length s.client.pending) session
-in_order s l session known is = subst (CountsInOrder (length s.client.pending)) is known.sound.counts
 
 -- WHERE A SERVER WORKS the client's session is open, and the server's count tells what is finished
 pub record Live (s : LaneState) (l : DiskLog) (d : ServerCounts) : Type 0 where

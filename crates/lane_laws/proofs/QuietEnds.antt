@@ -21,13 +21,15 @@ use Rattle.lane_laws.proofs.Counting.{OfClient, OfServer, of_client, of_server}
 use Rattle.channel_laws.proofs.Apart.{none_is_some}
 use Rattle.channel_laws.proofs.EndsAtRest.{none_waits}
 use Rattle.lane_laws.proofs.IdleLaw.{idle_client, idle_server}
-use Rattle.lane_laws.proofs.IdleRules.{ClientIdles, ServerIdles, client_idles, server_idles}
+use Rattle.lane_laws.proofs.IdleRules.{ServerIdles, client_idles, server_idles}
+use Rattle.lane_laws.proofs.RuleTests.{ClientIdles}
 use Rattle.lane_laws.proofs.LaneChannel.{answers_of, asks_of, lane_meets}
 use Rattle.channel_laws.proofs.AtRest as core
 use Rattle.channel_laws.proofs.AtRest.{HeardAll, heard_all, rests_open}
 use Rattle.channel_laws.specs.Sides.{sides_of}
 use Rattle.lane_laws.specs.ChannelEnds.{core_of}
-use Rattle.lane_laws.proofs.WorkNumbers.{Grounded, at_client, at_server, order_of}
+use Rattle.lane_laws.proofs.WorkNumbers.{Grounded, order_of}
+use Rattle.lane_laws.proofs.LaneViews.{at_client, at_server}
 
 -- TWO ENDS AT REST: resting is the next step of each
 pub record BothRest (s : LaneState) : Type 0 where
@@ -44,9 +46,9 @@ both_quiet s transcript rest whole =
       peer_up = subst (ServerMay s.server (at_server s)) rest.server (server_may s.server (at_server s));
       waits = none_waits s.wire.wire.to_a client.rests.first;
       peer_waits = none_waits s.wire.wire.to_b server.first;
-      quiet = client.rests.rests.free;
+      quiet = client.rests.free;
       peer_quiet = server.free;
-      owed = client.rests.rests.owed;
+      owed = client.rests.owed;
       peer_owed = server.owed;
     }
 

@@ -8,7 +8,7 @@ use Rattle.std.proofs.lemmas.Nat.{mod_below}
 use Rattle.ldc_packet.specs.declared.packet.Subtype.{Subtype}
 use Rattle.ldc_packet.specs.Spelling.{subtype_code}
 use Rattle.ldc_packet.specs.declared.packet.Subtype.TheVariants.{Ack, Info}
-use Rattle.ldc_link.specs.LinkState.{LinkState, offered}
+use Rattle.ldc_link.specs.LinkState.{LinkState}
 use Rattle.ldc_queue.specs.declared.end.End.TheVariants.{A, B}
 use Rattle.ldc_queue.specs.Transcript as turn
 use Rattle.ldc_queue.specs.Transcript.{Turn}
@@ -18,7 +18,8 @@ use Rattle.vio_tag.specs.declared.message.Message.{Message}
 use Rattle.vio_tag.specs.declared.message.MsgBody.TheVariants.{DringData}
 use Rattle.vio_tag.specs.Spelling.{SpellsBody, canonical, envelope_code, subtype_at}
 use Rattle.channel_model.specs.Sayings.{half_heard, half_said, said}
-use Rattle.channel_model.specs.WireEvent.{Blocked, Declines, Idle, Injected, Joined, Lost, Poked, Reset, Sent, Took, WireEvent}
+use Rattle.channel_model.specs.WireEvent.{Sent, Took}
+use Rattle.lane_laws.proofs.ServerSpeaking.{server_holds_link}
 use Rattle.lane_laws.specs.DiskLog.{DiskLog}
 use Rattle.lane_laws.specs.BlockLog.{Blockage, Clear}
 use Rattle.lane_laws.specs.EndLog.{ident_of, is_stuck_with_own, range_in_work, state_of}
@@ -36,12 +37,12 @@ use Rattle.disk_model.specs.ServerRule as server_rules
 use Rattle.vio_handshake.specs.declared.handshake.Handshake.{Handshake}
 use Rattle.vio_handshake.specs.declared.handshake.Phase.{Phase}
 use Rattle.vio_handshake.specs.Rules.{sid_fault}
-use Rattle.disk_model.specs.DiskEvent.{Asks, DiskEvent, OnWire, Calms, Switches, Works}
+use Rattle.disk_model.specs.DiskEvent.{DiskEvent, OnWire}
 use Rattle.disk_model.specs.LaneState.{IsShape, LaneState}
-use Rattle.disk_model.specs.LaneStep.{EndOnWire, LaneStep, WireStep}
+use Rattle.disk_model.specs.LaneStep.{EndOnWire, LaneStep}
 use Rattle.channel_model.specs.Ranges.{wrapped}
 use Rattle.dring.specs.Slots.{range_length}
-use Rattle.disk_model.specs.ServerState.{ServerSession, ServerState, SlotRange}
+use Rattle.disk_model.specs.ServerState.{ServerState, SlotRange}
 use Rattle.disk_model.specs.ServerStep.{ServerSends}
 use Rattle.channel_laws.proofs.Apart.{none_is_some, some_same, true_is_false}
 use Rattle.channel_laws.proofs.TurnCases.{heard_none, heard_some, said_none, said_some}
@@ -52,33 +53,29 @@ use Rattle.lane_laws.proofs.ClientPutCounting.{OwnInfo, own_info}
 use Rattle.channel_laws.proofs.PutSayings.{PutSays, SaysWhole, put_says}
 use Rattle.lane_laws.proofs.EndsFold.{BothAre, held_session, infos_are}
 use Rattle.lane_laws.proofs.IdleLaw.{past_all}
-use Rattle.lane_laws.proofs.IdleRules.{PublishedAll, published_all}
+use Rattle.lane_laws.proofs.IdleRules.{published_all}
+use Rattle.lane_laws.proofs.RuleTests.{PublishedAll, TakesFree}
 use Rattle.lane_laws.proofs.RangeTurns.{range_turns}
 use Rattle.lane_laws.proofs.RangesSaid.{data_no_group, end_is, heard_no_group, heard_no_range, ident_is, sid_is, no_data, other_subtype, owed_no_range, range_is, said_is, seq_is, start_is, state_is}
 use Rattle.lane_laws.proofs.Requesting.{held_kept}
 use Rattle.lane_laws.proofs.Ruling.{client_may}
-use Rattle.lane_laws.proofs.RulesFree.{ServerFree, TakesFree, server_free}
+use Rattle.lane_laws.proofs.RulesFree.{ServerFree, server_free}
 use Rattle.lane_laws.proofs.ServerCounting.{own_slots}
 use Rattle.lane_laws.proofs.ServerFolds.{ranged}
 use Rattle.lane_laws.proofs.ServerPutCounting.{all_finished, server_holds_counting, none_is}
 use Rattle.lane_laws.proofs.ServerTaken.{ServerAsked, ServerTook, server_took_what}
 use Rattle.lane_laws.proofs.Sharing.{in_order}
-use Rattle.lane_laws.proofs.WorkNumbers.{in_client, in_server}
+use Rattle.lane_laws.proofs.WorkNumbers.{in_client, in_server, order_of}
 use Rattle.ldc_link.specs.declared.phase.Role.TheVariants.{Initiator}
 use Rattle.lane_laws.specs.ChannelEnds.{client_core}
 use Rattle.channel_laws.specs.Cuts.{CarriesOwed}
-use Rattle.lane_laws.specs.Counted.{ClientCounted, HoldsAnswer, InServerOrder, RangeStands, ServerCounted, ServerOrder}
+use Rattle.lane_laws.specs.Counted.{ClientCounted, HoldsAnswer, InServerOrder, RangeStands, ServerCounted}
 use Rattle.channel_laws.specs.HandshakeFits.{MayOwe, OwedFits}
 use Rattle.channel_laws.proofs.MessagesHeld.{owed_held}
 use Rattle.lane_laws.proofs.Speaking.{server_blocked_rests, server_holds_owed}
 use Rattle.lane_laws.specs.LaneRests.{ClientRests, ServerRests}
 use Rattle.lane_laws.specs.Sound.{ClientSound, InOrder}
 use Rattle.lane_laws.proofs.Counting.{OfClient, OfServer, of_client, of_server, slot_of_count}
-
-pub order_in : (slots : ℕ) (o : Option ServerSession) (session : ServerSession) (d : Option ServerCounts) (c : ServerCounts) (turns : List Turn) → o ≡ Some session → d ≡ Some c
-    → ServerOrder slots o d turns → InServerOrder slots session c turns
-order_in slots o session d c turns is counts order =
-    subst (λ (e : Option ServerCounts). ServerOrder slots (Some session) e turns) counts (subst (λ (p : Option ServerSession). ServerOrder slots p d turns) is order)
 
 -- A PACKET that ends a range, and one that ends none
 if_none : (range : Option (List ℕ)) (holds : List ℕ → Type 0) → range ≡ None → IfRange range holds
@@ -145,10 +142,7 @@ client_shaken s (client_rules.Announces one) held is =
 client_shaken s _ held is = none_is_some is
 
 server_shaken : (s : ServerState) (rule : server_rules.ServerRule) (held : ServerState) → server_holds rule s ≡ Some held → held.handshake ≡ s.handshake
-server_shaken s server_rules.Puts held is = let same : s ≡ held = some_same is in ap (λ (x : ServerState). x.handshake) (sym same)
-server_shaken s (server_rules.Says message) held is =
-    let same : record s { link = offered (canonical message) s.link } ≡ held = cc is in ap (λ (x : ServerState). x.handshake) (sym same)
-server_shaken s _ held is = none_is_some is
+server_shaken s rule held is = ap (λ (x : ServerState). x.handshake) (server_holds_link s rule held is)
 
 -- AN INFO THAT IS SAID. A client that isn't blocked announces only once all that is pending is published.
 pub never_own : (s : ClientState) (b : Blockage) (session : ClientSession) → ClientIs s b → b ≡ Clear → s.session ≡ Some session → session.announcing ≡ true → true ≡ false
@@ -309,7 +303,7 @@ asks_for l packet s t opens sound shaken rests free counted asks =
     let bytes = asks.hears.bytes in
     let of : OfServer session s.work l.work.server = of_server s.session session s.work l.work.server asks.info.session_is counted.agrees in
     let c = of.counts in
-    let order : InServerOrder slots session c turns = order_in slots s.session session l.work.server c turns asks.info.session_is of.is counted.order in
+    let order : InServerOrder slots session c turns = order_of slots s.session session l.work.server c turns asks.info.session_is of.is counted.order in
     let own : s.handshake.draft.peer_slots ≡ slots = own_slots l.shape s turns l.work.server rests (ap is_some asks.info.session_is) counted in
     let fields : IsBody bytes range.seq asks.info.ident range.start range.end range.state = subst (SpellsBody bytes) asks.info.body_is asks.hears.spells.body in
     if_some (range_ended 1 (half_heard turns) packet) _ bytes
@@ -347,7 +341,7 @@ answers l packet held shaken sound in_work a counted last =
     let bytes = half_said turns ++ held.link.to_send in
     let of : OfServer a.session held.work l.work.server = of_server held.session a.session held.work l.work.server a.session_is counted.agrees in
     let c = of.counts in
-    let order : InServerOrder slots a.session c turns = order_in slots held.session a.session l.work.server c turns a.session_is of.is counted.order in
+    let order : InServerOrder slots a.session c turns = order_of slots held.session a.session l.work.server c turns a.session_is of.is counted.order in
     let stands : RangeStands slots (Some range) c = subst (λ (r : Option SlotRange). RangeStands slots r c) a.range_is order.range in
     let begun : range.start < 2 ^ 32 = omega (arith, stands.1, sound.most_slots) in
     let ended : range.end < 2 ^ 32 = omega (arith, stands.2, sound.most_slots) in
@@ -469,23 +463,9 @@ took_info s l packet opens t sound both told step =
       server_no_other s.server t.server l.transcript.server packet opens took,
     )
 
-wire_ranges : (s : LaneState) (l : DiskLog) (event : WireEvent) (t : LaneState) → IsShape l.shape → BothAre s l → AreTold s l → WireStep s event t → RangesAt l (OnWire event)
-wire_ranges s l (Sent A packet opens) t sound both told step = said_info s l packet opens t.client t.memory both told step.step
-wire_ranges s l (Sent B packet opens) t sound both told step = said_ack s l packet opens t.server sound both told step.1.step.1.0
-wire_ranges s l (Took A packet opens) t sound both told step = took_ack s l packet opens t both told step
-wire_ranges s l (Took B packet opens) t sound both told step = took_info s l packet opens t sound both told step
-wire_ranges s l (Joined e lost) t sound both told step = tt
-wire_ranges s l (Idle e) t sound both told step = tt
-wire_ranges s l (Blocked e) t sound both told step = tt
-wire_ranges s l (Reset e cause packet lost) t sound both told step = tt
-wire_ranges s l (Lost e packet) t sound both told step = tt
-wire_ranges s l (Injected e packet) t sound both told step = tt
-wire_ranges s l (Poked e at bytes) t sound both told step = tt
-wire_ranges s l (Declines d) t sound both told step = tt
-
 pub ranges_at : (s : LaneState) (l : DiskLog) (event : DiskEvent) (t : LaneState) → IsShape l.shape → BothAre s l → AreTold s l → LaneStep s event t → RangesAt l event
-ranges_at s l (OnWire event) t sound both told step = wire_ranges s l event t sound both told step
-ranges_at s l (Asks event) t sound both told step = tt
-ranges_at s l (Works event) t sound both told step = tt
-ranges_at s l (Switches event) t sound both told step = tt
-ranges_at s l (Calms event) t sound both told step = tt
+ranges_at s l (OnWire (Sent A packet opens)) t sound both told step = said_info s l packet opens t.client t.memory both told step.step
+ranges_at s l (OnWire (Sent B packet opens)) t sound both told step = said_ack s l packet opens t.server sound both told step.1.step.1.0
+ranges_at s l (OnWire (Took A packet opens)) t sound both told step = took_ack s l packet opens t both told step
+ranges_at s l (OnWire (Took B packet opens)) t sound both told step = took_info s l packet opens t sound both told step
+ranges_at s l _ t sound both told step = tt

@@ -55,25 +55,15 @@ IsNoData (DringData seq ident start end state) = ⊥
 IsNoData _ = ⊤
 
 other_code : (b : MsgBody) → IsNoData b → IsNoPlain b → envelope_code b ≢ 0x0042
-other_code (Ver major minor class) not plain is = absurd (omega (arith, is))
-other_code (Attr bytes) not plain is = absurd (omega (arith, is))
-other_code (DringReg ident slots slot_size options count cookies) not plain is = absurd (omega (arith, is))
-other_code (DringUnreg ident) not plain is = absurd (omega (arith, is))
-other_code Rdx not plain is = absurd (omega (arith, is))
 other_code (DringData seq ident start end state) not plain is = absurd not
-other_code (Mcast set count addresses) not plain is = absurd (omega (arith, is))
 other_code (Plain envelope) not plain is = absurd plain
+other_code _ not plain is = absurd (omega (arith, is))
 
 pub formed_code : (b : MsgBody) → IsNoData b → HasForm b → envelope_code b ≢ 0x0042
 formed_code (Plain envelope) not (inl form) is = absurd (omega (arith, is, form))
 formed_code (Plain envelope) not (inr form) is = absurd (omega (arith, is, form))
-formed_code (Ver major minor class) not form is = absurd (omega (arith, is))
-formed_code (Attr bytes) not form is = absurd (omega (arith, is))
-formed_code (DringReg ident slots slot_size options count cookies) not form is = absurd (omega (arith, is))
-formed_code (DringUnreg ident) not form is = absurd (omega (arith, is))
-formed_code Rdx not form is = absurd (omega (arith, is))
 formed_code (DringData seq ident start end state) not form is = absurd not
-formed_code (Mcast set count addresses) not form is = absurd (omega (arith, is))
+formed_code _ not form is = absurd (omega (arith, is))
 
 unequal : (a b : ℕ) → a ≢ b → (a == b) ≡ false
 unequal a b not = if_not (a == b) refl
@@ -111,13 +101,9 @@ no_data h g message opens took = apart_data message.body (row_apart h g message 
 no_group : (b : MsgBody) → (IsOfSession b → ⊥) → HasForm b → envelope_code b ≢ 0x0101
 no_group (Plain envelope) apart (inl form) is = absurd (omega (arith, is, form))
 no_group (Plain envelope) apart (inr form) is = absurd (omega (arith, is, form))
-no_group (Ver major minor class) apart form is = absurd (omega (arith, is))
-no_group (Attr bytes) apart form is = absurd (omega (arith, is))
-no_group (DringReg ident slots slot_size options count cookies) apart form is = absurd (omega (arith, is))
-no_group (DringUnreg ident) apart form is = absurd (omega (arith, is))
-no_group Rdx apart form is = absurd (omega (arith, is))
 no_group (DringData seq ident start end state) apart form is = absurd (apart tt)
 no_group (Mcast set count addresses) apart form is = absurd (apart tt)
+no_group _ apart form is = absurd (omega (arith, is))
 
 pub heard_no_group : (bytes : List ℕ) (m : Message) (h g : Handshake) (opens : Bool) → SpellsMessage bytes m → IsWellFormed m → HandshakeTook h m g opens → number_at 2 2 bytes ≢ 0x0101
 heard_no_group bytes m h g opens spells form took is = no_group m.body (row_apart h g m opens took.row) form (sym spells.envelope ∙ is)
@@ -240,15 +226,8 @@ more_bytes (suc k) n few = on (byte_at k n) (byte_at k (n % 2 ^ 64)) (big_bytes 
     on x y xs ys one others = cc
 
     same_byte : (i : ℕ) → i < 8 → byte_at i n ≡ byte_at i (n % 2 ^ 64)
-    same_byte zero few = omega arith
-    same_byte (suc zero) few = omega arith
-    same_byte (suc (suc zero)) few = omega arith
-    same_byte (suc (suc (suc zero))) few = omega arith
-    same_byte (suc (suc (suc (suc zero)))) few = omega arith
-    same_byte (suc (suc (suc (suc (suc zero))))) few = omega arith
-    same_byte (suc (suc (suc (suc (suc (suc zero)))))) few = omega arith
-    same_byte (suc (suc (suc (suc (suc (suc (suc zero))))))) few = omega arith
     same_byte (suc (suc (suc (suc (suc (suc (suc (suc i)))))))) few = absurd (omega (arith, few))
+    same_byte _ few = omega arith
 
 with_names : Subtype → ℕ → ℕ → Message
 with_names s n ident = record { subtype = s; sid = n; body = DringData 0 ident 0 0 0 }

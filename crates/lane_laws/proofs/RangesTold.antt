@@ -14,7 +14,7 @@ use Rattle.ldc_queue.specs.declared.end.ChannelState.TheVariants.{Up}
 use Rattle.ldc_queue.specs.declared.end.End.TheVariants.{A, B}
 use Rattle.ldc_queue.specs.OneStream.{IsFront}
 use Rattle.ldc_queue.specs.Transcript.{Said, Turn}
-use Rattle.vio_handshake.proofs.Places.{AllSaid, AttributesAnswered, AttributesSaid, Deal, PeerReadyAnswered, PeerReadySaid, PeerRingAnswered, PeerRingSaid, Place, ReadyAnswered, ReadySaid, RingAnswered, RingSaid, VersionAnswered, VersionSaid, handshake_at, message_at}
+use Rattle.vio_handshake.proofs.Places.{AllSaid, Deal, Place, VersionSaid, handshake_at, message_at}
 use Rattle.vio_handshake.specs.declared.handshake.Handshake.{Handshake}
 use Rattle.vio_handshake.specs.declared.session.Session.{Session}
 use Rattle.vio_tag.specs.declared.message.Message.{Message}
@@ -26,11 +26,11 @@ use Rattle.channel_model.specs.Messages.{range_in}
 use Rattle.channel_model.specs.Ranges.{wrapped}
 use Rattle.channel_model.specs.Sayings.{half_said, heard, said}
 use Rattle.channel_model.specs.Seeing.{seen}
-use Rattle.channel_model.specs.WireEvent.{Blocked, Declines, Idle, Injected, Joined, Lost, Poked, Reset, Sent, Took, WireEvent}
+use Rattle.channel_model.specs.WireEvent.{Joined, Reset, Sent, Took, WireEvent}
 use Rattle.channel_model.specs.WireLog.{WireLog}
 use Rattle.disk_model.specs.ClientPutting.{client_kind, is_announcing}
 use Rattle.disk_model.specs.ClientState.{ClientState, slot_in}
-use Rattle.disk_model.specs.DiskEvent.{Asks, Calms, DiskEvent, Off, OnWire, Started, Stopped, Switches, Works}
+use Rattle.disk_model.specs.DiskEvent.{DiskEvent, OnWire, Stopped, Switches}
 use Rattle.disk_model.specs.LaneState.{IsShape, LaneState, Shape, fresh}
 use Rattle.disk_model.specs.LaneStep.{LaneStep}
 use Rattle.disk_model.specs.ServerPutting.{server_kind}
@@ -54,7 +54,7 @@ use Rattle.channel_laws.proofs.PutSayings.{PutSays, put_says}
 use Rattle.lane_laws.proofs.LaneChannel.{OnLane, answers_of, asks_of, lane_meets}
 use Rattle.lane_laws.proofs.LaneCores.{lane_steps, shape_of}
 use Rattle.lane_laws.proofs.LaneCounting.{Knows, run_knows}
-use Rattle.lane_laws.proofs.RangeLaw.{order_in}
+use Rattle.lane_laws.proofs.WorkNumbers.{order_of as order_in}
 use Rattle.lane_laws.proofs.ClientPuts.{Putting, putting}
 use Rattle.lane_laws.proofs.RangesSaid.{IsNoPlain, envelope_reads}
 use Rattle.lane_laws.proofs.RingRuns.{before}
@@ -143,18 +143,7 @@ record IsOther (m : Message) : Type 0 where
 
 place_other : (d : Deal) (n : Place) → IsOther (message_at d n)
 place_other d VersionSaid = record { plain = tt; code = omega arith }
-place_other d VersionAnswered = record { plain = tt; code = omega arith }
-place_other d AttributesSaid = record { plain = tt; code = omega arith }
-place_other d AttributesAnswered = record { plain = tt; code = omega arith }
-place_other d RingSaid = record { plain = tt; code = omega arith }
-place_other d RingAnswered = record { plain = tt; code = omega arith }
-place_other d PeerRingSaid = record { plain = tt; code = omega arith }
-place_other d PeerRingAnswered = record { plain = tt; code = omega arith }
-place_other d ReadySaid = record { plain = tt; code = omega arith }
-place_other d ReadyAnswered = record { plain = tt; code = omega arith }
-place_other d PeerReadySaid = record { plain = tt; code = omega arith }
-place_other d PeerReadyAnswered = record { plain = tt; code = omega arith }
-place_other d AllSaid = record { plain = tt; code = omega arith }
+place_other d _ = record { plain = tt; code = omega arith }
 
 other_apart : (m : Message) → IsOther m → IsApart (canonical m)
 other_apart m is = omega (arith, is.code, envelope_reads m.subtype m.sid m.body is.plain)
@@ -300,9 +289,9 @@ server_tells EndsHandshake l d held packet sound small here counted says =
       what = inr (owed_apart Responder d (server_core held) l.transcript.server bytes here (server_holds_owed held l.transcript.server here.stands says.1 says.0.some));
     })
 
-wire_tells : (shape : Shape) (events : List DiskEvent) (s : LaneState) (event : WireEvent) (t : LaneState) → IsShape shape → Run LaneStep (fresh shape) events s
-    → LaneStep s (OnWire event) t → (log_of after (nothing_yet shape) events).wire.forged ≡ false → WireTellsAt (log_of after (nothing_yet shape) events) event
-wire_tells shape events s (Sent A packet opens) t sound run step clean =
+tells_at : (shape : Shape) (events : List DiskEvent) (s : LaneState) (event : DiskEvent) (t : LaneState) → IsShape shape → Run LaneStep (fresh shape) events s → LaneStep s event t
+    → (log_of after (nothing_yet shape) events).wire.forged ≡ false → TellsAt (log_of after (nothing_yet shape) events) event
+tells_at shape events s (OnWire (Sent A packet opens)) t sound run step clean =
     let l = log_of after (nothing_yet shape) events in
     let knows : Knows s l = run_knows shape events s sound run in
     let sends = step.step in
@@ -314,7 +303,7 @@ wire_tells shape events s (Sent A packet opens) t sound run step clean =
     let waits = client_waits s.client (seen A s.shape.entries s.wire.wire) sends.held knows.all.sound sends.holds in
     client_tells (client_kind sends.held) l (deal (asks_of shape) (answers_of shape) there.sid) sends.held packet (omega (arith, shaped.some_slots)) there.small
     (held_at Initiator (deal (asks_of shape) (answers_of shape) there.sid) (client_core s.client) (client_core sends.held) l.transcript.client on.stand.mine waits (there.mine up)) put.counted put.says
-wire_tells shape events s (Sent B packet opens) t sound run step clean =
+tells_at shape events s (OnWire (Sent B packet opens)) t sound run step clean =
     let l = log_of after (nothing_yet shape) events in
     let knows : Knows s l = run_knows shape events s sound run in
     let sends = step.1.step.1.0 in
@@ -331,11 +320,6 @@ wire_tells shape events s (Sent B packet opens) t sound run step clean =
     (server_holds_counting l.shape s.server rule held l.transcript.server l.work.server knows.rests.server knows.utters.server (server_free s.server at) sends.holds knows.counted.server)
     (put_says (is_none held.handshake.owed) held.link t.server.link l.transcript.server packet
     (server_blocked_rests s.server at held l.transcript.server sends.holds knows.rests.server).stands.link.follows sends.packet)
-wire_tells shape events s _ t sound run step clean = tt
-
-tells_at : (shape : Shape) (events : List DiskEvent) (s : LaneState) (event : DiskEvent) (t : LaneState) → IsShape shape → Run LaneStep (fresh shape) events s → LaneStep s event t
-    → (log_of after (nothing_yet shape) events).wire.forged ≡ false → TellsAt (log_of after (nothing_yet shape) events) event
-tells_at shape events s (OnWire event) t sound run step clean = wire_tells shape events s event t sound run step clean
 tells_at shape events s _ t sound run step clean = tt
 
 -- ALONG THE LOG
@@ -357,26 +341,16 @@ wire_told l (Sent A packet opens) may tell =
 wire_told l (Sent B packet opens) may tell =
     record { client = tell.client; server = tells_more Responder l.shape.slots (said l.transcript.server) (said (Said packet ∷ l.transcript.server)) may tell.server }
 wire_told l (Took A packet opens) may tell = record { client = tell.client; server = tell.server }
-wire_told l (Took B packet opens) may tell = record { client = tell.client; server = tell.server }
 wire_told l (Joined A lost) may tell = record { client = tt; server = tell.server }
 wire_told l (Joined B lost) may tell = record { client = tell.client; server = tt }
 wire_told l (Reset A cause packet lost) may tell = record { client = tt; server = tell.server }
 wire_told l (Reset B cause packet lost) may tell = record { client = tell.client; server = tt }
-wire_told l (Idle e) may tell = record { client = tell.client; server = tell.server }
-wire_told l (Blocked e) may tell = record { client = tell.client; server = tell.server }
-wire_told l (Lost e packet) may tell = record { client = tell.client; server = tell.server }
-wire_told l (Injected e packet) may tell = record { client = tell.client; server = tell.server }
-wire_told l (Poked e at bytes) may tell = record { client = tell.client; server = tell.server }
-wire_told l (Declines d) may tell = record { client = tell.client; server = tell.server }
+wire_told l _ may tell = record { client = tell.client; server = tell.server }
 
 told_step : (l : DiskLog) (event : DiskEvent) → TellsAt l event → TheyTell l → TheyTell (after l event)
 told_step l (OnWire event) may tell = wire_told l event may tell
 told_step l (Switches Stopped) may tell = record { client = tell.client; server = tt }
-told_step l (Switches Started) may tell = record { client = tell.client; server = tell.server }
-told_step l (Switches Off) may tell = record { client = tell.client; server = tell.server }
-told_step l (Asks event) may tell = record { client = tell.client; server = tell.server }
-told_step l (Works event) may tell = record { client = tell.client; server = tell.server }
-told_step l (Calms event) may tell = record { client = tell.client; server = tell.server }
+told_step l _ may tell = record { client = tell.client; server = tell.server }
 
 abbrev MayTell : DiskLog → DiskEvent → Type 0
 MayTell l event = l.wire.forged ≡ false → TellsAt l event

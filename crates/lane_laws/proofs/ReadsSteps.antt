@@ -5,7 +5,7 @@ use Rattle.vdisk_msg.specs.declared.request.Request.{Request}
 use Rattle.vdisk_msg.specs.declared.request.Request.TheVariants.{Read}
 use Rattle.vdisk_msg.specs.Requests.{after_request}
 use Rattle.disk_model.specs.ClientState.{ClientSession}
-use Rattle.disk_model.specs.ServerState.{Ends, Flushes, Gathers, Gives, Progress, Reads, Writes}
+use Rattle.disk_model.specs.ServerState.{Ends, Gives, Progress, Reads}
 use Rattle.lane_laws.specs.LaneView.{View, place_of}
 use Rattle.lane_laws.specs.NearContent.{Shows}
 use Rattle.lane_laws.specs.ReadsNear.{BlocksShow, DoneShow, UnitsShow, WorkShows}
@@ -22,9 +22,7 @@ units_map (Reads unit) content other pending after m n k i block count place buf
 units_map (Gives unit bytes) content other pending after m n k i block count place buffers f show =
     (λ b below. f (block + b) _ (show.0 b below), λ b below. f (block + 16 * unit + b) _ (show.1 b below))
 units_map (Ends status) content other pending after m n k i block count place buffers f show = λ b below. f (block + b) _ (show b below)
-units_map (Gathers unit) content other pending after m n k i block count place buffers f show = tt
-units_map (Writes unit bytes) content other pending after m n k i block count place buffers f show = tt
-units_map Flushes content other pending after m n k i block count place buffers f show = tt
+units_map _ content other pending after m n k i block count place buffers f show = tt
 
 -- NOTHING changes but the session
 pub done_kept : (content : List ℕ) (v : View) (o : Option ClientSession) → Keeps v.session o → DoneShow content v → DoneShow content (record v { session = o })

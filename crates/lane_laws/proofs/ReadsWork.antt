@@ -14,7 +14,7 @@ use Rattle.vio_bytes.proofs.Ranges.{range_at-put_at_inside, range_at-put_at_outs
 use Rattle.vio_bytes.specs.Place.{put_at}
 use Rattle.vio_bytes.specs.Range.{range_at}
 use Rattle.disk_model.specs.ClientState.{ClientSession}
-use Rattle.disk_model.specs.ServerState.{Ends, Flushes, Gathers, Gives, Progress, Reads, Work, Writes}
+use Rattle.disk_model.specs.ServerState.{Ends, Gives, Progress, Reads, Work}
 use Rattle.channel_laws.proofs.Apart.{some_same}
 use Rattle.lane_laws.proofs.MemorySteps.{got_sound}
 use Rattle.lane_laws.specs.Contents.{ContentsStand, ProgressIs}
@@ -24,7 +24,8 @@ use Rattle.lane_laws.specs.ReadsNear.{BlocksShow, DoneShow, UnitsShow, WorkShows
 use Rattle.lane_laws.proofs.BlockWrites.{admitted_blocks}
 use Rattle.lane_laws.proofs.Buffers.{other_buffer, other_slot}
 use Rattle.lane_laws.proofs.Changes.{Fetches, Placed, Publishes, Serves, filled, first_of}
-use Rattle.lane_laws.proofs.ContentsSteps.{same_got, same_place}
+use Rattle.lane_laws.proofs.ContentsSteps.{same_place}
+use Rattle.lane_laws.proofs.SlotBytes.{same_request as same_got}
 
 -- OTHER BYTES that are the same where the blocks stand
 pub blocks_moved : (content : List ℕ) (pending : List Request) (m k block n place : ℕ) (buffers new : List ℕ)
@@ -39,9 +40,7 @@ units_moved (Reads unit) content pending m k u block count place buffers new is 
 units_moved (Gives unit bytes) content pending m k u block count place buffers new is same show =
     (blocks_moved content pending m k block (16 * unit) place buffers new (λ b below. same b (omega (arith, below, is.1))) show.0, show.1)
 units_moved (Ends status) content pending m k u block count place buffers new is same show = blocks_moved content pending m k block count place buffers new same show
-units_moved (Gathers unit) content pending m k u block count place buffers new is same show = tt
-units_moved (Writes unit bytes) content pending m k u block count place buffers new is same show = tt
-units_moved Flushes content pending m k u block count place buffers new is same show = tt
+units_moved _ content pending m k u block count place buffers new is same show = tt
 
 -- A REQUEST IS PUBLISHED, into a buffer of its own
 filled_other : (slots a b p n : ℕ) (request : Request) (buffers : List ℕ) → a ≢ b → b < slots → 32768 * slots ≤ length buffers → size_of request ≤ 32768 → 32768 * a ≤ p → p + n ≤ 32768 * a + 32768

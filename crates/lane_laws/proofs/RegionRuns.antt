@@ -3,12 +3,13 @@ use Rattle.std.proofs.Common.{◌≡◌, ℕ, ◌+◌, ◌*◌, ◌≤◌, Bool,
 use Rattle.runs.specs.Lawful.{log_of}
 use Rattle.runs.specs.Run.{Run}
 use Rattle.lane_laws.specs.DiskLog.{after, nothing_yet}
-use Rattle.disk_model.specs.DiskEvent.{Asks, Desc, DiskEvent, Done, Finished, Misplaced, Moved, OnWire, Published, Calms, Stored, Switches, Works}
+use Rattle.disk_model.specs.DiskEvent.{Asks, DiskEvent, Done, Finished, Calms, Stored, Works}
 use Rattle.disk_model.specs.LaneState.{IsShape, LaneState, Shape, fresh}
 use Rattle.disk_model.specs.LaneStep.{LaneStep, ServerWorks}
 use Rattle.disk_model.specs.Served as served
 use Rattle.lane_laws.specs.ImageStep.{ImageStep, SameAround, region_of}
-use Rattle.lane_laws.proofs.FirstStays.{log_shape, run_first}
+use Rattle.lane_laws.proofs.FirstStays.{run_first}
+use Rattle.lane_laws.proofs.LaneCores.{shape_of as log_shape}
 use Rattle.lane_laws.proofs.FailedRuns.{stored_well}
 use Rattle.lane_laws.proofs.NearRuns.{run_step}
 use Rattle.lane_laws.proofs.Regions.{InRegion, around_same, store_region}
@@ -42,18 +43,13 @@ served_by : (shape : Shape) (events : List DiskEvent) (s : LaneState) (event : D
     → ServedImage shape s event t store new
 served_by shape events s (Works (Stored operation block count failed)) gave store new t sound run unforged well room step does =
     stored_image shape events s operation block count failed gave store new t sound run unforged well room step does (stored_well s gave operation block count failed t step well)
-served_by shape events s (Works (Published id)) gave store new t sound run unforged well room step does = still shape s (Works (Published id)) t store new (λ same. ap (region_of shape) same) does
 served_by shape events s (Works (Done id operation status bytes)) gave store new t sound run unforged well room step does =
     still shape s (Works (Done id operation status bytes)) t store new (λ same. ap (region_of shape) same) does
-served_by shape events s (Works (Desc slot bytes)) gave store new t sound run unforged well room step does = still shape s (Works (Desc slot bytes)) t store new (λ same. ap (region_of shape) same) does
-served_by shape events s (Works (Moved unit fault)) gave store new t sound run unforged well room step does = still shape s (Works (Moved unit fault)) t store new (λ same. ap (region_of shape) same) does
 served_by shape events s (Works (Finished slot status)) gave store new t sound run unforged well room step does =
     still shape s (Works (Finished slot status)) t store new (λ same. ap (region_of shape) same) does
-served_by shape events s (Works Misplaced) gave store new t sound run unforged well room step does = still shape s (Works Misplaced) t store new (λ same. ap (region_of shape) same) does
-served_by shape events s (OnWire event) gave store new t sound run unforged well room step does = still shape s (OnWire event) t store new (λ same. ap (region_of shape) same) does
-served_by shape events s (Switches event) gave store new t sound run unforged well room step does = still shape s (Switches event) t store new (λ same. ap (region_of shape) same) does
 served_by shape events s (Asks event) gave store new t sound run unforged well room step does = absurd step
 served_by shape events s (Calms event) gave store new t sound run unforged well room step does = absurd step
+served_by shape events s event gave store new t sound run unforged well room step does = still shape s event t store new (λ same. ap (region_of shape) same) does
 
 pub run_served : (shape : Shape) (events : List DiskEvent) (s : LaneState) (event : DiskEvent) (t : LaneState) (store new : List ℕ) → IsShape shape → Run LaneStep (fresh shape) events s
     → t.wire.forged ≡ false → t.failed ≡ false → 512 * (shape.first + shape.blocks) ≤ length store → served.Served s (Some store) event t (Some new)

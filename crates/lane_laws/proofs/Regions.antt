@@ -16,7 +16,7 @@ use Rattle.disk_model.specs.LaneStep.{ServerWorks}
 use Rattle.channel_model.specs.Seeing.{seen}
 use Rattle.disk_model.specs.Served as served
 use Rattle.disk_model.specs.ServerRule as server_rules
-use Rattle.disk_model.specs.ServerState.{Ends, Flushes, Gathers, Gives, Progress, Reads, ServerState, Work, Writes}
+use Rattle.disk_model.specs.ServerState.{Progress, Reads, ServerState, Work, Writes}
 use Rattle.disk_model.specs.ServerWork.{StoresIn, unit_length}
 use Rattle.lane_laws.proofs.MemorySteps.{got_sound}
 use Rattle.lane_laws.proofs.Ruling.{server_may}
@@ -67,10 +67,7 @@ within_by : (p : Progress) (s : LaneState) (l : DiskLog) (work : Work) (operatio
     → StoresIn p work operation block count false gave next → ProgressIs p s.near.u serves.on.request → WithinDisk p block gave s.client.blocks
 within_by (Reads u) s l work operation block count gave next before serves stores fits = read_within s l u work operation block count gave next before serves stores serves.on.request refl fits
 within_by (Writes u bytes) s l work operation block count gave next before serves stores fits = write_within s l u bytes work operation block count gave next before serves stores serves.on.request refl fits
-within_by Flushes s l work operation block count gave next before serves stores fits = tt
-within_by (Gives u bytes) s l work operation block count gave next before serves stores fits = tt
-within_by (Gathers u) s l work operation block count gave next before serves stores fits = tt
-within_by (Ends status) s l work operation block count gave next before serves stores fits = tt
+within_by _ s l work operation block count gave next before serves stores fits = tt
 
 -- IN THE REGION
 pub record InRegion (shape : Shape) (work : Option Work) (block : ℕ) (gave store new : List ℕ) : Type 0 where
@@ -105,10 +102,7 @@ unit_region (Writes u bytes) shape s work block gave store new is first room wit
             ∙ drop-put_at (512 * shape.first + 512 * block) (512 * (shape.first + shape.blocks)) bytes store (omega (arith, within)) (omega (arith, within, room));
       },
     )
-unit_region Flushes shape s work block gave store new is first room within does = let same = unchanged store new does in (ap (region_of shape) same, around_same shape store new same)
-unit_region (Gives u bytes) shape s work block gave store new is first room within does = let same = unchanged store new does in (ap (region_of shape) same, around_same shape store new same)
-unit_region (Gathers u) shape s work block gave store new is first room within does = let same = unchanged store new does in (ap (region_of shape) same, around_same shape store new same)
-unit_region (Ends status) shape s work block gave store new is first room within does = let same = unchanged store new does in (ap (region_of shape) same, around_same shape store new same)
+unit_region _ shape s work block gave store new is first room within does = let same = unchanged store new does in (ap (region_of shape) same, around_same shape store new same)
 
 pub store_region : (shape : Shape) (s : LaneState) (l : DiskLog) (operation block count : ℕ) (gave store new : List ℕ) (t : LaneState) → Before s l → ContentsStand (view_of s) → s.server.first ≡ shape.first
     → s.client.blocks ≡ shape.blocks → 512 * (shape.first + shape.blocks) ≤ length store → ServerWorks s gave (StoredUnit operation block count false) t

@@ -18,7 +18,8 @@ use Rattle.disk_model.specs.ServerState.{ServerState}
 use Rattle.lane_laws.proofs.ClientHolding.{holds_up}
 use Rattle.lane_laws.proofs.LaneCounting.{Knows, run_knows}
 use Rattle.lane_laws.proofs.RemainingClientPuts.{ClientLowers, blocked_falls, falls_lower}
-use Rattle.lane_laws.proofs.RemainingLane.{asked_same, at_client, at_server, client_falls, left, second_less, server_falls}
+use Rattle.lane_laws.proofs.RemainingLane.{asked_same, client_falls, left, second_less, server_falls}
+use Rattle.lane_laws.proofs.LaneViews.{at_client, at_server}
 use Rattle.lane_laws.proofs.RemainingServerPuts as server
 use Rattle.lane_laws.proofs.RemainingServerPuts.{ServerLowers}
 use Rattle.lane_laws.proofs.Ruling.{client_may, server_may}

@@ -1,7 +1,7 @@
 -- What remains on a lane that begins: at most so much, exactly.
 use Rattle.std.proofs.Common.{◌≡◌, ℕ, ◌+◌, ◌-◌, ◌*◌, ◌≤◌, ◌<◌, Bool, true, Option, List, length, refl, sym, ap, ◌∙◌, subst, arith}
 use Rattle.ldc_queue.specs.declared.end.ChannelState.{ChannelState}
-use Rattle.ldc_queue.specs.declared.end.ChannelState.TheVariants.{Down, Up, Resetting}
+use Rattle.ldc_queue.specs.declared.end.ChannelState.TheVariants.{Down, Up}
 use Rattle.ldc_queue.specs.declared.end.End.{End}
 use Rattle.ldc_queue.specs.declared.end.End.TheVariants.{A, B}
 use Rattle.ldc_queue.specs.Transcript.{Turn}
@@ -33,23 +33,19 @@ fresh_remains shape = omega arith
 -- the peer of an end that is reset isn't up
 away : (e : ChannelState) → absent (upset e) ≡ 1
 away Up = refl
-away Down = refl
-away Resetting = refl
+away _ = refl
 
 away_asked : (e : ChannelState) (v : ServerState) → asked_by (upset e) v ≡ 0
 away_asked Up v = refl
-away_asked Down v = refl
-away_asked Resetting v = refl
+away_asked _ v = refl
 
 away_server : (e : ChannelState) (v : ServerState) → server_left (upset e) v ≡ 16
 away_server Up v = refl
-away_server Down v = refl
-away_server Resetting v = refl
+away_server _ v = refl
 
 away_client : (e : ChannelState) (asked : ℕ) (c : ClientState) → client_left (upset e) asked c ≡ client_left Down asked c
 away_client Up asked c = refl
-away_client Down asked c = refl
-away_client Resetting asked c = refl
+away_client _ asked c = refl
 
 -- THE CLIENT is reset, which was up
 begins_a : (w : Wire) (lossy : Bool) (c : ClientState) (v : ServerState) (turns : List Turn) → EndStands Initiator (client_core c) turns → w.end_a ≡ Up

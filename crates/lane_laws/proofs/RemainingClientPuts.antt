@@ -1,7 +1,7 @@
 -- What a client has left of its session as it holds a message, puts a packet, publishes or completes a request: with the packets that its end has
 -- still to put, what remains falls.
-use Rattle.std.proofs.Common.{◌≡◌, ℕ, ◌+◌, ◌-◌, ◌*◌, ◌≤◌, ◌<◌, Bool, true, false, Option, Some, None, List, [], ◌∷◌, length, drop, refl, sym, ap, ◌∙◌, subst, arith, length-drop}
-use Rattle.std.specs.Prelude.{zero, suc, is_some, max, nat_le, slice_get}
+use Rattle.std.proofs.Common.{◌≡◌, ℕ, ◌+◌, ◌-◌, ◌*◌, ◌≤◌, ◌<◌, Bool, true, false, Option, Some, None, List, [], length, drop, refl, sym, ap, ◌∙◌, subst, arith, length-drop}
+use Rattle.std.specs.Prelude.{is_some, max, nat_le}
 use Rattle.ldc_link.specs.declared.phase.LinkPhase.{LinkPhase}
 use Rattle.ldc_link.specs.declared.phase.LinkPhase.TheVariants as phase
 use Rattle.ldc_link.specs.declared.phase.Role.TheVariants.{Initiator}
@@ -25,7 +25,7 @@ use Rattle.channel_laws.specs.PacketsLeft.{own_in}
 use Rattle.channel_laws.specs.Standing.{EndStands}
 use Rattle.lane_laws.proofs.ClientHolding.{client_held, not_own}
 use Rattle.lane_laws.proofs.ClientMoves.{client_completed, client_published, client_says, client_waits}
-use Rattle.lane_laws.proofs.ClientSteps.{client_sends}
+use Rattle.lane_laws.proofs.ClientSteps.{client_sends, front_some}
 use Rattle.lane_laws.proofs.RulesFree.{puts_owe}
 use Rattle.lane_laws.proofs.Ruling.{client_may}
 use Rattle.lane_laws.proofs.Sharing.{in_order}
@@ -34,6 +34,7 @@ use Rattle.lane_laws.specs.ChannelEnds.{client_core}
 use Rattle.lane_laws.specs.Remaining.{client_left, client_packets, requests_left, total}
 use Rattle.lane_laws.specs.RuleFacts.{ClientMay}
 use Rattle.lane_laws.specs.Sound.{ClientSound, CountsInOrder, InOrder}
+use Rattle.lane_laws.proofs.Requesting.{got_below}
 
 -- WHAT ITS SESSION HAS LEFT, where the server was asked for so many requests
 abbrev pub session_left : ℕ → Option ClientSession → ℕ → ℕ
@@ -219,11 +220,6 @@ sends_falls s at memory packet opens t new turns sends sound stands =
     }
 
 -- IT PUBLISHES a request
-is_pending : (pending : List Request) (n : ℕ) (request : Request) → slice_get pending n ≡ Some request → n < length pending
-is_pending [] n request is = absurd (cc is)
-is_pending (one ∷ pending) zero request is = omega arith
-is_pending (one ∷ pending) (suc n) request is = omega (arith, is_pending pending n request is)
-
 published_sum : (pending completed published announced rest : ℕ) → published + 1 ≤ pending + completed
     → ((pending + completed) - (published + 1)) + 2 * ((pending + completed) - announced) + pending + rest + (2 * 0 + 1)
     ≤ ((pending + completed) - published) + 2 * ((pending + completed) - announced) + pending + rest
@@ -234,7 +230,7 @@ publishes_falls s at memory id t new sound step =
     let may : ClientMay s at (Publishes step.session step.request) = subst (ClientMay s at) step.rule (client_may s at) in
     let session : ClientSession = step.session in
     let counts : InOrder (length s.pending) session = in_order (length s.pending) s.session session may.1 sound.counts in
-    let some = is_pending s.pending (session.published - session.completed) step.request may.2 in
+    let some = got_below s.pending (session.published - session.completed) step.request may.2 in
     record {
       own = 0;
       packets = omega (arith, stays_packets (client_core s) (client_core t) (client_published s at memory id t new step));
@@ -246,10 +242,6 @@ publishes_falls s at memory id t new sound step =
     }
 
 -- IT COMPLETES one
-front_some : (pending : List Request) (request : Request) → slice_get pending 0 ≡ Some request → 1 ≤ length pending
-front_some [] request is = absurd (cc is)
-front_some (one ∷ pending) request is = omega arith
-
 completed_sum : (few many completed published announced asked : ℕ) → few + 1 ≡ many
     → ((few + (completed + 1)) - published) + 2 * ((few + (completed + 1)) - announced) + few + 12 * ((few + (completed + 1)) - asked) + (2 * 0 + 1)
     ≤ ((many + completed) - published) + 2 * ((many + completed) - announced) + many + 12 * ((many + completed) - asked)

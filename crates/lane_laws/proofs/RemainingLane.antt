@@ -6,7 +6,6 @@ use Rattle.ldc_queue.specs.declared.end.ChannelState.TheVariants.{Down, Up, Rese
 use Rattle.ldc_queue.specs.declared.end.End.TheVariants.{A, B}
 use Rattle.ldc_queue.specs.Transcript.{Turn}
 use Rattle.ldc_queue.specs.Wire.{Wire, configured, peer_behind, put_for, queue_behind}
-use Rattle.channel_model.specs.Seeing.{Seen, seen}
 use Rattle.channel_model.specs.WireEvent.{Joined, Sent, WireEvent}
 use Rattle.channel_model.specs.WireLog.{lossy_behind, wire_moved}
 use Rattle.disk_model.specs.ClientRule as client_rules
@@ -36,16 +35,11 @@ use Rattle.lane_laws.specs.Remaining.{absent, asked_by, asked_in, client_left, c
 use Rattle.lane_laws.specs.RemainingSteps.{CountsFit, IsPutOrJoined, IsWork, TakesNothing}
 use Rattle.lane_laws.specs.RuleFacts.{ClientMay, ServerMay}
 use Rattle.lane_laws.specs.WorkLog.{ServerCounts}
+use Rattle.lane_laws.proofs.LaneViews.{at_client, at_server}
 
 -- by its parts
 abbrev pub left : Wire → Bool → ClientState → ServerState → ℕ
 left w lossy c v = life w c v + second_life lossy (length c.pending)
-
-abbrev pub at_client : LaneState → Seen
-at_client s = seen A s.shape.entries s.wire.wire
-
-abbrev pub at_server : LaneState → Seen
-at_server s = seen B s.shape.entries s.wire.wire
 
 -- a second life is longer with more requests
 pub second_less : (lossy : Bool) (n m : ℕ) → n ≤ m → second_life lossy n ≤ second_life lossy m

@@ -1,17 +1,17 @@
 -- A server that holds a message or puts a packet: what remains at it falls.
-use Rattle.std.proofs.Common.{◌≡◌, ℕ, ◌+◌, ◌*◌, ◌≤◌, Bool, Option, Some, None, List, refl, sym, ap, ◌∙◌, arith}
+use Rattle.std.proofs.Common.{◌≡◌, ℕ, ◌+◌, ◌*◌, ◌≤◌, Bool, Option, Some, None, List, refl, ap, ◌∙◌, arith}
 use Rattle.ldc_link.specs.declared.phase.Role.TheVariants.{Responder}
 use Rattle.ldc_queue.specs.declared.end.ChannelState.TheVariants.{Up}
 use Rattle.ldc_queue.specs.Transcript.{Turn}
-use Rattle.channel_model.specs.EndPuts.{ComesUp, EndsOwn, EndsHandshake, Goes, PutKind}
+use Rattle.channel_model.specs.EndPuts.{EndsOwn, PutKind}
 use Rattle.channel_model.specs.Seeing.{Seen}
 use Rattle.disk_model.specs.ServerPutting.{server_holds, server_kind, session_behind}
-use Rattle.disk_model.specs.ServerRule.{Puts, Says, ServerRule, server_rule}
+use Rattle.disk_model.specs.ServerRule.{ServerRule, server_rule}
 use Rattle.disk_model.specs.ServerState.{ServerSession, ServerState, Work}
 use Rattle.disk_model.specs.ServerStep.{ServerSends}
-use Rattle.channel_laws.proofs.Apart.{none_is_some, some_same}
 use Rattle.channel_laws.proofs.PacketsLeft.{answering_shut, says_left, waits_left}
 use Rattle.channel_laws.specs.Standing.{EndStands}
+use Rattle.lane_laws.proofs.ServerSpeaking.{server_holds_link}
 use Rattle.lane_laws.proofs.ServerMoves.{server_says, server_waits}
 use Rattle.lane_laws.specs.ChannelEnds.{server_core}
 use Rattle.lane_laws.specs.Remaining.{asked_in, server_left, server_packets, serving_left}
@@ -42,14 +42,9 @@ record SameWork (s held : ServerState) : Type 0 where
   session : held.session ≡ s.session
   work : held.work ≡ s.work
 
-same_work : (s one held : ServerState) → Some one ≡ Some held → one.session ≡ s.session → one.work ≡ s.work → SameWork s held
-same_work s one held is session work =
-    let same : held ≡ one = sym (some_same is) in record { session = ap (λ (v : ServerState). v.session) same ∙ session; work = ap (λ (v : ServerState). v.work) same ∙ work }
-
 held_work : (s : ServerState) (rule : ServerRule) (held : ServerState) → server_holds rule s ≡ Some held → SameWork s held
-held_work s Puts held holds = same_work s s held holds refl refl
-held_work s (Says message) held holds = same_work s _ held holds refl refl
-held_work s _ held holds = none_is_some holds
+held_work s rule held holds =
+    let is = server_holds_link s rule held holds in record { session = ap (λ (v : ServerState). v.session) is; work = ap (λ (v : ServerState). v.work) is }
 
 same_serving : (s held : ServerState) → SameWork s held → serving_left held.work held.session ≡ serving_left s.work s.session
 same_serving s held same = ap (λ (w : Option Work). serving_left w held.session) same.work ∙ ap (serving_left s.work) same.session
@@ -68,17 +63,11 @@ blocked_falls s at held turns holds stands =
 -- PUTTING a packet: an answer changes neither what it was asked for nor what it finished
 answered_asked : (kind : PutKind) (session : Option ServerSession) → asked_in (session_behind kind session) ≡ asked_in session
 answered_asked EndsOwn None = refl
-answered_asked EndsOwn (Some s) = refl
-answered_asked Goes session = refl
-answered_asked ComesUp session = refl
-answered_asked EndsHandshake session = refl
+answered_asked _ _ = refl
 
 answered_serving : (kind : PutKind) (work : Option Work) (session : Option ServerSession) → serving_left work (session_behind kind session) ≡ serving_left work session
 answered_serving EndsOwn work None = refl
-answered_serving EndsOwn work (Some s) = refl
-answered_serving Goes work session = refl
-answered_serving ComesUp work session = refl
-answered_serving EndsHandshake work session = refl
+answered_serving _ work _ = refl
 
 pub sends_falls : (s : ServerState) (at : Seen) (packet : List ℕ) (opens : Bool) (t : ServerState) (turns : List Turn) → ServerSends s at packet opens t
     → EndStands Responder (server_core s) turns → ServerFalls 1 s t

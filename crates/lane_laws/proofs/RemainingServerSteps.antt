@@ -17,7 +17,8 @@ use Rattle.disk_model.specs.ServerStep.{ServerFetches, ServerFinishes, ServerMov
 use Rattle.cookie_copy.specs.Reach.{Reach}
 use Rattle.disk_model.specs.ServerWork.{MovesIn, StoresIn, checked_progress, desc_of, first_progress, gathered, gathers_next, given, or_ends}
 use Rattle.lane_laws.proofs.RemainingServerPuts.{ServerLowers}
-use Rattle.lane_laws.proofs.RulesFree.{ServerFree, ServesFree, server_free}
+use Rattle.lane_laws.proofs.RulesFree.{ServerFree, server_free}
+use Rattle.lane_laws.proofs.RuleTests.{ServesFree}
 use Rattle.lane_laws.specs.Remaining.{asked_in, pieces_left, server_packets, serving_left, unfinished, work_left}
 use Rattle.lane_laws.specs.RemainingSteps.{CountsFit}
 

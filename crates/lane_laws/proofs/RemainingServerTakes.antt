@@ -7,21 +7,17 @@ use Rattle.dring.specs.Slots.{range_length}
 use Rattle.disk_model.specs.ServerState.{ServerSession, ServerState, SlotRange, Work, opened_server}
 use Rattle.channel_laws.specs.EndCore.{holds}
 use Rattle.channel_laws.specs.PacketsLeft.{packets_left}
-use Rattle.lane_laws.proofs.RulesFree.{TakesFree}
+use Rattle.lane_laws.proofs.RuleTests.{TakesFree}
 use Rattle.lane_laws.proofs.ServerAnswers.{opened_or}
 use Rattle.lane_laws.proofs.ServerTaken.{ServerAsked, ServerTook}
 use Rattle.lane_laws.specs.Budget.{one_range, range_left}
-use Rattle.lane_laws.specs.ChannelEnds.{answers_to_begin, server_core}
+use Rattle.lane_laws.specs.ChannelEnds.{server_core}
 use Rattle.lane_laws.specs.Remaining.{asked_in, pieces_left, server_packets, serving_left, unfinished, work_left}
 use Rattle.lane_laws.specs.RemainingSteps.{ServerIsAsked, ServerTurn}
-
--- with the answer to its range, where it has one
-answers_most : (held : Bool) (ranges : ℕ) → answers_to_begin held ranges ≤ ranges
-answers_most true ranges = omega arith
-answers_most false ranges = omega arith
+use Rattle.lane_laws.proofs.ServerMoves.{answers_less}
 
 packets_most : (s t : ServerState) (ranges : ℕ) → packets_left (server_core t) ≤ packets_left (server_core s) → range_left t.session ≡ ranges → server_packets t ≤ server_packets s + ranges
-packets_most s t ranges packets is = omega (arith, packets, is, answers_most (holds t.link && is_none t.handshake.owed) (range_left t.session))
+packets_most s t ranges packets is = omega (arith, packets, is, answers_less (holds t.link && is_none t.handshake.owed) (range_left t.session))
 
 no_range : (o : Option ServerSession) → ((session : ServerSession) → o ≡ Some session → session.range ≡ None) → range_left o ≡ 0
 no_range None none = refl

@@ -16,7 +16,8 @@ use Rattle.disk_model.specs.LaneStep.{LaneStep}
 use Rattle.disk_model.specs.ServerRule as server_rules
 use Rattle.disk_model.specs.ServerState.{ServerState}
 use Rattle.lane_laws.proofs.RemainingClientPuts.{ClientLowers}
-use Rattle.lane_laws.proofs.RemainingLane.{asked_same, at_client, at_server, client_falls, falls_is, left, second_less}
+use Rattle.lane_laws.proofs.RemainingLane.{asked_same, client_falls, falls_is, left, second_less}
+use Rattle.lane_laws.proofs.LaneViews.{at_client, at_server}
 use Rattle.lane_laws.proofs.Ruling.{client_may, server_may}
 use Rattle.lane_laws.specs.Remaining.{absent, asked_by, asked_in, client_left, client_packets, remaining, requests_left, second_life, server_left, server_packets, serving_left, total}
 use Rattle.lane_laws.specs.RemainingSteps.{ServerHears, ServerIsAsked, ServerTurn, total_at}

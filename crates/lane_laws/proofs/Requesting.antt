@@ -145,7 +145,7 @@ got_dropped xs zero request is = is
 got_dropped [] (suc n) request is = absurd (cc)
 got_dropped (x ∷ xs) (suc n) request is = got_dropped xs n request is
 
-got_below : (xs : List Request) (n : ℕ) (request : Request) → slice_get xs n ≡ Some request → n < length xs
+pub got_below : (xs : List Request) (n : ℕ) (request : Request) → slice_get xs n ≡ Some request → n < length xs
 got_below [] n request is = absurd (cc)
 got_below (one ∷ xs) zero request is = omega arith
 got_below (one ∷ xs) (suc n) request is = omega (arith, got_below xs n request is)

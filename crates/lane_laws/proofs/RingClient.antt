@@ -34,8 +34,7 @@ filled_behind Flush slots slot memory few below long = equal_slots slots memory 
 
 same_filled : (request : Request) (slot : ℕ) (there : List ℕ) → filled request (32768 * slot) there ≡ buffered request slot there
 same_filled (Read block count) slot there = refl
-same_filled (Write block count fill) slot there = refl
-same_filled Flush slot there = refl
+same_filled _ slot there = refl
 
 -- A REQUEST IS PUBLISHED: its slot is its descriptor, and no other slot changes
 pub publishes_slot : (blocks slots slot id : ℕ) (request : Request) (memory : List ℕ) → defect blocks request ≡ None → slot < slots → length memory ≡ memory_long slots

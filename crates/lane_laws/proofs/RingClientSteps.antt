@@ -25,7 +25,8 @@ use Rattle.lane_laws.proofs.MemorySteps.{got_sound}
 use Rattle.lane_laws.proofs.RingClient.{frees_slot, publishes_slot}
 use Rattle.lane_laws.proofs.RingSessions.{OfClient, of_client, sizes_of}
 use Rattle.lane_laws.proofs.RingTable.{each_set, id_is, map_stands, none_next, set_holds, some_entry, work_beside}
-use Rattle.lane_laws.proofs.RingWork.{Known, ids_in, memory_is, slots_are, some_slots, turn_in}
+use Rattle.lane_laws.proofs.RingWork.{Known, ids_in, memory_is, some_slots, turn_in}
+use Rattle.lane_laws.proofs.StandingRuns.{slots_is as slots_are}
 use Rattle.lane_laws.proofs.Ruling.{client_may}
 use Rattle.lane_laws.proofs.SlotBytes.{done_slot, published_is, reads_back}
 use Rattle.lane_laws.specs.RingAgreed.{InRing, ring_in}
@@ -53,7 +54,7 @@ pub record Publishing (s : LaneState) (l : DiskLog) (id : ℕ) (session : Client
   pub since : l.work.done ≤ id
   pub turn : k.base + k.published < l.work.done + l.shape.slots
 
-in_order : (s : LaneState) (l : DiskLog) (session : ClientSession) → Known s l → s.client.session ≡ Some session → InOrder (length s.client.pending) session
+pub in_order : (s : LaneState) (l : DiskLog) (session : ClientSession) → Known s l → s.client.session ≡ Some session → InOrder (length s.client.pending) session
 in_order s l session known is = subst (CountsInOrder (length s.client.pending)) is known.sound.counts
 
 pub publishing : (s : LaneState) (l : DiskLog) (id : ℕ) (session : ClientSession) (request : Request) → Known s l → s.client.session ≡ Some session

@@ -113,9 +113,7 @@ buffer_bytes place size = buffer_if (nat_lt 0 size) place size refl
 -- A COPY that is answered is within its cookies
 held_if : (up aligned holds : Bool) (rest : Option CopyFault) → (cond (not up) (Some Channel) (cond (not aligned) (Some BadAlign) (cond (not holds) (Some Short) rest))) ≡ None → holds ≡ true
 held_if true true true rest is = refl
-held_if true true false rest is = absurd (cc is)
-held_if true false holds rest is = absurd (cc is)
-held_if false aligned holds rest is = absurd (cc is)
+held_if _ _ _ rest is = absurd (cc is)
 
 up_if : (up : Bool) (rest : Option CopyFault) → (cond (not up) (Some Channel) rest) ≡ None → up ≡ true
 up_if true rest is = refl

@@ -1,5 +1,5 @@
 -- What a server's work on a fetched descriptor does to the ring: a unit goes after it, and the slot gets its status and is DONE.
-use Rattle.std.proofs.Common.{◌≡◌, ℕ, ◌+◌, ◌%◌, ◌^◌, ◌<◌, List, length, set, Option, Some, inl, refl, sym, ap, ◌∙◌, subst, arith}
+use Rattle.std.proofs.Common.{◌≡◌, ℕ, ◌+◌, ◌%◌, ◌^◌, ◌<◌, List, length, set, Option, Some, sym, ap, ◌∙◌, subst, arith}
 use Rattle.std.specs.Prelude.{slice_get}
 use Rattle.std.proofs.lemmas.Nat.{mod_below}
 use Rattle.cookie_copy.specs.declared.fault.CopyFault.{CopyFault}
@@ -11,7 +11,7 @@ use Rattle.vdisk_msg.specs.Requested.{buffer_place, size_of}
 use Rattle.lane_laws.specs.Agreement.{WorkAgrees, owed_of}
 use Rattle.lane_laws.specs.DiskLog.{DiskLog, after}
 use Rattle.lane_laws.specs.RingLog.{Accepted, Done, SlotLog, finished_at, id_at}
-use Rattle.lane_laws.specs.WorkLog.{ClientCounts, ServerCounts, change_server, rest_of}
+use Rattle.lane_laws.specs.WorkLog.{ClientCounts, ServerCounts, change_server}
 use Rattle.disk_model.specs.DiskEvent.{Finished, Moved, Works}
 use Rattle.disk_model.specs.LaneState.{LaneState, pages_of}
 use Rattle.disk_model.specs.LaneStep.{WorkStep, reach}
@@ -20,7 +20,7 @@ use Rattle.disk_model.specs.ServerRule as server_rules
 use Rattle.disk_model.specs.ServerState.{Ends, Gathers, Gives, Progress, ServerSession, Work}
 use Rattle.cookie_copy.specs.Reach.{Reach}
 use Rattle.disk_model.specs.ServerWork.{MovesIn}
-use Rattle.lane_laws.proofs.RingLeaves.{LeavesRing, ids_stay, leaves_stand, work_changed}
+use Rattle.lane_laws.proofs.RingLeaves.{event_leaves, leaves_stand}
 use Rattle.lane_laws.proofs.RingServer.{ends_slot}
 use Rattle.lane_laws.proofs.RingSessions.{sizes_of}
 use Rattle.lane_laws.proofs.RingTable.{each_set, id_is, set_holds}
@@ -32,6 +32,7 @@ use Rattle.lane_laws.specs.MemoryStands.{memory_long}
 use Rattle.lane_laws.specs.RingAgreed.{InRing, ring_in}
 use Rattle.lane_laws.specs.RingSlots.{HoldsIssued, IdStands, IdsStand, InWork, OwesStatus, RingHolds, RingOf, SameSlots, SlotStands, StatusStands, WorkStands}
 use Rattle.lane_laws.specs.RuleFacts.{ServerMay}
+use Rattle.lane_laws.proofs.ServerEndCounting.{finished_log}
 
 -- THE DESCRIPTOR IN WORK
 pub record HasWork (s : LaneState) (l : DiskLog) (w : Work) (d : ServerCounts) : Type 0 where
@@ -62,17 +63,6 @@ unit_behind (Gives u bytes) w ring r pages slot id unit fault next new sizes lon
 unit_behind (Gathers u) w ring r pages slot id unit fault next new sizes long identity holds moves = equal_slots ring.slots r.memory new moves.3
 unit_behind _ w ring r pages slot id unit fault next new sizes long identity holds moves = absurd moves
 
-pub moved_leaves : (l : DiskLog) (unit : ℕ) (fault : Option CopyFault) → LeavesRing l (Works (Moved unit fault))
-moved_leaves l unit fault = record {
-  ring = refl;
-  issued = refl;
-  done = refl;
-  client = ids_stay l.work.client;
-  server = work_changed _ l.work.server (λ c. record { descs = refl; finished = refl; desc = refl });
-  unforged = λ f. f;
-  live = λ up. inl up;
-}
-
 pub moved_in_ring : (s : LaneState) (l : DiskLog) (unit : ℕ) (fault : Option CopyFault) (t : LaneState) → Known s l → WorkStep s (Moved unit fault) t
     → InRing t (after l (Works (Moved unit fault)))
 moved_in_ring s l unit fault t known step =
@@ -85,14 +75,11 @@ moved_in_ring s l unit fault t known step =
     let slot = d.finished % l.shape.slots in
     let sizes = sizes_of s l slot known.pages (work_below s l d known) in
     let holds : HoldsIssued (ring_in l) slot has.inside.id 2 0 m.work.bytes = subst (HoldsIssued (ring_in l) slot has.inside.id 2 0) has.desc has.inside.fetched in
-    leaves_stand s l (Works (Moved unit fault)) t (moved_leaves l unit fault)
+    leaves_stand s l (Works (Moved unit fault)) t (event_leaves l (Works (Moved unit fault)) tt)
     (unit_behind m.work.progress m.work (ring_in l) (reach s at.both) (pages_of l.shape) slot has.inside.id unit fault m.next t.memory sizes (memory_is s l known) known.pages.identity holds m.moves)
     known.ring
 
 -- THE END
-abbrev finished_counts : ServerCounts → ServerCounts
-finished_counts c = record c { finished = c.finished + 1; owed = rest_of c.owed }
-
 owed_small : (s : LaneState) (l : DiskLog) (w : Work) (d : ServerCounts) (status : ℕ) → StatusStands l.work.server → l.work.server ≡ Some d → HasWork s l w d → w.progress ≡ Ends status
     → status < 2 ^ 32
 owed_small s l w d status stands is has ends =
@@ -143,12 +130,12 @@ finished_in_ring s l slot status t known step =
     let ids : IdsStand l.shape.slots l.work.done (set l.ring slot (Done id status)) (Some k) =
     each_set (λ (j : ℕ) (is : SlotLog). SlotStands l.shape.slots l.work.done k j is) l.ring slot (Done id status) (omega (arith, below, known.ring.holds.long))
     (λ j is other got. ids_in s l k known client j is got) stands in
-    let none : (d.descs ≡ d.finished + 1 + 1) → InWork r (set l.ring slot (Done id status)) (finished_counts d) = λ two. absurd (omega (arith, two, single)) in
+    let none : (d.descs ≡ d.finished + 1 + 1) → InWork r (set l.ring slot (Done id status)) (finished_log d) = λ two. absurd (omega (arith, two, single)) in
     record {
       holds = subst (λ (x : List SlotLog). RingHolds r x t.memory) (sym table) holds;
       ids = subst (λ (q : Option ClientCounts). IdsStand l.shape.slots l.work.done (finished_at l.shape.slots l.work l.work.server slot status l.ring) q) (sym client)
           (subst (λ (x : List SlotLog). IdsStand l.shape.slots l.work.done x (Some k)) (sym table) ids);
       work = λ up.
-          subst (λ (x : List SlotLog). WorkStands r x (change_server finished_counts l.work.server)) (sym table)
-          (subst (λ (q : Option ServerCounts). WorkStands r (set l.ring slot (Done id status)) (change_server finished_counts q)) (sym work.of.open_is) none);
+          subst (λ (x : List SlotLog). WorkStands r x (change_server finished_log l.work.server)) (sym table)
+          (subst (λ (q : Option ServerCounts). WorkStands r (set l.ring slot (Done id status)) (change_server finished_log q)) (sym work.of.open_is) none);
     }

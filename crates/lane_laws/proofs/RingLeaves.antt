@@ -5,13 +5,14 @@ use Rattle.ldc_queue.specs.declared.end.ChannelState.{ChannelState}
 use Rattle.ldc_queue.specs.declared.end.ChannelState.TheVariants.{Down, Resetting, Up}
 use Rattle.ldc_queue.specs.declared.end.End.TheVariants.{A, B}
 use Rattle.ldc_queue.specs.Wire.{peer_behind}
-use Rattle.channel_model.specs.WireEvent.{Blocked, Declines, Idle, Injected, Joined, Lost, Poked, Reset, Sent, Took, WireEvent}
+use Rattle.channel_model.specs.WireEvent.{Injected, Joined, Lost, Reset, Sent, Took, WireEvent}
 use Rattle.vdisk_msg.specs.declared.request.Request.{Request}
 use Rattle.lane_laws.specs.DiskLog.{DiskLog, after}
 use Rattle.lane_laws.specs.RingLog.{Accepted, SlotLog}
 use Rattle.lane_laws.specs.WorkLog.{ClientCounts, ServerCounts, change_client, change_server, opened_counts}
-use Rattle.disk_model.specs.DiskEvent.{DiskEvent, OnWire}
 use Rattle.disk_model.specs.LaneState.{LaneState}
+use Rattle.lane_laws.proofs.StandingSteps.{wired_keeps}
+use Rattle.disk_model.specs.DiskEvent.{Accepted as Accepted_, Asks, Desc, DiskEvent, Done, Finished, Moved, OnWire, Published, Stopped, Stored, Switches, Works}
 use Rattle.lane_laws.proofs.RingTable.{map_stands, same_holds}
 use Rattle.lane_laws.specs.RingAgreed.{InRing, ring_in}
 use Rattle.lane_laws.specs.RingSlots.{HoldsIssued, IdStands, IdsStand, InWork, RingHolds, RingOf, SameSlots, WorkStands}
@@ -41,7 +42,6 @@ pub record LeavesRing (l : DiskLog) (event : DiskEvent) : Type 0 where
   pub done : (after l event).work.done ≡ l.work.done
   pub client : KeepsIds l.work.client (after l event).work.client
   pub server : KeepsWork l.work.server (after l event).work.server
-  pub unforged : (after l event).wire.forged ≡ false → l.wire.forged ≡ false
   pub live : (after l event).wire.wire.end_b ≡ Up → (l.wire.wire.end_b ≡ Up) ⊎ ((after l event).work.server ≡ None)
 
 -- WHAT CARRIES OVER
@@ -141,95 +141,76 @@ peer_up Up Resetting is = absurd (cc is)
 peer_up Down b is = is
 peer_up Resetting b is = is
 
-same_work : (c : ServerCounts) (d : ServerCounts) → d.descs ≡ c.descs → d.finished ≡ c.finished → d.desc ≡ c.desc → SameWork c d
-same_work c d descs finished desc = record { descs = descs; finished = finished; desc = desc }
-
--- THE WIRE, but for a packet by which the client's session opens
+-- EVENTS that leave the ring: no packet by which the client's session opens, no request, and of the work only pieces
 abbrev pub OpensNot : WireEvent → Type 0
 OpensNot (Sent A packet opens) = opens ≡ false
 OpensNot (Took A packet opens) = opens ≡ false
 OpensNot _ = ⊤
 
-pub wire_leaves : (l : DiskLog) (event : WireEvent) → OpensNot event → LeavesRing l (OnWire event)
-wire_leaves l (Joined A lost) not = record {
-  ring = refl;
-  issued = refl;
-  done = refl;
-  client = ids_gone l.work.client;
-  server = work_stays l.work.server;
-  unforged = λ f. f;
-  live = λ up. inl (peer_up l.wire.wire.end_a l.wire.wire.end_b up);
-}
-wire_leaves l (Joined B lost) not = record {
-  ring = refl;
-  issued = refl;
-  done = refl;
-  client = ids_stay l.work.client;
-  server = work_gone l.work.server;
-  unforged = λ f. f;
-  live = λ up. inr refl;
-}
-wire_leaves l (Reset A cause packet lost) not = record {
-  ring = refl;
-  issued = refl;
-  done = refl;
-  client = ids_gone l.work.client;
-  server = work_stays l.work.server;
-  unforged = λ f. f;
-  live = λ up. inl (peer_up l.wire.wire.end_a l.wire.wire.end_b up);
-}
-wire_leaves l (Reset B cause packet lost) not = record {
-  ring = refl;
-  issued = refl;
-  done = refl;
-  client = ids_stay l.work.client;
-  server = work_gone l.work.server;
-  unforged = λ f. f;
-  live = λ up. inr refl;
-}
-wire_leaves l (Took A packet false) not = record {
-  ring = refl;
-  issued = refl;
-  done = refl;
-  client = ids_changed _ l.work.client (λ c. refl) (λ c. refl);
-  server = work_stays l.work.server;
-  unforged = λ f. f;
-  live = λ up. inl up;
-}
-wire_leaves l (Took A packet true) not = absurd (cc not)
-wire_leaves l (Took B packet opens) not = record {
-  ring = refl;
-  issued = refl;
-  done = refl;
-  client = ids_stay l.work.client;
-  server = work_opened opens _ _ l.work.server (λ c. same_work c _ refl refl refl);
-  unforged = λ f. f;
-  live = λ up. inl up;
-}
-wire_leaves l (Sent A packet false) not = record {
-  ring = refl;
-  issued = refl;
-  done = refl;
-  client = ids_changed _ l.work.client (λ c. refl) (λ c. refl);
-  server = work_stays l.work.server;
-  unforged = λ f. f;
-  live = λ up. inl up;
-}
-wire_leaves l (Sent A packet true) not = absurd (cc not)
-wire_leaves l (Sent B packet opens) not = record {
-  ring = refl;
-  issued = refl;
-  done = refl;
-  client = ids_stay l.work.client;
-  server = work_opened opens _ _ l.work.server (λ c. same_work c _ refl refl refl);
-  unforged = λ f. f;
-  live = λ up. inl up;
-}
-wire_leaves l (Lost A packet) not = record { ring = refl; issued = refl; done = refl; client = ids_stay l.work.client; server = work_stays l.work.server; unforged = λ f. f; live = λ up. inl up }
-wire_leaves l (Lost B packet) not = record { ring = refl; issued = refl; done = refl; client = ids_stay l.work.client; server = work_stays l.work.server; unforged = λ f. f; live = λ up. inl up }
-wire_leaves l (Injected A packet) not = record { ring = refl; issued = refl; done = refl; client = ids_stay l.work.client; server = work_stays l.work.server; unforged = λ f. absurd (cc f); live = λ up. inl up }
-wire_leaves l (Injected B packet) not = record { ring = refl; issued = refl; done = refl; client = ids_stay l.work.client; server = work_stays l.work.server; unforged = λ f. absurd (cc f); live = λ up. inl up }
-wire_leaves l (Poked e at bytes) not = record { ring = refl; issued = refl; done = refl; client = ids_stay l.work.client; server = work_stays l.work.server; unforged = λ f. absurd (cc f); live = λ up. inl up }
-wire_leaves l (Idle e) not = record { ring = refl; issued = refl; done = refl; client = ids_stay l.work.client; server = work_stays l.work.server; unforged = λ f. f; live = λ up. inl up }
-wire_leaves l (Blocked e) not = record { ring = refl; issued = refl; done = refl; client = ids_stay l.work.client; server = work_stays l.work.server; unforged = λ f. f; live = λ up. inl up }
-wire_leaves l (Declines d) not = record { ring = refl; issued = refl; done = refl; client = ids_stay l.work.client; server = work_stays l.work.server; unforged = λ f. f; live = λ up. inl up }
+abbrev pub Leaves : DiskEvent → Type 0
+Leaves (OnWire event) = OpensNot event
+Leaves (Asks (Accepted_ id request)) = ⊥
+Leaves (Works (Published id)) = ⊥
+Leaves (Works (Done id operation status bytes)) = ⊥
+Leaves (Works (Desc slot bytes)) = ⊥
+Leaves (Works (Finished slot status)) = ⊥
+Leaves _ = ⊤
+
+-- the slots, and the requests
+log_left : (l : DiskLog) (event : DiskEvent) → Leaves event → ((after l event).ring ≡ l.ring) × ((after l event).work.issued ≡ l.work.issued) × ((after l event).work.done ≡ l.work.done)
+log_left l (OnWire event) leaves = let keeps = wired_keeps l.shape.slots l.transcript l.work event in (slots_left event leaves, keeps.issued, keeps.done)
+  where
+    slots_left : (event : WireEvent) → OpensNot event → (after l (OnWire event)).ring ≡ l.ring
+    slots_left (Sent A packet true) not = absurd (cc not)
+    slots_left (Sent A packet false) not = refl
+    slots_left _ not = refl
+log_left l (Asks (Accepted_ id request)) leaves = absurd leaves
+log_left l (Works (Published id)) leaves = absurd leaves
+log_left l (Works (Done id operation status bytes)) leaves = absurd leaves
+log_left l (Works (Desc slot bytes)) leaves = absurd leaves
+log_left l (Works (Finished slot status)) leaves = absurd leaves
+log_left l (Switches Stopped) leaves = (refl, refl, refl)
+log_left l _ leaves = (refl, refl, refl)
+
+-- the counts of both ends
+ids_left : (l : DiskLog) (event : DiskEvent) → Leaves event → KeepsIds l.work.client (after l event).work.client
+ids_left l (OnWire (Joined A lost)) leaves = ids_gone l.work.client
+ids_left l (OnWire (Reset A cause packet lost)) leaves = ids_gone l.work.client
+ids_left l (OnWire (Took A packet false)) leaves = ids_changed _ l.work.client (λ c. refl) (λ c. refl)
+ids_left l (OnWire (Took A packet true)) leaves = absurd (cc leaves)
+ids_left l (OnWire (Sent A packet false)) leaves = ids_changed _ l.work.client (λ c. refl) (λ c. refl)
+ids_left l (OnWire (Sent A packet true)) leaves = absurd (cc leaves)
+ids_left l (Asks (Accepted_ id request)) leaves = absurd leaves
+ids_left l (Works (Published id)) leaves = absurd leaves
+ids_left l (Switches Stopped) leaves = ids_stay l.work.client
+ids_left l _ leaves = ids_stay l.work.client
+
+work_left : (l : DiskLog) (event : DiskEvent) → Leaves event → KeepsWork l.work.server (after l event).work.server
+work_left l (OnWire (Joined B lost)) leaves = work_gone l.work.server
+work_left l (OnWire (Reset B cause packet lost)) leaves = work_gone l.work.server
+work_left l (OnWire (Took B packet opens)) leaves = work_opened opens _ _ l.work.server (λ c. record { descs = refl; finished = refl; desc = refl })
+work_left l (OnWire (Sent B packet opens)) leaves = work_opened opens _ _ l.work.server (λ c. record { descs = refl; finished = refl; desc = refl })
+work_left l (Asks (Accepted_ id request)) leaves = absurd leaves
+work_left l (Works (Desc slot bytes)) leaves = absurd leaves
+work_left l (Works (Finished slot status)) leaves = absurd leaves
+work_left l (Works (Moved unit fault)) leaves = work_changed _ l.work.server (λ c. record { descs = refl; finished = refl; desc = refl })
+work_left l (Works (Stored operation block count failed)) leaves = work_changed _ l.work.server (λ c. record { descs = refl; finished = refl; desc = refl })
+work_left l (Switches Stopped) leaves = work_gone l.work.server
+work_left l _ leaves = work_stays l.work.server
+
+live_left : (l : DiskLog) (event : DiskEvent) → (after l event).wire.wire.end_b ≡ Up → (l.wire.wire.end_b ≡ Up) ⊎ ((after l event).work.server ≡ None)
+live_left l (OnWire (Joined A lost)) up = inl (peer_up l.wire.wire.end_a l.wire.wire.end_b up)
+live_left l (OnWire (Reset A cause packet lost)) up = inl (peer_up l.wire.wire.end_a l.wire.wire.end_b up)
+live_left l (OnWire (Joined B lost)) up = inr refl
+live_left l (OnWire (Reset B cause packet lost)) up = inr refl
+live_left l (OnWire (Took A packet opens)) up = inl up
+live_left l (OnWire (Sent A packet opens)) up = inl up
+live_left l (OnWire (Lost A packet)) up = inl up
+live_left l (OnWire (Injected A packet)) up = inl up
+live_left l (Switches Stopped) up = inr refl
+live_left l _ up = inl up
+
+pub event_leaves : (l : DiskLog) (event : DiskEvent) → Leaves event → LeavesRing l event
+event_leaves l event leaves =
+    let log = log_left l event leaves in
+    record { ring = log.0; issued = log.1; done = log.2; client = ids_left l event leaves; server = work_left l event leaves; live = live_left l event }

@@ -6,80 +6,24 @@ use Rattle.std.specs.Prelude.{slice_index_or, [], ◌∷◌}
 use Rattle.runs.specs.Run.{Run}
 use Rattle.cookie_copy.specs.Identity.{IsIdentity, own_entry}
 use Rattle.map_table.specs.declared.table.Entry.{Entry}
-use Rattle.ldc_queue.specs.declared.end.End.{End}
-use Rattle.ldc_queue.specs.declared.end.End.TheVariants.{A, B}
-use Rattle.vio_tag.specs.declared.cause.Cause.{Cause}
-use Rattle.channel_model.specs.WireEvent.{Blocked, ByRestart, ByScript, ByStep, ByTick, Declines, Giver, Idle, Injected, Joined, Lost, Poked, Reset, Sent, Took, WireEvent, giver}
-use Rattle.disk_model.specs.DiskEvent.{Asks, Calm, CalmReset, CalmRestart, CalmStart, CalmStop, CalmTick, Desc, DiskEvent, Done, Finished, Misplaced, Moved, Off, OnWire, Published, Calms, Started, Stopped, Stored, Switched, Switches, Worked, Works}
+use Rattle.disk_model.specs.DiskEvent.{DiskEvent}
 use Rattle.channel_model.specs.OwnMemory.{own_table}
 use Rattle.disk_model.specs.LaneState.{IsShape, LaneState, Shape, fresh, pages_of}
-use Rattle.disk_model.specs.LaneStep.{EndOnWire, LaneStep, ResetBy, RestStep, TurnStep, WireStep, WorkStep}
+use Rattle.disk_model.specs.LaneStep.{LaneStep}
+use Rattle.lane_laws.proofs.LaneViews.{lane_view}
 
 -- an event leaves the shape and the table
 pub record SamePages (s t : LaneState) : Type 0 where
   pub shape : t.shape ≡ s.shape
   pub table : t.table ≡ s.table
 
-of_end : (e : End) (s : LaneState) (event : WireEvent) (t : LaneState) → EndOnWire e s event t → SamePages s t
-of_end A s event t step = record { shape = ap (λ (x : LaneState). x.shape) step.is; table = ap (λ (x : LaneState). x.table) step.is }
-of_end B s event t step = record { shape = ap (λ (x : LaneState). x.shape) step.1.is; table = ap (λ (x : LaneState). x.table) step.1.is }
-
-of_reset : (by : Giver) (e : End) (s : LaneState) (cause : Cause) (packet : Option (List ℕ)) (lost : ℕ) (t : LaneState) → ResetBy by e s cause packet lost t → SamePages s t
-of_reset ByStep e s cause packet lost t step = of_end e s (Reset e cause packet lost) t step
-of_reset ByScript A s cause packet lost t step = record { shape = ap (λ (x : LaneState). x.shape) step.2; table = ap (λ (x : LaneState). x.table) step.2 }
-of_reset ByScript B s cause packet lost t step = record { shape = ap (λ (x : LaneState). x.shape) step.1.2; table = ap (λ (x : LaneState). x.table) step.1.2 }
-of_reset ByRestart A s cause packet lost t step = absurd step
-of_reset ByRestart B s cause packet lost t step = record { shape = ap (λ (x : LaneState). x.shape) step.1.2; table = ap (λ (x : LaneState). x.table) step.1.2 }
-of_reset ByTick A s cause packet lost t step = record { shape = ap (λ (x : LaneState). x.shape) step.1.2; table = ap (λ (x : LaneState). x.table) step.1.2 }
-of_reset ByTick B s cause packet lost t step = absurd step
-
-of_poke : (e : End) (s : LaneState) (at : ℕ) (bytes : List ℕ) (t : LaneState) → WireStep s (Poked e at bytes) t → SamePages s t
-of_poke A s at bytes t step = record { shape = ap (λ (x : LaneState). x.shape) step.1; table = ap (λ (x : LaneState). x.table) step.1 }
-of_poke B s at bytes t step = absurd step
-
-of_wire : (s : LaneState) (event : WireEvent) (t : LaneState) → WireStep s event t → SamePages s t
-of_wire s (Joined e lost) t step = of_end e s (Joined e lost) t step
-of_wire s (Took e packet opens) t step = of_end e s (Took e packet opens) t step
-of_wire s (Sent e packet opens) t step = of_end e s (Sent e packet opens) t step
-of_wire s (Idle e) t step = of_end e s (Idle e) t step
-of_wire s (Blocked e) t step = of_end e s (Blocked e) t step
-of_wire s (Reset e cause packet lost) t step = of_reset (giver cause) e s cause packet lost t step
-of_wire s (Lost e packet) t step = record { shape = ap (λ (x : LaneState). x.shape) step.1; table = ap (λ (x : LaneState). x.table) step.1 }
-of_wire s (Injected e packet) t step = record { shape = ap (λ (x : LaneState). x.shape) step.2; table = ap (λ (x : LaneState). x.table) step.2 }
-of_wire s (Poked e at bytes) t step = of_poke e s at bytes t step
-of_wire s (Declines d) t step = record { shape = ap (λ (x : LaneState). x.shape) step.1; table = ap (λ (x : LaneState). x.table) step.1 }
-
-of_work : (s : LaneState) (event : Worked) (t : LaneState) → WorkStep s event t → SamePages s t
-of_work s (Published id) t step = record { shape = ap (λ (x : LaneState). x.shape) step.is; table = ap (λ (x : LaneState). x.table) step.is }
-of_work s (Done id operation status bytes) t step = record { shape = ap (λ (x : LaneState). x.shape) step.is; table = ap (λ (x : LaneState). x.table) step.is }
-of_work s (Desc slot bytes) t step = record { shape = ap (λ (x : LaneState). x.shape) step.1.is; table = ap (λ (x : LaneState). x.table) step.1.is }
-of_work s (Moved unit fault) t step = record { shape = ap (λ (x : LaneState). x.shape) step.1.is; table = ap (λ (x : LaneState). x.table) step.1.is }
-of_work s (Stored operation block count failed) t step = record { shape = ap (λ (x : LaneState). x.shape) step.1.is; table = ap (λ (x : LaneState). x.table) step.1.is }
-of_work s (Finished slot status) t step = record { shape = ap (λ (x : LaneState). x.shape) step.1.is; table = ap (λ (x : LaneState). x.table) step.1.is }
-of_work s Misplaced t step = absurd step
-
-of_turn : (s : LaneState) (event : Switched) (t : LaneState) → TurnStep s event t → SamePages s t
-of_turn s Stopped t step = record { shape = ap (λ (x : LaneState). x.shape) step.1; table = ap (λ (x : LaneState). x.table) step.1 }
-of_turn s Started t step = record { shape = ap (λ (x : LaneState). x.shape) step.1; table = ap (λ (x : LaneState). x.table) step.1 }
-of_turn s Off t step = record { shape = ap (λ (x : LaneState). x.shape) step.1; table = ap (λ (x : LaneState). x.table) step.1 }
-
 same_lane : (s t : LaneState) → t ≡ s → SamePages s t
 same_lane s t is = record { shape = ap (λ (x : LaneState). x.shape) is; table = ap (λ (x : LaneState). x.table) is }
 
-of_rest : (s : LaneState) (event : Calm) (t : LaneState) → RestStep s event t → SamePages s t
-of_rest s (CalmReset A) t step = absurd step
-of_rest s (CalmReset B) t step = same_lane s t step.1
-of_rest s CalmTick t step = same_lane s t step.1
-of_rest s CalmStop t step = same_lane s t step.1
-of_rest s CalmStart t step = same_lane s t step.1
-of_rest s CalmRestart t step = same_lane s t step.1
-
 pub same_pages : (s : LaneState) (event : DiskEvent) (t : LaneState) → LaneStep s event t → SamePages s t
-same_pages s (OnWire event) t step = of_wire s event t step
-same_pages s (Asks event) t step = record { shape = ap (λ (x : LaneState). x.shape) step.1; table = ap (λ (x : LaneState). x.table) step.1 }
-same_pages s (Works event) t step = of_work s event t step
-same_pages s (Switches event) t step = of_turn s event t step
-same_pages s (Calms event) t step = of_rest s event t step
+same_pages s event t step =
+    let view = lane_view s event t step in
+    record { shape = ap (λ (x : LaneState). x.shape) view.is; table = ap (λ (x : LaneState). x.table) view.is }
 
 -- THE TABLE as it began
 own_within : (pages index : ℕ) → index < pages → slice_index_or (own_table pages) index None ≡ Some (own_entry index)

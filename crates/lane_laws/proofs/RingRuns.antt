@@ -9,20 +9,20 @@ use Rattle.cookie_copy.specs.declared.fault.CopyFault.{CopyFault}
 use Rattle.dring.proofs.Turning.{slot_fits}
 use Rattle.dring.specs.Slots.{slot_bytes}
 use Rattle.map_table.specs.declared.table.Entry.{Entry}
-use Rattle.ldc_queue.specs.declared.end.End.TheVariants.{A, B}
+use Rattle.ldc_queue.specs.declared.end.End.TheVariants.{B}
 use Rattle.vdisk_msg.specs.Check.{first_defect}
 use Rattle.vdisk_msg.specs.declared.desc.DescFault.{DescFault}
-use Rattle.vdisk_msg.specs.declared.desc.DescFault.TheVariants.{Cookies, Operation, Range, Size}
+use Rattle.vdisk_msg.specs.declared.desc.DescFault.TheVariants.{Operation}
 use Rattle.vdisk_msg.specs.declared.desc.DiskDesc.{DiskDesc}
 use Rattle.vdisk_msg.specs.Pieces.{Finishes, Moves, Piece, Stores, checked_pieces, operation_pieces, pieces, read_pieces, refusal_status, unit_count, write_pieces}
 use Rattle.channel_model.specs.TranscriptLog.{TranscriptLog}
-use Rattle.channel_model.specs.WireEvent.{Blocked, Declines, Idle, Injected, Joined, Lost, Poked, Reset, Sent, Took, WireEvent}
+use Rattle.channel_model.specs.WireEvent.{Injected, Joined, Poked, Reset, Sent, Took, WireEvent}
 use Rattle.channel_laws.proofs.Apart.{some_same}
 use Rattle.lane_laws.specs.Agreement.{RingAgrees, SlotAgrees}
 use Rattle.lane_laws.specs.DiskLog.{DiskLog, after, nothing_yet}
-use Rattle.lane_laws.specs.RingLog.{Accepted as IsAccepted, Done as IsDone, Free, Ready, SlotLog, Zeros, no_ring}
+use Rattle.lane_laws.specs.RingLog.{Free, SlotLog, Zeros, no_ring}
 use Rattle.lane_laws.specs.WorkLog.{ServerCounts, WorkLog, change_server, moved_rest, opened_counts, rest_of, stored_rest, work_wired}
-use Rattle.disk_model.specs.DiskEvent.{Accepted, Admitted, Asks, Desc, DiskEvent, Done, Finished, Full, Misplaced, Moved, Off, OnWire, Published, Refused, Calms, Started, Stopped, Stored, Switches, Works}
+use Rattle.disk_model.specs.DiskEvent.{Accepted, Admitted, Asks, Desc, DiskEvent, Finished, Full, Moved, OnWire, Published, Refused, Stopped, Stored, Switches, Works}
 use Rattle.disk_model.specs.LaneState.{IsShape, LaneState, Shape, fresh, pages_of}
 use Rattle.disk_model.specs.LaneStep.{LaneStep}
 use Rattle.lane_laws.proofs.CarriedRuns.{AllStand}
@@ -70,9 +70,7 @@ operation_status false false units = tt
 
 refused_status : (fault : DescFault) → refusal_status fault < 2 ^ 32
 refused_status Operation = omega arith
-refused_status Cookies = omega arith
-refused_status Size = omega arith
-refused_status Range = omega arith
+refused_status _ = omega arith
 
 checked_status : (fault : Option DescFault) (desc : DiskDesc) → OwesStatus (checked_pieces fault desc)
 checked_status None desc =
@@ -92,37 +90,21 @@ opened_status true sid o stands = tt
 opened_status false sid o stands = stands
 
 wire_status : (slots : ℕ) (transcript : TranscriptLog) (w : WorkLog) (event : WireEvent) → StatusStands w.server → StatusStands (work_wired slots transcript w event).server
-wire_status slots transcript w (Joined A lost) stands = stands
 wire_status slots transcript w (Joined B lost) stands = tt
-wire_status slots transcript w (Reset A cause packet lost) stands = stands
 wire_status slots transcript w (Reset B cause packet lost) stands = tt
-wire_status slots transcript w (Took A packet opens) stands = stands
 wire_status slots transcript w (Took B packet opens) stands = opened_status opens _ _ (changed_status _ w.server (λ c small. small) stands)
-wire_status slots transcript w (Sent A packet opens) stands = stands
 wire_status slots transcript w (Sent B packet opens) stands = opened_status opens _ _ (changed_status _ w.server (λ c small. small) stands)
-wire_status slots transcript w (Lost e packet) stands = stands
-wire_status slots transcript w (Injected e packet) stands = stands
-wire_status slots transcript w (Poked e at bytes) stands = stands
-wire_status slots transcript w (Idle e) stands = stands
-wire_status slots transcript w (Blocked e) stands = stands
-wire_status slots transcript w (Declines d) stands = stands
+wire_status slots transcript w _ stands = stands
 
 statuses : (l : DiskLog) (event : DiskEvent) → StatusStands l.work.server → StatusStands (after l event).work.server
 statuses l (OnWire event) stands = wire_status l.shape.slots l.transcript l.work event stands
 statuses l (Asks (Accepted id request)) stands = stands
-statuses l (Asks (Full request)) stands = stands
-statuses l (Asks (Refused why request)) stands = stands
-statuses l (Works (Published id)) stands = stands
-statuses l (Works (Done id operation status bytes)) stands = stands
 statuses l (Works (Desc slot bytes)) stands = changed_status _ l.work.server (λ c small. pieces_status _ l.shape.blocks 0x0e) stands
 statuses l (Works (Moved unit fault)) stands = changed_status _ l.work.server (λ c small. moved_status fault c.owed small) stands
 statuses l (Works (Stored operation block count failed)) stands = changed_status _ l.work.server (λ c small. stored_status failed c.owed small) stands
 statuses l (Works (Finished slot status)) stands = changed_status _ l.work.server (λ c small. rest_status c.owed small) stands
-statuses l (Works Misplaced) stands = stands
 statuses l (Switches Stopped) stands = tt
-statuses l (Switches Started) stands = stands
-statuses l (Switches Off) stands = stands
-statuses l (Calms event) stands = stands
+statuses l _ stands = stands
 
 -- THE IDS are below 2^64
 issued_wired : (slots : ℕ) (transcript : TranscriptLog) (w : WorkLog) (event : WireEvent) → length w.issued < 2 ^ 64 → length (work_wired slots transcript w event).issued < 2 ^ 64
@@ -139,38 +121,15 @@ pub issued_behind : (s : LaneState) (l : DiskLog) (event : DiskEvent) (t : LaneS
 issued_behind s l (OnWire event) t stands few step = issued_wired l.shape.slots l.transcript l.work event few
 issued_behind s l (Asks event) t stands few step = issued_asked s l event t stands few step
 issued_behind s l (Works (Published id)) t stands few step = few
-issued_behind s l (Works (Done id operation status bytes)) t stands few step = few
-issued_behind s l (Works (Desc slot bytes)) t stands few step = few
-issued_behind s l (Works (Moved unit fault)) t stands few step = few
-issued_behind s l (Works (Stored operation block count failed)) t stands few step = few
-issued_behind s l (Works (Finished slot status)) t stands few step = few
-issued_behind s l (Works Misplaced) t stands few step = few
 issued_behind s l (Switches Stopped) t stands few step = few
-issued_behind s l (Switches Started) t stands few step = few
-issued_behind s l (Switches Off) t stands few step = few
-issued_behind s l (Calms event) t stands few step = few
+issued_behind s l _ t stands few step = few
 
 -- where nobody forged after an event, nobody had before it
-wire_before : (l : DiskLog) (event : WireEvent) → (after l (OnWire event)).wire.forged ≡ false → l.wire.forged ≡ false
-wire_before l (Joined e lost) not = not
-wire_before l (Reset e cause packet lost) not = not
-wire_before l (Took e packet opens) not = not
-wire_before l (Sent e packet opens) not = not
-wire_before l (Lost e packet) not = not
-wire_before l (Injected e packet) not = absurd (cc not)
-wire_before l (Poked e at bytes) not = absurd (cc not)
-wire_before l (Idle e) not = not
-wire_before l (Blocked e) not = not
-wire_before l (Declines d) not = not
-
 pub before : (l : DiskLog) (event : DiskEvent) → (after l event).wire.forged ≡ false → l.wire.forged ≡ false
-before l (OnWire event) not = wire_before l event not
-before l (Asks event) not = not
-before l (Works event) not = not
+before l (OnWire (Injected e packet)) not = absurd (cc not)
+before l (OnWire (Poked e at bytes)) not = absurd (cc not)
 before l (Switches Stopped) not = not
-before l (Switches Started) not = not
-before l (Switches Off) not = not
-before l (Calms event) not = not
+before l _ not = not
 
 -- EACH EVENT
 pub known_of : (s : LaneState) (l : DiskLog) → AllStand s l → RingStands s l → SessionsAgree s l → l.wire.forged ≡ false → Known s l
@@ -232,9 +191,7 @@ fresh_ring shape sound = record {
 slot_agrees : (r : RingOf) (slot : ℕ) (is : SlotLog) (bytes : List ℕ) → SlotHolds r slot is bytes → SlotAgrees r.issued r.slots slot is bytes
 slot_agrees r slot Zeros bytes holds = holds
 slot_agrees r slot Free bytes holds = holds
-slot_agrees r slot (Ready id) bytes holds = record { request = holds.request; accepted = holds.accepted; bytes_are = holds.bytes_are }
-slot_agrees r slot (IsAccepted id) bytes holds = record { request = holds.request; accepted = holds.accepted; bytes_are = holds.bytes_are }
-slot_agrees r slot (IsDone id status) bytes holds = record { request = holds.request; accepted = holds.accepted; bytes_are = holds.bytes_are }
+slot_agrees r slot _ bytes holds = record { request = holds.request; accepted = holds.accepted; bytes_are = holds.bytes_are }
 
 pub ring_agrees : (s : LaneState) (l : DiskLog) → RingStands s l → l.wire.forged ≡ false → RingAgrees s.memory l.shape.slots l.work.issued l.ring
 ring_agrees s l ring not =

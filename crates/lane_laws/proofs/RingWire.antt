@@ -7,29 +7,31 @@ use Rattle.ldc_queue.specs.declared.end.End.{End}
 use Rattle.ldc_queue.specs.declared.end.End.TheVariants.{A, B}
 use Rattle.vio_bytes.specs.Place.{put_at}
 use Rattle.vio_tag.specs.declared.cause.Cause.{Cause}
-use Rattle.channel_model.specs.WireEvent.{Blocked, ByRestart, ByScript, ByStep, ByTick, Declines, Giver, Idle, Injected, Joined, Lost, Poked, Reset, Sent, Took, WireEvent, giver}
+use Rattle.channel_model.specs.WireEvent.{Blocked, Idle, Injected, Joined, Reset, Sent, Took, WireEvent}
 use Rattle.lane_laws.specs.DiskLog.{DiskLog, after}
 use Rattle.lane_laws.specs.RingLog.{Free}
 use Rattle.lane_laws.specs.WorkLaws.{IfServer}
 use Rattle.lane_laws.specs.WorkLog.{ClientCounts, ServerCounts}
 use Rattle.disk_model.specs.ClientRule.{client_rule}
 use Rattle.disk_model.specs.ClientState.{ClientState}
-use Rattle.disk_model.specs.ClientStep.{ClientSends}
+use Rattle.disk_model.specs.ClientStep.{ClientSends, ClientStep}
 use Rattle.disk_model.specs.DiskEvent.{OnWire}
 use Rattle.disk_model.specs.LaneState.{LaneState, pages_of}
-use Rattle.disk_model.specs.LaneStep.{EndOnWire, ResetBy, WireStep, reach}
+use Rattle.disk_model.specs.LaneStep.{WireStep, reach}
 use Rattle.channel_model.specs.Seeing.{seen}
 use Rattle.disk_model.specs.ServerRule as server_rules
-use Rattle.disk_model.specs.ServerState.{Ends, Progress, ServerSession, Work}
-use Rattle.disk_model.specs.ServerStep.{ServerFails, WorkFails}
+use Rattle.disk_model.specs.ServerState.{Ends, Progress, ServerSession, ServerState, Work}
+use Rattle.disk_model.specs.ServerStep.{ServerStep, ServerFails, WorkFails}
 use Rattle.disk_model.specs.ServerWork.{slot_at}
 use Rattle.lane_laws.proofs.Requesting.{held_kept}
 use Rattle.lane_laws.proofs.RingClient.{cleared_slot}
 use Rattle.lane_laws.proofs.RingEnds.{has_work, work_below}
-use Rattle.lane_laws.proofs.RingLeaves.{OpensNot, leaves_stand, wire_leaves}
+use Rattle.lane_laws.proofs.LaneViews.{ClientWrites, MemoryPoked, MemoryStays, MemoryView, ServerWrites, at_client, at_server, lane_view, reach_of}
+use Rattle.lane_laws.proofs.RingLeaves.{OpensNot, leaves_stand, event_leaves}
 use Rattle.lane_laws.proofs.RingServer.{end_refused}
 use Rattle.lane_laws.proofs.RingTable.{free_ids, free_ring}
-use Rattle.lane_laws.proofs.RingWork.{Known, at_work, numbered, slots_are}
+use Rattle.lane_laws.proofs.RingWork.{Known, at_work, numbered}
+use Rattle.lane_laws.proofs.StandingRuns.{slots_is as slots_are}
 use Rattle.lane_laws.proofs.RingWrites.{equal_slots}
 use Rattle.lane_laws.proofs.Ruling.{client_may, server_may}
 use Rattle.lane_laws.specs.RingAgreed.{InRing, OneRing, SessionsAgree, ring_in}
@@ -53,7 +55,7 @@ sent_clears s packet opens t new sends =
     }
 
 -- the session opens: all slots are free, and no descriptor is in work
-abbrev published_of : Option ClientCounts → ℕ
+abbrev pub published_of : Option ClientCounts → ℕ
 published_of None = 0
 published_of (Some c) = c.published
 
@@ -104,76 +106,40 @@ rule_same (server_rules.Serves session work) s l cause packet new known may fail
 rule_same _ s l cause packet new known may fails = absurd fails
 
 -- EACH EVENT that opens no session of the client leaves the memory
-client_same : (s : LaneState) (event : WireEvent) (t : LaneState) → OpensNot event → EndOnWire A s event t → t.memory ≡ s.memory
-client_same s (Joined A lost) t not step = step.step.3
-client_same s (Took A packet opens) t not step = step.step.3
-client_same s (Sent A packet false) t not step = (sent_clears s packet false t.client t.memory step.step).is
-client_same s (Sent A packet true) t not step = absurd (cc not)
-client_same s (Blocked A) t not step = step.step.2
-client_same s (Idle A) t not step = step.step.2
-client_same s (Reset A cause packet lost) t not step = step.step.3
-client_same s (Joined B lost) t not step = absurd step.step
-client_same s (Took B packet opens) t not step = absurd step.step
-client_same s (Sent B packet opens) t not step = absurd step.step
-client_same s (Blocked B) t not step = absurd step.step
-client_same s (Idle B) t not step = absurd step.step
-client_same s (Reset B cause packet lost) t not step = absurd step.step
-client_same s (Lost e packet) t not step = absurd step.step
-client_same s (Injected e packet) t not step = absurd step.step
-client_same s (Poked e at bytes) t not step = absurd step.step
-client_same s (Declines d) t not step = absurd step.step
+client_same : (s : LaneState) (event : WireEvent) (t : ClientState) (new : List ℕ) → OpensNot event → ClientStep s.client (at_client s) s.memory (OnWire event) t new → new ≡ s.memory
+client_same s (Joined A lost) t new not step = step.3
+client_same s (Took A packet opens) t new not step = step.3
+client_same s (Sent A packet false) t new not step = (sent_clears s packet false t new step).is
+client_same s (Sent A packet true) t new not step = absurd (cc not)
+client_same s (Blocked A) t new not step = step.2
+client_same s (Idle A) t new not step = step.2
+client_same s (Reset A cause packet lost) t new not step = step.3
+client_same s _ t new not step = absurd step
 
-server_same : (s : LaneState) (l : DiskLog) (event : WireEvent) (t : LaneState) → Known s l → EndOnWire B s event t → t.memory ≡ s.memory
-server_same s l (Joined B lost) t known step = step.1.step.1.3
-server_same s l (Took B packet opens) t known step = step.1.step.1.2
-server_same s l (Sent B packet opens) t known step = step.1.step.1.1
-server_same s l (Blocked B) t known step = step.1.step.1.2
-server_same s l (Idle B) t known step = step.1.step.1.2
-server_same s l (Reset B cause packet lost) t known step =
-    let at = seen B s.shape.entries s.wire.wire in
-    rule_same (server_rules.server_rule s.server at) s l cause packet t.memory known (server_may s.server at) step.1.step.1.0
-server_same s l (Joined A lost) t known step = absurd step.1.step.1
-server_same s l (Took A packet opens) t known step = absurd step.1.step.1
-server_same s l (Sent A packet opens) t known step = absurd step.1.step.1
-server_same s l (Blocked A) t known step = absurd step.1.step.1
-server_same s l (Idle A) t known step = absurd step.1.step.1
-server_same s l (Reset A cause packet lost) t known step = absurd step.1.step.1
-server_same s l (Lost e packet) t known step = absurd step.1.step.1
-server_same s l (Injected e packet) t known step = absurd step.1.step.1
-server_same s l (Poked e at bytes) t known step = absurd step.1.step.1
-server_same s l (Declines d) t known step = absurd step.1.step.1
-
-end_same : (e : End) (s : LaneState) (l : DiskLog) (event : WireEvent) (t : LaneState) → OpensNot event → Known s l → EndOnWire e s event t → t.memory ≡ s.memory
-end_same A s l event t not known step = client_same s event t not step
-end_same B s l event t not known step = server_same s l event t known step
-
-reset_same : (by : Giver) (e : End) (s : LaneState) (l : DiskLog) (cause : Cause) (packet : Option (List ℕ)) (lost : ℕ) (t : LaneState) → Known s l → ResetBy by e s cause packet lost t
-    → t.memory ≡ s.memory
-reset_same ByStep e s l cause packet lost t known step = end_same e s l (Reset e cause packet lost) t tt known step
-reset_same ByScript A s l cause packet lost t known step = ap (λ (x : LaneState). x.memory) step.2
-reset_same ByScript B s l cause packet lost t known step = ap (λ (x : LaneState). x.memory) step.1.2
-reset_same ByRestart A s l cause packet lost t known step = absurd step
-reset_same ByRestart B s l cause packet lost t known step = ap (λ (x : LaneState). x.memory) step.1.2
-reset_same ByTick A s l cause packet lost t known step = ap (λ (x : LaneState). x.memory) step.1.2
-reset_same ByTick B s l cause packet lost t known step = absurd step
+server_same : (s : LaneState) (l : DiskLog) (event : WireEvent) (gave : List ℕ) (t : ServerState) (new : List ℕ) → Known s l
+    → ServerStep s.server (at_server s) (reach_of s) gave (OnWire event) t new → new ≡ s.memory
+server_same s l (Joined B lost) gave t new known step = step.3
+server_same s l (Took B packet opens) gave t new known step = step.2
+server_same s l (Sent B packet opens) gave t new known step = step.1
+server_same s l (Blocked B) gave t new known step = step.2
+server_same s l (Idle B) gave t new known step = step.2
+server_same s l (Reset B cause packet lost) gave t new known step = rule_same (server_rules.server_rule s.server (at_server s)) s l cause packet new known (server_may s.server (at_server s)) step.0
+server_same s l _ gave t new known step = absurd step
 
 pub wire_same : (s : LaneState) (l : DiskLog) (event : WireEvent) (t : LaneState) → OpensNot event → Known s l → WireStep s event t → (after l (OnWire event)).wire.forged ≡ false
     → t.memory ≡ s.memory
-wire_same s l (Joined e lost) t not known step unforged = end_same e s l (Joined e lost) t not known step
-wire_same s l (Took e packet opens) t not known step unforged = end_same e s l (Took e packet opens) t not known step
-wire_same s l (Sent e packet opens) t not known step unforged = end_same e s l (Sent e packet opens) t not known step
-wire_same s l (Idle e) t not known step unforged = end_same e s l (Idle e) t not known step
-wire_same s l (Blocked e) t not known step unforged = end_same e s l (Blocked e) t not known step
-wire_same s l (Reset e cause packet lost) t not known step unforged = reset_same (giver cause) e s l cause packet lost t known step
-wire_same s l (Lost e packet) t not known step unforged = ap (λ (x : LaneState). x.memory) step.1
-wire_same s l (Injected e packet) t not known step unforged = ap (λ (x : LaneState). x.memory) step.2
-wire_same s l (Poked e at bytes) t not known step unforged = absurd (cc unforged)
-wire_same s l (Declines d) t not known step unforged = ap (λ (x : LaneState). x.memory) step.1
+wire_same s l event t not known step unforged = by event not unforged (lane_view s (OnWire event) t step).memory
+  where
+    by : (event : WireEvent) → OpensNot event → (after l (OnWire event)).wire.forged ≡ false → MemoryView s t (OnWire event) → t.memory ≡ s.memory
+    by event not unforged (ClientWrites _ does) = client_same s event t.client t.memory not does
+    by event not unforged (ServerWrites _ gave does) = server_same s l event gave t.server t.memory known does
+    by _ not unforged (MemoryPoked at bytes within is) = absurd (cc unforged)
+    by event not unforged (MemoryStays _ is) = is
 
 quiet_in_ring : (s : LaneState) (l : DiskLog) (event : WireEvent) (t : LaneState) → OpensNot event → Known s l → WireStep s event t → (after l (OnWire event)).wire.forged ≡ false
     → InRing t (after l (OnWire event))
 quiet_in_ring s l event t not known step unforged =
-    leaves_stand s l (OnWire event) t (wire_leaves l event not) (equal_slots l.shape.slots s.memory t.memory (wire_same s l event t not known step unforged)) known.ring
+    leaves_stand s l (OnWire event) t (event_leaves l (OnWire event) not) (equal_slots l.shape.slots s.memory t.memory (wire_same s l event t not known step unforged)) known.ring
 
 sent_in_ring : (s : LaneState) (l : DiskLog) (e : End) (packet : List ℕ) (opens : Bool) (t : LaneState) → Known s l → SessionsAgree t (after l (OnWire (Sent e packet opens)))
     → WireStep s (Sent e packet opens) t → (after l (OnWire (Sent e packet opens))).wire.forged ≡ false → InRing t (after l (OnWire (Sent e packet opens)))
@@ -190,11 +156,5 @@ pub wire_in_ring : (s : LaneState) (l : DiskLog) (event : WireEvent) (t : LaneSt
     → (after l (OnWire event)).wire.forged ≡ false → InRing t (after l (OnWire event))
 wire_in_ring s l (Sent e packet opens) t known agree step unforged = sent_in_ring s l e packet opens t known agree step unforged
 wire_in_ring s l (Took e packet opens) t known agree step unforged = took_in_ring s l e packet opens t known step unforged
-wire_in_ring s l (Joined e lost) t known agree step unforged = quiet_in_ring s l (Joined e lost) t tt known step unforged
-wire_in_ring s l (Idle e) t known agree step unforged = quiet_in_ring s l (Idle e) t tt known step unforged
-wire_in_ring s l (Blocked e) t known agree step unforged = quiet_in_ring s l (Blocked e) t tt known step unforged
-wire_in_ring s l (Reset e cause packet lost) t known agree step unforged = quiet_in_ring s l (Reset e cause packet lost) t tt known step unforged
-wire_in_ring s l (Lost e packet) t known agree step unforged = quiet_in_ring s l (Lost e packet) t tt known step unforged
 wire_in_ring s l (Injected e packet) t known agree step unforged = absurd (cc unforged)
-wire_in_ring s l (Poked e at bytes) t known agree step unforged = absurd (cc unforged)
-wire_in_ring s l (Declines d) t known agree step unforged = quiet_in_ring s l (Declines d) t tt known step unforged
+wire_in_ring s l event t known agree step unforged = quiet_in_ring s l event t tt known step unforged

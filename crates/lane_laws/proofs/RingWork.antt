@@ -1,6 +1,6 @@
 -- What a server's work does to the ring in session: the next slot is fetched and ACCEPTED, a unit goes after the ring, and the slot gets
 -- its status and is DONE.
-use Rattle.std.proofs.Common.{◌≡◌, ℕ, ◌+◌, ◌%◌, ◌^◌, ◌<◌, ◌≤◌, Bool, true, false, List, length, set, Option, Some, None, refl, sym, ap, ◌∙◌, subst, arith}
+use Rattle.std.proofs.Common.{◌≡◌, ℕ, ◌+◌, ◌%◌, ◌^◌, ◌<◌, ◌≤◌, Bool, true, false, List, length, set, Option, Some, refl, sym, ap, ◌∙◌, subst, arith}
 use Rattle.std.specs.Prelude.{slice_get, slice_index, ◌==◌}
 use Rattle.std.proofs.lemmas.Bool.Decides.{nat_tests}
 use Rattle.std.proofs.lemmas.Nat.{mod_below}
@@ -14,18 +14,17 @@ use Rattle.vdisk_msg.specs.Requested.{descriptor_of}
 use Rattle.vio_bytes.specs.Place.{put_at}
 use Rattle.channel_model.specs.WireLog.{WireLog}
 use Rattle.channel_laws.proofs.Apart.{some_same}
-use Rattle.lane_laws.specs.Agreement.{WorkAgrees}
 use Rattle.lane_laws.specs.DiskLog.{DiskLog, after}
 use Rattle.lane_laws.specs.RingLog.{Accepted, SlotLog, fetched_at, id_at}
 use Rattle.lane_laws.specs.WorkLaws.{FetchesRequest, IfServer, InClient, InServer, Unforged}
 use Rattle.lane_laws.specs.WorkLog.{ClientCounts, ServerCounts, change_server}
 use Rattle.disk_model.specs.DiskEvent.{Desc, Works}
-use Rattle.disk_model.specs.LaneState.{LaneState, Shape, pages_of}
+use Rattle.disk_model.specs.LaneState.{LaneState, pages_of}
 use Rattle.disk_model.specs.LaneStep.{WorkStep, reach}
 use Rattle.disk_model.specs.Offering.{own_cookies}
 use Rattle.channel_model.specs.Seeing.{seen}
 use Rattle.disk_model.specs.ServerRule as server_rules
-use Rattle.disk_model.specs.ServerState.{ServerSession, Work}
+use Rattle.disk_model.specs.ServerState.{ServerSession}
 use Rattle.disk_model.specs.ServerWork.{header_of, slot_fetched, with_word}
 use Rattle.lane_laws.proofs.RingServer.{Reaches, header_long, writes_word}
 use Rattle.lane_laws.proofs.RingSessions.{OfServer, RingTurn, of_server, one_ring, sizes_of, turn_of, unwrapped}
@@ -39,6 +38,8 @@ use Rattle.lane_laws.specs.RingSlots.{HoldsIssued, IdStands, IdsStand, InWork, R
 use Rattle.lane_laws.specs.RuleFacts.{ServerMay}
 use Rattle.lane_laws.specs.Sound.{ClientSound}
 use Rattle.lane_laws.specs.Standing.{LaneInvariant}
+use Rattle.lane_laws.proofs.ServerPutCounting.{work_most}
+use Rattle.lane_laws.proofs.StandingRuns.{slots_is}
 
 -- what is known of a lane whose ring is looked at
 pub record Known (s : LaneState) (l : DiskLog) : Type 0 where
@@ -51,18 +52,15 @@ pub record Known (s : LaneState) (l : DiskLog) : Type 0 where
   pub statuses : StatusStands l.work.server
   pub agree : SessionsAgree s l
 
-pub slots_are : (s : LaneState) (l : DiskLog) → LaneInvariant s l → s.client.slots ≡ l.shape.slots
-slots_are s l stands = stands.slots ∙ ap (λ (x : Shape). x.slots) stands.shape
-
 pub memory_is : (s : LaneState) (l : DiskLog) → Known s l → length s.memory ≡ memory_long l.shape.slots
-memory_is s l known = known.memory.long ∙ ap memory_long (slots_are s l known.stands)
+memory_is s l known = known.memory.long ∙ ap memory_long (slots_is s l known.stands)
 
 pub some_slots : (s : LaneState) (l : DiskLog) → Known s l → 1 ≤ l.shape.slots
-some_slots s l known = omega (arith, slots_are s l known.stands, known.memory.some)
+some_slots s l known = omega (arith, slots_is s l known.stands, known.memory.some)
 
 pub turn_in : (s : LaneState) (l : DiskLog) (k : ClientCounts) → Known s l → l.work.client ≡ Some k → RingTurn k l.work.done l.shape.slots
 turn_in s l k known is =
-    subst (RingTurn k l.work.done) (slots_are s l known.stands)
+    subst (RingTurn k l.work.done) (slots_is s l known.stands)
     (turn_of s.client.session l.work.done (length s.client.pending) s.client.slots l.work.client k is known.agree.client known.sound.counts known.sound.pending)
 
 pub ids_in : (s : LaneState) (l : DiskLog) (k : ClientCounts) → Known s l → l.work.client ≡ Some k → IdsStand l.shape.slots l.work.done l.ring (Some k)
@@ -89,7 +87,7 @@ at_work s l v known up is =
       one = one;
       reaches = λ both. record {
         identity = known.pages.identity;
-        cookies = one.cookies ∙ ap own_cookies (slots_are s l known.stands);
+        cookies = one.cookies ∙ ap own_cookies (slots_is s l known.stands);
         within = omega arith;
         room = omega (arith, memory_is s l known);
       };
@@ -99,7 +97,7 @@ at_work s l v known up is =
 pub numbered : (s : LaneState) (l : DiskLog) (v : ServerSession) (work : AtWork s l v) (count number : ℕ) → LaneInvariant s l → count ≡ number % 2 ^ 64 → number < 2 ^ 64
     → count % s.server.handshake.draft.peer_slots ≡ number % l.shape.slots
 numbered s l v work count number stands is small =
-    ap (λ (m : ℕ). count % m) (work.one.slots ∙ slots_are s l stands) ∙ ap (λ (x : ℕ). x % l.shape.slots) (is ∙ unwrapped number small)
+    ap (λ (m : ℕ). count % m) (work.one.slots ∙ slots_is s l stands) ∙ ap (λ (x : ℕ). x % l.shape.slots) (is ∙ unwrapped number small)
 
 -- A DESCRIPTOR IS FETCHED
 is_two : (n : ℕ) → (n == 2) ≡ true → n ≡ 2
@@ -140,13 +138,8 @@ ready_next s l slot bytes v known work slot_is more small since bytes_are state 
       bytes_are = bytes_are;
     }
 
--- what is finished was fetched
-work_first : (w : Option Work) (d : ServerCounts) → WorkAgrees w d → d.finished ≤ d.descs
-work_first None d agree = omega (arith, agree.1)
-work_first (Some work) d agree = omega (arith, agree.2)
-
 finished_first : (s : LaneState) (l : DiskLog) (v : ServerSession) → Known s l → (work : AtWork s l v) → work.of.counts.finished ≤ work.of.counts.descs
-finished_first s l v known work = work_first s.server.work work.of.counts work.of.work
+finished_first s l v known work = work_most s.server.work work.of.counts work.of.work
 
 -- the server's counts after it
 abbrev pub fetched_counts : DiskLog → List ℕ → ServerCounts → ServerCounts

@@ -19,7 +19,7 @@ use Rattle.disk_model.specs.LaneState.{LaneState, NearCounts}
 use Rattle.disk_model.specs.LaneStep.{WorkStep, reach}
 use Rattle.channel_model.specs.Seeing.{seen}
 use Rattle.disk_model.specs.ServerRule as server_rules
-use Rattle.disk_model.specs.ServerState.{Ends, Flushes, Gathers, Gives, Progress, Reads, ServerState, Work, Writes}
+use Rattle.disk_model.specs.ServerState.{Gathers, Gives, Progress, ServerState, Work, Writes}
 use Rattle.cookie_copy.specs.Reach.{Reach}
 use Rattle.disk_model.specs.ServerWork.{MovesIn, data_cookies, desc_of, gathered, given, given_memory, in_fault, length_of, out_fault, reads_next, unit_length}
 use Rattle.lane_laws.proofs.Ruling.{server_may}
@@ -167,10 +167,7 @@ moves_by (Gathers u) s l unit fault work next t before serves progress moves cli
     gather_change s l u fault work next t before serves progress moves.1 moves.2 client wire near work_is moves.3 serves.on.request refl fits unit
 moves_by (Gives u bytes) s l unit fault work next t before serves progress moves client wire near work_is fits =
     give_change s l u bytes fault work next t before serves progress moves.1 moves.2 client wire near work_is moves.3 serves.on.request refl fits unit
-moves_by (Reads u) s l unit fault work next t before serves progress moves client wire near work_is fits = absurd moves
-moves_by (Writes u bytes) s l unit fault work next t before serves progress moves client wire near work_is fits = absurd moves
-moves_by Flushes s l unit fault work next t before serves progress moves client wire near work_is fits = absurd moves
-moves_by (Ends status) s l unit fault work next t before serves progress moves client wire near work_is fits = absurd moves
+moves_by _ s l unit fault work next t before serves progress moves client wire near work_is fits = absurd moves
 
 pub moved_changes : (s : LaneState) (l : DiskLog) (unit : ℕ) (fault : Option CopyFault) (t : LaneState) → Before s l → ContentsStand (view_of s) → WorkStep s (Moved unit fault) t
     → Changed s (Works (Moved unit fault)) t

@@ -25,7 +25,7 @@ use Rattle.channel_laws.proofs.EndStanding.{open_declines, up_empty}
 use Rattle.channel_laws.proofs.HandshakeCases.{HandshakeTook}
 use Rattle.lane_laws.proofs.RangeSums.{count_more, sum_heard, sum_more}
 use Rattle.lane_laws.proofs.RangesSaid.{IsNoData, heard_no_range, heard_one, heard_range, no_data}
-use Rattle.lane_laws.proofs.RulesFree.{TakesFree}
+use Rattle.lane_laws.proofs.RuleTests.{TakesFree}
 use Rattle.lane_laws.proofs.ServerTaken.{ServerAsked, ServerHearsPart, ServerHandshakes, ServerTook, still}
 use Rattle.lane_laws.specs.Budget.{one_range}
 use Rattle.lane_laws.specs.Counted.{NothingAsked, RangeStands, ServerCounted, ServerHolds, ServerOrder, range_count, range_sum}
@@ -139,7 +139,7 @@ closed : (o : Option ServerSession) (phase : Phase) → (is_some o ≡ true → 
 closed None phase opened never = refl
 closed (Some session) phase opened never = absurd (never (opened refl))
 
-no_work : (o : Option ServerSession) (w : Option Work) (d : Option ServerCounts) → o ≡ None → ServerAgrees o w d → w ≡ None
+pub no_work : (o : Option ServerSession) (w : Option Work) (d : Option ServerCounts) → o ≡ None → ServerAgrees o w d → w ≡ None
 no_work None w None is agrees = agrees
 no_work None w (Some c) is agrees = absurd agrees
 no_work (Some s) w d is agrees = absurd (cc is)

@@ -99,7 +99,7 @@ server_fetches_counting shape v at reach slot bytes t new turns d rests step cou
     })
 
 -- ONE GETS ITS STATUS
-abbrev finished_log : ServerCounts → ServerCounts
+abbrev pub finished_log : ServerCounts → ServerCounts
 finished_log c = record c { finished = c.finished + 1; owed = rest_of c.owed }
 
 range_finished : (slots : ℕ) (range : Option SlotRange) (c : ServerCounts) → RangeStands slots range c → RangeStands slots range (finished_log c)
@@ -162,10 +162,8 @@ responder_never Responder phase is = refl
 responder_never role phase is = ap (λ (r : Role). opens_by_put r phase) is
 
 never_opens : (kind : PutKind) (h : Handshake) → h.role ≡ Responder → put_opens kind h ≡ false
-never_opens Goes h is = refl
-never_opens ComesUp h is = refl
-never_opens EndsOwn h is = refl
 never_opens EndsHandshake h is = responder_never h.role h.phase is
+never_opens _ h is = refl
 
 pub server_puts_counting : (shape : Shape) (v : ServerState) (at : Seen) (packet : List ℕ) (opens : Bool) (t : ServerState) (turns : List Turn) (d : Option ServerCounts) → shape.slots ≤ 256
     → ServerSends v at packet opens t → ServerRests v turns → ServerUtters v turns → ServerCounted shape v turns d

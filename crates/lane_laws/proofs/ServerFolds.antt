@@ -27,11 +27,11 @@ use Rattle.cookie_copy.specs.Reach.{Reach}
 use Rattle.lane_laws.proofs.ClientFolds.{LinkIs, link_begins, link_hears, link_puts, link_stuck, owes_up}
 use Rattle.channel_laws.proofs.Apart.{none_is_some, some_same, true_is_false}
 use Rattle.channel_laws.proofs.PutSayings.{PutSays}
-use Rattle.channel_laws.proofs.EndStanding.{open_up, owing_up}
+use Rattle.channel_laws.proofs.EndStanding.{SameSending, open_up, owing_up}
 use Rattle.channel_laws.proofs.TurnCases.{heard_none, heard_some, said_none, said_some}
-use Rattle.channel_laws.proofs.EndStanding.{SameSending}
 use Rattle.lane_laws.proofs.RangesSaid.{heard_no_range, is_data, no_data, owed_no_range, range_is}
-use Rattle.lane_laws.proofs.RulesFree.{AnswersFree, ServerFree, TakesFree, server_free}
+use Rattle.lane_laws.proofs.RulesFree.{ServerFree, server_free}
+use Rattle.lane_laws.proofs.RuleTests.{AnswersFree, TakesFree}
 use Rattle.lane_laws.proofs.ServerCounting.{opens_new}
 use Rattle.lane_laws.proofs.ServerPutCounting.{put_as, none_is}
 use Rattle.lane_laws.proofs.ServerAnswers.{opened_or}

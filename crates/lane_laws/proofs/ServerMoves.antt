@@ -20,7 +20,7 @@ use Rattle.vio_tag.specs.Decoding.{Decodes}
 use Rattle.vio_tag.specs.Spelling.{canonical}
 use Rattle.vio_handshake.specs.declared.handshake.Handshake.{Handshake}
 use Rattle.vio_handshake.specs.Rules.{HandshakeTake, handshake_take}
-use Rattle.channel_model.specs.EndPuts.{ComesUp, EndsOwn, EndsHandshake, Goes as Goes_, PutKind, ending, kind_in, put_opens, handshake_behind, handshake_risen}
+use Rattle.channel_model.specs.EndPuts.{EndsOwn, EndsHandshake, PutKind, ending, kind_in, put_opens, handshake_behind, handshake_risen}
 use Rattle.disk_model.specs.Offering.{server_offer}
 use Rattle.channel_model.specs.Ranges.{wrapped}
 use Rattle.channel_model.specs.Seeing.{Seen}
@@ -38,9 +38,10 @@ use Rattle.channel_laws.specs.EndStep.{EndBegins, EndFails, EndHears, EndRenews,
 use Rattle.channel_laws.specs.EndStep as core
 use Rattle.lane_laws.proofs.ClientAnswers.{HandshakesTo}
 use Rattle.lane_laws.proofs.ClientMoves.{cleared_is, holds_and, holds_none}
-use Rattle.channel_laws.proofs.EndStanding.{up_empty}
+use Rattle.channel_laws.proofs.EndStanding.{holds_some, up_empty}
 use Rattle.lane_laws.proofs.Ruling.{server_may}
-use Rattle.lane_laws.proofs.RulesFree.{ServerFree, TakesFree, server_free}
+use Rattle.lane_laws.proofs.RulesFree.{ServerFree, server_free}
+use Rattle.lane_laws.proofs.RuleTests.{TakesFree}
 use Rattle.lane_laws.proofs.ServerAnswers.{Answers, comes_to, goes_by, heard_on, opened_or}
 use Rattle.lane_laws.proofs.ServerSpeaking.{range_few}
 use Rattle.lane_laws.proofs.Sharing.{some_left}
@@ -50,7 +51,7 @@ use Rattle.lane_laws.specs.ChannelEnds.{answers_to_begin, server_core}
 use Rattle.lane_laws.specs.RuleFacts.{ServerMay, ServerSays}
 
 -- THE ANSWERS that it owes and hasn't begun
-answers_less : (b : Bool) (ranges : ℕ) → answers_to_begin b ranges ≤ ranges
+pub answers_less : (b : Bool) (ranges : ℕ) → answers_to_begin b ranges ≤ ranges
 answers_less true ranges = omega arith
 answers_less false ranges = omega arith
 
@@ -88,14 +89,6 @@ quiet_holds k quiet = not_held (is_up k) (not (is_empty k.to_send)) (λ up. ap (
 
 down_holds : (k : LinkState) → is_up k ≡ false → holds k ≡ false
 down_holds k down = not_held (is_up k) (not (is_empty k.to_send)) (λ up. absurd (cc (sym up ∙ down)))
-
-some_holds : (k : LinkState) → is_up k ≡ true → 1 ≤ length k.to_send → holds k ≡ true
-some_holds k up some = both (is_up k) k.to_send up some
-  where
-    both : (b : Bool) (bytes : List ℕ) → b ≡ true → 1 ≤ length bytes → (b && not (is_empty bytes)) ≡ true
-    both true (byte ∷ bytes) up some = refl
-    both true [] up some = absurd (omega (arith, some))
-    both false bytes up some = absurd (cc up)
 
 -- whose the message of its link is
 and_owed : (b : Bool) (owed : Option Message) (message : Message) → owed ≡ Some message → (b && is_none owed) ≡ false
@@ -295,7 +288,7 @@ holds_answer s range session quiet owed is ranged =
         most = omega (arith, before, less);
         more = λ up.
             (let begun : answers_to_begin (holds link && is_none s.handshake.owed) (range_left s.session) ≡ 0 =
-            answers_begun (holds link) s.handshake.owed (range_left s.session) (some_holds link up (some_bytes (answer s range))) owed in
+            answers_begun (holds link) s.handshake.owed (range_left s.session) (holds_some link up (some_bytes (answer s range))) owed in
             omega (arith, before, one, begun));
       };
     }
@@ -319,17 +312,11 @@ server_waits s at t is = let to = holds_by s at (server_rule s at) t (server_may
 -- IT PUTS a packet
 behind_ranges : (kind : PutKind) (session : Option ServerSession) → range_left (session_behind kind session) ≤ range_left session
 behind_ranges EndsOwn None = omega arith
-behind_ranges EndsOwn (Some session) = omega arith
-behind_ranges Goes_ session = omega arith
-behind_ranges ComesUp session = omega arith
-behind_ranges EndsHandshake session = omega arith
+behind_ranges _ _ = omega arith
 
 behind_open : (kind : PutKind) (session : Option ServerSession) → is_some (session_behind kind session) ≡ is_some session
 behind_open EndsOwn None = refl
-behind_open EndsOwn (Some session) = refl
-behind_open Goes_ session = refl
-behind_open ComesUp session = refl
-behind_open EndsHandshake session = refl
+behind_open _ _ = refl
 
 no_ranges : (session : Option ServerSession) → range_left (answered session) ≡ 0
 no_ranges None = refl
@@ -380,7 +367,7 @@ parts_left : (v : ServerState) (last : Bool) → v.link.phase ≡ phase.Establis
 parts_left v true at short = last_left v v.handshake.owed refl
 parts_left v false at long =
     answers_later (holds (behind_put v.link)) (holds v.link) (is_none v.handshake.owed) (range_left v.session)
-    (some_holds (behind_put v.link) (ap (λ (p : LinkPhase). is_established (phase_behind_put p)) at)
+    (holds_some (behind_put v.link) (ap (λ (p : LinkPhase). is_established (phase_behind_put p)) at)
     (subst (λ (bytes : List ℕ). 1 ≤ length bytes) (sym (ap (λ (p : LinkPhase). left_behind_put p v.link.to_send) at))
     (omega (arith, leb-false (length v.link.to_send) 56 long, length-drop 56 v.link.to_send))))
 

@@ -26,7 +26,8 @@ use Rattle.channel_laws.proofs.PutSayings.{SaysWhole, SaysOn}
 use Rattle.channel_laws.proofs.EndStanding.{open_up, owing_up, up_empty}
 use Rattle.lane_laws.proofs.RangeSums.{count_said, sum_more, sum_said}
 use Rattle.lane_laws.proofs.RangesSaid.{owed_no_range, said_range}
-use Rattle.lane_laws.proofs.RulesFree.{AnswersFree, ServerFree}
+use Rattle.lane_laws.proofs.RulesFree.{ServerFree}
+use Rattle.lane_laws.proofs.RuleTests.{AnswersFree}
 use Rattle.lane_laws.specs.Budget.{one_range}
 use Rattle.lane_laws.specs.Counted.{HoldsAnswer, InServerOrder, RangeStands, ServerCounted, ServerOrder, range_count, range_sum}
 use Rattle.lane_laws.specs.LaneRests.{ServerRests, ServerUtters}
@@ -192,7 +193,7 @@ record Answered (slots : ℕ) (session : ServerSession) (range : SlotRange) (n :
   finished : session.finished ≡ session.asked
   adds : range.start < slots → range.end < slots → n ≡ range_length slots range.start range.end
 
-work_most : (w : Option Work) (c : ServerCounts) → WorkAgrees w c → c.finished ≤ c.descs
+pub work_most : (w : Option Work) (c : ServerCounts) → WorkAgrees w c → c.finished ≤ c.descs
 work_most None c agrees = omega (arith, agrees.1)
 work_most (Some work) c agrees = omega (arith, agrees.2)
 

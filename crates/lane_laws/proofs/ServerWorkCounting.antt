@@ -23,7 +23,8 @@ use Rattle.disk_model.specs.ServerWork as server_work
 use Rattle.cookie_copy.specs.Reach.{Reach}
 use Rattle.disk_model.specs.ServerWork.{MovesIn, StoresIn, desc_of, first_progress, gathers_next, or_ends}
 use Rattle.channel_laws.proofs.EndStanding.{open_up, up_empty}
-use Rattle.lane_laws.proofs.RulesFree.{ServerFree, ServesFree, server_free}
+use Rattle.lane_laws.proofs.RulesFree.{ServerFree, server_free}
+use Rattle.lane_laws.proofs.RuleTests.{ServesFree}
 use Rattle.lane_laws.specs.Counted.{RangeStands, ServerCounted, ServerHolds, ServerOrder, UnitFits, UnitIn}
 use Rattle.lane_laws.specs.LaneRests.{ServerRests}
 use Rattle.lane_laws.specs.ChannelEnds.{server_core}
@@ -121,10 +122,7 @@ moves_on (Gives u bytes) work reach unit fault next new moves below =
     subst (GoesOn (desc_of work) (moved_rest fault (owed_of (desc_of work) (Gives u bytes)))) (sym moves.2) (gives_on fault work u bytes)
 moves_on (Gathers u) work reach unit fault next new moves below =
     subst (GoesOn (desc_of work) (moved_rest fault (owed_of (desc_of work) (Gathers u)))) (sym moves.2) (gathered_on fault work reach u below)
-moves_on (Reads u) work reach unit fault next new moves below = absurd moves
-moves_on (Writes u bytes) work reach unit fault next new moves below = absurd moves
-moves_on Flushes work reach unit fault next new moves below = absurd moves
-moves_on (Ends status) work reach unit fault next new moves below = absurd moves
+moves_on _ work reach unit fault next new moves below = absurd moves
 
 read_on : (failed : Bool) (work : Work) (unit : ℕ) (gave : List ℕ) → unit < unit_count (desc_of work).size
     → GoesOn (desc_of work) (stored_rest failed (owed_of (desc_of work) (Reads unit))) (or_ends failed (Gives unit gave))
@@ -151,9 +149,7 @@ stores_on (Writes u bytes) work operation block count failed gave next stores be
     subst (GoesOn (desc_of work) (stored_rest failed (owed_of (desc_of work) (Writes u bytes)))) (sym stores.2) (wrote_on failed work u bytes)
 stores_on Flushes work operation block count failed gave next stores below =
     subst (GoesOn (desc_of work) (stored_rest failed (owed_of (desc_of work) Flushes))) (sym stores.4) (flushed_on failed (desc_of work))
-stores_on (Gives u bytes) work operation block count failed gave next stores below = absurd stores
-stores_on (Gathers u) work operation block count failed gave next stores below = absurd stores
-stores_on (Ends status) work operation block count failed gave next stores below = absurd stores
+stores_on _ work operation block count failed gave next stores below = absurd stores
 
 -- THE LOG after a piece
 range_owed : (slots : ℕ) (range : Option SlotRange) (c : ServerCounts) (owed : List Piece) → RangeStands slots range c → RangeStands slots range (record c { owed = owed })

@@ -110,7 +110,7 @@ ended_bytes : (desc : DiskDesc) (status : ℕ) → put_at 0 (header 4 desc.ack) 
     ≡ canonical (record desc { state = 4; status = status })
 ended_bytes desc status = refl
 
-same_request : (issued : List Request) (id : ℕ) (one other : Request) → slice_get issued id ≡ Some one → slice_get issued id ≡ Some other → one ≡ other
+pub same_request : (issued : List Request) (id : ℕ) (one other : Request) → slice_get issued id ≡ Some one → slice_get issued id ≡ Some other → one ≡ other
 same_request issued id one other is also = let both : Some one ≡ Some other = sym is ∙ also in cc both
 
 pub ended_holds : (r : RingOf) (slot id status : ℕ) (fetched bytes : List ℕ) → Sizes r slot → status < 2 ^ 32 → HoldsIssued r slot id 2 0 fetched → HoldsIssued r slot id 3 0 bytes

@@ -4,7 +4,7 @@ use Rattle.ldc_queue.specs.declared.end.ChannelState.{ChannelState}
 use Rattle.ldc_queue.specs.declared.end.ChannelState.TheVariants.{Down, Resetting, Up}
 use Rattle.ldc_queue.specs.declared.end.End.TheVariants.{A, B}
 use Rattle.ldc_queue.specs.Wire.{Wire, closed, configured, peer_behind, upset}
-use Rattle.channel_model.specs.WireEvent.{Blocked, Declines, Idle, Injected, Joined, Lost, Poked, Reset, Sent, Took, WireEvent}
+use Rattle.channel_model.specs.WireEvent.{Injected, Joined, Lost, Reset, Sent, Took, WireEvent}
 use Rattle.lane_laws.specs.Agreement.{ServerAgrees, WorkAgrees}
 use Rattle.lane_laws.specs.DiskLog.{DiskLog, after}
 use Rattle.channel_model.specs.Messages.{range_ended}
@@ -12,7 +12,7 @@ use Rattle.lane_laws.specs.RingLog.{Accepted as IsAccepted, Done as IsDone, Slot
 use Rattle.lane_laws.specs.WorkLaws.{IfServer}
 use Rattle.lane_laws.specs.WorkLog.{ClientCounts, ServerCounts, WorkLog, change_client, change_server, length_in, one_in}
 use Rattle.disk_model.specs.ClientRule as client_rules
-use Rattle.disk_model.specs.DiskEvent.{Accepted, Asks, Desc, DiskEvent, Done, Finished, Full, Misplaced, Moved, Off, OnWire, Published, Refused, Calms, Started, Stopped, Stored, Switches, Worked, Works}
+use Rattle.disk_model.specs.DiskEvent.{Accepted, Asks, Desc, DiskEvent, Done, Finished, Misplaced, Moved, OnWire, Published, Started, Stopped, Stored, Switches, Worked, Works}
 use Rattle.disk_model.specs.LaneState.{LaneState}
 use Rattle.disk_model.specs.LaneStep.{LaneStep, WorkStep}
 use Rattle.channel_model.specs.Sayings.{half_heard, half_said}
@@ -96,8 +96,7 @@ at_changed wire q g finished descs same at = record {
 
 pub upset_not : (x : ChannelState) → upset x ≡ Up → ⊥
 upset_not Up is = absurd (cc)
-upset_not Down is = absurd (cc)
-upset_not Resetting is = absurd (cc)
+upset_not _ is = absurd (cc)
 
 pub behind_up : (x y : ChannelState) → peer_behind x y ≡ Up → (y ≡ Up) × (x ≡ Up → ⊥)
 behind_up Up y is = absurd (upset_not y is)
@@ -207,13 +206,10 @@ wire_slots s l (Sent B packet false) t step facts slots =
     keep_server l.shape.slots l.work (after l (OnWire (Sent B packet false))).work l.wire.wire (after l (OnWire (Sent B packet false))).wire.wire l.ring l.work.client refl
     (λ finished descs at. same_at l.wire.wire (after l (OnWire (Sent B packet false))).wire.wire (after l (OnWire (Sent B packet false))).work.server finished descs refl refl (at_changed l.wire.wire l.work.server _ finished descs (λ d. (refl, refl)) at)) slots
 wire_slots s l (Lost A packet) t step facts slots = keep_server l.shape.slots l.work (after l (OnWire (Lost A packet))).work l.wire.wire (after l (OnWire (Lost A packet))).wire.wire l.ring l.work.client refl (λ finished descs at. same_at l.wire.wire (after l (OnWire (Lost A packet))).wire.wire l.work.server finished descs refl refl at) slots
-wire_slots s l (Lost B packet) t step facts slots = keep_server l.shape.slots l.work (after l (OnWire (Lost B packet))).work l.wire.wire (after l (OnWire (Lost B packet))).wire.wire l.ring l.work.client refl (λ finished descs at. same_at l.wire.wire (after l (OnWire (Lost B packet))).wire.wire l.work.server finished descs refl refl at) slots
 wire_slots s l (Injected A packet) t step facts slots = keep_server l.shape.slots l.work (after l (OnWire (Injected A packet))).work l.wire.wire (after l (OnWire (Injected A packet))).wire.wire l.ring l.work.client refl (λ finished descs at. same_at l.wire.wire (after l (OnWire (Injected A packet))).wire.wire l.work.server finished descs refl refl at) slots
-wire_slots s l (Injected B packet) t step facts slots = keep_server l.shape.slots l.work (after l (OnWire (Injected B packet))).work l.wire.wire (after l (OnWire (Injected B packet))).wire.wire l.ring l.work.client refl (λ finished descs at. same_at l.wire.wire (after l (OnWire (Injected B packet))).wire.wire l.work.server finished descs refl refl at) slots
-wire_slots s l (Poked e at bytes) t step facts slots = slots
-wire_slots s l (Idle e) t step facts slots = slots
-wire_slots s l (Blocked e) t step facts slots = slots
-wire_slots s l (Declines d) t step facts slots = slots
+wire_slots s l event t step facts slots =
+    keep_server l.shape.slots l.work (after l (OnWire event)).work l.wire.wire (after l (OnWire event)).wire.wire l.ring l.work.client refl
+    (λ finished descs at. same_at l.wire.wire (after l (OnWire event)).wire.wire l.work.server finished descs refl refl at) slots
 
 -- THE WORK: a request is published
 published_in : (s : LaneState) (l : DiskLog) (id : ℕ) (t : LaneState) → Known s l → WorkStep s (Published id) t → SlotsInOrder l → SlotsInOrder (after l (Works (Published id)))
@@ -361,11 +357,8 @@ work_slots s l Misplaced t step facts slots = absurd step
 pub event_slots : (s : LaneState) (l : DiskLog) (event : DiskEvent) (t : LaneState) → LaneStep s event t → StepFacts s l event t → SlotsInOrder l → SlotsInOrder (after l event)
 event_slots s l (OnWire event) t step facts slots = wire_slots s l event t step facts slots
 event_slots s l (Asks (Accepted id request)) t step facts slots = keep_server l.shape.slots l.work (after l (Asks (Accepted id request))).work l.wire.wire l.wire.wire l.ring l.work.client refl (λ finished descs at. at) slots
-event_slots s l (Asks (Full request)) t step facts slots = slots
-event_slots s l (Asks (Refused why request)) t step facts slots = slots
 event_slots s l (Works event) t step facts slots = work_slots s l event t step facts slots
 event_slots s l (Switches Stopped) t step facts slots =
     keep_server l.shape.slots l.work (after l (Switches Stopped)).work l.wire.wire (after l (Switches Stopped)).wire.wire l.ring l.work.client refl (λ finished descs at. at_closed l.wire.wire finished descs) slots
 event_slots s l (Switches Started) t step facts slots = keep_server l.shape.slots l.work (after l (Switches Started)).work l.wire.wire l.wire.wire l.ring l.work.client refl (λ finished descs at. at) slots
-event_slots s l (Switches Off) t step facts slots = slots
-event_slots s l (Calms event) t step facts slots = slots
+event_slots s l _ t step facts slots = slots

@@ -11,7 +11,7 @@ use Rattle.ldc_queue.specs.declared.end.ChannelState.TheVariants.{Up}
 use Rattle.ldc_queue.specs.declared.end.End.TheVariants.{A, B}
 use Rattle.ldc_queue.specs.OneStream.{IsFront}
 use Rattle.ldc_queue.specs.Transcript.{Heard as Heard_, Said, Turn}
-use Rattle.vio_handshake.proofs.Places.{AllSaid, AttributesAnswered, AttributesSaid, Deal, PeerReadyAnswered, PeerReadySaid, PeerRingAnswered, PeerRingSaid, Place, ReadyAnswered, ReadySaid, RingAnswered, RingSaid, VersionAnswered, VersionSaid}
+use Rattle.vio_handshake.proofs.Places.{AllSaid, Deal, Place}
 use Rattle.vio_handshake.specs.declared.handshake.Phase.TheVariants.{Open}
 use Rattle.vio_handshake.specs.Rules.{opens_by_put}
 use Rattle.channel_model.specs.Sayings.{half_heard, half_said, heard, said}
@@ -27,7 +27,7 @@ use Rattle.lane_laws.specs.WorkLog.{ClientCounts, ServerCounts}
 use Rattle.disk_model.specs.ClientPutting.{client_kind}
 use Rattle.disk_model.specs.ClientState.{ClientSession, ClientState}
 use Rattle.disk_model.specs.DiskEvent.{DiskEvent, OnWire}
-use Rattle.channel_model.specs.EndPuts.{ComesUp, EndsOwn, EndsHandshake, Goes, PutKind, put_opens}
+use Rattle.channel_model.specs.EndPuts.{EndsHandshake, PutKind, put_opens}
 use Rattle.disk_model.specs.LaneState.{IsShape, LaneState, Shape, fresh}
 use Rattle.disk_model.specs.LaneStep.{LaneStep}
 use Rattle.channel_model.specs.Seeing.{seen}
@@ -100,19 +100,8 @@ around shape events s event t sound run step clean =
 
 -- BEFORE THE LAST PLACE the client has said, and the server heard, at most four messages
 few_at : (d : Deal) (n : Place) → n ≢ AllSaid → length (said_at false d Initiator n ++ []) ≤ 4
-few_at d VersionSaid far = omega arith
-few_at d VersionAnswered far = omega arith
-few_at d AttributesSaid far = omega arith
-few_at d AttributesAnswered far = omega arith
-few_at d RingSaid far = omega arith
-few_at d RingAnswered far = omega arith
-few_at d PeerRingSaid far = omega arith
-few_at d PeerRingAnswered far = omega arith
-few_at d ReadySaid far = omega arith
-few_at d ReadyAnswered far = omega arith
-few_at d PeerReadySaid far = omega arith
-few_at d PeerReadyAnswered far = omega arith
 few_at d AllSaid far = absurd (far refl)
+few_at d _ far = omega arith
 
 five_at : (d : Deal) (n : Place) (more : List (List ℕ)) → n ≡ AllSaid → 5 ≤ length (said_at false d Initiator n ++ more)
 five_at d n more last = subst (λ (p : Place). 5 ≤ length (said_at false d Initiator p ++ more)) (sym last) (omega arith)
@@ -122,14 +111,12 @@ not_open b closed is = false_is_true (sym closed ∙ is)
 
 -- A SESSION OF THE CLIENT opens where it had none
 kind_opens : (kind : PutKind) (c : ClientState) → c.handshake.phase ≡ Open → put_opens kind c.handshake ≡ false
-kind_opens Goes c is = refl
-kind_opens ComesUp c is = refl
-kind_opens EndsOwn c is = refl
 kind_opens EndsHandshake c is = ap (opens_by_put c.handshake.role) is ∙ by_role c.handshake.role
   where
     by_role : (r : Role) → opens_by_put r Open ≡ false
     by_role Initiator = refl
     by_role Responder = refl
+kind_opens _ c is = refl
 
 none_if : (o : Option ClientSession) → (is_some o ≡ true → ⊥) → o ≡ None
 none_if None never = refl

@@ -7,13 +7,13 @@ use Rattle.runs.specs.Run.{Run, run_push}
 use Rattle.ldc_queue.specs.declared.end.End.TheVariants.{A, B}
 use Rattle.ldc_queue.specs.Transcript.{Said}
 use Rattle.channel_model.specs.Sayings.{half_heard, said}
-use Rattle.channel_model.specs.WireEvent.{Blocked, Declines, Idle, Injected, Joined, Lost, Poked, Reset, Sent, Took, WireEvent}
+use Rattle.channel_model.specs.WireEvent.{Injected, Joined, Lost, Reset, Sent, Took}
 use Rattle.lane_laws.specs.DiskLog.{DiskLog, after, nothing_yet}
 use Rattle.lane_laws.specs.RingLog.{Done as IsDone, Free, SlotLog, finished_at, id_at}
 use Rattle.lane_laws.specs.WorkLaws.{IfClient, InClient, Unforged, WorkUnforgedAt, last_of}
 use Rattle.channel_model.specs.Messages.{opening_sid}
-use Rattle.lane_laws.specs.WorkLog.{ClientCounts, Opened, ServerCounts, change_server, rest_of}
-use Rattle.disk_model.specs.DiskEvent.{Accepted, Asks, Desc, DiskEvent, Done, Finished, Full, Misplaced, Moved, Off, OnWire, Published, Refused, Calms, Started, Stopped, Stored, Switches, Worked, Works}
+use Rattle.lane_laws.specs.WorkLog.{ClientCounts, Opened, ServerCounts, change_server}
+use Rattle.disk_model.specs.DiskEvent.{Accepted, Asks, Desc, DiskEvent, Done, Finished, Misplaced, Moved, OnWire, Published, Stopped, Stored, Switches, Worked, Works}
 use Rattle.disk_model.specs.LaneState.{IsShape, LaneState, Shape, fresh}
 use Rattle.disk_model.specs.LaneStep.{LaneStep, WorkStep}
 use Rattle.channel_model.specs.Seeing.{seen}
@@ -30,6 +30,7 @@ use Rattle.lane_laws.proofs.PieceLaw.{Working}
 use Rattle.lane_laws.proofs.WorkRuns.{fresh_working, working_step}
 use Rattle.lane_laws.specs.Statuses.{IsLast, IsNamed, KeepsStatus, LastIn, StatusesStand}
 use Rattle.channel_laws.proofs.Apart.{true_is_false}
+use Rattle.lane_laws.proofs.ServerEndCounting.{finished_log as finished_counts}
 
 -- A SESSION OPENS
 opened_last : (l : DiskLog) (packet : List ℕ) (o : Option ClientCounts) → IfClient o (λ (k : ClientCounts). IsNamed k.sid (said l.transcript.client))
@@ -73,39 +74,7 @@ sent_status true shape s l packet t now step stand = record {
 }
 
 -- THE WIRE
-wire_status : (shape : Shape) (s : LaneState) (l : DiskLog) (event : WireEvent) (t : LaneState) → Around shape s l (OnWire event) t → LaneStep s (OnWire event) t → StatusesStand l
-    → StatusesStand (after l (OnWire event))
-wire_status shape s l (Joined A lost) t now step stand = record { done = tt; last = λ up. last_gone l.work.server l.work.opened; named = tt }
-wire_status shape s l (Joined B lost) t now step stand = record { done = stand.done; last = λ up. tt; named = stand.named }
-wire_status shape s l (Reset A cause packet lost) t now step stand = record { done = tt; last = λ up. last_gone l.work.server l.work.opened; named = tt }
-wire_status shape s l (Reset B cause packet lost) t now step stand = record { done = stand.done; last = λ up. tt; named = stand.named }
-wire_status shape s l (Took A packet false) t now step stand = record {
-  done = keeps_changed _ l.work.client l.ring l.work.opened (λ k. refl) (λ k. refl) stand.done;
-  last = λ up. last_client _ l.work.server l.work.client l.work.opened (λ k. refl) (stand.last up);
-  named = named_changed _ l.work.client (said l.transcript.client) (λ k. refl) stand.named;
-}
-wire_status shape s l (Took A packet true) t now step stand = true_is_false (step.step.2)
-wire_status shape s l (Took B packet opens) t now step stand = took_status opens shape s l packet t now step stand
-wire_status shape s l (Sent A packet opens) t now step stand = sent_status opens shape s l packet t now step stand
-wire_status shape s l (Sent B packet true) t now step stand = absurd (sends_not shape s l packet t now step)
-wire_status shape s l (Sent B packet false) t now step stand = record {
-  done = stand.done;
-  last = λ up. last_server _ l.work.server l.work.client l.work.opened (λ d. refl) (stand.last up);
-  named = stand.named;
-}
-wire_status shape s l (Lost A packet) t now step stand = record { done = stand.done; last = stand.last; named = stand.named }
-wire_status shape s l (Lost B packet) t now step stand = record { done = stand.done; last = stand.last; named = stand.named }
-wire_status shape s l (Injected A packet) t now step stand = record { done = stand.done; last = stand.last; named = stand.named }
-wire_status shape s l (Injected B packet) t now step stand = record { done = stand.done; last = stand.last; named = stand.named }
-wire_status shape s l (Poked e at bytes) t now step stand = record { done = stand.done; last = stand.last; named = stand.named }
-wire_status shape s l (Idle e) t now step stand = record { done = stand.done; last = stand.last; named = stand.named }
-wire_status shape s l (Blocked e) t now step stand = record { done = stand.done; last = stand.last; named = stand.named }
-wire_status shape s l (Declines d) t now step stand = record { done = stand.done; last = stand.last; named = stand.named }
-
 -- THE WORK: a status is given
-abbrev finished_counts : ServerCounts → ServerCounts
-finished_counts c = record c { finished = c.finished + 1; owed = rest_of c.owed }
-
 finished_status : (s : LaneState) (l : DiskLog) (slot status : ℕ) (t : LaneState) → Known s l → WorkStep s (Finished slot status) t → StatusesStand l → StatusesStand (after l (Works (Finished slot status)))
 finished_status s l slot status t known step stand =
     let at = seen B s.shape.entries s.wire.wire in
@@ -158,15 +127,30 @@ work_status s l Misplaced t known step stand = absurd step
 
 -- EACH EVENT
 event_status : (shape : Shape) (s : LaneState) (l : DiskLog) (event : DiskEvent) (t : LaneState) → Around shape s l event t → LaneStep s event t → StatusesStand l → StatusesStand (after l event)
-event_status shape s l (OnWire event) t now step stand = wire_status shape s l event t now step stand
+event_status shape s l (OnWire (Joined A lost)) t now step stand = record { done = tt; last = λ up. last_gone l.work.server l.work.opened; named = tt }
+event_status shape s l (OnWire (Joined B lost)) t now step stand = record { done = stand.done; last = λ up. tt; named = stand.named }
+event_status shape s l (OnWire (Reset A cause packet lost)) t now step stand = record { done = tt; last = λ up. last_gone l.work.server l.work.opened; named = tt }
+event_status shape s l (OnWire (Reset B cause packet lost)) t now step stand = record { done = stand.done; last = λ up. tt; named = stand.named }
+event_status shape s l (OnWire (Took A packet false)) t now step stand = record {
+  done = keeps_changed _ l.work.client l.ring l.work.opened (λ k. refl) (λ k. refl) stand.done;
+  last = λ up. last_client _ l.work.server l.work.client l.work.opened (λ k. refl) (stand.last up);
+  named = named_changed _ l.work.client (said l.transcript.client) (λ k. refl) stand.named;
+}
+event_status shape s l (OnWire (Took A packet true)) t now step stand = true_is_false (step.step.2)
+event_status shape s l (OnWire (Took B packet opens)) t now step stand = took_status opens shape s l packet t now step stand
+event_status shape s l (OnWire (Sent A packet opens)) t now step stand = sent_status opens shape s l packet t now step stand
+event_status shape s l (OnWire (Sent B packet true)) t now step stand = absurd (sends_not shape s l packet t now step)
+event_status shape s l (OnWire (Sent B packet false)) t now step stand = record {
+  done = stand.done;
+  last = λ up. last_server _ l.work.server l.work.client l.work.opened (λ d. refl) (stand.last up);
+  named = stand.named;
+}
+event_status shape s l (OnWire (Lost A packet)) t now step stand = record { done = stand.done; last = stand.last; named = stand.named }
+event_status shape s l (OnWire (Injected A packet)) t now step stand = record { done = stand.done; last = stand.last; named = stand.named }
 event_status shape s l (Asks (Accepted id request)) t now step stand = record { done = stand.done; last = stand.last; named = stand.named }
-event_status shape s l (Asks (Full request)) t now step stand = record { done = stand.done; last = stand.last; named = stand.named }
-event_status shape s l (Asks (Refused why request)) t now step stand = record { done = stand.done; last = stand.last; named = stand.named }
 event_status shape s l (Works event) t now step stand = work_status s l event t now.known step stand
 event_status shape s l (Switches Stopped) t now step stand = record { done = stand.done; last = λ up. tt; named = stand.named }
-event_status shape s l (Switches Started) t now step stand = record { done = stand.done; last = stand.last; named = stand.named }
-event_status shape s l (Switches Off) t now step stand = record { done = stand.done; last = stand.last; named = stand.named }
-event_status shape s l (Calms event) t now step stand = record { done = stand.done; last = stand.last; named = stand.named }
+event_status shape s l _ t now step stand = record { done = stand.done; last = stand.last; named = stand.named }
 
 -- ALONG EVERY RUN
 record AlongWork (shape : Shape) (s : LaneState) (l : DiskLog) : Type 0 where
@@ -191,19 +175,13 @@ worked_unforged shape events s (Done id operation status bytes) t sound run work
     let l = log_of after (nothing_yet shape) events in
     let found = run_status shape events s t id operation status bytes sound run step clean in
     completes_with l found.0 id operation status bytes found.1.open_is stand _ found.1.done_is
-worked_unforged shape events s (Published id) t sound run working stand clean step = tt
-worked_unforged shape events s (Stored operation block count failed) t sound run working stand clean step = tt
-worked_unforged shape events s (Finished slot status) t sound run working stand clean step = tt
-worked_unforged shape events s Misplaced t sound run working stand clean step = tt
+worked_unforged shape events s _ t sound run working stand clean step = tt
 
 unforged_at : (shape : Shape) (events : List DiskEvent) (s : LaneState) (event : DiskEvent) (t : LaneState) → IsShape shape → Run LaneStep (fresh shape) events s
     → Working s (log_of after (nothing_yet shape) events) → ((log_of after (nothing_yet shape) events).wire.forged ≡ false → StatusesStand (log_of after (nothing_yet shape) events))
     → LaneStep s event t → WorkUnforgedAt (log_of after (nothing_yet shape) events) event
 unforged_at shape events s (Works event) t sound run working stand step = λ clean. worked_unforged shape events s event t sound run working (stand clean) clean step
-unforged_at shape events s (OnWire event) t sound run working stand step = λ clean. tt
-unforged_at shape events s (Asks event) t sound run working stand step = λ clean. tt
-unforged_at shape events s (Switches event) t sound run working stand step = λ clean. tt
-unforged_at shape events s (Calms event) t sound run working stand step = λ clean. tt
+unforged_at shape events s _ t sound run working stand step = λ clean. tt
 
 along_step : (shape : Shape) → IsShape shape → (s : LaneState) (l : DiskLog) (event : DiskEvent) (t : LaneState) → AlongWork shape s l → LaneStep s event t
     → WorkUnforgedAt l event × AlongWork shape t (after l event)

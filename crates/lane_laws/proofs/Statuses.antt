@@ -6,17 +6,17 @@ use Rattle.runs.specs.Run.{Run}
 use Rattle.cookie_copy.specs.declared.fault.CopyFault.{CopyFault}
 use Rattle.ldc_queue.specs.declared.end.End.TheVariants.{A, B}
 use Rattle.ldc_queue.specs.declared.end.ChannelState.{ChannelState}
-use Rattle.channel_model.specs.WireEvent.{Blocked, Declines, Idle, Injected, Joined, Lost, Poked, Reset, Sent, Took, WireEvent}
+use Rattle.channel_model.specs.WireEvent.{Joined, Reset, Sent, Took}
 use Rattle.channel_laws.proofs.Apart.{some_same}
 use Rattle.lane_laws.specs.DiskLog.{DiskLog, after, nothing_yet}
 use Rattle.lane_laws.specs.RingLog.{Done as IsDone, Free, Ready, SlotLog, Zeros, cleared_if, fetched_at, finished_at, freed_at, published_at}
 use Rattle.lane_laws.specs.WorkLog.{ClientCounts, Opened, ServerCounts, WorkLog, finished_in, opened_more}
-use Rattle.disk_model.specs.DiskEvent.{Accepted, Asks, Desc, DiskEvent, Done, Finished, Full, Misplaced, Moved, Off, OnWire, Published, Refused, Calms, Started, Stopped, Stored, Switches, Works}
+use Rattle.disk_model.specs.DiskEvent.{Accepted, Asks, Desc, DiskEvent, Done, Finished, Moved, OnWire, Published, Stopped, Switches, Works}
 use Rattle.disk_model.specs.LaneState.{IsShape, LaneState, Shape, fresh}
 use Rattle.disk_model.specs.LaneStep.{LaneStep, WorkStep, reach}
 use Rattle.channel_model.specs.Seeing.{seen}
 use Rattle.disk_model.specs.ServerRule as server_rules
-use Rattle.disk_model.specs.ServerState.{Ends, Flushes, Gathers, Gives, Progress, Reads, ServerState, Work, Writes}
+use Rattle.disk_model.specs.ServerState.{Ends, Gathers, Gives, Progress, ServerState, Work}
 use Rattle.cookie_copy.specs.Reach.{Reach}
 use Rattle.disk_model.specs.ServerWork.{MovesIn}
 use Rattle.lane_laws.proofs.RingClientSteps.{completes_slot}
@@ -81,22 +81,6 @@ more_opened true sid sessions zeros = (tt, zeros)
 more_opened false sid sessions zeros = zeros
 
 -- EACH EVENT
-wire_zero : (l : DiskLog) (event : WireEvent) → StatusesZero l → StatusesZero (after l (OnWire event))
-wire_zero l (Joined A lost) zeros = record { ring = zeros.ring; opened = zeros.opened }
-wire_zero l (Joined B lost) zeros = record { ring = zeros.ring; opened = zeros.opened }
-wire_zero l (Reset A cause packet lost) zeros = record { ring = zeros.ring; opened = zeros.opened }
-wire_zero l (Reset B cause packet lost) zeros = record { ring = zeros.ring; opened = zeros.opened }
-wire_zero l (Took A packet opens) zeros = record { ring = zeros.ring; opened = zeros.opened }
-wire_zero l (Took B packet opens) zeros = record { ring = zeros.ring; opened = more_opened opens _ l.work.opened zeros.opened }
-wire_zero l (Sent A packet opens) zeros = record { ring = cleared_zero opens l.shape.slots l.ring zeros.ring; opened = zeros.opened }
-wire_zero l (Sent B packet opens) zeros = record { ring = zeros.ring; opened = more_opened opens _ l.work.opened zeros.opened }
-wire_zero l (Lost e packet) zeros = record { ring = zeros.ring; opened = zeros.opened }
-wire_zero l (Injected e packet) zeros = record { ring = zeros.ring; opened = zeros.opened }
-wire_zero l (Poked e at bytes) zeros = record { ring = zeros.ring; opened = zeros.opened }
-wire_zero l (Idle e) zeros = record { ring = zeros.ring; opened = zeros.opened }
-wire_zero l (Blocked e) zeros = record { ring = zeros.ring; opened = zeros.opened }
-wire_zero l (Declines d) zeros = record { ring = zeros.ring; opened = zeros.opened }
-
 -- a descriptor ends with the status that its progress has
 ends_zero : (s : LaneState) (l : DiskLog) (slot status : ℕ) (t : LaneState) → Before s l → ContentsStand (view_of s) → WorkStep s (Finished slot status) t → status ≡ 0
 ends_zero s l slot status t before contents step =
@@ -109,23 +93,20 @@ ends_zero s l slot status t before contents step =
     is.1
 
 event_zero : (s : LaneState) (l : DiskLog) (event : DiskEvent) (t : LaneState) → Before s l → ContentsStand (view_of s) → LaneStep s event t → StatusesZero l → StatusesZero (after l event)
-event_zero s l (OnWire event) t before contents step zeros = wire_zero l event zeros
+event_zero s l (OnWire (Joined A lost)) t before contents step zeros = record { ring = zeros.ring; opened = zeros.opened }
+event_zero s l (OnWire (Reset A cause packet lost)) t before contents step zeros = record { ring = zeros.ring; opened = zeros.opened }
+event_zero s l (OnWire (Took B packet opens)) t before contents step zeros = record { ring = zeros.ring; opened = more_opened opens _ l.work.opened zeros.opened }
+event_zero s l (OnWire (Sent A packet opens)) t before contents step zeros = record { ring = cleared_zero opens l.shape.slots l.ring zeros.ring; opened = zeros.opened }
+event_zero s l (OnWire (Sent B packet opens)) t before contents step zeros = record { ring = zeros.ring; opened = more_opened opens _ l.work.opened zeros.opened }
 event_zero s l (Asks (Accepted id request)) t before contents step zeros = record { ring = zeros.ring; opened = zeros.opened }
-event_zero s l (Asks (Full request)) t before contents step zeros = record { ring = zeros.ring; opened = zeros.opened }
-event_zero s l (Asks (Refused why request)) t before contents step zeros = record { ring = zeros.ring; opened = zeros.opened }
 event_zero s l (Works (Published id)) t before contents step zeros = record { ring = published_zero l.shape.slots l.work.client id l.ring zeros.ring; opened = zeros.opened }
 event_zero s l (Works (Done id operation status bytes)) t before contents step zeros = record { ring = freed_zero l.shape.slots l.work l.work.client l.ring zeros.ring; opened = zeros.opened }
 event_zero s l (Works (Desc slot bytes)) t before contents step zeros = record { ring = fetched_zero l.shape.slots l.work l.work.server slot l.ring zeros.ring; opened = zeros.opened }
-event_zero s l (Works (Moved unit fault)) t before contents step zeros = record { ring = zeros.ring; opened = zeros.opened }
-event_zero s l (Works (Stored operation block count failed)) t before contents step zeros = record { ring = zeros.ring; opened = zeros.opened }
 event_zero s l (Works (Finished slot status)) t before contents step zeros =
     let none = ends_zero s l slot status t before contents step in
     record { ring = finished_zero l.shape.slots l.work l.work.server slot status l.ring none zeros.ring; opened = finished_opened status l.work.opened none zeros.opened }
-event_zero s l (Works Misplaced) t before contents step zeros = record { ring = zeros.ring; opened = zeros.opened }
 event_zero s l (Switches Stopped) t before contents step zeros = record { ring = zeros.ring; opened = zeros.opened }
-event_zero s l (Switches Started) t before contents step zeros = record { ring = zeros.ring; opened = zeros.opened }
-event_zero s l (Switches Off) t before contents step zeros = record { ring = zeros.ring; opened = zeros.opened }
-event_zero s l (Calms event) t before contents step zeros = record { ring = zeros.ring; opened = zeros.opened }
+event_zero s l _ t before contents step zeros = record { ring = zeros.ring; opened = zeros.opened }
 
 -- ALONG A RUN
 record AlongZero (shape : Shape) (s : LaneState) (l : DiskLog) : Type 0 where
@@ -173,10 +154,7 @@ run_finished_zero shape events s slot status t sound run step unforged well =
 refused_ends : (p : Progress) (work : Work) (r : Reach) (unit : ℕ) (why : CopyFault) (next : Progress) (new : List ℕ) → MovesIn p work r unit (Some why) next new → next ≡ Ends 22
 refused_ends (Gives u bytes) work r unit why next new moves = moves.2
 refused_ends (Gathers u) work r unit why next new moves = moves.2
-refused_ends (Reads u) work r unit why next new moves = absurd moves
-refused_ends (Writes u bytes) work r unit why next new moves = absurd moves
-refused_ends Flushes work r unit why next new moves = absurd moves
-refused_ends (Ends status) work r unit why next new moves = absurd moves
+refused_ends _ work r unit why next new moves = absurd moves
 
 moved_none : (s : LaneState) (l : DiskLog) (unit : ℕ) (fault : Option CopyFault) (t : LaneState) → Before s l → ContentsStand (view_of t) → WorkStep s (Moved unit fault) t → fault ≡ None
 moved_none s l unit None t before contents step = refl

@@ -5,11 +5,11 @@ use Rattle.ldc_queue.specs.declared.end.End.{End}
 use Rattle.ldc_queue.specs.declared.end.End.TheVariants.{A, B}
 use Rattle.vio_tag.specs.declared.cause.Cause.{Cause}
 use Rattle.channel_model.specs.WireAt.{IsUp}
-use Rattle.channel_model.specs.WireEvent.{Blocked, ByStep, Declines, Giver, Idle, Injected, Joined, Lost, Poked, Reset, Sent, Took, WireEvent, giver}
+use Rattle.channel_model.specs.WireEvent.{Blocked, ByStep, Giver, Idle, Joined, Reset, Sent, Took, WireEvent, giver}
 use Rattle.disk_model.specs.ClientRule as client_rules
 use Rattle.disk_model.specs.ClientState.{ClientState}
 use Rattle.disk_model.specs.ClientStep.{ClientFails}
-use Rattle.disk_model.specs.DiskEvent.{Asks, Desc, DiskEvent, Done, Finished, Misplaced, Moved, Off, OnWire, Published, Calms, Started, Stopped, Stored, Switches, Worked, Works}
+use Rattle.disk_model.specs.DiskEvent.{DiskEvent, Misplaced, Off, OnWire, Switches, Works}
 use Rattle.disk_model.specs.LaneState.{IsShape, LaneState, Shape, fresh}
 use Rattle.disk_model.specs.LaneStep.{EndOnWire, LaneStep, ResetBy, reach}
 use Rattle.disk_model.specs.ServerRule as server_rules
@@ -22,7 +22,7 @@ use Rattle.lane_laws.proofs.Ruling.{client_may, server_may}
 use Rattle.lane_laws.specs.Remaining.{remaining}
 use Rattle.lane_laws.specs.RuleFacts.{ClientMay, ServerMay}
 use Rattle.lane_laws.proofs.OwnResets.{own_reset}
-use Rattle.lane_laws.proofs.WorkNumbers.{at_client, at_server}
+use Rattle.lane_laws.proofs.LaneViews.{at_client, at_server}
 use Rattle.lane_laws.specs.CalmEnds.{IsCalm, IsStep, IsWireStep}
 
 -- it does nothing and leaves what remains, or lowers it
@@ -71,35 +71,13 @@ wire_falls shape events s e (Sent d packet opens) t sound run clean step own = i
 wire_falls shape events s e (Idle d) t sound run clean step own = inl (own, same_remains s t (idles d s t step))
 wire_falls shape events s e (Blocked d) t sound run clean step own = inl (own, blocked_stays shape events s d t sound run step)
 wire_falls shape events s e (Reset d cause packet lost) t sound run clean step own = inr (own_falls shape events s d cause packet lost t sound run clean own.1 step)
-wire_falls shape events s e (Lost d packet) t sound run clean step own = absurd own
-wire_falls shape events s e (Injected d packet) t sound run clean step own = absurd own
-wire_falls shape events s e (Poked d at bytes) t sound run clean step own = absurd own
-wire_falls shape events s e (Declines d) t sound run clean step own = absurd own
-
-work_falls : (shape : Shape) (events : List DiskEvent) (s : LaneState) (e : End) (event : Worked) (t : LaneState) → IsShape shape → Run LaneStep (fresh shape) events s → LaneStep s (Works event) t
-    → remaining t < remaining s
-work_falls shape events s e (Published id) t sound run step = steps_fall shape events s (Works (Published id)) t sound run step tt
-work_falls shape events s e (Done id operation status bytes) t sound run step = steps_fall shape events s (Works (Done id operation status bytes)) t sound run step tt
-work_falls shape events s e (Desc slot bytes) t sound run step = steps_fall shape events s (Works (Desc slot bytes)) t sound run step tt
-work_falls shape events s e (Moved unit fault) t sound run step = steps_fall shape events s (Works (Moved unit fault)) t sound run step tt
-work_falls shape events s e (Stored operation block count failed) t sound run step = steps_fall shape events s (Works (Stored operation block count failed)) t sound run step tt
-work_falls shape events s e (Finished slot status) t sound run step = steps_fall shape events s (Works (Finished slot status)) t sound run step tt
-work_falls shape events s e Misplaced t sound run step = absurd step
-
-off_calm : (e : End) → IsStep e (Switches Off) → IsCalm e (Switches Off)
-off_calm A own = absurd own
-off_calm B own = tt
+wire_falls shape events s e _ t sound run clean step own = absurd own
 
 pub step_falls : (shape : Shape) (events : List DiskEvent) (s : LaneState) (e : End) (event : DiskEvent) (t : LaneState) → IsShape shape → Run LaneStep (fresh shape) events s → s.wire.forged ≡ false
     → LaneStep s event t → IsStep e event → (IsCalm e event × (remaining t ≤ remaining s)) ⊎ (remaining t < remaining s)
 step_falls shape events s e (OnWire event) t sound run clean step own = wire_falls shape events s e event t sound run clean step own
-step_falls shape events s e (Works event) t sound run clean step own = inr (work_falls shape events s e event t sound run step)
-step_falls shape events s e (Switches Off) t sound run clean step own = inl (off_calm e own, same_remains s t step.1)
-step_falls shape events s A (Switches Stopped) t sound run clean step own = absurd own
-step_falls shape events s B (Switches Stopped) t sound run clean step own = absurd own
-step_falls shape events s A (Switches Started) t sound run clean step own = absurd own
-step_falls shape events s B (Switches Started) t sound run clean step own = absurd own
-step_falls shape events s A (Asks event) t sound run clean step own = absurd own
-step_falls shape events s B (Asks event) t sound run clean step own = absurd own
-step_falls shape events s A (Calms event) t sound run clean step own = absurd own
-step_falls shape events s B (Calms event) t sound run clean step own = absurd own
+step_falls shape events s e (Works Misplaced) t sound run clean step own = absurd step
+step_falls shape events s e (Works event) t sound run clean step own = inr (steps_fall shape events s (Works event) t sound run step tt)
+step_falls shape events s B (Switches Off) t sound run clean step own = inl (tt, same_remains s t step.1)
+step_falls shape events s A _ t sound run clean step own = absurd own
+step_falls shape events s B _ t sound run clean step own = absurd own

@@ -1,23 +1,18 @@
 -- A step of an end neither forges nor loses a packet, and neither stops nor starts the server.
-use Rattle.std.proofs.Common.{◌≡◌, Bool, false, refl, ap, ◌∙◌, subst}
+use Rattle.std.proofs.Common.{◌≡◌, Bool, false, refl, ap, ◌∙◌}
 use Rattle.ldc_queue.specs.declared.end.ChannelState.{ChannelState}
 use Rattle.ldc_queue.specs.declared.end.ChannelState.TheVariants.{Down, Resetting, Up}
 use Rattle.ldc_queue.specs.declared.end.End.{End}
 use Rattle.ldc_queue.specs.declared.end.End.TheVariants.{A, B}
 use Rattle.ldc_queue.specs.Wire.{state_of}
-use Rattle.channel_model.specs.WireEvent.{Blocked, Declines, Giver, Idle, Injected, Joined, Lost, Poked, Reset, Sent, Took, WireEvent}
+use Rattle.channel_model.specs.WireEvent.{Injected, Joined, Lost, Poked, Reset}
 use Rattle.channel_model.specs.WireLog.{WireLog, lossy_behind, wire_moved}
-use Rattle.disk_model.specs.DiskEvent.{Asks, Desc, DiskEvent, Done, Finished, Misplaced, Moved, Off, OnWire, Published, Calms, Started, Stopped, Stored, Switches, Worked, Works}
+use Rattle.disk_model.specs.DiskEvent.{DiskEvent, OnWire, Started, Stopped, Switches}
 use Rattle.disk_model.specs.LaneState.{LaneState}
-use Rattle.disk_model.specs.LaneStep.{EndOnWire, LaneStep, ResetBy}
-use Rattle.lane_laws.specs.CalmEnds.{IsStep, IsWireStep, StepKeeps}
-
-same_lane : (s t : LaneState) → t.wire ≡ s.wire → t.stopped ≡ s.stopped → StepKeeps s t
-same_lane s t wire stopped = record {
-  forged = ap (λ (w : WireLog). w.forged) wire;
-  whole = λ whole. ap (λ (w : WireLog). w.lossy) wire ∙ whole;
-  stopped = stopped;
-}
+use Rattle.disk_model.specs.LaneStep.{LaneStep}
+use Rattle.lane_laws.specs.DiskLog.{after_wire}
+use Rattle.lane_laws.proofs.LaneViews.{after_stopped, lane_view}
+use Rattle.lane_laws.specs.CalmEnds.{IsStep, StepKeeps}
 
 -- a configured end empties its queues or leaves them
 still_whole : (x : ChannelState) (lossy : Bool) → lossy ≡ false → lossy_behind x lossy ≡ false
@@ -32,56 +27,23 @@ begun_lane e s t wire stopped = record {
   stopped = stopped;
 }
 
-moved_lane : (s t : LaneState) (event : WireEvent) → t.wire ≡ wire_moved s.wire event → (wire_moved s.wire event).forged ≡ s.wire.forged → (wire_moved s.wire event).lossy ≡ s.wire.lossy → t.stopped ≡ s.stopped
-    → StepKeeps s t
-moved_lane s t event wire forged lossy stopped = record {
-  forged = ap (λ (w : WireLog). w.forged) wire ∙ forged;
-  whole = λ whole. ap (λ (w : WireLog). w.lossy) wire ∙ lossy ∙ whole;
+-- EACH STEP, by the wire after it
+moved_keeps : (s : LaneState) (e : End) (event : DiskEvent) (t : LaneState) → t.wire ≡ after_wire s.wire event → t.stopped ≡ after_stopped s.stopped event → IsStep e event → StepKeeps s t
+moved_keeps s e (OnWire (Joined d lost)) t wire stopped own = begun_lane d s t wire stopped
+moved_keeps s e (OnWire (Reset d cause packet lost)) t wire stopped own = begun_lane d s t wire stopped
+moved_keeps s e (OnWire (Lost d packet)) t wire stopped own = absurd own
+moved_keeps s e (OnWire (Injected d packet)) t wire stopped own = absurd own
+moved_keeps s e (OnWire (Poked d at bytes)) t wire stopped own = absurd own
+moved_keeps s A (Switches Stopped) t wire stopped own = absurd own
+moved_keeps s B (Switches Stopped) t wire stopped own = absurd own
+moved_keeps s A (Switches Started) t wire stopped own = absurd own
+moved_keeps s B (Switches Started) t wire stopped own = absurd own
+moved_keeps s e _ t wire stopped own = record {
+  forged = ap (λ (w : WireLog). w.forged) wire;
+  whole = λ whole. ap (λ (w : WireLog). w.lossy) wire ∙ whole;
   stopped = stopped;
 }
 
--- ON THE WIRE
-wire_is : (e : End) (s : LaneState) (event : WireEvent) (t : LaneState) → EndOnWire e s event t → t.wire ≡ wire_moved s.wire event
-wire_is A s event t step = ap (λ (x : LaneState). x.wire) step.is
-wire_is B s event t step = ap (λ (x : LaneState). x.wire) step.1.is
-
-stopped_is : (e : End) (s : LaneState) (event : WireEvent) (t : LaneState) → EndOnWire e s event t → t.stopped ≡ s.stopped
-stopped_is A s event t step = ap (λ (x : LaneState). x.stopped) step.is
-stopped_is B s event t step = ap (λ (x : LaneState). x.stopped) step.1.is
-
-wire_keeps : (s : LaneState) (e : End) (event : WireEvent) (t : LaneState) → LaneStep s (OnWire event) t → IsWireStep e event → StepKeeps s t
-wire_keeps s e (Joined d lost) t step own = begun_lane d s t (wire_is d s (Joined d lost) t step) (stopped_is d s (Joined d lost) t step)
-wire_keeps s e (Took d packet opens) t step own = moved_lane s t (Took d packet opens) (wire_is d s (Took d packet opens) t step) refl refl (stopped_is d s (Took d packet opens) t step)
-wire_keeps s e (Sent d packet opens) t step own = moved_lane s t (Sent d packet opens) (wire_is d s (Sent d packet opens) t step) refl refl (stopped_is d s (Sent d packet opens) t step)
-wire_keeps s e (Idle d) t step own = same_lane s t (wire_is d s (Idle d) t step) (stopped_is d s (Idle d) t step)
-wire_keeps s e (Blocked d) t step own = same_lane s t (wire_is d s (Blocked d) t step) (stopped_is d s (Blocked d) t step)
-wire_keeps s e (Reset d cause packet lost) t step own =
-    let resets : EndOnWire d s (Reset d cause packet lost) t = subst (λ (g : Giver). ResetBy g d s cause packet lost t) own.1 step in
-    begun_lane d s t (wire_is d s (Reset d cause packet lost) t resets) (stopped_is d s (Reset d cause packet lost) t resets)
-wire_keeps s e (Lost d packet) t step own = absurd own
-wire_keeps s e (Injected d packet) t step own = absurd own
-wire_keeps s e (Poked d at bytes) t step own = absurd own
-wire_keeps s e (Declines d) t step own = absurd own
-
--- THE WORK
-work_keeps : (s : LaneState) (event : Worked) (t : LaneState) → LaneStep s (Works event) t → StepKeeps s t
-work_keeps s (Published id) t step = same_lane s t (ap (λ (x : LaneState). x.wire) step.is) (ap (λ (x : LaneState). x.stopped) step.is)
-work_keeps s (Done id operation status bytes) t step = same_lane s t (ap (λ (x : LaneState). x.wire) step.is) (ap (λ (x : LaneState). x.stopped) step.is)
-work_keeps s (Desc slot bytes) t step = same_lane s t (ap (λ (x : LaneState). x.wire) step.1.is) (ap (λ (x : LaneState). x.stopped) step.1.is)
-work_keeps s (Moved unit fault) t step = same_lane s t (ap (λ (x : LaneState). x.wire) step.1.is) (ap (λ (x : LaneState). x.stopped) step.1.is)
-work_keeps s (Stored operation block count failed) t step = same_lane s t (ap (λ (x : LaneState). x.wire) step.1.is) (ap (λ (x : LaneState). x.stopped) step.1.is)
-work_keeps s (Finished slot status) t step = same_lane s t (ap (λ (x : LaneState). x.wire) step.1.is) (ap (λ (x : LaneState). x.stopped) step.1.is)
-work_keeps s Misplaced t step = absurd step
-
 pub step_keeps : (s : LaneState) (e : End) (event : DiskEvent) (t : LaneState) → LaneStep s event t → IsStep e event → StepKeeps s t
-step_keeps s e (OnWire event) t step own = wire_keeps s e event t step own
-step_keeps s e (Works event) t step own = work_keeps s event t step
-step_keeps s e (Switches Off) t step own = same_lane s t (ap (λ (x : LaneState). x.wire) step.1) (ap (λ (x : LaneState). x.stopped) step.1)
-step_keeps s A (Switches Stopped) t step own = absurd own
-step_keeps s B (Switches Stopped) t step own = absurd own
-step_keeps s A (Switches Started) t step own = absurd own
-step_keeps s B (Switches Started) t step own = absurd own
-step_keeps s A (Asks event) t step own = absurd own
-step_keeps s B (Asks event) t step own = absurd own
-step_keeps s A (Calms event) t step own = absurd own
-step_keeps s B (Calms event) t step own = absurd own
+step_keeps s e event t step own =
+    let view = lane_view s event t step in moved_keeps s e event t (ap (λ (x : LaneState). x.wire) view.is) (ap (λ (x : LaneState). x.stopped) view.is) own

@@ -2,7 +2,7 @@
 use Rattle.std.proofs.Common.{◌≡◌, ℕ, ◌+◌, ◌*◌, ◌/◌, ◌^◌, ◌<◌, ◌≤◌, Bool, false, Option, Some, None, List, drop, length, refl, sym, ap, ◌∙◌, subst, arith}
 use Rattle.std.specs.Prelude.{slice_get, ◌==◌, if◌then◌else◌}
 use Rattle.ldc_queue.specs.declared.end.ChannelState.{ChannelState}
-use Rattle.ldc_queue.specs.declared.end.ChannelState.TheVariants.{Down, Resetting, Up}
+use Rattle.ldc_queue.specs.declared.end.ChannelState.TheVariants.{Up}
 use Rattle.ldc_queue.specs.declared.end.End.TheVariants.{B}
 use Rattle.vdisk_msg.proofs.Written.{requested_is_sound}
 use Rattle.vdisk_msg.specs.Check.{first_defect}
@@ -24,10 +24,11 @@ use Rattle.disk_model.specs.LaneState.{LaneState, NearCounts, pages_of, risen}
 use Rattle.disk_model.specs.LaneStep.{ServerWorks, WorkStep, reach, stored_blocks}
 use Rattle.channel_model.specs.Seeing.{seen}
 use Rattle.disk_model.specs.ServerRule as server_rules
-use Rattle.disk_model.specs.ServerState.{Ends, Flushes, Gathers, Gives, Progress, Reads, ServerState, Work, Writes}
+use Rattle.disk_model.specs.ServerState.{Ends, Flushes, Gives, Progress, Reads, ServerState, Work, Writes}
 use Rattle.disk_model.specs.ServerWork.{StoresIn, checked_progress, first_progress, first_progress_of, gathers_next, header_of, unit_length, with_word}
 use Rattle.lane_laws.proofs.RingServer.{header_long}
-use Rattle.lane_laws.proofs.RingWork.{fetched_next, slots_are}
+use Rattle.lane_laws.proofs.RingWork.{fetched_next}
+use Rattle.lane_laws.proofs.StandingRuns.{slots_is as slots_are}
 use Rattle.lane_laws.proofs.RulesFree.{ServerFree, server_free}
 use Rattle.lane_laws.proofs.Ruling.{server_may}
 use Rattle.lane_laws.proofs.SlotBytes.{reads_back, stated}
@@ -185,9 +186,7 @@ stores_by (Reads u) s l work operation block count gave next t serves progress s
 stores_by (Writes u bytes) s l work operation block count gave next t serves progress stores parts fits =
     write_change s l u bytes work operation block count gave next t serves progress stores parts serves.on.request refl fits serves.facts.small
 stores_by Flushes s l work operation block count gave next t serves progress stores parts fits = flush_change s l work operation block count gave next t serves progress stores parts serves.on.request refl fits
-stores_by (Gives u bytes) s l work operation block count gave next t serves progress stores parts fits = absurd stores
-stores_by (Gathers u) s l work operation block count gave next t serves progress stores parts fits = absurd stores
-stores_by (Ends status) s l work operation block count gave next t serves progress stores parts fits = absurd stores
+stores_by _ s l work operation block count gave next t serves progress stores parts fits = absurd stores
 
 pub stored_changes : (s : LaneState) (l : DiskLog) (operation block count : ℕ) (gave : List ℕ) (t : LaneState) → Before s l → ContentsStand (view_of s)
     → ServerWorks s gave (StoredUnit operation block count false) t → StoredChange s gave block t
@@ -216,8 +215,7 @@ first_progress_is blocks desc request sound operation =
   where
     by_kind : (q : Request) → first_progress_of (operation_of q) ≡ first_of q
     by_kind (Read block count) = refl
-    by_kind (Write block count fill) = refl
-    by_kind Flush = refl
+    by_kind _ = refl
 
 descriptor_is : (id : ℕ) (request : Request) (slot slots : ℕ) → stated id request slot slots 2 0 ≡ descriptor_of id request slot slots
 unfolding descriptor_of
@@ -284,5 +282,4 @@ fetched_changes s l slot bytes t before facts step =
   where
     none_works : (x : ChannelState) → work_while x None ≡ None
     none_works Up = refl
-    none_works Down = refl
-    none_works Resetting = refl
+    none_works _ = refl

@@ -93,10 +93,7 @@ moves_room : (p : Progress) (s : LaneState) (l : DiskLog) (work : Work) (r : Rea
 moves_room (Gathers one) s l work r unit fault next new u before serves held inside moves room =
     subst (λ (p : Progress). UFits p u) (sym moves.2) (gathered_room fault work r one u (unit_few s l work one before serves held inside) room)
 moves_room (Gives one bytes) s l work r unit fault next new u before serves held inside moves room = subst (λ (p : Progress). UFits p u) (sym moves.2) (given_room fault work one u room)
-moves_room (Reads one) s l work r unit fault next new u before serves held inside moves room = absurd moves
-moves_room (Writes one bytes) s l work r unit fault next new u before serves held inside moves room = absurd moves
-moves_room Flushes s l work r unit fault next new u before serves held inside moves room = absurd moves
-moves_room (Ends status) s l work r unit fault next new u before serves held inside moves room = absurd moves
+moves_room _ s l work r unit fault next new u before serves held inside moves room = absurd moves
 
 -- A UNIT IS STORED, or a call of the store fails
 more_room : (b : Bool) (unit u : ℕ) → unit ≤ 3 → u ≤ 16 * unit + 16 → UFits (if b then Gathers (unit + 1) else Ends 0) u
@@ -140,9 +137,7 @@ stores_room (Writes one bytes) s l work operation block count failed gave next u
 stores_room Flushes s l work operation block count failed gave next u before serves held inside stores room =
     let same = other_blocks operation count failed u 3 stores.0 refl in
     subst (λ (n : ℕ). UFits next n) (sym same) (subst (λ (p : Progress). UFits p u) (sym stores.4) (flushed_room failed u room))
-stores_room (Gives one bytes) s l work operation block count failed gave next u before serves held inside stores room = absurd stores
-stores_room (Gathers one) s l work operation block count failed gave next u before serves held inside stores room = absurd stores
-stores_room (Ends status) s l work operation block count failed gave next u before serves held inside stores room = absurd stores
+stores_room _ s l work operation block count failed gave next u before serves held inside stores room = absurd stores
 
 -- EACH EVENT of the work
 serving_room : (s : LaneState) (work : Work) → s.wire.wire.end_b ≡ Up → s.server.work ≡ Some work → LaneRoom s → UFits work.progress s.near.u
@@ -208,6 +203,4 @@ stored_few s l operation block count failed t before step room two =
         omega (arith, few, count_is, fits.0, fits.1)
     by_progress (Reads unit) work next serves held inside stores fits = let one = stores.0.operation_is in absurd (omega (arith, one, two))
     by_progress Flushes work next serves held inside stores fits = let three = stores.0 in absurd (omega (arith, three, two))
-    by_progress (Gives unit bytes) work next serves held inside stores fits = absurd stores
-    by_progress (Gathers unit) work next serves held inside stores fits = absurd stores
-    by_progress (Ends status) work next serves held inside stores fits = absurd stores
+    by_progress _ work next serves held inside stores fits = absurd stores

@@ -1,7 +1,7 @@
 -- Along every run each event of the wire stands where the table of states and queues lets it, and an answer that changes nothing is said
 -- exactly where it is.
 use Rattle.std.proofs.Common.{◌≡◌, ℕ, ◌+◌, ◌*◌, ◌≤◌, false, Option, Some, None, List, [], length, refl, sym, ap, ◌∙◌, subst, arith}
-use Rattle.std.specs.Prelude.{⊤, nat_lt}
+use Rattle.std.specs.Prelude.{nat_lt}
 use Rattle.std.proofs.lemmas.Bool.{ltb-false, ltb-true}
 use Rattle.runs.specs.Lawful.{Lawful, run_lawful}
 use Rattle.runs.specs.Run.{Run}
@@ -10,21 +10,23 @@ use Rattle.ldc_queue.specs.declared.end.End.TheVariants.{A, B}
 use Rattle.ldc_queue.specs.Wire.{waiting_for}
 use Rattle.vio_tag.specs.declared.cause.Cause.{Cause}
 use Rattle.channel_model.specs.WireAt.{DeclinesAt, IsUp, MayCarry, MayReset, Sizes, WireAnswersAt, WireTableAt}
-use Rattle.channel_model.specs.WireEvent.{Blocked, ByRestart, ByScript, ByStep, ByTick, Declined, Declines, Giver, Idle, Injected, InjectedFull, Joined, Lost, NotInjected, NothingLost, PokeRefused, Poked, Reset, Sent, Took, WireEvent, giver}
+use Rattle.channel_model.specs.WireEvent.{Blocked, ByRestart, ByScript, ByStep, ByTick, Declined, Declines, Giver, Idle, Injected, Joined, Lost, PokeRefused, Poked, Reset, Sent, Took, WireEvent, giver}
 use Rattle.channel_model.specs.WireLog.{WireLog}
 use Rattle.lane_laws.specs.DiskLog.{DiskLog, after, after_wire, nothing_yet}
 use Rattle.lane_laws.specs.May.{sizes_in}
 use Rattle.disk_model.specs.ClientRule as client_rules
-use Rattle.disk_model.specs.ClientStep.{ClientFails}
-use Rattle.disk_model.specs.DiskEvent.{Asks, DiskEvent, Off, OnWire, Calms, Started, Stopped, Switches, Works}
+use Rattle.disk_model.specs.ClientStep.{ClientFails, ClientStep}
+use Rattle.disk_model.specs.DiskEvent.{DiskEvent, OnWire, Stopped, Switches}
 use Rattle.disk_model.specs.LaneState.{IsShape, LaneState, Shape, fresh, pages_of}
 use Rattle.disk_model.specs.LaneStep.{EndOnWire, LaneStep, ResetBy, WireStep, sizes_of}
-use Rattle.channel_model.specs.Seeing.{Seen, seen}
 use Rattle.disk_model.specs.ServerRule as server_rules
-use Rattle.disk_model.specs.ServerStep.{ServerFails}
+use Rattle.disk_model.specs.ServerStep.{ServerFails, ServerStep}
 use Rattle.cookie_copy.specs.Reach.{Reach}
 use Rattle.lane_laws.proofs.CarriedRuns.{AllStand, all_step, fresh_all}
 use Rattle.lane_laws.proofs.ClientHolding.{holds_up}
+use Rattle.lane_laws.proofs.LaneViews.{IsOwnStep, at_client, at_server, reach_of}
+use Rattle.disk_model.specs.ClientState.{ClientState}
+use Rattle.disk_model.specs.ServerState.{ServerState}
 use Rattle.lane_laws.proofs.IdleRules.{client_idles, server_idles}
 use Rattle.lane_laws.proofs.Ruling.{client_may, server_may}
 use Rattle.lane_laws.proofs.ServerSpeaking.{server_holds_up}
@@ -38,25 +40,14 @@ use Rattle.channel_laws.proofs.CoreRuns.{Room, room_after}
 use Rattle.channel_laws.proofs.EndsAtRest.{none_waits}
 use Rattle.channel_laws.specs.LaneCore.{AnswerStands, CoreStands, WireStands, wire_after}
 
-abbrev at_client : LaneState → Seen
-at_client s = seen A s.shape.entries s.wire.wire
-
-abbrev at_server : LaneState → Seen
-at_server s = seen B s.shape.entries s.wire.wire
-
--- a reset that a step makes is given by a step
-abbrev giver_steps : WireEvent → Type 0
-giver_steps (Reset e cause packet lost) = giver cause ≡ ByStep
-giver_steps _ = ⊤
-
 abbrev make_sizes : ℕ → ℕ → Sizes
 make_sizes entries memory = record { entries = entries; memory = memory }
 
 -- what a rule tells of the end
-client_known : (s : LaneState) (rule : client_rules.ClientRule) → client_rules.client_rule s.client (at_client s) ≡ rule → ClientMay s.client (at_client s) rule
+pub client_known : (s : LaneState) (rule : client_rules.ClientRule) → client_rules.client_rule s.client (at_client s) ≡ rule → ClientMay s.client (at_client s) rule
 client_known s rule is = subst (ClientMay s.client (at_client s)) is (client_may s.client (at_client s))
 
-server_known : (s : LaneState) (rule : server_rules.ServerRule) → server_rules.server_rule s.server (at_server s) ≡ rule → ServerMay s.server (at_server s) rule
+pub server_known : (s : LaneState) (rule : server_rules.ServerRule) → server_rules.server_rule s.server (at_server s) ≡ rule → ServerMay s.server (at_server s) rule
 server_known s rule is = subst (ServerMay s.server (at_server s)) is (server_may s.server (at_server s))
 
 -- a queue that has no room is full
@@ -74,79 +65,55 @@ client_carries : (s : LaneState) (rule : client_rules.ClientRule) (memory : List
     → ClientFails rule s.client memory cause packet → CarriedAt packet A s
 client_carries s (client_rules.Takes bytes) memory cause packet may fails = carries A s packet (Some bytes) fails.0 may
 client_carries s (client_rules.Completes session) memory cause packet may fails = carries A s packet None fails.0 (may.0, tt)
-client_carries s client_rules.Joins memory cause packet may fails = absurd fails
-client_carries s client_rules.Puts memory cause packet may fails = absurd fails
-client_carries s (client_rules.Says message) memory cause packet may fails = absurd fails
-client_carries s (client_rules.Announces session) memory cause packet may fails = absurd fails
-client_carries s (client_rules.Publishes session request) memory cause packet may fails = absurd fails
-client_carries s client_rules.Idles memory cause packet may fails = absurd fails
+client_carries s _ memory cause packet may fails = absurd fails
 
 server_carries : (s : LaneState) (rule : server_rules.ServerRule) (r : Reach) (cause : Cause) (packet : Option (List ℕ)) (new : List ℕ) → ServerMay s.server (at_server s) rule
     → ServerFails rule s.server r cause packet new → CarriedAt packet B s
 server_carries s (server_rules.Takes bytes) r cause packet new may fails = carries B s packet (Some bytes) fails.0 may
 server_carries s (server_rules.Fetches session) r cause packet new may fails = carries B s packet None fails.0 (may.0, tt)
 server_carries s (server_rules.Serves session work) r cause packet new may fails = carries B s packet None fails.0 (may.0, tt)
-server_carries s server_rules.Joins r cause packet new may fails = absurd fails
-server_carries s server_rules.Puts r cause packet new may fails = absurd fails
-server_carries s (server_rules.Says message) r cause packet new may fails = absurd fails
-server_carries s server_rules.Idles r cause packet new may fails = absurd fails
+server_carries s _ r cause packet new may fails = absurd fails
 
 -- THE TABLE, by the end that makes the step
-client_table : (s : LaneState) (event : WireEvent) (t : LaneState) → Room s.shape.entries s.wire → giver_steps event → EndOnWire A s event t → WireTableAt (sizes_of s) s.wire event
-client_table s (Joined A lost) t room by step = client_known s client_rules.Joins step.step.0
-client_table s (Took A packet opens) t room by step = client_known s (client_rules.Takes packet) step.step.0
-client_table s (Sent A packet opens) t room by step = (
-  holds_up s.client (at_client s) (client_rules.client_rule s.client (at_client s)) step.step.held (client_may s.client (at_client s)) step.step.holds,
-  ltb-true (length s.wire.wire.to_b + 1) s.shape.entries step.step.room,
+client_table : (s : LaneState) (event : WireEvent) (t : ClientState) (new : List ℕ) → Room s.shape.entries s.wire → IsOwnStep (OnWire event)
+    → ClientStep s.client (at_client s) s.memory (OnWire event) t new → WireTableAt (sizes_of s) s.wire event
+client_table s (Joined A lost) t new room own step = client_known s client_rules.Joins step.0
+client_table s (Took A packet opens) t new room own step = client_known s (client_rules.Takes packet) step.0
+client_table s (Sent A packet opens) t new room own step = (
+  holds_up s.client (at_client s) (client_rules.client_rule s.client (at_client s)) step.held (client_may s.client (at_client s)) step.holds,
+  ltb-true (length s.wire.wire.to_b + 1) s.shape.entries step.room,
 )
-client_table s (Blocked A) t room by step = (
-  holds_up s.client (at_client s) (client_rules.client_rule s.client (at_client s)) t.client (client_may s.client (at_client s)) step.step.0,
-  full (length s.wire.wire.to_b) s.shape.entries room.to_b step.step.1,
+client_table s (Blocked A) t new room own step = (
+  holds_up s.client (at_client s) (client_rules.client_rule s.client (at_client s)) t (client_may s.client (at_client s)) step.0,
+  full (length s.wire.wire.to_b) s.shape.entries room.to_b step.1,
 )
-client_table s (Idle A) t room by step = client_known s client_rules.Idles step.step.0
-client_table s (Reset A cause packet lost) t room by step =
-    subst (λ (g : Giver). MayReset g packet A s.wire.wire) (sym by)
-    (client_carries s (client_rules.client_rule s.client (at_client s)) s.memory cause packet (client_may s.client (at_client s)) step.step.0)
-client_table s (Joined B lost) t room by step = absurd step.step
-client_table s (Took B packet opens) t room by step = absurd step.step
-client_table s (Sent B packet opens) t room by step = absurd step.step
-client_table s (Blocked B) t room by step = absurd step.step
-client_table s (Idle B) t room by step = absurd step.step
-client_table s (Reset B cause packet lost) t room by step = absurd step.step
-client_table s (Lost e packet) t room by step = absurd step.step
-client_table s (Injected e packet) t room by step = absurd step.step
-client_table s (Poked e at bytes) t room by step = absurd step.step
-client_table s (Declines d) t room by step = absurd step.step
+client_table s (Idle A) t new room own step = client_known s client_rules.Idles step.0
+client_table s (Reset A cause packet lost) t new room own step =
+    subst (λ (g : Giver). MayReset g packet A s.wire.wire) (sym own)
+    (client_carries s (client_rules.client_rule s.client (at_client s)) s.memory cause packet (client_may s.client (at_client s)) step.0)
+client_table s _ t new room own step = absurd step
 
-server_table : (s : LaneState) (event : WireEvent) (t : LaneState) → Room s.shape.entries s.wire → giver_steps event → EndOnWire B s event t → WireTableAt (sizes_of s) s.wire event
-server_table s (Joined B lost) t room by step = server_known s server_rules.Joins step.1.step.1.0
-server_table s (Took B packet opens) t room by step = server_known s (server_rules.Takes packet) step.1.step.1.0
-server_table s (Sent B packet opens) t room by step = (
-  server_holds_up s.server (at_server s) (server_rules.server_rule s.server (at_server s)) step.1.step.1.0.held (server_may s.server (at_server s)) step.1.step.1.0.holds,
-  ltb-true (length s.wire.wire.to_a + 1) s.shape.entries step.1.step.1.0.room,
+server_table : (s : LaneState) (event : WireEvent) (gave : List ℕ) (t : ServerState) (new : List ℕ) → Room s.shape.entries s.wire → IsOwnStep (OnWire event)
+    → ServerStep s.server (at_server s) (reach_of s) gave (OnWire event) t new → WireTableAt (sizes_of s) s.wire event
+server_table s (Joined B lost) gave t new room own step = server_known s server_rules.Joins step.0
+server_table s (Took B packet opens) gave t new room own step = server_known s (server_rules.Takes packet) step.0
+server_table s (Sent B packet opens) gave t new room own step = (
+  server_holds_up s.server (at_server s) (server_rules.server_rule s.server (at_server s)) step.0.held (server_may s.server (at_server s)) step.0.holds,
+  ltb-true (length s.wire.wire.to_a + 1) s.shape.entries step.0.room,
 )
-server_table s (Blocked B) t room by step = (
-  server_holds_up s.server (at_server s) (server_rules.server_rule s.server (at_server s)) t.server (server_may s.server (at_server s)) step.1.step.1.0,
-  full (length s.wire.wire.to_a) s.shape.entries room.to_a step.1.step.1.1,
+server_table s (Blocked B) gave t new room own step = (
+  server_holds_up s.server (at_server s) (server_rules.server_rule s.server (at_server s)) t (server_may s.server (at_server s)) step.0,
+  full (length s.wire.wire.to_a) s.shape.entries room.to_a step.1,
 )
-server_table s (Idle B) t room by step = server_known s server_rules.Idles step.1.step.1.0
-server_table s (Reset B cause packet lost) t room by step =
-    subst (λ (g : Giver). MayReset g packet B s.wire.wire) (sym by)
-    (server_carries s (server_rules.server_rule s.server (at_server s)) _ cause packet t.memory (server_may s.server (at_server s)) step.1.step.1.0)
-server_table s (Joined A lost) t room by step = absurd step.1.step.1
-server_table s (Took A packet opens) t room by step = absurd step.1.step.1
-server_table s (Sent A packet opens) t room by step = absurd step.1.step.1
-server_table s (Blocked A) t room by step = absurd step.1.step.1
-server_table s (Idle A) t room by step = absurd step.1.step.1
-server_table s (Reset A cause packet lost) t room by step = absurd step.1.step.1
-server_table s (Lost e packet) t room by step = absurd step.1.step.1
-server_table s (Injected e packet) t room by step = absurd step.1.step.1
-server_table s (Poked e at bytes) t room by step = absurd step.1.step.1
-server_table s (Declines d) t room by step = absurd step.1.step.1
+server_table s (Idle B) gave t new room own step = server_known s server_rules.Idles step.0
+server_table s (Reset B cause packet lost) gave t new room own step =
+    subst (λ (g : Giver). MayReset g packet B s.wire.wire) (sym own)
+    (server_carries s (server_rules.server_rule s.server (at_server s)) (reach_of s) cause packet new (server_may s.server (at_server s)) step.0)
+server_table s _ gave t new room own step = absurd step
 
-end_table : (e : End) (s : LaneState) (event : WireEvent) (t : LaneState) → Room s.shape.entries s.wire → giver_steps event → EndOnWire e s event t → WireTableAt (sizes_of s) s.wire event
-end_table A s event t room by step = client_table s event t room by step
-end_table B s event t room by step = server_table s event t room by step
+end_table : (e : End) (s : LaneState) (event : WireEvent) (t : LaneState) → Room s.shape.entries s.wire → IsOwnStep (OnWire event) → EndOnWire e s event t → WireTableAt (sizes_of s) s.wire event
+end_table A s event t room own step = client_table s event t.client t.memory room own step.step
+end_table B s event t room own step = server_table s event step.0 t.server t.memory room own step.1.step.1
 
 reset_table : (g : Giver) (e : End) (s : LaneState) (cause : Cause) (packet : Option (List ℕ)) (lost : ℕ) (t : LaneState) → Room s.shape.entries s.wire → giver cause ≡ g
     → ResetBy g e s cause packet lost t → MayReset g packet e s.wire.wire
@@ -177,15 +144,7 @@ table s (Declines d) t room step = tt
 
 answers : (s : LaneState) (event : WireEvent) (t : LaneState) → WireStep s event t → WireAnswersAt (sizes_of s) s.wire event
 answers s (Declines d) t step = step.0
-answers s (Joined e lost) t step = tt
-answers s (Took e packet opens) t step = tt
-answers s (Sent e packet opens) t step = tt
-answers s (Idle e) t step = tt
-answers s (Blocked e) t step = tt
-answers s (Reset e cause packet lost) t step = tt
-answers s (Lost e packet) t step = tt
-answers s (Injected e packet) t step = tt
-answers s (Poked e at bytes) t step = tt
+answers s _ t step = tt
 
 -- NOTHING WAITS for an end that is idle
 end_none : (e : End) (s : LaneState) (t : LaneState) → EndOnWire e s (Idle e) t → waiting_for e s.wire.wire ≡ []
@@ -198,40 +157,24 @@ idle_none s _ t step = tt
 
 -- THE WIRE: what an event makes of it, and where it may stand
 pub wire_same : (l : WireLog) (event : DiskEvent) → after_wire l event ≡ wire_after l (core_event event)
-wire_same l (OnWire event) = refl
-wire_same l (Asks event) = refl
-wire_same l (Works event) = refl
 wire_same l (Switches Stopped) = refl
-wire_same l (Switches Started) = refl
-wire_same l (Switches Off) = refl
-wire_same l (Calms event) = refl
+wire_same l _ = refl
 
 answer_stands : (n : Sizes) (l : WireLog) (d : Declined) → DeclinesAt n l d → AnswerStands n.entries l d
-answer_stands n l (NothingLost e) answers = answers
-answer_stands n l (NotInjected e packet) answers = answers
-answer_stands n l (InjectedFull e packet) answers = answers
 answer_stands n l (PokeRefused e at count) answers = tt
+answer_stands n l _ answers = answers
 
 wire_stands : (n : Sizes) (l : WireLog) (event : WireEvent) → WireTableAt n l event → WireAnswersAt n l event → IdleNone l event → WireStands n.entries l event
-wire_stands n l (Joined e lost) table answers none = table
-wire_stands n l (Reset e cause packet lost) table answers none = table
-wire_stands n l (Took e packet opens) table answers none = table
-wire_stands n l (Sent e packet opens) table answers none = table
 wire_stands n l (Idle e) table answers none = (table, none)
 wire_stands n l (Blocked e) table answers none = (table.0, omega (arith, table.1))
-wire_stands n l (Lost e packet) table answers none = table
-wire_stands n l (Injected e packet) table answers none = table
 wire_stands n l (Poked e at bytes) table answers none = tt
 wire_stands n l (Declines d) table answers none = answer_stands n l d answers
+wire_stands n l _ table answers none = table
 
 pub core_stands : (l : DiskLog) (event : DiskEvent) → MayOfTable l event → CoreStands l.shape.entries l.wire (core_event event)
 core_stands l (OnWire event) may = wire_stands (sizes_in l) l.wire event may.table may.answers may.none_waits
-core_stands l (Asks event) may = tt
-core_stands l (Works event) may = tt
 core_stands l (Switches Stopped) may = tt
-core_stands l (Switches Started) may = tt
-core_stands l (Switches Off) may = tt
-core_stands l (Calms event) may = tt
+core_stands l _ may = tt
 
 -- ROOM in the queues is what two ends on a channel have
 room_moved : (l : DiskLog) (event : DiskEvent) → MayOfTable l event → Room l.shape.entries l.wire → Room l.shape.entries (after_wire l.wire event)
@@ -269,10 +212,7 @@ wire_step s l event t stands step =
 
 may_step : (s : LaneState) (l : DiskLog) (event : DiskEvent) (t : LaneState) → QueuesStand s l → LaneStep s event t → MayOfTable l event
 may_step s l (OnWire event) t stands step = wire_step s l event t stands step
-may_step s l (Asks event) t stands step = record { table = tt; answers = tt; none_waits = tt }
-may_step s l (Works event) t stands step = record { table = tt; answers = tt; none_waits = tt }
-may_step s l (Switches event) t stands step = record { table = tt; answers = tt; none_waits = tt }
-may_step s l (Calms event) t stands step = record { table = tt; answers = tt; none_waits = tt }
+may_step s l _ t stands step = record { table = tt; answers = tt; none_waits = tt }
 
 pub queues_step : (s : LaneState) (l : DiskLog) (event : DiskEvent) (t : LaneState) → QueuesStand s l → LaneStep s event t → MayOfTable l event × QueuesStand t (after l event)
 queues_step s l event t stands step =

@@ -8,15 +8,15 @@ use Rattle.ldc_queue.specs.declared.end.End.{End}
 use Rattle.ldc_queue.specs.declared.end.End.TheVariants.{A, B}
 use Rattle.vdisk_msg.specs.declared.request.Request.{Request}
 use Rattle.vio_tag.specs.declared.cause.Cause.{Cause}
-use Rattle.channel_model.specs.WireEvent.{ByTick, Giver, Reset, WireEvent, giver}
+use Rattle.channel_model.specs.WireEvent.{ByTick, Giver, Reset, giver}
 use Rattle.lane_laws.specs.Agreement.{ClientAgrees}
 use Rattle.lane_laws.specs.DiskLog.{DiskLog, after, nothing_yet}
 use Rattle.lane_laws.specs.QuietLaws.{IsFinished, TickAt, TickOf}
 use Rattle.lane_laws.specs.WorkLog.{ClientCounts}
 use Rattle.disk_model.specs.ClientState.{ClientSession, is_finished, is_nothing}
-use Rattle.disk_model.specs.DiskEvent.{Calm, CalmTick, DiskEvent, OnWire, Calms}
+use Rattle.disk_model.specs.DiskEvent.{CalmTick, DiskEvent, OnWire, Calms}
 use Rattle.disk_model.specs.LaneState.{IsShape, LaneState, Shape, fresh}
-use Rattle.disk_model.specs.LaneStep.{LaneStep, ResetBy, RestStep, WireStep}
+use Rattle.disk_model.specs.LaneStep.{LaneStep, ResetBy}
 use Rattle.lane_laws.proofs.StandingRuns.{pending_is}
 use Rattle.lane_laws.proofs.WorkNumbers.{Grounded}
 use Rattle.lane_laws.proofs.WorkRuns.{grounded_lawful}
@@ -36,7 +36,7 @@ not_none : (o : Option ClientCounts) → is_some o ≡ true → o ≢ None
 not_none None some none = absurd (cc)
 not_none (Some c) some none = absurd (cc)
 
-nothing_of : (pending : List Request) → length pending ≡ 0 → is_nothing pending ≡ true
+pub nothing_of : (pending : List Request) → length pending ≡ 0 → is_nothing pending ≡ true
 nothing_of [] none = refl
 nothing_of (request ∷ pending) none = absurd (omega (arith, none))
 
@@ -65,17 +65,9 @@ reset_tick ByTick A s l cause packet lost t grounded step = λ finished. let is 
 reset_tick ByTick B s l cause packet lost t grounded step = absurd step
 reset_tick _ e s l cause packet lost t grounded step = tt
 
-wire_tick : (s : LaneState) (l : DiskLog) (event : WireEvent) (t : LaneState) → Grounded s l → WireStep s event t → TickAt l (OnWire event)
-wire_tick s l (Reset e cause packet lost) t grounded step = reset_tick (giver cause) e s l cause packet lost t grounded step
-wire_tick s l _ t grounded step = tt
-
-rest_tick : (s : LaneState) (l : DiskLog) (event : Calm) (t : LaneState) → Grounded s l → RestStep s event t → TickAt l (Calms event)
-rest_tick s l CalmTick t grounded step = finished_in s l grounded step.0
-rest_tick s l _ t grounded step = tt
-
 tick_at : (s : LaneState) (l : DiskLog) (event : DiskEvent) (t : LaneState) → Grounded s l → LaneStep s event t → TickAt l event
-tick_at s l (OnWire event) t grounded step = wire_tick s l event t grounded step
-tick_at s l (Calms event) t grounded step = rest_tick s l event t grounded step
+tick_at s l (OnWire (Reset e cause packet lost)) t grounded step = reset_tick (giver cause) e s l cause packet lost t grounded step
+tick_at s l (Calms CalmTick) t grounded step = finished_in s l grounded step.0
 tick_at s l _ t grounded step = tt
 
 pub tick_lawful : (shape : Shape) (events : List DiskEvent) (s : LaneState) → IsShape shape → Run LaneStep (fresh shape) events s → Lawful TickAt after (nothing_yet shape) events

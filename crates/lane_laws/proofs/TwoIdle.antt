@@ -5,14 +5,14 @@ use Rattle.runs.specs.Run.{Run}
 use Rattle.ldc_queue.specs.declared.end.End.{End}
 use Rattle.ldc_queue.specs.declared.end.End.TheVariants.{A, B}
 use Rattle.ldc_queue.specs.Wire.{peer_of}
-use Rattle.channel_model.specs.WireEvent.{Blocked, Declines, Idle, Injected, Joined, Lost, Poked, Reset, Sent, Took, WireEvent}
+use Rattle.channel_model.specs.WireEvent.{Idle}
 use Rattle.channel_model.specs.WireLog.{WireLog}
 use Rattle.lane_laws.specs.Agreement.{IdleAgrees}
 use Rattle.lane_laws.specs.DiskLog.{after, nothing_yet}
 use Rattle.lane_laws.specs.QuietLaws.{TwoIdleAt}
-use Rattle.disk_model.specs.DiskEvent.{Asks, DiskEvent, OnWire, Calms, Switches, Works}
+use Rattle.disk_model.specs.DiskEvent.{DiskEvent, OnWire}
 use Rattle.disk_model.specs.LaneState.{IsShape, LaneState, Shape, fresh}
-use Rattle.disk_model.specs.LaneStep.{EndOnWire, LaneStep, WireStep}
+use Rattle.disk_model.specs.LaneStep.{EndOnWire, LaneStep}
 use Rattle.lane_laws.proofs.IdleRuns.{idle_agrees}
 use Rattle.lane_laws.proofs.AlongRuns.{reached_lawful}
 use Rattle.lane_laws.proofs.QuietEnds.{BothRest, quiet_ends}
@@ -23,30 +23,14 @@ idle_behind : (e : End) (s t : LaneState) → EndOnWire e s (Idle e) t → IdleA
 idle_behind A s t step agrees = record { client = step.step.0; server = agrees.1 }
 idle_behind B s t step agrees = record { client = agrees; server = step.1.step.1.0 }
 
-wire_at : (shape : Shape) (events : List DiskEvent) (s : LaneState) (event : WireEvent) (t : LaneState) → IsShape shape → Run LaneStep (fresh shape) events s → WireStep s event t
-    → TwoIdleAt (log_of after (nothing_yet shape) events) (OnWire event)
-wire_at shape events s (Idle e) t sound run step = λ last clean whole.
+two_idle_at : (shape : Shape) (events : List DiskEvent) (s : LaneState) (event : DiskEvent) (t : LaneState) → IsShape shape → Run LaneStep (fresh shape) events s → LaneStep s event t
+    → TwoIdleAt (log_of after (nothing_yet shape) events) event
+two_idle_at shape events s (OnWire (Idle e)) t sound run step = λ last clean whole.
     let l = log_of after (nothing_yet shape) events in
     let grounded : Grounded s l = run_grounded shape events s sound run in
     let rest : BothRest s = idle_behind e s t step (subst (IdleAgrees s) last (idle_agrees shape events s sound run)) in
     (quiet_ends shape events s sound run (ap (λ (w : WireLog). w.forged) grounded.knows.all.stands.wire ∙ clean) (ap (λ (w : WireLog). w.lossy) grounded.knows.all.stands.wire ∙ whole) grounded rest).at_rest
-wire_at shape events s (Joined e lost) t sound run step = tt
-wire_at shape events s (Took e packet opens) t sound run step = tt
-wire_at shape events s (Sent e packet opens) t sound run step = tt
-wire_at shape events s (Blocked e) t sound run step = tt
-wire_at shape events s (Reset e cause packet lost) t sound run step = tt
-wire_at shape events s (Lost e packet) t sound run step = tt
-wire_at shape events s (Injected e packet) t sound run step = tt
-wire_at shape events s (Poked e at bytes) t sound run step = tt
-wire_at shape events s (Declines d) t sound run step = tt
-
-two_idle_at : (shape : Shape) (events : List DiskEvent) (s : LaneState) (event : DiskEvent) (t : LaneState) → IsShape shape → Run LaneStep (fresh shape) events s → LaneStep s event t
-    → TwoIdleAt (log_of after (nothing_yet shape) events) event
-two_idle_at shape events s (OnWire event) t sound run step = wire_at shape events s event t sound run step
-two_idle_at shape events s (Asks event) t sound run step = tt
-two_idle_at shape events s (Works event) t sound run step = tt
-two_idle_at shape events s (Switches event) t sound run step = tt
-two_idle_at shape events s (Calms event) t sound run step = tt
+two_idle_at shape events s _ t sound run step = tt
 
 -- ALONG EVERY RUN
 pub two_idle_lawful : (shape : Shape) (events : List DiskEvent) (s : LaneState) → IsShape shape → Run LaneStep (fresh shape) events s → Lawful TwoIdleAt after (nothing_yet shape) events

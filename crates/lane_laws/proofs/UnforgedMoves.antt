@@ -19,7 +19,7 @@ use Rattle.disk_model.specs.LaneState.{IsShape, LaneState, Shape, fresh, pages_o
 use Rattle.disk_model.specs.LaneStep.{LaneStep, reach}
 use Rattle.channel_model.specs.Seeing.{seen}
 use Rattle.disk_model.specs.ServerRule as server_rules
-use Rattle.disk_model.specs.ServerState.{Ends, Flushes, Gathers, Gives, Progress, Reads, Work, Writes}
+use Rattle.disk_model.specs.ServerState.{Gathers, Gives, Progress, Work}
 use Rattle.cookie_copy.specs.Reach.{Reach}
 use Rattle.disk_model.specs.ServerWork.{MovesIn, data_cookies, desc_of, unit_length}
 use Rattle.lane_laws.proofs.LaneCounting.{run_knows}
@@ -67,10 +67,7 @@ moves_none (Gives u bytes) work r ring pages slot id unit fault next new sizes h
     moves.1 ∙ work_answered Write work r ring pages slot id u (length bytes) sizes holds both identity room below is.1
 moves_none (Gathers u) work r ring pages slot id unit fault next new sizes holds both identity room below is moves =
     moves.1 ∙ work_answered Read work r ring pages slot id u (unit_length (desc_of work).size u) sizes holds both identity room below refl
-moves_none (Reads u) work r ring pages slot id unit fault next new sizes holds both identity room below is moves = absurd moves
-moves_none (Writes u bytes) work r ring pages slot id unit fault next new sizes holds both identity room below is moves = absurd moves
-moves_none Flushes work r ring pages slot id unit fault next new sizes holds both identity room below is moves = absurd moves
-moves_none (Ends status) work r ring pages slot id unit fault next new sizes holds both identity room below is moves = absurd moves
+moves_none _ work r ring pages slot id unit fault next new sizes holds both identity room below is moves = absurd moves
 
 pub moved_answered : (shape : Shape) (events : List DiskEvent) (s t : LaneState) (unit : ℕ) (fault : Option CopyFault) → IsShape shape → Run LaneStep (fresh shape) events s → WorkIs s.server.work
     → (log_of after (nothing_yet shape) events).wire.forged ≡ false → LaneStep s (Works (Moved unit fault)) t → fault ≡ None

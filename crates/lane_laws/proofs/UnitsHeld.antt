@@ -30,9 +30,7 @@ use Rattle.lane_laws.specs.Units.{UnitIs, WorkIs}
 holds_if : (up aligned holds : Bool) (rest : Option CopyFault)
     → (if not up then Some Channel else (if not aligned then Some BadAlign else (if not holds then Some Short else rest))) ≡ None → holds ≡ true
 holds_if true true true rest none = refl
-holds_if true true false rest none = absurd (cc)
-holds_if true false holds rest none = absurd (cc)
-holds_if false aligned holds rest none = absurd (cc)
+holds_if _ _ _ rest none = absurd (cc)
 
 length_moved : (up : Bool) (access : Access) (table : List (Option Entry)) (memory : List ℕ) (cookies : List Cookie) (offset n : ℕ)
     → first_copy_fault up access table cookies offset n ≡ None → length (moved_in table memory cookies offset n) ≡ n
@@ -91,10 +89,7 @@ moved_is : (progress : Progress) (work : Work) (reach : Reach) (unit : ℕ) (why
     → MovesIn progress work reach unit why next new → UnitIs (desc_of work) next
 moved_is (Gives u bytes) work reach unit why next new is moves = subst (UnitIs (desc_of work)) (sym moves.2) (gives_on work why u is.0)
 moved_is (Gathers u) work reach unit why next new is moves = subst (UnitIs (desc_of work)) (sym moves.2) (gathered_on work reach why u moves.1 is)
-moved_is (Reads u) work reach unit why next new is moves = absurd moves
-moved_is (Writes u bytes) work reach unit why next new is moves = absurd moves
-moved_is Flushes work reach unit why next new is moves = absurd moves
-moved_is (Ends status) work reach unit why next new is moves = absurd moves
+moved_is _ work reach unit why next new is moves = absurd moves
 
 read_on : (work : Work) (failed : Bool) (unit : ℕ) (gave : List ℕ) → GaveUnit failed work unit gave → (desc_of work).operation ≡ 1 → UnitIs (desc_of work) (or_ends failed (Gives unit gave))
 read_on work false unit gave given one = (one, given)
@@ -113,9 +108,7 @@ stored_is : (progress : Progress) (work : Work) (operation block count : ℕ) (f
 stored_is (Reads u) work operation block count failed gave next is stores = subst (UnitIs (desc_of work)) (sym stores.2) (read_on work failed u gave stores.1 is)
 stored_is (Writes u bytes) work operation block count failed gave next is stores = subst (UnitIs (desc_of work)) (sym stores.2) (wrote_on work failed u is.0)
 stored_is Flushes work operation block count failed gave next is stores = subst (UnitIs (desc_of work)) (sym stores.4) (flushed_on work failed)
-stored_is (Gives u bytes) work operation block count failed gave next is stores = absurd stores
-stored_is (Gathers u) work operation block count failed gave next is stores = absurd stores
-stored_is (Ends status) work operation block count failed gave next is stores = absurd stores
+stored_is _ work operation block count failed gave next is stores = absurd stores
 
 pub fetched_is : (blocks : ℕ) (bytes : List ℕ) → WorkIs (Some (record { bytes = bytes; progress = first_progress blocks (slot_says.disk_desc_of bytes) }))
 fetched_is blocks bytes = first_unit_is blocks (slot_says.disk_desc_of bytes)

@@ -6,7 +6,7 @@ use Rattle.ldc_queue.specs.declared.end.End.{End}
 use Rattle.ldc_queue.specs.declared.end.End.TheVariants.{A, B}
 use Rattle.ldc_queue.specs.Wire.{Wire, peer_behind, upset}
 use Rattle.vdisk_msg.specs.declared.request.Request.{Request}
-use Rattle.channel_model.specs.WireEvent.{Blocked, Declines, Idle, Injected, Joined, Lost, Poked, Reset, Sent, Took, WireEvent}
+use Rattle.channel_model.specs.WireEvent.{Injected, Joined, Lost, Reset, Sent, Took, WireEvent}
 use Rattle.channel_model.specs.WireLog.{WireLog, wire_moved}
 use Rattle.lane_laws.specs.DiskLog.{DiskLog, after}
 use Rattle.disk_model.specs.ClientState.{ClientSession, ever_published_count}
@@ -27,7 +27,7 @@ use Rattle.lane_laws.proofs.LiveCounts.{counts_while, zero_where}
 use Rattle.lane_laws.proofs.PlacedViews.{IsLive, live, live_or_not, placed, working}
 use Rattle.lane_laws.proofs.QuietWire.{wire_quiet, work_on_wire}
 use Rattle.lane_laws.proofs.Standing.{Before, ever_count}
-use Rattle.lane_laws.proofs.WorkCounts.{calm}
+use Rattle.lane_laws.proofs.LaneViews.{calm_same as calm}
 
 -- A VIEW by its parts
 make_view : List Request → ℕ → Option ClientSession → Option Work → ℕ → ℕ → ℕ → List ℕ → View
@@ -95,29 +95,14 @@ work_quiet s l (Joined A lost) t before facts calm =
 work_quiet s l (Joined B lost) t before facts calm = sym (dropped s.wire.wire.end_b s.server.work (not_up_here s l before (λ (w : Wire). w.end_b) facts.table))
 work_quiet s l (Reset e cause packet lost) t before facts calm = absurd calm
 work_quiet s l (Took A packet opens) t before facts calm = refl
-work_quiet s l (Took B packet opens) t before facts calm = refl
 work_quiet s l (Sent A packet opens) t before facts calm = refl
-work_quiet s l (Sent B packet opens) t before facts calm = refl
 work_quiet s l (Lost A packet) t before facts calm = refl
-work_quiet s l (Lost B packet) t before facts calm = refl
 work_quiet s l (Injected A packet) t before facts calm = refl
-work_quiet s l (Injected B packet) t before facts calm = refl
-work_quiet s l (Poked e at bytes) t before facts calm = refl
-work_quiet s l (Idle e) t before facts calm = refl
-work_quiet s l (Blocked e) t before facts calm = refl
-work_quiet s l (Declines d) t before facts calm = refl
+work_quiet s l _ t before facts calm = refl
 
 pub near_quiet : (s : LaneState) (event : WireEvent) → Undisturbed event → near_on_wire s event ≡ s.near
 near_quiet s (Reset e cause packet lost) calm = absurd calm
-near_quiet s (Joined e lost) calm = refl
-near_quiet s (Took e packet opens) calm = refl
-near_quiet s (Sent e packet opens) calm = refl
-near_quiet s (Lost e packet) calm = refl
-near_quiet s (Injected e packet) calm = refl
-near_quiet s (Poked e at bytes) calm = refl
-near_quiet s (Idle e) calm = refl
-near_quiet s (Blocked e) calm = refl
-near_quiet s (Declines d) calm = refl
+near_quiet s _ calm = refl
 
 pub wire_rests : (s : LaneState) (l : DiskLog) (event : WireEvent) (t : LaneState) → Before s l → StepFacts s l (OnWire event) t → (after l (OnWire event)).wire.forged ≡ false → OpensNot event → Undisturbed event
     → WireStep s event t → Changed s (OnWire event) t
@@ -207,5 +192,4 @@ reset_drops B s l work before gone same next peer = ap (work_while next.end_b) (
   where
     none_works : (x : ChannelState) → work_while x None ≡ None
     none_works Up = refl
-    none_works Down = refl
-    none_works Resetting = refl
+    none_works _ = refl

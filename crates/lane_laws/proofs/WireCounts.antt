@@ -4,7 +4,7 @@ use Rattle.ldc_queue.specs.declared.end.ChannelState.{ChannelState}
 use Rattle.ldc_queue.specs.declared.end.ChannelState.TheVariants.{Down, Resetting, Up}
 use Rattle.ldc_queue.specs.declared.end.End.TheVariants.{A, B}
 use Rattle.ldc_queue.specs.Wire.{peer_behind}
-use Rattle.channel_model.specs.WireEvent.{Blocked, Declines, Idle, Injected, Joined, Lost, Poked, Reset, Sent, Took, WireEvent}
+use Rattle.channel_model.specs.WireEvent.{Injected, Joined, Lost, Reset, Sent, Took, WireEvent}
 use Rattle.channel_laws.proofs.Apart.{some_same}
 use Rattle.lane_laws.specs.Agreement.{ServerAgrees}
 use Rattle.lane_laws.specs.DiskLog.{DiskLog, after}
@@ -27,13 +27,12 @@ use Rattle.lane_laws.proofs.Leaving.{client_opened}
 use Rattle.lane_laws.proofs.LiveCounts.{KIs, counts_while, kis_client, kis_none, kis_server, not_live, not_up, peer_not_live, zero_where}
 use Rattle.lane_laws.proofs.QuietWire.{wire_quiet}
 use Rattle.lane_laws.proofs.Standing.{Before, EverStands, NearStands, ever_count}
+use Rattle.lane_laws.proofs.RingWire.{published_of}
 
 -- A SERVER'S SESSION opens: what is done was done before it
 opened_k : (x : ChannelState) (d : ServerCounts) (o : Option ClientCounts) (done k : ℕ) → d.finished ≡ 0 → ((c : ClientCounts) → o ≡ Some c → c.base ≡ done) → k ≡ 0 → KIs (counts_while x (Some d)) o done k
-opened_k Down d o done k first based none = none
-opened_k Resetting d o done k first based none = none
-opened_k Up d None done k first based none = none
 opened_k Up d (Some c) done k first based none = omega (arith, first, based c refl, none)
+opened_k _ d _ done k first based none = none
 
 took_opens : (s : LaneState) (l : DiskLog) (packet : List ℕ) (t : LaneState) → Before s l → StepFacts s l (OnWire (Took B packet true)) t
     → KIs (counts_while (after l (OnWire (Took B packet true))).wire.wire.end_b (after l (OnWire (Took B packet true))).work.server) l.work.client l.work.done s.near.k
@@ -80,44 +79,32 @@ k_quiet s l (Sent B packet false) t before facts not =
     kis_server l.wire.wire.end_b l.work.server _ l.work.client l.work.done s.near.k (λ d. refl) before.near.k
 k_quiet s l (Sent B packet true) t before facts not = absurd (facts.sends packet refl)
 k_quiet s l (Lost A packet) t before facts not = before.near.k
-k_quiet s l (Lost B packet) t before facts not = before.near.k
 k_quiet s l (Injected A packet) t before facts not = before.near.k
-k_quiet s l (Injected B packet) t before facts not = before.near.k
-k_quiet s l (Poked e at bytes) t before facts not = before.near.k
-k_quiet s l (Idle e) t before facts not = before.near.k
-k_quiet s l (Blocked e) t before facts not = before.near.k
-k_quiet s l (Declines d) t before facts not = before.near.k
+k_quiet s l _ t before facts not = before.near.k
 
 -- THE CLIENT'S SESSION opens: no server works on it yet
 begins_k : (x : ChannelState) (q : Option ServerCounts) (o : Option ClientCounts) (new : ClientCounts) (done k : ℕ) → new.base ≡ done → ((d : ServerCounts) → x ≡ Up → q ≡ Some d → d.finished ≡ 0)
     → ((c : ClientCounts) → o ≡ Some c → c.base ≤ done) → KIs (counts_while x q) o done k → (k ≡ 0) × KIs (counts_while x q) (Some new) done k
-begins_k Down q o new done k same nothing based is = (is, is)
-begins_k Resetting q o new done k same nothing based is = (is, is)
-begins_k Up None o new done k same nothing based is = (is, is)
 begins_k Up (Some d) None new done k same nothing based is = (is, omega (arith, same, is, nothing d refl refl))
 begins_k Up (Some d) (Some c) new done k same nothing based is =
     let none : k ≡ 0 = omega (arith, is, nothing d refl refl, based c refl) in (none, omega (arith, same, none, nothing d refl refl))
+begins_k _ _ o new done k same nothing based is = (is, is)
 
-work_first : (o : Option ServerSession) (w : Option Work) (q : Option ServerCounts) (d : ServerCounts) → q ≡ Some d → ServerAgrees o w q → d.finished ≤ d.descs
+pub work_first : (o : Option ServerSession) (w : Option Work) (q : Option ServerCounts) (d : ServerCounts) → q ≡ Some d → ServerAgrees o w q → d.finished ≤ d.descs
 work_first None w None d is agrees = absurd (cc is)
 work_first None w (Some c) d is agrees = absurd agrees
 work_first (Some s) w None d is agrees = absurd agrees
 work_first (Some s) None (Some c) d is agrees = let same : c ≡ d = some_same is in subst (λ (x : ServerCounts). x.finished ≤ x.descs) same (omega (arith, agrees.1.1))
 work_first (Some s) (Some work) (Some c) d is agrees = let same : c ≡ d = some_same is in subst (λ (x : ServerCounts). x.finished ≤ x.descs) same (omega (arith, agrees.1.2))
 
-published_in : Option ClientCounts → ℕ
-published_in None = 0
-published_in (Some c) = c.published
-
 pub opens_k : (s : LaneState) (l : DiskLog) (packet : List ℕ) (t : LaneState) → Before s l → StepFacts s l (OnWire (Sent A packet true)) t
     → (s.near.k ≡ 0) × KIs (counts_while l.wire.wire.end_b l.work.server) (after l (OnWire (Sent A packet true))).work.client l.work.done s.near.k
-unfolding published_in
 opens_k s l packet t before facts =
     begins_k l.wire.wire.end_b l.work.server l.work.client _ l.work.done s.near.k refl
     (λ d up is.
     let m = after l (OnWire (Sent A packet true)) in
     let one : OneRing t m.work d = subst (λ (q : Option ServerCounts). IfServer q (OneRing t m.work)) is (facts.agree.ring up) in
-    let nothing : 0 ≡ one.client.published = ap published_in one.open_is in
+    let nothing : 0 ≡ one.client.published = ap published_of one.open_is in
     let descs = one.descs in
     let asked = one.asked in
     omega (arith, work_first t.server.session t.server.work m.work.server d is facts.agree.server, descs, asked, nothing))
@@ -171,15 +158,7 @@ pub near_wire : (s : LaneState) (l : DiskLog) (event : WireEvent) (t : LaneState
     → NearStands t (after l (OnWire event))
 near_wire s l (Sent A packet true) t before facts behind step = near_opens s l packet t before facts behind step
 near_wire s l (Sent A packet false) t before facts behind step = near_quiet s l (Sent A packet false) t before facts behind refl step before.near.m
-near_wire s l (Sent B packet opens) t before facts behind step = near_quiet s l (Sent B packet opens) t before facts behind tt step before.near.m
 near_wire s l (Took A packet opens) t before facts behind step = near_quiet s l (Took A packet opens) t before facts behind step.step.2 step before.near.m
-near_wire s l (Took B packet opens) t before facts behind step = near_quiet s l (Took B packet opens) t before facts behind tt step before.near.m
-near_wire s l (Joined e lost) t before facts behind step = near_quiet s l (Joined e lost) t before facts behind tt step before.near.m
 near_wire s l (Reset e cause packet lost) t before facts behind step =
     near_quiet s l (Reset e cause packet lost) t before facts behind tt step (let is = ever_count s l before.known.stands in omega (arith, is))
-near_wire s l (Lost e packet) t before facts behind step = near_quiet s l (Lost e packet) t before facts behind tt step before.near.m
-near_wire s l (Injected e packet) t before facts behind step = near_quiet s l (Injected e packet) t before facts behind tt step before.near.m
-near_wire s l (Poked e at bytes) t before facts behind step = near_quiet s l (Poked e at bytes) t before facts behind tt step before.near.m
-near_wire s l (Idle e) t before facts behind step = near_quiet s l (Idle e) t before facts behind tt step before.near.m
-near_wire s l (Blocked e) t before facts behind step = near_quiet s l (Blocked e) t before facts behind tt step before.near.m
-near_wire s l (Declines d) t before facts behind step = near_quiet s l (Declines d) t before facts behind tt step before.near.m
+near_wire s l event t before facts behind step = near_quiet s l event t before facts behind tt step before.near.m

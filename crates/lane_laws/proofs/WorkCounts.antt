@@ -14,12 +14,12 @@ use Rattle.lane_laws.specs.WorkLaws.{IfServer}
 use Rattle.lane_laws.specs.WorkLog.{ClientCounts, ServerCounts, change_server}
 use Rattle.disk_model.specs.ClientRule as client_rules
 use Rattle.disk_model.specs.ClientState.{ClientSession, ClientState}
-use Rattle.disk_model.specs.DiskEvent.{Accepted, Admitted, Asks, Calm, CalmReset, CalmRestart, CalmStart, CalmStop, CalmTick, Desc, DiskEvent, Done, Finished, Full, Misplaced, Moved, Off, Published, Refused, Calms, Started, Stopped, Stored, Switched, Switches, Worked, Works}
+use Rattle.disk_model.specs.DiskEvent.{Accepted, Admitted, Asks, Calm, Desc, DiskEvent, Done, Finished, Full, Misplaced, Moved, Off, Published, Refused, Calms, Started, Stopped, Stored, Switched, Switches, Worked, Works}
 use Rattle.disk_model.specs.LaneState.{LaneState, NearCounts, risen}
 use Rattle.disk_model.specs.LaneStep.{LaneStep, RestStep, TurnStep, WorkStep}
 use Rattle.channel_model.specs.Seeing.{seen}
 use Rattle.disk_model.specs.ServerRule as server_rules
-use Rattle.lane_laws.proofs.RingClientSteps.{completes_slot, publishing, since_base}
+use Rattle.lane_laws.proofs.RingClientSteps.{completes_slot, in_order, publishing, since_base}
 use Rattle.lane_laws.proofs.RingSessions.{of_client}
 use Rattle.lane_laws.proofs.RingWork.{at_work, some_slots, turn_in}
 use Rattle.lane_laws.proofs.Ruling.{client_may, server_may}
@@ -27,8 +27,9 @@ use Rattle.lane_laws.proofs.SlotsOrdered.{finished_more}
 use Rattle.lane_laws.specs.RuleFacts.{ClientMay, ServerMay}
 use Rattle.lane_laws.specs.SlotsInOrder.{ServerAt, SlotsIn}
 use Rattle.lane_laws.proofs.LiveCounts.{KIs, counts_while, kis_client, kis_server}
-use Rattle.lane_laws.proofs.PlacedViews.{IsLive, in_order, live, live_or_not, placed}
+use Rattle.lane_laws.proofs.PlacedViews.{IsLive, live, live_or_not, placed}
 use Rattle.lane_laws.proofs.Standing.{Before, EverStands, NearStands, ever_count}
+use Rattle.lane_laws.proofs.LaneViews.{calm_same}
 
 -- THE SERVER'S WORK but for the end: what is finished stays, and so does the client
 by_server : (s : LaneState) (l : DiskLog) (event : DiskEvent) (t : LaneState) (g : ServerCounts → ServerCounts) → Before s l → (after l event).wire ≡ l.wire → (after l event).work.client ≡ l.work.client
@@ -272,13 +273,5 @@ near_turned s l Started t before step =
     }
 near_turned s l Off t before step = same_near s t l (after l (Switches Off)) before step.1 refl refl refl refl
 
-pub calm : (s : LaneState) (event : Calm) (t : LaneState) → RestStep s event t → t ≡ s
-calm s CalmTick t step = step.1
-calm s CalmStop t step = step.1
-calm s CalmStart t step = step.1
-calm s (CalmReset A) t step = absurd step
-calm s (CalmReset B) t step = step.1
-calm s CalmRestart t step = step.1
-
 pub near_calm : (s : LaneState) (l : DiskLog) (event : Calm) (t : LaneState) → Before s l → RestStep s event t → NearStands t (after l (Calms event))
-near_calm s l event t before step = same_near s t l (after l (Calms event)) before (calm s event t step) refl refl refl refl
+near_calm s l event t before step = same_near s t l (after l (Calms event)) before (calm_same s event t step) refl refl refl refl

@@ -30,12 +30,9 @@ next_is desc Flushes within is = ap (λ (o : ℕ). stores_next o 0) is
 next_is desc (Ends status) within is = refl
 
 held_is : (desc : DiskDesc) (p : Progress) → UnitIs desc p → length (bytes_held p) ≡ count_held desc.size (without_bytes p)
-held_is desc (Reads unit) is = refl
 held_is desc (Gives unit bytes) is = is.1
-held_is desc (Gathers unit) is = refl
 held_is desc (Writes unit bytes) is = is.1
-held_is desc Flushes is = refl
-held_is desc (Ends status) is = refl
+held_is desc _ is = refl
 
 pub next_agrees : (o : Option ServerSession) (w : Option Work) (d : Option ServerCounts) → ServerAgrees o w d → UnitFits w → WorkIs w → WorkNextAgrees w d
 next_agrees o None d agrees fits is = tt

@@ -1,17 +1,16 @@
 -- Each event of the work has the number that the log has for it; and what ends a session without a packet has its ground in the ring.
-use Rattle.std.proofs.Common.{◌≡◌, ◌≢◌, ℕ, zero, suc, ◌-◌, ◌%◌, ◌<◌, ◌≤◌, Option, Some, None, List, [], ◌∷◌, length, sym, ap, ◌∙◌, subst, arith, length-drop}
-use Rattle.std.specs.Prelude.{is_some, slice_get}
+use Rattle.std.proofs.Common.{◌≡◌, ◌≢◌, ℕ, ◌-◌, ◌%◌, ◌<◌, ◌≤◌, Option, Some, None, List, length, sym, ap, ◌∙◌, subst, arith, length-drop}
+use Rattle.std.specs.Prelude.{is_some}
 use Rattle.std.proofs.lemmas.Bool.Decides.{nat_tests}
 use Rattle.ldc_queue.specs.Transcript.{Turn}
-use Rattle.vdisk_msg.specs.declared.request.Request.{Request}
 use Rattle.lane_laws.specs.DiskLog.{DiskLog}
 use Rattle.lane_laws.specs.WorkLaws.{InClient, InServer, MayComplete, MayFetch, MayPublish, WorkNumbersAt}
 use Rattle.lane_laws.specs.WorkLog.{ClientCounts, ServerCounts}
 use Rattle.disk_model.specs.ClientStep.{ClientCompletes, ClientPublishes}
-use Rattle.disk_model.specs.DiskEvent.{Asks, Desc, DiskEvent, Done, Finished, Misplaced, Moved, OnWire, Published, Calms, Stored, Switches, Worked, Works}
+use Rattle.disk_model.specs.DiskEvent.{Desc, DiskEvent, Done, Misplaced, Published, Works}
 use Rattle.disk_model.specs.LaneState.{IsShape, LaneState}
-use Rattle.disk_model.specs.LaneStep.{LaneStep, WorkStep, reach}
-use Rattle.channel_model.specs.Seeing.{Seen, seen}
+use Rattle.disk_model.specs.LaneStep.{LaneStep, reach}
+use Rattle.channel_model.specs.Seeing.{Seen}
 use Rattle.lane_laws.specs.Agreement.{WorkAgrees}
 use Rattle.channel_model.specs.Ranges.{wrapped}
 use Rattle.disk_model.specs.ServerRule as server
@@ -19,39 +18,31 @@ use Rattle.disk_model.specs.ServerState.{ServerSession, Work}
 use Rattle.disk_model.specs.ServerStep.{ServerFetches}
 use Rattle.disk_model.specs.ServerWork.{slot_at}
 use Rattle.cookie_copy.specs.Reach.{Reach}
-use Rattle.ldc_queue.specs.declared.end.End.TheVariants.{A, B}
 use Rattle.lane_laws.proofs.LaneCounting.{Knows}
 use Rattle.lane_laws.proofs.ServerCounting.{own_slots}
 use Rattle.lane_laws.specs.Counted.{InServerOrder, ServerOrder}
 use Rattle.lane_laws.proofs.Ruling.{client_may}
-use Rattle.lane_laws.proofs.RulesFree.{ServerFree, ServesFree, server_free}
+use Rattle.lane_laws.proofs.RulesFree.{ServerFree, server_free}
+use Rattle.lane_laws.proofs.RuleTests.{ServesFree}
 use Rattle.lane_laws.proofs.Sharing.{in_order}
 use Rattle.lane_laws.specs.RuleFacts.{ClientMay}
 use Rattle.lane_laws.specs.Sound.{InOrder}
 use Rattle.channel_laws.proofs.LinkResets.{other_number}
 use Rattle.lane_laws.proofs.Counting.{OfClient, OfServer, of_client, of_server, slot_of_count}
+pub use Rattle.lane_laws.proofs.LaneViews.{at_client, at_server}
+use Rattle.lane_laws.proofs.Requesting.{got_below}
+use Rattle.lane_laws.proofs.ServerPutCounting.{work_most}
 
 -- what is known of a lane whose log has a sound shape
 pub record Grounded (s : LaneState) (l : DiskLog) : Type 0 where
   pub knows : Knows s l
   pub sound : IsShape l.shape
 
-is_within : (requests : List Request) (n : ℕ) (request : Request) → slice_get requests n ≡ Some request → n < length requests
-is_within [] n request is = absurd (cc)
-is_within (one ∷ requests) zero request is = omega arith
-is_within (one ∷ requests) (suc n) request is = omega (arith, is_within requests n request is)
-
 pub in_client : (k : Option ClientCounts) (c : ClientCounts) (P : ClientCounts → Type 0) → k ≡ Some c → P c → InClient k P
 in_client k c P is holds = subst (λ (o : Option ClientCounts). InClient o P) (sym is) holds
 
 pub in_server : (d : Option ServerCounts) (c : ServerCounts) (P : ServerCounts → Type 0) → d ≡ Some c → P c → InServer d P
 in_server d c P is holds = subst (λ (o : Option ServerCounts). InServer o P) (sym is) holds
-
-abbrev pub at_client : LaneState → Seen
-at_client s = seen A s.shape.entries s.wire.wire
-
-abbrev pub at_server : LaneState → Seen
-at_server s = seen B s.shape.entries s.wire.wire
 
 -- an id that is published
 publishes : (s t : LaneState) (l : DiskLog) (at : Seen) (id : ℕ) → Grounded s l → ClientPublishes s.client at s.memory id t.client t.memory → InClient l.work.client (MayPublish l id)
@@ -63,7 +54,7 @@ publishes s t l at id grounded step =
     of_client s.client.session step.session l.work.done l.work.client open_one grounded.knows.counted.client.agrees in
     let order : InOrder (length s.client.pending) step.session =
     in_order (length s.client.pending) s.client.session step.session open_one grounded.knows.all.sound.counts in
-    let within = is_within s.client.pending (step.session.published - step.session.completed) step.request may.2 in
+    let within = got_below s.client.pending (step.session.published - step.session.completed) step.request may.2 in
     in_client l.work.client of.counts (MayPublish l id) of.is (record {
       next = omega (arith, step.id_is, of.agree.base, of.agree.published);
       accepted = omega (arith, step.id_is, within, ap length stand.pending, length-drop l.work.done l.work.issued, stand.done, of.agree.completed, of.agree.base, order.completed, order.acked, order.announced);
@@ -98,10 +89,6 @@ pub record Serving (s : LaneState) (l : DiskLog) (session : ServerSession) : Typ
   pub finished : of.counts.finished ≤ of.counts.asked
   pub unfinished : of.counts.finished ≢ of.counts.asked
 
-pub finished_descs : (work : Option Work) (c : ServerCounts) → WorkAgrees work c → c.finished ≤ c.descs
-finished_descs None c agrees = omega (arith, agrees.1)
-finished_descs (Some work) c agrees = omega (arith, agrees.2)
-
 pub serving : (s : LaneState) (l : DiskLog) (session : ServerSession) → Grounded s l → ServesFree s.server session → Serving s l session
 serving s l session grounded free =
     let of : OfServer session s.server.work l.work.server =
@@ -111,7 +98,7 @@ serving s l session grounded free =
     record {
       of = of;
       order = order;
-      finished = omega (arith, finished_descs s.server.work of.counts of.work_agrees, order.descs);
+      finished = omega (arith, work_most s.server.work of.counts of.work_agrees, order.descs);
       unfinished = λ same. other_number session.finished session.asked free.unfinished (of.agree.finished ∙ ap wrapped same ∙ sym of.agree.asked);
     }
 
@@ -142,18 +129,9 @@ fetches s t l at reached slot bytes grounded step =
     in_server l.work.server now.of.counts (MayFetch l slot) now.of.is
     (subst (λ (n : ℕ). MayFetch l n now.of.counts) (sym step.slot_is) (fetches_next s l step.session grounded free now))
 
-work_numbers : (s : LaneState) (l : DiskLog) (event : Worked) (t : LaneState) → Grounded s l → WorkStep s event t → WorkNumbersAt l (Works event)
-work_numbers s l (Published id) t grounded step = publishes s t l (at_client s) id grounded step.step
-work_numbers s l (Done id operation status bytes) t grounded step = completes s t l (at_client s) id operation status bytes grounded step.step
-work_numbers s l (Desc slot bytes) t grounded step = fetches s t l (at_server s) (reach s (at_server s).both) slot bytes grounded step.1.step.1.0
-work_numbers s l (Moved unit why) t grounded step = tt
-work_numbers s l (Stored operation block count failed) t grounded step = tt
-work_numbers s l (Finished slot status) t grounded step = tt
-work_numbers s l Misplaced t grounded step = absurd step
-
 pub numbers_at : (s : LaneState) (l : DiskLog) (event : DiskEvent) (t : LaneState) → Grounded s l → LaneStep s event t → WorkNumbersAt l event
-numbers_at s l (Works event) t grounded step = work_numbers s l event t grounded step
-numbers_at s l (OnWire event) t grounded step = tt
-numbers_at s l (Asks event) t grounded step = tt
-numbers_at s l (Switches event) t grounded step = tt
-numbers_at s l (Calms event) t grounded step = tt
+numbers_at s l (Works (Published id)) t grounded step = publishes s t l (at_client s) id grounded step.step
+numbers_at s l (Works (Done id operation status bytes)) t grounded step = completes s t l (at_client s) id operation status bytes grounded step.step
+numbers_at s l (Works (Desc slot bytes)) t grounded step = fetches s t l (at_server s) (reach s (at_server s).both) slot bytes grounded step.1.step.1.0
+numbers_at s l (Works Misplaced) t grounded step = absurd step
+numbers_at s l _ t grounded step = tt

@@ -11,13 +11,13 @@ use Rattle.ldc_queue.specs.declared.end.End.{End}
 use Rattle.ldc_queue.specs.declared.end.End.TheVariants.{A, B}
 use Rattle.vio_tag.specs.declared.cause.Cause.{Cause}
 use Rattle.vio_tag.specs.declared.cause.Cause.TheVariants as the_cause
-use Rattle.channel_model.specs.WireEvent.{Blocked, Declines, Idle, Injected, Joined, Lost, Poked, Reset, Sent, Took, WireEvent}
+use Rattle.channel_model.specs.WireEvent.{Reset}
 use Rattle.lane_laws.specs.DiskLog.{DiskLog}
 use Rattle.lane_laws.specs.WorkLaws.{ClientFailed, FetchFailed, InRange, InServer, MayFetch, OwnReset, ResetOf, WorkResetAt}
 use Rattle.lane_laws.specs.WorkLog.{ServerCounts}
 use Rattle.disk_model.specs.ClientRule as client
 use Rattle.disk_model.specs.ClientStep.{ClientFails}
-use Rattle.disk_model.specs.DiskEvent.{Asks, DiskEvent, OnWire, Calms, Switches, Works}
+use Rattle.disk_model.specs.DiskEvent.{DiskEvent, OnWire}
 use Rattle.disk_model.specs.LaneState.{LaneState}
 use Rattle.disk_model.specs.LaneStep.{EndOnWire, LaneStep, WireStep, reach}
 use Rattle.disk_model.specs.ServerRule as server
@@ -26,13 +26,15 @@ use Rattle.disk_model.specs.ServerStep.{ServerFails, WorkFails}
 use Rattle.cookie_copy.specs.Reach.{Reach, copy_number}
 use Rattle.disk_model.specs.ServerWork.{EndFails, FetchFails, cause_of, fetch_fault, slot_at, slot_fetched}
 use Rattle.lane_laws.proofs.Ruling.{client_may}
-use Rattle.lane_laws.proofs.RulesFree.{ServerFree, ServesFree, server_free}
+use Rattle.lane_laws.proofs.RulesFree.{ServerFree, server_free}
+use Rattle.lane_laws.proofs.RuleTests.{ServesFree}
 use Rattle.lane_laws.specs.RuleFacts.{ClientMay}
 use Rattle.lane_laws.proofs.Counting.{OfClient, of_client}
 use Rattle.lane_laws.proofs.EndResets.{LiesIn}
 use Rattle.lane_laws.proofs.LaneResets.{by_giver}
 use Rattle.channel_laws.specs.Resetting.{LiesInPacket}
-use Rattle.lane_laws.proofs.WorkNumbers.{Grounded, Serving, at_client, at_server, fetches_next, in_client, in_server, serving}
+use Rattle.lane_laws.proofs.WorkNumbers.{Grounded, Serving, fetches_next, in_client, in_server, serving}
+use Rattle.lane_laws.proofs.LaneViews.{at_client, at_server}
 
 -- what lies in a packet
 carried_reset : (l : DiskLog) (e : End) (cause : Cause) (packet : List ℕ) → LiesInPacket cause → ResetOf l e cause (Some packet)
@@ -62,11 +64,7 @@ client_reset s l _ cause packet grounded lies may fails = absurd fails
 -- A SERVER
 number_small : (why : CopyFault) → (1 ≤ copy_number why) × (copy_number why ≤ 6)
 number_small copy.Channel = (omega arith, omega arith)
-number_small copy.BadAlign = (omega arith, omega arith)
-number_small copy.Short = (omega arith, omega arith)
-number_small copy.BadPage = (omega arith, omega arith)
-number_small copy.NoMap = (omega arith, omega arith)
-number_small copy.NoAccess = (omega arith, omega arith)
+number_small _ = (omega arith, omega arith)
 
 below : (a b : ℕ) → a ≤ b → a ≢ b → a < b
 below a b most other = grind (arith, nat_tests, most, other)
@@ -150,41 +148,9 @@ reset_in A s l the_cause.Restart packet lost t grounded lies step = absurd step
 reset_in B s l the_cause.Restart packet lost t grounded lies step = asked_reset l B the_cause.Restart packet lost step.1.0 step.1.1 tt
 reset_in A s l the_cause.Tick packet lost t grounded lies step = asked_reset l A the_cause.Tick packet lost step.1.0 step.1.1 tt
 reset_in B s l the_cause.Tick packet lost t grounded lies step = absurd step
-reset_in e s l (the_cause.Packet fault) packet lost t grounded lies step = end_reset e s l (the_cause.Packet fault) packet lost t grounded lies step
-reset_in e s l (the_cause.Gap expected found) packet lost t grounded lies step = end_reset e s l (the_cause.Gap expected found) packet lost t grounded lies step
-reset_in e s l (the_cause.Mode found) packet lost t grounded lies step = end_reset e s l (the_cause.Mode found) packet lost t grounded lies step
-reset_in e s l the_cause.Version packet lost t grounded lies step = end_reset e s l the_cause.Version packet lost t grounded lies step
-reset_in e s l the_cause.Unexpected packet lost t grounded lies step = end_reset e s l the_cause.Unexpected packet lost t grounded lies step
-reset_in e s l the_cause.Fragment packet lost t grounded lies step = end_reset e s l the_cause.Fragment packet lost t grounded lies step
-reset_in e s l (the_cause.Tag fault) packet lost t grounded lies step = end_reset e s l (the_cause.Tag fault) packet lost t grounded lies step
-reset_in e s l (the_cause.Sid expected found) packet lost t grounded lies step = end_reset e s l (the_cause.Sid expected found) packet lost t grounded lies step
-reset_in e s l the_cause.Order packet lost t grounded lies step = end_reset e s l the_cause.Order packet lost t grounded lies step
-reset_in e s l the_cause.Refused packet lost t grounded lies step = end_reset e s l the_cause.Refused packet lost t grounded lies step
-reset_in e s l (the_cause.Ident expected found) packet lost t grounded lies step = end_reset e s l (the_cause.Ident expected found) packet lost t grounded lies step
-reset_in e s l (the_cause.Seq expected found) packet lost t grounded lies step = end_reset e s l (the_cause.Seq expected found) packet lost t grounded lies step
-reset_in e s l (the_cause.Slot expected found) packet lost t grounded lies step = end_reset e s l (the_cause.Slot expected found) packet lost t grounded lies step
-reset_in e s l (the_cause.RangeEnd found) packet lost t grounded lies step = end_reset e s l (the_cause.RangeEnd found) packet lost t grounded lies step
-reset_in e s l (the_cause.NotReady slot state) packet lost t grounded lies step = end_reset e s l (the_cause.NotReady slot state) packet lost t grounded lies step
-reset_in e s l (the_cause.NotDone slot state) packet lost t grounded lies step = end_reset e s l (the_cause.NotDone slot state) packet lost t grounded lies step
-reset_in e s l (the_cause.Frame size count) packet lost t grounded lies step = end_reset e s l (the_cause.Frame size count) packet lost t grounded lies step
-reset_in e s l (the_cause.Copy fault) packet lost t grounded lies step = end_reset e s l (the_cause.Copy fault) packet lost t grounded lies step
-
-wire_resets : (s : LaneState) (l : DiskLog) (event : WireEvent) (t : LaneState) → Grounded s l → WireStep s event t → WorkResetAt l (OnWire event)
-wire_resets s l (Reset e cause packet lost) t grounded step =
-    reset_in e s l cause packet lost t grounded (by_giver e s l.transcript cause packet lost t (grounded.knows.all.sound, grounded.knows.rests) step).carried step
-wire_resets s l (Joined e lost) t grounded step = tt
-wire_resets s l (Took e packet opens) t grounded step = tt
-wire_resets s l (Sent e packet opens) t grounded step = tt
-wire_resets s l (Idle e) t grounded step = tt
-wire_resets s l (Blocked e) t grounded step = tt
-wire_resets s l (Lost e packet) t grounded step = tt
-wire_resets s l (Injected e packet) t grounded step = tt
-wire_resets s l (Poked e at bytes) t grounded step = tt
-wire_resets s l (Declines d) t grounded step = tt
+reset_in e s l cause packet lost t grounded lies step = end_reset e s l cause packet lost t grounded lies step
 
 pub own_resets_at : (s : LaneState) (l : DiskLog) (event : DiskEvent) (t : LaneState) → Grounded s l → LaneStep s event t → WorkResetAt l event
-own_resets_at s l (OnWire event) t grounded step = wire_resets s l event t grounded step
-own_resets_at s l (Asks event) t grounded step = tt
-own_resets_at s l (Works event) t grounded step = tt
-own_resets_at s l (Switches event) t grounded step = tt
-own_resets_at s l (Calms event) t grounded step = tt
+own_resets_at s l (OnWire (Reset e cause packet lost)) t grounded step =
+    reset_in e s l cause packet lost t grounded (by_giver e s l.transcript cause packet lost t (grounded.knows.all.sound, grounded.knows.rests) step).carried step
+own_resets_at s l _ t grounded step = tt

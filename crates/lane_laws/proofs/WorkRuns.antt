@@ -16,8 +16,7 @@ use Rattle.lane_laws.proofs.CarriedRuns.{fresh_all}
 use Rattle.lane_laws.proofs.EndsFold.{client_told, run_both, server_told}
 use Rattle.lane_laws.proofs.LaneChannel.{lane_folds, no_sids, run_sids}
 use Rattle.lane_laws.proofs.LaneCounting.{fresh_counted, knows_step}
-use Rattle.lane_laws.proofs.Speaking.{fresh_rests}
-use Rattle.lane_laws.proofs.Speaking.{lane_utters}
+use Rattle.lane_laws.proofs.Speaking.{fresh_rests, lane_utters}
 use Rattle.lane_laws.proofs.RingPages.{same_pages}
 use Rattle.lane_laws.proofs.IdleLaw.{idle_at}
 use Rattle.lane_laws.proofs.OrderLaw.{order_at}

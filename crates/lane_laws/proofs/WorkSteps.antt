@@ -26,7 +26,8 @@ use Rattle.lane_laws.specs.LaneView.{View, place_of}
 use Rattle.lane_laws.proofs.BlockWrites.{admitted_blocks}
 use Rattle.lane_laws.proofs.Buffers.{other_buffer, other_slot}
 use Rattle.lane_laws.proofs.Changes.{Asked, Completed, Disturbed, Ended, Fetched, Fetches, Finishes, Flushed, Flushing, Gathered, Gathering, Given, Giving, IsChange, Kind, Looked, Opened, Placed, Published, Reading, Rested, Serves, Stored, Storing, first_of}
-use Rattle.lane_laws.proofs.ContentsSteps.{accepts_contents, completes_contents, disturbs_contents, opens_contents, publishes_contents, rests_contents, same_got}
+use Rattle.lane_laws.proofs.ContentsSteps.{accepts_contents, completes_contents, disturbs_contents, opens_contents, publishes_contents, rests_contents}
+use Rattle.lane_laws.proofs.SlotBytes.{same_request as same_got}
 
 -- A DESCRIPTOR IS FETCHED
 first_is : (blocks : ℕ) (request : Request) (u : ℕ) → defect blocks request ≡ None → u ≡ 0 → ProgressIs (first_of request) u request

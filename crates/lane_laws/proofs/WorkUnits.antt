@@ -21,7 +21,8 @@ use Rattle.disk_model.specs.ServerState.{Work}
 use Rattle.disk_model.specs.ServerWork.{data_cookies}
 use Rattle.lane_laws.proofs.RingEnds.{work_below}
 use Rattle.lane_laws.proofs.RingSessions.{sizes_of}
-use Rattle.lane_laws.proofs.RingWork.{memory_is, slots_are}
+use Rattle.lane_laws.proofs.RingWork.{memory_is}
+use Rattle.lane_laws.proofs.StandingRuns.{slots_is as slots_are}
 use Rattle.lane_laws.proofs.SlotBytes.{fetched_cookies, request_size}
 use Rattle.lane_laws.specs.MemoryStands.{memory_long}
 use Rattle.lane_laws.specs.RingAgreed.{ring_in}
@@ -42,7 +43,7 @@ pub record UnitFacts (s : LaneState) (l : DiskLog) (work : Work) (on : Working s
   pub slots : s.client.slots ≡ l.shape.slots
   pub small : size_of on.request ≤ 32768
 
-both_are : (a b : ChannelState) → a ≡ Up → b ≡ Up → (is_up a && is_up b) ≡ true
+pub both_are : (a b : ChannelState) → a ≡ Up → b ≡ Up → (is_up a && is_up b) ≡ true
 both_are a b first second = rw (first, second) refl
 
 pub unit_facts : (s : LaneState) (l : DiskLog) (work : Work) → Before s l → (on : Working s l work) → UnitFacts s l work on

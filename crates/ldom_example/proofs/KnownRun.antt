@@ -22,10 +22,10 @@ use Rattle.ldom_entries.specs.declared.entry.Entry.{Entry}
 use Rattle.ldom_report.specs.declared.status.LimitKind.{LimitKind}
 use Rattle.ldom_report.specs.declared.status.Status.{Status}
 use Rattle.ldom_report.specs.declared.status.Status.TheVariants as status
-use Rattle.script_laws.specs.Clean.{IsCleanScript, IsFull}
-use Rattle.script_laws.specs.PlainRun.{plain_content, plain_ids, plain_text}
-use Rattle.script_laws.specs.Quiet.{IsQuietScript}
-use Rattle.script_laws.proofs.PlainRows.{a_read_sees_the_write}
+use Rattle.ldom_replay.specs.script_laws.Clean.{IsCleanScript, IsFull}
+use Rattle.ldom_replay.specs.script_laws.PlainRun.{plain_content, plain_ids, plain_text}
+use Rattle.ldom_replay.specs.script_laws.Quiet.{IsQuietScript}
+use Rattle.ldom_replay.proofs.script_laws.PlainRows.{a_read_sees_the_write}
 use Rattle.ldom_words.specs.Words.{AsksRun}
 use Rattle.ldom_example.specs.Known.{image, report, script}
 

@@ -4,7 +4,7 @@
 #![tactic(auto)]
 
 ghost use Rattle.std.specs.Prelude.{◌≡◌, [], ◌∷◌, IfOk, IsSomeAnd, map, codes, string_bytes};
-ghost use Rattle.script_laws.specs.Completed.{completed_ids};
+ghost use Rattle.ldom_replay.specs.script_laws.Completed.{completed_ids};
 ghost use Rattle.ldom_example.specs.Known.{image, report, script};
 
 use infallible_io::{GrowingSink, InfallibleDisk, InfallibleHost, InfallibleSource};

@@ -3,3 +3,4 @@ mod BlockCounts
 mod Commands
 mod Holding
 mod Sampled
+pub use Rattle.script_laws.proofs as script_laws

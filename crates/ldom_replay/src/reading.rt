@@ -1,5 +1,5 @@
 // What a run has read of its script.
-ghost use Rattle.std.specs.Prelude.{◌≡◌, ◌+◌, ◌<◌, ◌≤◌, [], length, IfErr, IfOk, OnOk};
+ghost use Rattle.std.specs.Prelude.{◌≡◌, ◌≢◌, ◌+◌, ◌<◌, ◌≤◌, [], length, IfErr, IfOk, OnOk};
 ghost use Rattle.script_reader.specs.declared.lines.LinesStop.TheVariants.{Going};
 ghost use Rattle.script_reader.specs.LinesState.{GoesOn, to_come};
 ghost use Rattle.domain_script.specs.ScriptEvents.{no_names};
@@ -48,7 +48,7 @@ impl Reader {
         requires goes { GoesOn self.old.lines (S.left source.old) }
         requires few { self.old.lines.number ≤ most_lines }
 
-        ensures event { OnOk result (ReadsEvent (to_come self.old.lines (S.left source.old))
+        ensures event { OnOk result (ReadsEvent self.new.lines.stop (to_come self.old.lines (S.left source.old))
             (to_come self.new.lines (S.left source.new)) self.old.names event.new self.new.names) }
         ensures declared { OnOk result (IsDeclared self.new.names event.new) }
         ensures next { OnOk result ((self.new.lines.number ≡ self.old.lines.number + 1)
@@ -57,6 +57,8 @@ impl Reader {
         ensures below { OnOk result (length self.old.journal.entries < most_entries) }
         ensures journal { self.new.journal ≡ self.old.journal }
 
+        // Behind a last line without a line feed the source isn't asked.
+        ensures going { result ≢ Err Stop.End → self.old.lines.stop ≡ Going }
         ensures stop { IfErr result (λ stop. StopsAt (stop_status stop self.new.lines.number)
             (to_come self.old.lines (S.left source.old)) self.new.lines.held (S.left source.new) self.old.names
             self.old.lines.number (length self.old.journal.entries)) }

@@ -5,6 +5,7 @@ ghost use Rattle.vio_io.specs.Given.{Gave};
 ghost use Rattle.ldom_world.specs.world_parts.port_model.PortState.{fresh_port};
 ghost use Rattle.domain_script.specs.Declarations.{AreDeclared};
 ghost use Rattle.domain_script.specs.NamesState.{declared_by};
+ghost use Rattle.script_reader.specs.declared.lines.LinesStop.TheVariants.{Going};
 ghost use Rattle.script_reader.specs.LinesState.{GoesOn, to_come};
 ghost use Rattle.domain_script.specs.Spells.{IsDeclared};
 ghost use Rattle.ldom_replay.specs.NamesLanes.{HasLanes};
@@ -40,7 +41,7 @@ fn read_opening<S: Source>(reader: &mut Reader, source: &mut S) -> Result<Event,
     requires names { reader.old.names ≡ no_names }
     requires empty { reader.old.journal.entries ≡ [] }
 
-    ensures opens { IfOk result (λ event. Opens (to_come reader.old.lines (S.left source.old))
+    ensures opens { IfOk result (λ event. Opens reader.new.lines.stop (to_come reader.old.lines (S.left source.old))
         (to_come reader.new.lines (S.left source.new)) event reader.new.names reader.new.lines.number) }
     ensures declared { IfOk result (IsDeclared reader.new.names) }
     ensures goes { OnOk result (GoesOn reader.new.lines (S.left source.new)) }
@@ -86,6 +87,7 @@ fn run_lines<S: Source, D: Store>(reader: &mut Reader, source: &mut S, world: &m
         reader.old.journal.entries world.old reader.old.lines.number
         (stop_status result reader.new.lines.number) reader.new.names reader.new.journal.entries world.new
         (stop_lines result reader.new.lines.number) }
+    ensures going { result ≡ Stop.Source → reader.old.lines.stop ≡ Going }
     ensures most { reader.new.lines.number ≤ most_lines }
     ensures source { Fails (result ≡ Stop.Source) (S.faults source.old) (S.faults source.new) }
 {
@@ -188,12 +190,12 @@ fn attach<H: Host, S: Source>(
     requires declared { IfSome first (IsDeclared reader.names) }
     requires journal { reader.journal.entries ≡ [] }
     ensures replayed { (start : Option (List ℕ))
-        → Opened start reader.lines.held (S.left source.old) first reader.names reader.lines.number
+        → Opened start reader.lines (S.left source.old) first reader.names
         → Replayed (as_image H.Disk.Store) start (S.left source.new)
         (H.gives host.old name.now) result.status result.lines result.names result.journal.entries result.image
         result.lanes }
     ensures sized { (start : Option (List ℕ))
-        → Opened start reader.lines.held (S.left source.old) first reader.names reader.lines.number
+        → Opened start reader.lines (S.left source.old) first reader.names
         → SizeIs H.Disk.size result.status (bytes_needed result.names.disks)
         (H.gives host.old name.now (bytes_needed result.names.disks)) result.image }
     ensures source { Fails (result.status ≡ Status.SourceFault) (S.faults source.old) (S.faults source.new) }
@@ -238,12 +240,12 @@ fn run_over<D: Store, S: Source>(
     requires few_lanes { length lanes.first ≤ 8 }
     requires none_kept { blocks.kept ≡ [] }
     ensures replayed { (start : Option (List ℕ)) (gives : ℕ → Option (List ℕ))
-        → Opened start reader.lines.held (S.left source.old) first reader.names reader.lines.number
+        → Opened start reader.lines (S.left source.old) first reader.names
         → as_image D.Store image ≡ (start_of reader.names gives).first.image
         → Replayed (as_image D.Store) start (S.left source.new) gives result.status
         result.lines result.names result.journal.entries result.image result.lanes }
     ensures sized { (start : Option (List ℕ)) (gives : ℕ → Option (List ℕ))
-        → Opened start reader.lines.held (S.left source.old) first reader.names reader.lines.number
+        → Opened start reader.lines (S.left source.old) first reader.names
         → as_image D.Store image ≡ (start_of reader.names gives).first.image
         → SizeIs D.size result.status (bytes_needed result.names.disks)
         (gives (bytes_needed result.names.disks)) result.image }
@@ -279,12 +281,12 @@ fn run_world<S: Source, D: Store>(
     requires journal { reader.journal.entries ≡ [] }
     requires agrees { Counted [] world }
     ensures replayed { (start : Option (List ℕ)) (gives : ℕ → Option (List ℕ))
-        → Opened start reader.lines.held (S.left source.old) first reader.names reader.lines.number
+        → Opened start reader.lines (S.left source.old) first reader.names
         → world ≡ start_of reader.names gives
         → Replayed (as_image D.Store) start (S.left source.new) gives result.status
         result.lines result.names result.journal.entries result.image result.lanes }
     ensures sized { (start : Option (List ℕ)) (gives : ℕ → Option (List ℕ))
-        → Opened start reader.lines.held (S.left source.old) first reader.names reader.lines.number
+        → Opened start reader.lines (S.left source.old) first reader.names
         → world ≡ start_of reader.names gives
         → IfSome (gives (bytes_needed reader.names.disks))
         (λ bytes. bytes_needed reader.names.disks ≤ length bytes)
@@ -325,7 +327,7 @@ fn run_first<S: Source, D: Store>(
     requires journal { reader.old.journal.entries ≡ [] }
     requires agrees { Counted [] world.old }
     ensures runs { (start : Option (List ℕ))
-        → Opened start reader.old.lines.held (S.left source.old) first reader.old.names reader.old.lines.number
+        → Opened start reader.old.lines (S.left source.old) first reader.old.names
         → RunsAll start (S.left source.new) reader.old.names world.old (stop_status result reader.new.lines.number)
         reader.new.names reader.new.journal.entries world.new (stop_lines result reader.new.lines.number) }
     ensures most { reader.new.lines.number ≤ most_lines }

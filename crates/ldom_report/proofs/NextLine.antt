@@ -1,10 +1,10 @@
 -- What a reader's answer says to whoever takes up its lines.
-use Rattle.std.proofs.Common.{◌≡◌, ℕ, List, Option, Ok, Err, false}
+use Rattle.std.proofs.Common.{◌≡◌, ◌≢◌, ℕ, List, Option, Bool, Result, Ok, Err, false, refl}
 use Rattle.script_reader.specs.declared.lines.LinesFault.{LinesFault}
 use Rattle.script_reader.specs.declared.lines.LinesFault.TheVariants.{Source, Long, Many}
 use Rattle.script_reader.specs.declared.lines.LinesStop.{LinesStop}
 use Rattle.script_reader.specs.declared.lines.LinesStop.TheVariants.{Going, Ended, TooLong, TooMany}
-use Rattle.script_reader.specs.LinesState.{GoesFrom, LineEnds, LinesState, Reads}
+use Rattle.script_reader.specs.LinesState.{AdvancesFrom, GoesFrom, LineEnds, LinesState, Reads}
 use Rattle.ldom_report.specs.Stops.{StopsReading, stop_of}
 use Rattle.ldom_report.specs.declared.stop.Stop.TheVariants.{End}
 
@@ -31,3 +31,11 @@ pub same_number : (fault : LinesFault) (rest left : Option (List ℕ)) (before a
 same_number Source rest left before after reads = reads.0.count
 same_number Long rest left before after reads = reads.0.count
 same_number Many rest left before after reads = reads.0.count
+
+-- a reader that may be asked, and that answers anything but the end, goes on
+pub going_before : (stop : LinesStop) (rest left : Option (List ℕ)) (before after : LinesState) (result : Result Bool LinesFault)
+    → GoesFrom stop rest → AdvancesFrom stop rest left before result after → result ≢ Ok false → stop ≡ Going
+going_before Going rest left before after result goes advances other = refl
+going_before Ended rest left before after result goes advances other = absurd (other advances.0)
+going_before TooLong rest left before after result goes advances other = absurd goes
+going_before TooMany rest left before after result goes advances other = absurd goes

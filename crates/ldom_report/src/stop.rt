@@ -1,6 +1,6 @@
 // The lines of a source, one after another, and why no further one is taken up.
-ghost use Rattle.std.specs.Prelude.{◌≡◌, ◌-◌, ◌^◌, ◌<◌, IfErr, OnOk};
-ghost use Rattle.script_reader.specs.declared.lines.LinesStop.TheVariants.{Ended};
+ghost use Rattle.std.specs.Prelude.{◌≡◌, ◌≢◌, ◌-◌, ◌^◌, ◌<◌, IfErr, OnOk};
+ghost use Rattle.script_reader.specs.declared.lines.LinesStop.TheVariants.{Ended, Going};
 ghost use Rattle.script_reader.specs.LinesState.{GivesLine, GoesOn, to_come};
 ghost use Rattle.vio_io.specs.Causes.{Fails};
 ghost use Rattle.ldom_report.specs.Stops.{StopsReading, stop_lines, stop_of, stop_status};
@@ -81,7 +81,7 @@ impl Stop {
 }
 
 /// Reads the next line, which is the reader's `line` then. Behind a last line without a line feed the source isn't asked:
-/// it was at its end.
+/// it was at its end. So a source fails only where each line so far had its line feed.
 pub fn next_line<S: Source>(lines: &mut Lines, source: &mut S) -> Result<(), Stop>
     requires goes { GoesOn lines.old (S.left source.old) }
     ensures gives { OnOk result (GivesLine (to_come lines.old (S.left source.old))
@@ -92,6 +92,7 @@ pub fn next_line<S: Source>(lines: &mut Lines, source: &mut S) -> Result<(), Sto
     ensures number { IfErr result (λ stop. lines.new.number ≡ lines.old.number) }
     ensures source { Fails (result ≡ Err Stop.Source) (S.faults source.old) (S.faults source.new) }
     ensures ended { lines.old.stop ≡ Ended → source.new ≡ source.old }
+    ensures going { result ≢ Err Stop.End → lines.old.stop ≡ Going }
 {
     match lines.advance(source) {
         Ok(true) => Ok(()),

@@ -11,8 +11,8 @@ use Rattle.std.proofs.lemmas.List.Folds.{list_all-map}
 use Rattle.std.proofs.lemmas.Slice.Eq.{bytes_eq-Decides}
 use Rattle.std.proofs.lemmas.Str.Parse.{digit_from_value}
 use Rattle.clap.specs.Words.{subcommand_of, takes}
-use Rattle.domain_script.specs.Words.{SpellsNumber, is_number, number_of}
-use Rattle.domain_script.proofs.WordTests.{is_number_from, number_is, number_spelled}
+use Rattle.script_words.specs.Words.{SpellsNumber, is_number, number_of}
+use Rattle.script_words.proofs.WordTests.{is_number_from, number_is, number_spelled}
 use Rattle.ldom_words.specs.Asking.{DumpOf, RunOver, SampleOf, TraceOver, Wanted, program_app, sample_number, wanted, wanted_in, wanted_with}
 use Rattle.ldom_words.specs.Words.{AsksRun, AsksSample, AsksTrace, all_plain, is_plain_word, sample_count}
 use Rattle.ldom_words.proofs.Accepting.{OfWord, Runs, Samples, Traces, asks_for, name_of, reads_dump, reads_word, takes_dump, takes_word}

@@ -2,7 +2,7 @@
 use Rattle.std.specs.Prelude.{ℕ, ◌&&◌, nat_lt, true, List, [], ◌∷◌, codes, if◌then◌else◌, Option, Some, None, option_and_then, option_map}
 use Rattle.std.specs.Str.{bytes_eq}
 use Rattle.clap.specs.Words.{App, Row, Rule, Text, first_of, new_app, new_rule, with_rule, with_subcommand}
-use Rattle.domain_script.specs.Words.{is_number, number_of}
+use Rattle.script_words.specs.Words.{is_number, number_of}
 use Rattle.ldom_words.specs.Words.{is_plain_word, sample_count}
 use Rattle.ldom_words.specs.declared.words.Asked.{Asked}
 use Rattle.ldom_words.specs.declared.words.Asked.TheVariants as asked

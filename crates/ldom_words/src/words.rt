@@ -4,7 +4,7 @@ ghost use Rattle.ldom_words.specs.Words.{all_plain, begins_with_help, is_plain_w
 ghost use Rattle.ldom_words.specs.Asking.{sample_number, wanted, wanted_of, wanted_with};
 
 use crate::clap_words::{Refusal, parse};
-use domain_script::number;
+use script_words::numbers::number;
 use std::alloc::Global;
 
 /// So many sample scripts there are.

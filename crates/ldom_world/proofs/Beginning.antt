@@ -1,13 +1,13 @@
 -- Fresh lanes: nothing was asked of a disk, and no frame was given to a port.
 use Rattle.std.proofs.Common.{◌≡◌, List, [], ◌∷◌, map, refl, ap, sym, subst, ◌∙◌, arith}
-use Rattle.world_parts.specs.domain_laws.Domain.{DomainState}
-use Rattle.world_parts.specs.port_model.NetLaneState.{NetShape}
-use Rattle.world_parts.specs.port_model.PortState.{PortState, fresh_port}
-use Rattle.world_parts.specs.world_laws.Issued.{issued_on}
-use Rattle.world_parts.specs.disk_model.LaneState.{Shape, fresh}
-use Rattle.switched_ports.specs.Given.{GivenBelow}
-use Rattle.switched_ports.proofs.Fresh.{fresh_below}
-use Rattle.ldom_world.specs.Steps.{Counted}
+use Rattle.recorded_lanes.specs.world_parts.domain_laws.Domain.{DomainState}
+use Rattle.recorded_lanes.specs.world_parts.port_model.NetLaneState.{NetShape}
+use Rattle.recorded_lanes.specs.world_parts.port_model.PortState.{PortState, fresh_port}
+use Rattle.recorded_lanes.specs.world_parts.world_laws.Issued.{issued_on}
+use Rattle.recorded_lanes.specs.world_parts.disk_model.LaneState.{Shape, fresh}
+use Rattle.recorded_lanes.specs.switched_ports.Given.{GivenBelow}
+use Rattle.recorded_lanes.proofs.switched_ports.Fresh.{fresh_below}
+use Rattle.recorded_lanes.specs.Steps.{Counted}
 
 none_issued : (shapes : List Shape) → issued_on (map fresh shapes) ≡ 0
 none_issued [] = refl

@@ -3,8 +3,8 @@ use Rattle.std.proofs.Common.{◌≡◌, ℕ, List, sym, subst}
 use Rattle.domain_script.specs.declared.event.Side.{Side}
 use Rattle.domain_script.specs.declared.fields.LaneKind.{LaneKind}
 use Rattle.domain_script.specs.declared.fields.LaneKind.TheVariants as kinds
-use Rattle.ldom_world.specs.OnePort.{IsCallOf}
-use Rattle.ldom_world.specs.declared.calls.LaneCall.TheVariants as lane
+use Rattle.recorded_lanes.specs.OnePort.{IsCallOf}
+use Rattle.recorded_lanes.specs.declared.calls.LaneCall.TheVariants as lane
 
 pub reset_of_lane : (kind : LaneKind) (side : Side) → IsCallOf kind (lane.Reset side)
 reset_of_lane kinds.Disk side = tt

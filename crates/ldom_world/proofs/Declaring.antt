@@ -1,12 +1,12 @@
 -- The lanes of declared disks, one after another, and the world that they make.
 use Rattle.std.proofs.Common.{◌≡◌, ℕ, zero, suc, ◌+◌, ◌*◌, ◌≤◌, Some, None, List, [], ◌∷◌, ◌++◌, length, map, take, slice_get, refl, sym, ap, subst, ◌∙◌, arith}
 use Rattle.std.proofs.lemmas.List.{length-append, take_all}
-use Rattle.world_parts.specs.disk_model.LaneState.{IsShape, LaneState, Shape, fresh}
+use Rattle.recorded_lanes.specs.world_parts.disk_model.LaneState.{IsShape, LaneState, Shape, fresh}
 use Rattle.domain_script.specs.Declarations.{IsDisk}
 use Rattle.domain_script.specs.declared.event.DiskDecl.{DiskDecl}
-use Rattle.world_parts.specs.world_laws.Rounds.{Each}
+use Rattle.recorded_lanes.specs.world_parts.world_laws.Rounds.{Each}
 use Rattle.lane_kinds.proofs.Places.{after_one, map_both, take_one}
-use Rattle.world_parts.specs.Declared.{LiesWithin, blocks_of, bytes_needed, shape_of, shapes_of}
+use Rattle.recorded_lanes.specs.world_parts.Declared.{LiesWithin, blocks_of, bytes_needed, shape_of, shapes_of}
 
 -- a declared disk has the shape of a lane
 pub disk_shape : (first : ℕ) (disk : DiskDecl) → IsDisk disk → IsShape (shape_of first disk)

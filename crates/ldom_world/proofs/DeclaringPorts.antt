@@ -3,14 +3,14 @@ use Rattle.std.proofs.Common.{◌≡◌, ℕ, ◌+◌, ◌<◌, ◌≤◌, Some,
 use Rattle.std.specs.List.{AllByRecursion}
 use Rattle.std.proofs.lemmas.List.{take_all}
 use Rattle.std.proofs.lemmas.Option.{slice_get-map}
-use Rattle.world_parts.specs.port_model.NetLaneState.{IsNetShape, NetShape}
+use Rattle.recorded_lanes.specs.world_parts.port_model.NetLaneState.{IsNetShape, NetShape}
 use Rattle.domain_script.specs.Declarations.{AddressesDiffer, IsPort, addresses}
 use Rattle.domain_script.specs.declared.event.PortDecl.{PortDecl}
 use Rattle.lane_kinds.proofs.Places.{map_both}
 use Rattle.lane_kinds.specs.Lanes.{EachOf}
-use Rattle.switched_ports.specs.Shapes.{AddressesDiffer as ShapesDiffer, shape_of, shapes_of}
-use Rattle.switched_ports.specs.declared.shape.PortShape.{PortShape}
-use Rattle.world_parts.specs.Declared.{net_of, nets_of}
+use Rattle.recorded_lanes.specs.switched_ports.Shapes.{AddressesDiffer as ShapesDiffer, shape_of, shapes_of}
+use Rattle.recorded_lanes.specs.switched_ports.declared.shape.PortShape.{PortShape}
+use Rattle.recorded_lanes.specs.world_parts.Declared.{net_of, nets_of}
 use Rattle.ldom_world.proofs.Declaring.{take_more, take_none}
 
 -- a declared port has the shape of one

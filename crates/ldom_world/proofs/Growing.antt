@@ -1,13 +1,13 @@
 -- A journal that grew in a settle: by nothing, by more after others, and by what else it may be taken for.
 use Rattle.std.proofs.Common.{List, [], ◌++◌, refl}
-use Rattle.world_parts.specs.world_laws.Settle.{SettleEntry}
-use Rattle.world_parts.specs.domain_laws.Domain.{DomainState}
-use Rattle.world_parts.specs.domain_laws.Lines.{LineBegins, LineMoves}
-use Rattle.world_parts.specs.domain_laws.Lines as script
+use Rattle.recorded_lanes.specs.world_parts.world_laws.Settle.{SettleEntry}
+use Rattle.recorded_lanes.specs.world_parts.domain_laws.Domain.{DomainState}
+use Rattle.recorded_lanes.specs.world_parts.domain_laws.Lines.{LineBegins, LineMoves}
+use Rattle.recorded_lanes.specs.world_parts.domain_laws.Lines as script
 use Rattle.ldom_entries.specs.declared.entry.Entry.{Entry}
-use Rattle.ldom_world.proofs.Adding.{both_add, none_adds}
+use Rattle.recorded_lanes.proofs.Adding.{both_add, none_adds}
 use Rattle.ldom_world.specs.SettleParts.{Grew}
-use Rattle.world_parts.specs.Parts.{Fits, FitsSoFar}
+use Rattle.recorded_lanes.specs.world_parts.Parts.{Fits, FitsSoFar}
 
 pub none_grew : (Holds : List SettleEntry → Type 0) (old : List Entry) → Holds [] → Grew Holds old old
 none_grew Holds old holds = record { entries = []; adds = none_adds script.Settles old old refl; holds = holds }

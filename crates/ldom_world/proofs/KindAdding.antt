@@ -1,9 +1,9 @@
 -- The lanes of a kind in a settle: each adds its own entries to the journal after those of the lanes before.
 use Rattle.std.proofs.Common.{◌≡◌, ℕ, ◌+◌, ◌<◌, ◌≤◌, Bool, false, Some, List, [], ◌∷◌, ◌++◌, length, slice_get, slice_set, refl, sym, subst, arith}
 use Rattle.std.specs.Prelude.{◌&&◌, ◌||◌}
-use Rattle.world_parts.proofs.domain_laws.LoopKinds.{disk_begins, disk_runs, disk_turn, port_begins, port_runs, port_turn}
-use Rattle.world_parts.specs.domain_laws.Domain.{DomainState, DomainStep}
-use Rattle.world_parts.specs.domain_laws.Lines as script
+use Rattle.recorded_lanes.proofs.world_parts.domain_laws.LoopKinds.{disk_begins, disk_runs, disk_turn, port_begins, port_runs, port_turn}
+use Rattle.recorded_lanes.specs.world_parts.domain_laws.Domain.{DomainState, DomainStep}
+use Rattle.recorded_lanes.specs.world_parts.domain_laws.Lines as script
 use Rattle.domain_script.specs.declared.fields.LaneKind.{LaneKind}
 use Rattle.domain_script.specs.declared.fields.LaneKind.TheVariants as kinds
 use Rattle.lane_kinds.proofs.WorldMade as made
@@ -15,13 +15,13 @@ use Rattle.lane_kinds.specs.WorldMade.{KindRuns, LaneMade}
 use Rattle.ldc_queue.specs.declared.end.End.{End}
 use Rattle.ldc_queue.specs.declared.end.End.TheVariants.{A, B}
 use Rattle.ldom_entries.specs.declared.entry.Entry.{Entry}
-use Rattle.ldom_world.proofs.Adding.{both_add}
+use Rattle.recorded_lanes.proofs.Adding.{both_add}
 use Rattle.ldom_world.proofs.Growing.{also_grew, both_grew, none_grew}
 use Rattle.ldom_world.specs.SettleParts.{Grew, LaneNamesAdd, LaneTicksAdd, LaneTicksAddFront, LaneTicksBegun, LanesAdd, LanesAddFront, LanesBegun, LanesMade, LanesNamed, LanesTicked, MakesQuiet, NamesGoOn, OneTicked, RoundBreaks, RoundGoesOn, TicksGoOn}
 use Rattle.ldom_world.specs.WorldKinds.{in_world, left_by}
-use Rattle.world_parts.specs.world_laws.Settle.{SettleEntry}
-use Rattle.world_parts.specs.Lines.{number_of_kind}
-use Rattle.world_parts.specs.Parts.{Adds}
+use Rattle.recorded_lanes.specs.world_parts.world_laws.Settle.{SettleEntry}
+use Rattle.recorded_lanes.specs.world_parts.Lines.{number_of_kind}
+use Rattle.recorded_lanes.specs.world_parts.Parts.{Adds}
 
 -- WHAT ROUNDS GO BY: an entry of the kind runs its lanes, and two steps are a turn
 record KindLaws (kind : LaneKind) : Type 0 where

@@ -1,14 +1,5 @@
-pub mod Telling
-pub mod Adding
-pub mod Leaving
-pub mod PortLeaving
-pub mod PortAnswering
-pub mod PortLifting
-pub mod Answering
-pub mod LaneStepping
-pub mod Lifting
+pub mod NumbersStay
 pub mod Lifted
-pub mod Opened
 pub mod Turning
 pub mod Declaring
 pub mod Growing

@@ -1,22 +1,22 @@
 -- A world whose disks, or whose ports, made one event: what it did there, it did to the world, and the others stay.
 use Rattle.std.proofs.Common.{◌≡◌, ℕ, ◌+◌, ◌≤◌, ◌<◌, Bool, List, [], ◌∷◌, length, Result, Ok, Err, refl, sym, ap, subst, ◌∙◌, arith, length-append}
 use Rattle.std.specs.Prelude.{IfOk, OnErr, OnOk}
-use Rattle.world_parts.specs.disk_model.DiskEvent.{DiskEvent}
-use Rattle.world_parts.specs.switch_laws.Events.{SwitchEvent}
-use Rattle.world_parts.specs.world_laws.Settle.{OfLane, OfPort, SettleEntry}
-use Rattle.world_parts.specs.world_laws.World.{WorldState, WorldStep}
-use Rattle.world_parts.specs.world_laws.Issued.{issued_on}
-use Rattle.world_parts.specs.domain_laws.Domain.{DomainState, DomainStep, PortsStep, lanes_in}
-use Rattle.world_parts.specs.domain_laws.Lines.{BeginsPart, Line, Nothing, PartOf}
-use Rattle.world_parts.specs.port_model.PortState.{PortState}
+use Rattle.recorded_lanes.specs.world_parts.disk_model.DiskEvent.{DiskEvent}
+use Rattle.recorded_lanes.specs.world_parts.switch_laws.Events.{SwitchEvent}
+use Rattle.recorded_lanes.specs.world_parts.world_laws.Settle.{OfLane, OfPort, SettleEntry}
+use Rattle.recorded_lanes.specs.world_parts.world_laws.World.{WorldState, WorldStep}
+use Rattle.recorded_lanes.specs.world_parts.world_laws.Issued.{issued_on}
+use Rattle.recorded_lanes.specs.world_parts.domain_laws.Domain.{DomainState, DomainStep, PortsStep, lanes_in}
+use Rattle.recorded_lanes.specs.world_parts.domain_laws.Lines.{BeginsPart, Line, Nothing, PartOf}
+use Rattle.recorded_lanes.specs.world_parts.port_model.PortState.{PortState}
 use Rattle.ldom_entries.specs.declared.entry.Entry.{Entry}
-use Rattle.ldom_report.specs.Report.{accepted_count}
-use Rattle.switched_ports.proofs.Entries.{below_later}
-use Rattle.switched_ports.specs.Given.{GivenBelow}
-use Rattle.ldom_world.proofs.Adding.{none_adds}
-use Rattle.ldom_world.specs.Steps.{AnswerMade, Counted, OneMade, QuietMade}
+use Rattle.recorded_lanes.specs.ldom_report.Report.{accepted_count}
+use Rattle.recorded_lanes.proofs.switched_ports.Entries.{below_later}
+use Rattle.recorded_lanes.specs.switched_ports.Given.{GivenBelow}
+use Rattle.recorded_lanes.proofs.Adding.{none_adds}
+use Rattle.recorded_lanes.specs.Steps.{AnswerMade, Counted, OneMade, QuietMade}
 use Rattle.ldom_world.specs.TurnsMade.{SameNumbers}
-use Rattle.world_parts.specs.Parts.{Adds, Fits, FitsSoFar}
+use Rattle.recorded_lanes.specs.world_parts.Parts.{Adds, Fits, FitsSoFar}
 
 abbrev pub both : WorldState → List PortState → DomainState
 both disks ports = record { first = disks; second = ports }

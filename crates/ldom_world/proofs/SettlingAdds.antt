@@ -2,22 +2,22 @@
 use Rattle.std.proofs.Common.{◌≡◌, ℕ, ◌+◌, ◌<◌, ◌≤◌, Bool, true, false, Result, Ok, Err, List, [], ◌∷◌, ◌++◌, length, take, refl, sym, ap, subst, ◌∙◌, arith}
 use Rattle.std.specs.Prelude.{◌&&◌, ◌||◌, OnErr}
 use Rattle.lane_kinds.specs.LanesMade.{Marks, all_true, first_marks}
-use Rattle.world_parts.specs.world_laws.Settle.{Settled}
-use Rattle.world_parts.proofs.domain_laws.Looping as going
-use Rattle.world_parts.specs.domain_laws.Domain.{DomainState, lanes_in}
-use Rattle.world_parts.specs.domain_laws.Going.{GoneOn, fresh_marks, most_rounds}
-use Rattle.world_parts.specs.domain_laws.Lines.{LineBegins, LineMoves}
-use Rattle.world_parts.specs.domain_laws.Lines as script
-use Rattle.world_parts.specs.domain_laws.NamesMade.{AllNamed, NamesBegun}
-use Rattle.world_parts.specs.domain_laws.RoundMade.{RoundBegun, RoundMade, all_quiet}
-use Rattle.world_parts.specs.domain_laws.TicksMade.{TicksBegun, TicksMade}
+use Rattle.recorded_lanes.specs.world_parts.world_laws.Settle.{Settled}
+use Rattle.recorded_lanes.proofs.world_parts.domain_laws.Looping as going
+use Rattle.recorded_lanes.specs.world_parts.domain_laws.Domain.{DomainState, lanes_in}
+use Rattle.recorded_lanes.specs.world_parts.domain_laws.Going.{GoneOn, fresh_marks, most_rounds}
+use Rattle.recorded_lanes.specs.world_parts.domain_laws.Lines.{LineBegins, LineMoves}
+use Rattle.recorded_lanes.specs.world_parts.domain_laws.Lines as script
+use Rattle.recorded_lanes.specs.world_parts.domain_laws.NamesMade.{AllNamed, NamesBegun}
+use Rattle.recorded_lanes.specs.world_parts.domain_laws.RoundMade.{RoundBegun, RoundMade, all_quiet}
+use Rattle.recorded_lanes.specs.world_parts.domain_laws.TicksMade.{TicksBegun, TicksMade}
 use Rattle.domain_script.specs.declared.fields.LaneKind.TheVariants as kinds
 use Rattle.ldom_entries.specs.declared.entry.Entry.{Entry}
 use Rattle.ldom_entries.specs.declared.entry.Entry.TheVariants as entry
-use Rattle.ldom_world.proofs.Adding.{both_add, one_adds}
+use Rattle.recorded_lanes.proofs.Adding.{both_add, one_adds}
 use Rattle.ldom_world.proofs.Growing.{also_grew, begins_of, both_grew, fits_of, none_grew}
 use Rattle.ldom_world.specs.SettleParts.{LaneNamesAdd, LaneNamesAddFront, LaneTicksAdd, LaneTicksAddFront, LaneTicksBegun, LanesAdd, LanesAddFront, LanesBegun, LanesMade, LanesNamed, LanesTicked, NamesAdd, NamesAddFront, RoundAdds, RoundAddsFront, RoundsAdd, TicksAdd, TicksAddFront, TurnBreaks, TurnGoesOn}
-use Rattle.world_parts.specs.Parts.{Fits, FitsSoFar}
+use Rattle.recorded_lanes.specs.world_parts.Parts.{Fits, FitsSoFar}
 
 -- A ROUND of the disks, and behind them of the ports
 pub whole_round : (start m now : DomainState) (old mid new : List Entry) (quiet : Marks)

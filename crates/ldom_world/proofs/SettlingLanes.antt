@@ -2,13 +2,13 @@
 use Rattle.std.proofs.Common.{◌≡◌, ℕ, ◌+◌, ◌<◌, ◌≤◌, Bool, true, false, Option, Some, List, [], ◌∷◌, ◌++◌, length, map, take, slice_get, slice_set, refl, sym, ap, ◌∙◌, subst, arith, append-nil, length-append}
 use Rattle.std.specs.Prelude.{◌&&◌, ◌||◌, cond, if◌then◌else◌, not, IsSomeAnd}
 use Rattle.runs.specs.Run.{Run}
-use Rattle.world_parts.specs.disk_model.DiskEvent.{CalmTick, Calms}
-use Rattle.world_parts.specs.disk_model.LaneState.{LaneState}
-use Rattle.world_parts.proofs.domain_laws.LoopKinds.{disk_gets, port_gets}
-use Rattle.world_parts.specs.domain_laws.Domain.{DomainState, DomainStep}
-use Rattle.world_parts.specs.domain_laws.Lines.{AnswersCall, AnswersOn, AnswersPortCall, Calls, Line, LaneName, OneEntry, OnePortEntry, Settles, Ticks}
-use Rattle.world_parts.specs.port_model.NetEvent.{CalmTick as CalmPortTick, Ticked}
-use Rattle.world_parts.specs.port_model.PortState.{PortState}
+use Rattle.recorded_lanes.specs.world_parts.disk_model.DiskEvent.{CalmTick, Calms}
+use Rattle.recorded_lanes.specs.world_parts.disk_model.LaneState.{LaneState}
+use Rattle.recorded_lanes.proofs.world_parts.domain_laws.LoopKinds.{disk_gets, port_gets}
+use Rattle.recorded_lanes.specs.world_parts.domain_laws.Domain.{DomainState, DomainStep}
+use Rattle.recorded_lanes.specs.world_parts.domain_laws.Lines.{AnswersCall, AnswersOn, AnswersPortCall, Calls, Line, LaneName, OneEntry, OnePortEntry, Settles, Ticks}
+use Rattle.recorded_lanes.specs.world_parts.port_model.NetEvent.{CalmTick as CalmPortTick, Ticked}
+use Rattle.recorded_lanes.specs.world_parts.port_model.PortState.{PortState}
 use Rattle.domain_script.specs.LaneKinds.{disk_of, lane_at, port_of}
 use Rattle.domain_script.specs.declared.event.Lane.{Lane}
 use Rattle.domain_script.specs.declared.fields.LaneKind.{LaneKind}
@@ -20,25 +20,25 @@ use Rattle.ldom_entries.specs.declared.entry.Entry.{Entry}
 use Rattle.ldom_entries.specs.declared.entry.Entry.TheVariants as entry
 use Rattle.ldom_entries.specs.declared.entry.Who.{Who}
 use Rattle.ldom_entries.specs.declared.entry.Who.TheVariants.{Lane as OfWhole, End as OfEnd}
-use Rattle.ldom_report.specs.LaneEvents.{ChangesNothing, Meaning, NoRoomFor, Refuses, meaning}
-use Rattle.ldom_report.specs.Report.{accepted_count, is_accepted}
-use Rattle.ldom_world.proofs.Adding.{none_adds, one_adds}
+use Rattle.recorded_lanes.specs.ldom_report.LaneEvents.{ChangesNothing, Meaning, NoRoomFor, Refuses, meaning}
+use Rattle.recorded_lanes.specs.ldom_report.Report.{accepted_count, is_accepted}
+use Rattle.recorded_lanes.proofs.Adding.{none_adds, one_adds}
 use Rattle.ldom_world.proofs.KindAdding.{many_of, names_go_by, ticks_go_by}
 use Rattle.ldom_world.proofs.Lifted.{both}
-use Rattle.ldom_world.proofs.Lifting.{count_push}
+use Rattle.recorded_lanes.proofs.Lifting.{count_push}
 use Rattle.ldom_world.specs.SettleParts.{Grew, NamesGoOn, OneTicked, TicksGoOn}
-use Rattle.ldom_world.specs.Steps.{Counted}
+use Rattle.recorded_lanes.specs.Steps.{Counted}
 use Rattle.ldom_world.specs.WorldKinds.{in_world}
-use Rattle.world_parts.specs.switch_laws.Ports.{waits_on as port_waits_on}
-use Rattle.switched_ports.proofs.Entries.{below_later}
-use Rattle.switched_ports.specs.States.{PortAt}
-use Rattle.world_parts.specs.port_laws.NetEndState.{unseen}
-use Rattle.world_parts.specs.world_laws.DiskKind.{tick, waits_on}
-use Rattle.world_parts.specs.world_laws.Settle.{OfLane, OfPort, SettleEntry}
-use Rattle.world_parts.specs.world_laws.World.{WorldState}
-use Rattle.world_parts.specs.Lines.{IsLaneOf, of_kind}
-use Rattle.world_parts.specs.Parts.{Adds, Fits, FitsSoFar, PartSays}
-use Rattle.world_parts.specs.WorldEvents.{calm_event, if_so, is_lane, left_over, meant, of_net, told_of, world_event}
+use Rattle.recorded_lanes.specs.world_parts.switch_laws.Ports.{waits_on as port_waits_on}
+use Rattle.recorded_lanes.proofs.switched_ports.Entries.{below_later}
+use Rattle.recorded_lanes.specs.switched_ports.States.{PortAt}
+use Rattle.recorded_lanes.specs.world_parts.port_laws.NetEndState.{unseen}
+use Rattle.recorded_lanes.specs.world_parts.world_laws.DiskKind.{tick, waits_on}
+use Rattle.recorded_lanes.specs.world_parts.world_laws.Settle.{OfLane, OfPort, SettleEntry}
+use Rattle.recorded_lanes.specs.world_parts.world_laws.World.{WorldState}
+use Rattle.recorded_lanes.specs.world_parts.Lines.{IsLaneOf, of_kind}
+use Rattle.recorded_lanes.specs.world_parts.Parts.{Adds, Fits, FitsSoFar, PartSays}
+use Rattle.recorded_lanes.specs.world_parts.WorldEvents.{calm_event, if_so, is_lane, left_over, meant, of_net, told_of, world_event}
 
 -- THE MARKS of the first lanes, with one more
 and_true : (b : Bool) → (b && true) ≡ b
@@ -58,14 +58,7 @@ all_set k marks new all mark less is so_far =
     ∙ ap (λ (l : List Bool). all_true l) (take_set_one marks k mark less)
     ∙ all_more (take k marks) mark ∙ ap (λ (b : Bool). b && mark) so_far
 
--- WHETHER A LANE WAITS
-pub waits_by : (finished stopped running : Bool) → running ≡ not stopped
-    → (not finished && running) ≡ (if finished then false else if stopped then false else true)
-waits_by true stopped running is = refl
-waits_by false true running is = is
-waits_by false false running is = is
-
--- in a world, of a disk and of a port
+-- WHETHER A LANE WAITS in a world, of a disk and of a port
 pub disk_waits : (d : WorldState) (p : List PortState) (w : DomainState) → both d p ≡ w → (kind : LaneKind) (k : ℕ) (waits : Bool)
     → kind ≡ kinds.Disk → ((s : LaneState) → slice_get d.lanes k ≡ Some s → waits ≡ waits_on s)
     → (s : (in_world kind).Lane) → slice_get ((in_world kind).lanes w) k ≡ Some s → waits ≡ (in_world kind).kind.waits_on s

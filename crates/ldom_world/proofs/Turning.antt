@@ -3,21 +3,21 @@
 use Rattle.std.proofs.Common.{◌≡◌, ℕ, zero, suc, ◌+◌, ◌-◌, ◌<◌, Result, Ok, Err, List, [], ◌∷◌, ◌++◌, length, replicate, refl, sym, ap, ap₂, subst, ◌∙◌, arith, append_assoc, append-nil}
 use Rattle.std.specs.Prelude.{OnErr}
 use Rattle.runs.specs.Run.{Run, run_append}
-use Rattle.world_parts.specs.world_laws.Settle.{OfLane, OfPort, SettleEntry}
-use Rattle.world_parts.proofs.domain_laws.Running.{disks_run, ports_many, ports_run}
-use Rattle.world_parts.specs.domain_laws.Domain.{DomainState, DomainStep, Lanes, lanes_in}
-use Rattle.world_parts.specs.domain_laws.Lines.{AreSteps, DiskLane, EndTurn, LaneName, PortLane, Rounds, Steps, both_ends, lanes_from, round_turns, turn, turns_of}
+use Rattle.recorded_lanes.specs.world_parts.world_laws.Settle.{OfLane, OfPort, SettleEntry}
+use Rattle.recorded_lanes.proofs.world_parts.domain_laws.Running.{disks_run, ports_many, ports_run}
+use Rattle.recorded_lanes.specs.world_parts.domain_laws.Domain.{DomainState, DomainStep, Lanes, lanes_in}
+use Rattle.recorded_lanes.specs.world_parts.domain_laws.Lines.{AreSteps, DiskLane, EndTurn, LaneName, PortLane, Rounds, Steps, both_ends, lanes_from, round_turns, turn, turns_of}
 use Rattle.domain_script.specs.declared.fields.LaneKind.{LaneKind}
 use Rattle.domain_script.specs.declared.fields.LaneKind.TheVariants as kinds
 use Rattle.ldc_queue.specs.declared.end.End.{End}
 use Rattle.ldc_queue.specs.declared.end.End.TheVariants.{A, B}
 use Rattle.ldom_entries.specs.declared.entry.Entry.{Entry}
-use Rattle.ldom_world.proofs.Adding.{both_add, none_adds}
-use Rattle.ldom_world.proofs.Lifting.{run_many}
-use Rattle.ldom_world.specs.Steps.{MakesPortStep, MakesStep}
+use Rattle.recorded_lanes.proofs.Adding.{both_add, none_adds}
+use Rattle.ldom_world.proofs.NumbersStay.{run_many}
+use Rattle.recorded_lanes.specs.Steps.{MakesPortStep, MakesStep}
 use Rattle.ldom_world.specs.TurnsMade.{SameNumbers, TurnsBegun, TurnsMade, kind_turns, lane_turns}
-use Rattle.world_parts.specs.Lines.{number_of_kind, of_kind}
-use Rattle.world_parts.specs.Parts.{Fits, FitsSoFar}
+use Rattle.recorded_lanes.specs.world_parts.Lines.{number_of_kind, of_kind}
+use Rattle.recorded_lanes.specs.world_parts.Parts.{Fits, FitsSoFar}
 
 -- what holds where memory was wanted, of a call's answer
 pub at_error : {X E : Type 0} (result : Result X E) (P : Type 0) → P → OnErr result P

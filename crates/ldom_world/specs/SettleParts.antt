@@ -4,19 +4,19 @@ use Rattle.lane_kinds.specs.LaneFronts.{RoundFront, TickFront}
 use Rattle.lane_kinds.specs.LanesMade.{Marks, RoundUpTo, TicksUpTo}
 use Rattle.lane_kinds.specs.WorldMade.{LaneTicked, NamesUpTo}
 use Rattle.ldc_queue.specs.declared.end.End.{End}
-use Rattle.world_parts.specs.world_laws.Settle.{SettleEntry}
-use Rattle.world_parts.specs.domain_laws.Domain.{DomainState, DomainStep}
-use Rattle.world_parts.specs.domain_laws.Going.{GoneOn, most_rounds}
-use Rattle.world_parts.specs.domain_laws.Lines as script
-use Rattle.world_parts.specs.domain_laws.NamesMade.{AllNamed, NamesBegun}
-use Rattle.world_parts.specs.domain_laws.RoundMade.{RoundBegun, RoundMade}
-use Rattle.world_parts.specs.domain_laws.TicksMade.{TicksBegun, TicksMade}
+use Rattle.recorded_lanes.specs.world_parts.world_laws.Settle.{SettleEntry}
+use Rattle.recorded_lanes.specs.world_parts.domain_laws.Domain.{DomainState, DomainStep}
+use Rattle.recorded_lanes.specs.world_parts.domain_laws.Going.{GoneOn, most_rounds}
+use Rattle.recorded_lanes.specs.world_parts.domain_laws.Lines as script
+use Rattle.recorded_lanes.specs.world_parts.domain_laws.NamesMade.{AllNamed, NamesBegun}
+use Rattle.recorded_lanes.specs.world_parts.domain_laws.RoundMade.{RoundBegun, RoundMade}
+use Rattle.recorded_lanes.specs.world_parts.domain_laws.TicksMade.{TicksBegun, TicksMade}
 use Rattle.domain_script.specs.declared.fields.LaneKind.{LaneKind}
 use Rattle.ldom_entries.specs.declared.entry.Entry.{Entry}
 use Rattle.ldom_world.specs.declared.settling.LaneMarks.{LaneMarks}
-use Rattle.ldom_world.specs.Steps.{QuietMade}
+use Rattle.recorded_lanes.specs.Steps.{QuietMade}
 use Rattle.ldom_world.specs.WorldKinds.{OfKind, in_world, left_by}
-use Rattle.world_parts.specs.Parts.{Adds, Fits, FitsSoFar}
+use Rattle.recorded_lanes.specs.world_parts.Parts.{Adds, Fits, FitsSoFar}
 
 -- the marks of both kinds
 abbrev pub marks_of : LaneMarks → Marks

@@ -2,12 +2,12 @@
 use Rattle.std.specs.Prelude.{◌≡◌, ℕ, List, ◌++◌, length}
 use Rattle.runs.specs.Run.{Run}
 use Rattle.ldom_entries.specs.declared.entry.Entry.{Entry}
-use Rattle.world_parts.specs.world_laws.Settle.{SettleEntry}
-use Rattle.world_parts.specs.domain_laws.Domain.{DomainState, DomainStep}
-use Rattle.world_parts.specs.domain_laws.Lines.{AreSteps, EndTurn, Line, both_ends, lanes_from}
+use Rattle.recorded_lanes.specs.world_parts.world_laws.Settle.{SettleEntry}
+use Rattle.recorded_lanes.specs.world_parts.domain_laws.Domain.{DomainState, DomainStep}
+use Rattle.recorded_lanes.specs.world_parts.domain_laws.Lines.{AreSteps, EndTurn, Line, both_ends, lanes_from}
 use Rattle.domain_script.specs.declared.fields.LaneKind.{LaneKind}
-use Rattle.world_parts.specs.Lines.{number_of_kind, of_kind}
-use Rattle.world_parts.specs.Parts.{Adds}
+use Rattle.recorded_lanes.specs.world_parts.Lines.{number_of_kind, of_kind}
+use Rattle.recorded_lanes.specs.world_parts.Parts.{Adds}
 
 -- THESE TURNS were made, each with its entry, whatever line they are in
 pub record TurnsMade (turns : List EndTurn) (w : DomainState) (old new : List Entry) (v : DomainState) : Type 0 where

@@ -1,22 +1,22 @@
 -- THE KINDS OF LANES in a world of disks and ports, as a settle sees each of them: its lanes, what is beside them, and their steps.
 use Rattle.std.specs.Prelude.{ℕ, if◌then◌else◌, List, [], ◌∷◌}
-use Rattle.world_parts.specs.disk_model.DiskEvent.{DiskEvent}
-use Rattle.world_parts.specs.disk_model.LaneState.{LaneState}
-use Rattle.world_parts.specs.domain_laws.Domain.{DomainState, DomainStep, port_entries}
-use Rattle.world_parts.specs.port_model.PortState.{PortState}
-use Rattle.world_parts.specs.domain_laws.RoundMade.{disks_in, ports_in, world_in}
+use Rattle.recorded_lanes.specs.world_parts.disk_model.DiskEvent.{DiskEvent}
+use Rattle.recorded_lanes.specs.world_parts.disk_model.LaneState.{LaneState}
+use Rattle.recorded_lanes.specs.world_parts.domain_laws.Domain.{DomainState, DomainStep, port_entries}
+use Rattle.recorded_lanes.specs.world_parts.port_model.PortState.{PortState}
+use Rattle.recorded_lanes.specs.world_parts.domain_laws.RoundMade.{disks_in, ports_in, world_in}
 use Rattle.domain_script.specs.declared.fields.LaneKind.{LaneKind}
 use Rattle.domain_script.specs.declared.fields.LaneKind.TheVariants as kinds
 use Rattle.lane_kinds.specs.Lanes.{Entries}
 use Rattle.lane_kinds.specs.Lanes as lanes_of
 use Rattle.lane_kinds.specs.WorldMade.{KindMade}
 use Rattle.ldc_queue.specs.declared.end.End.{End}
-use Rattle.world_parts.specs.switch_laws.Events.{SwitchEvent}
-use Rattle.world_parts.specs.switch_laws.Ports.{IsStepOf, ports}
-use Rattle.world_parts.specs.lane_laws.CalmEnds.{IsStep}
-use Rattle.world_parts.specs.world_laws.DiskKind.{disk_kind}
-use Rattle.world_parts.specs.world_laws.Settle.{SettleEntry, disk_entries}
-use Rattle.world_parts.specs.world_laws.World.{WorldState}
+use Rattle.recorded_lanes.specs.world_parts.switch_laws.Events.{SwitchEvent}
+use Rattle.recorded_lanes.specs.world_parts.switch_laws.Ports.{IsStepOf, ports}
+use Rattle.recorded_lanes.specs.world_parts.lane_laws.CalmEnds.{IsStep}
+use Rattle.recorded_lanes.specs.world_parts.world_laws.DiskKind.{disk_kind}
+use Rattle.recorded_lanes.specs.world_parts.world_laws.Settle.{SettleEntry, disk_entries}
+use Rattle.recorded_lanes.specs.world_parts.world_laws.World.{WorldState}
 
 pub record WorldKind : Type 1 where
   pub Lane : Type 0

@@ -1,30 +1,29 @@
 // What a line of a script says, done to a world.
 
 ghost use Rattle.std.specs.Prelude.{◌≡◌, ◌<◌, length, take, OnErr, OnOk};
-ghost use Rattle.world_parts.specs.domain_laws.Lines as script;
-ghost use Rattle.world_parts.specs.domain_laws.Lines.{Asked, Calls, Joins, Pokes, Sends};
+ghost use Rattle.recorded_lanes.specs.world_parts.domain_laws.Lines as script;
+ghost use Rattle.recorded_lanes.specs.world_parts.domain_laws.Lines.{Asked, Calls, Joins, Pokes, Sends};
 ghost use Rattle.domain_script.specs.Fills.{IsPiece};
 ghost use Rattle.ldc_queue.specs.declared.end.End.TheVariants.{A};
-ghost use Rattle.ldom_report.specs.LaneEvents.{end_of};
-ghost use Rattle.ldom_world.specs.Called.{call_of};
-ghost use Rattle.ldom_world.specs.OnePort.{IsCallOf, IsPortCall};
-ghost use Rattle.ldom_world.specs.Steps.{Counted};
+ghost use Rattle.recorded_lanes.specs.ldom_report.LaneEvents.{end_of};
+ghost use Rattle.recorded_lanes.specs.Called.{call_of};
+ghost use Rattle.recorded_lanes.specs.OnePort.{IsCallOf, IsPortCall};
+ghost use Rattle.recorded_lanes.specs.Steps.{Counted};
 ghost use Rattle.ldom_world.specs.TurnsMade.{SameNumbers};
 ghost use Rattle.vdisk_msg.specs.Fills.{IsRequest};
-ghost use Rattle.world_parts.specs.Lines.{HasMemory, IsForLanes, IsLaneOf, lane_named, line_of};
-ghost use Rattle.world_parts.specs.Parts.{Fits, FitsSoFar};
+ghost use Rattle.recorded_lanes.specs.world_parts.Lines.{HasMemory, IsForLanes, IsLaneOf, lane_named, line_of};
+ghost use Rattle.recorded_lanes.specs.world_parts.Parts.{Fits, FitsSoFar};
 
-use crate::calls::LaneCall;
 use crate::world::World;
 use domain_script::{EndName, Event, Lane, LaneKind, Piece, Request, Side};
-use ldom_report::{Journal, fill_bytes};
+use recorded_lanes::{Journal, LaneCall, fill_bytes};
 use vio_bytes::NoMemory;
 use vio_io::Store;
 
 impl<D: Store> World<D> {
     /// Does what a line of the script says, and adds its part to the journal. After want of memory the journal holds
     /// every step that was made and no other.
-    #[tactic(auto, using(crate::proofs::Lifting::line_many, crate::proofs::Calling::calls_on))]
+    #[tactic(auto, using(crate::proofs::NumbersStay::line_many, crate::proofs::Calling::calls_on))]
     pub fn apply(&mut self, event: &Event, journal: &mut Journal) -> Result<(), NoMemory>
         requires event { IsForLanes self.old event.now }
         requires agrees { Counted journal.old.entries self.old }

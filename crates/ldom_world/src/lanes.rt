@@ -1,22 +1,21 @@
 ghost use Rattle.std.specs.Prelude.{◌≡◌, ◌≤◌, ◌<◌, IfOk, length, map, Some, slice_get};
 ghost use Rattle.std.specs.List.{AllByRecursion};
-ghost use Rattle.world_parts.specs.disk_model.LaneState.{fresh};
-ghost use Rattle.world_parts.specs.disk_model.Reached.{IsReached};
-ghost use Rattle.world_parts.specs.port_model.NetLaneState.{IsNetShape};
-ghost use Rattle.world_parts.specs.port_model.PortState.{fresh_port};
+ghost use Rattle.recorded_lanes.specs.world_parts.disk_model.LaneState.{fresh};
+ghost use Rattle.recorded_lanes.specs.world_parts.disk_model.Reached.{IsReached};
+ghost use Rattle.recorded_lanes.specs.world_parts.port_model.NetLaneState.{IsNetShape};
+ghost use Rattle.recorded_lanes.specs.world_parts.port_model.PortState.{fresh_port};
 ghost use Rattle.domain_script.specs.Declarations.{AreDisks, ArePorts, IsDisk, IsPort};
 ghost use Rattle.lane_kinds.specs.Lanes.{EachOf};
-ghost use Rattle.world_parts.specs.switch_laws.Forwards.{views};
-ghost use Rattle.world_parts.specs.switch_laws.Reached.{IsReached as IsReachedPort};
-ghost use Rattle.switched_ports.specs.Shapes as the_shapes;
-ghost use Rattle.switched_ports.specs.States.{PortAt};
-ghost use Rattle.world_parts.specs.Declared.{net_of, nets_of, shape_of, shapes_of};
+ghost use Rattle.recorded_lanes.specs.world_parts.switch_laws.Forwards.{views};
+ghost use Rattle.recorded_lanes.specs.world_parts.switch_laws.Reached.{IsReached as IsReachedPort};
+ghost use Rattle.recorded_lanes.specs.switched_ports.Shapes as the_shapes;
+ghost use Rattle.recorded_lanes.specs.switched_ports.States.{PortAt};
+ghost use Rattle.recorded_lanes.specs.world_parts.Declared.{net_of, nets_of, shape_of, shapes_of};
 
-use disk_lane::{DiskLane, Region};
 use domain_script::{DiskDecl, MOST_DISKS, MOST_PORTS, Names, PortDecl};
+use recorded_lanes::{DiskLane, NetLane, PortShape, Ports, Region, Switch};
 use std::alloc::Global;
 use std::marker::Model;
-use switched_ports::{NetLane, PortShape, Ports, Switch};
 use vio_bytes::NoMemory;
 
 /// The lanes of a script's disks and ports, each kind by their numbers in the order of declaration: fresh, or as they
@@ -28,7 +27,7 @@ pub struct Lanes {
 }
 
 impl Model for Lanes {
-    ghost use Rattle.world_parts.specs.domain_laws.Domain.{Lanes};
+    ghost use Rattle.recorded_lanes.specs.world_parts.domain_laws.Domain.{Lanes};
 
     ghost Value = { Lanes };
 

@@ -1,25 +1,24 @@
 // A settle: rounds, until one in which all lanes are quiet and after which none gets a tick.
 
 ghost use Rattle.std.specs.Prelude.{◌≡◌, ◌&&◌, ◌<◌, ◌≤◌, length, not, replicate, slice_get, slice_set, take, Some, IfOk, OnErr, OnOk};
-ghost use Rattle.world_parts.specs.domain_laws.Going.{most_rounds};
-ghost use Rattle.world_parts.specs.domain_laws.Lines.{Settles};
-ghost use Rattle.world_parts.specs.domain_laws.RoundMade.{all_quiet};
+ghost use Rattle.recorded_lanes.specs.world_parts.domain_laws.Going.{most_rounds};
+ghost use Rattle.recorded_lanes.specs.world_parts.domain_laws.Lines.{Settles};
+ghost use Rattle.recorded_lanes.specs.world_parts.domain_laws.RoundMade.{all_quiet};
 ghost use Rattle.lane_kinds.specs.Lanes.{gets_tick};
 ghost use Rattle.lane_kinds.specs.LanesMade.{all_true};
 ghost use Rattle.ldom_world.specs.SettleParts.{LaneNamesAdd, LaneNamesAddFront, LanesAdd, LanesAddFront, LaneTicksAdd};
 ghost use Rattle.ldom_world.specs.SettleParts.{LaneTicksAddFront, marks_of, NamesAdd, NamesAddFront, NamesGoOn};
 ghost use Rattle.ldom_world.specs.SettleParts.{RoundAdds, RoundAddsFront, RoundBreaks, RoundGoesOn};
 ghost use Rattle.ldom_world.specs.SettleParts.{TicksAdd, TicksAddFront, TicksGoOn, TurnBreaks, TurnGoesOn};
-ghost use Rattle.ldom_world.specs.Steps.{Counted};
+ghost use Rattle.recorded_lanes.specs.Steps.{Counted};
 ghost use Rattle.ldom_world.specs.TurnsMade.{SameNumbers};
 ghost use Rattle.ldom_world.specs.WorldKinds.{in_world};
-ghost use Rattle.world_parts.specs.Lines.{IsLaneOf, number_of_kind};
-ghost use Rattle.world_parts.specs.Parts.{Fits, FitsSoFar};
+ghost use Rattle.recorded_lanes.specs.world_parts.Lines.{IsLaneOf, number_of_kind};
+ghost use Rattle.recorded_lanes.specs.world_parts.Parts.{Fits, FitsSoFar};
 
-use crate::calls::LaneCall;
 use crate::world::World;
 use domain_script::{Lane, LaneKind, Side};
-use ldom_report::{Entry, Journal, Who};
+use recorded_lanes::{Entry, Journal, LaneCall, Who};
 use vio_bytes::NoMemory;
 use vio_io::Store;
 
@@ -200,7 +199,7 @@ impl<D: Store> World<D> {
     }
 
     /// Ticks one lane where it is its turn, and tells whether it was.
-    #[tactic(auto, using(crate::proofs::SettlingLanes::tick_wants, crate::proofs::Lifting::fits_many))]
+    #[tactic(auto, using(crate::proofs::SettlingLanes::tick_wants, crate::proofs::NumbersStay::fits_many))]
     fn tick_of(
         &mut self,
         lane: Lane,

@@ -1,19 +1,19 @@
 // Steps of ends turn by turn, and rounds.
 
 ghost use Rattle.std.specs.Prelude.{◌≡◌, ◌<◌, ◌≤◌, ◌∷◌, [], length, IfOk, OnErr, OnOk};
-ghost use Rattle.world_parts.specs.domain_laws.Domain.{DomainStep, lanes_in};
-ghost use Rattle.world_parts.specs.domain_laws.Lines as script;
-ghost use Rattle.world_parts.specs.domain_laws.Lines.{both_ends, lanes_from, round_turns, Rounds, Steps, turn};
-ghost use Rattle.ldom_report.specs.LaneEvents.{end_of};
+ghost use Rattle.recorded_lanes.specs.world_parts.domain_laws.Domain.{DomainStep, lanes_in};
+ghost use Rattle.recorded_lanes.specs.world_parts.domain_laws.Lines as script;
+ghost use Rattle.recorded_lanes.specs.world_parts.domain_laws.Lines.{both_ends, round_turns, Rounds, Steps, turn};
+ghost use Rattle.recorded_lanes.specs.ldom_report.LaneEvents.{end_of};
 ghost use Rattle.ldom_world.specs.SettleParts.{MakesQuiet};
-ghost use Rattle.ldom_world.specs.Steps.{Counted, MakesPortStep, MakesQuietPortStep, MakesQuietStep, MakesStep};
+ghost use Rattle.recorded_lanes.specs.Steps.{Counted, MakesPortStep, MakesQuietPortStep, MakesQuietStep, MakesStep};
 ghost use Rattle.ldom_world.specs.TurnsMade.{kind_turns, SameNumbers, TurnsBegun, TurnsMade};
-ghost use Rattle.world_parts.specs.Lines.{IsLaneOf, lane_named, number_of_kind};
-ghost use Rattle.world_parts.specs.Parts.{Fits, FitsSoFar};
+ghost use Rattle.recorded_lanes.specs.world_parts.Lines.{IsLaneOf, lane_named, number_of_kind};
+ghost use Rattle.recorded_lanes.specs.world_parts.Parts.{Fits, FitsSoFar};
 
 use crate::world::World;
 use domain_script::{Lane, LaneKind, Side};
-use ldom_report::Journal;
+use recorded_lanes::Journal;
 use vio_bytes::NoMemory;
 use vio_io::Store;
 

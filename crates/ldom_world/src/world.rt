@@ -1,17 +1,15 @@
 ghost use Rattle.std.specs.Prelude.{◌≡◌, ◌≤◌, ◌<◌, ◌↔◌, [], IfErr, IfOk, IsTrue, length, map};
-ghost use Rattle.world_parts.specs.disk_model.LaneState.{fresh};
-ghost use Rattle.world_parts.specs.port_model.PortState.{fresh_port};
+ghost use Rattle.recorded_lanes.specs.world_parts.disk_model.LaneState.{fresh};
+ghost use Rattle.recorded_lanes.specs.world_parts.port_model.PortState.{fresh_port};
 ghost use Rattle.domain_script.specs.Declarations.{AreDisks, ArePorts};
 ghost use Rattle.vio_io.specs.Causes.{last_count};
-ghost use Rattle.world_parts.specs.world_laws.Rounds.{Each};
+ghost use Rattle.recorded_lanes.specs.world_parts.world_laws.Rounds.{Each};
 ghost use Rattle.disk_law.specs.ListState.{as_image};
-ghost use Rattle.world_parts.specs.Declared.{LiesWithin, bytes_needed, nets_of, shapes_of, world_of};
+ghost use Rattle.recorded_lanes.specs.world_parts.Declared.{LiesWithin, bytes_needed, nets_of, shapes_of, world_of};
 
-use crate::disks::Disks;
 use crate::lanes::Lanes;
-use crate::ports::PortLanes;
-use cached_store::KeptBlocks;
 use domain_script::Names;
+use recorded_lanes::{Disks, KeptBlocks, PortLanes};
 use std::alloc::Global;
 use std::marker::Model;
 use vio_bytes::NoMemory;
@@ -28,7 +26,7 @@ pub struct World<D: Store> {
 }
 
 impl<D: Store> Model for World<D> {
-    ghost use Rattle.world_parts.specs.domain_laws.Domain.{DomainState};
+    ghost use Rattle.recorded_lanes.specs.world_parts.domain_laws.Domain.{DomainState};
 
     ghost Value = { DomainState };
 

@@ -7,6 +7,8 @@ use Rattle.vio_io.specs.declared.host.AttachFault.TheVariants.{Failed, Memory}
 use Rattle.disk_law.specs.ListState.{ImageState}
 use Rattle.domain_script.specs.declared.event.Event.{Event}
 use Rattle.domain_script.specs.declared.event.Event.TheVariants as line
+use Rattle.script_reader.specs.declared.lines.LinesStop.{LinesStop}
+use Rattle.script_reader.specs.declared.lines.LinesStop.TheVariants.{Going}
 use Rattle.script_reader.specs.LinesState.{LinesState, to_come}
 use Rattle.domain_script.specs.Declarations.{Declared}
 use Rattle.domain_script.specs.declared.event.DiskDecl.{DiskDecl}
@@ -30,10 +32,11 @@ use Rattle.ldom_report.specs.LinesEnd.{counted_lines}
 use Rattle.script_laws.specs.Reading.{StopsAt}
 use Rattle.script_laws.specs.Replayed.{FaultsAre, Replayed, Stopped, attach_status, ended_status, start_of}
 use Rattle.script_laws.specs.LanesStand.{LanesStand}
-use Rattle.script_laws.specs.Script.{ReadSoFar}
+use Rattle.script_laws.specs.Script.{AllFed, ReadSoFar}
 use Rattle.domain_script.specs.ScriptEvents.{AllSpell, no_names}
 use Rattle.world_parts.specs.Script.{BeginBelow, FitsScript, ScriptParts, all_lines, entries_in, events_in, events_of, journal_of}
 use Rattle.world_parts.specs.domain_laws.Domain.{DomainState, Lanes, lanes_in}
+use Rattle.script_laws.proofs.Feeds.{fed_both}
 use Rattle.script_laws.proofs.LineCases.{none_begun, noted_disks, noted_ports, silent, stays_ended}
 use Rattle.script_laws.proofs.LineLists.{all_behind, behind_ends, behind_lines, below_both, below_push, by_readers, entries_push, events_behind, events_both, journal_behind, whole_ends}
 use Rattle.script_laws.proofs.ReadLemmas.{opening_halves, other_line, read_none}
@@ -164,34 +167,37 @@ abbrev stopped_as : (start now : Option (List ℕ)) (why ended : Status) (events
     (entries number lines : ℕ) → all ≡ events
     → (stopped : Stopped start now why events names entries lines)
     → StopsAt ended stopped.left stopped.held now names stopped.count number
+    → (ended ≡ status.SourceFault → AllFed start stopped.left stopped.read.texts)
     → lines ≡ counted_lines ended stopped.count → Stopped start now ended all names number lines
-stopped_as start now why ended events all names entries number lines is stopped stop counted = record {
+stopped_as start now why ended events all names entries number lines is stopped stop feeds counted = record {
   left = stopped.left;
   count = stopped.count;
   read = read_as start stopped.left events all names stopped.count is stopped.read;
   held = stopped.held;
   stop = stop;
+  feeds = feeds;
   lines_are = counted;
 }
 
 -- a run that stopped after the first such line
-abbrev stopped_behind : (start now : Option (List ℕ)) (held : List ℕ) (event : Event) (names : NamesState) (count : ℕ) (why : Status) → (opens : Opens start (prepend_known held now) event names count)
+abbrev stopped_behind : (start now : Option (List ℕ)) (held : List ℕ) (event : Event) (names : NamesState) (count : ℕ) (why : Status) → why ≢ status.SourceFault → {stop : LinesStop} (opens : Opens stop start (prepend_known held now) event names count)
     → (all : List Event) → all ≡ opens.opening ++ event ∷ []
     → (entries : ℕ) → StopsAt why (prepend_known held now) held now names count entries → count ≡ counted_lines why count → Stopped start now why all names entries count
-stopped_behind start now held event names count why opens all all_is entries stop is = record {
+stopped_behind start now held event names count why other opens all all_is entries stops is = record {
   left = prepend_known held now;
   count = count;
   read = read_as start (prepend_known held now) (opens.opening ++ event ∷ []) all names count all_is opens.read;
   held = held;
-  stop = stop;
+  stop = stops;
+  feeds = λ failed. absurd (other failed);
   lines_are = is;
 }
 
 -- THE FIRST EVENT that isn't a declaration, and the lines after it
-module _ (start rest now : Option (List ℕ)) (event : Event) (names after : NamesState) (s m t : DomainState)
+module _ (stop : LinesStop) (start rest now : Option (List ℕ)) (event : Event) (names after : NamesState) (s m t : DomainState)
     (journal new : List Entry) (number lines : ℕ) (why : Status) (readers : IsReaders why)
-    (opens : Opens start rest event names number) (fits : Fits s (line_of event) [] journal m)
-    (runs : RunsLines rest now names journal m number why after new t lines) where
+    (opens : Opens stop start rest event names number) (fits : Fits s (line_of event) [] journal m)
+    (runs : RunsLines rest now names journal m number why after new t lines) (going : why ≡ status.SourceFault → stop ≡ Going) where
   abbrev front : List (Event × List Entry)
   front = first_lines opens.opening event fits.adds.part
 
@@ -242,6 +248,7 @@ module _ (start rest now : Option (List ℕ)) (event : Event) (names after : Nam
           };
           held = runs.held;
           stop = runs.stop;
+          feeds = λ failed. fed_both start rest runs.left opens.read.texts runs.read.texts (opens.feeds (going failed)) (runs.feeds failed);
           lines_are = runs.lines_are;
         };
         journal_is = record {
@@ -256,14 +263,14 @@ module _ (start rest now : Option (List ℕ)) (event : Event) (names after : Nam
       }
 
 -- memory was wanted in the midst of that first event
-pub runs_first_cut : (start now : Option (List ℕ)) (held : List ℕ) (event : Event) (names : NamesState) (s t : DomainState) (journal : List Entry) (number : ℕ)
-    → Opens start (prepend_known held now) event names number → FitsSoFar s (line_of event) [] journal t → RunsAll start now names s status.NoMemory names journal t number
+pub runs_first_cut : {stop : LinesStop} (start now : Option (List ℕ)) (held : List ℕ) (event : Event) (names : NamesState) (s t : DomainState) (journal : List Entry) (number : ℕ)
+    → Opens stop start (prepend_known held now) event names number → FitsSoFar s (line_of event) [] journal t → RunsAll start now names s status.NoMemory names journal t number
 runs_first_cut start now held event names s t journal number opens fits =
     let are : events_of (begun_parts opens.opening event fits.adds.part) ≡ opens.opening ++ event ∷ [] =
     first_events opens.opening event fits.adds.part in
     record {
       parts = begun_parts opens.opening event fits.adds.part;
-      stopped = stopped_behind start now held event names number status.NoMemory opens
+      stopped = stopped_behind start now held event names number status.NoMemory (λ failed. cc failed) opens
           (events_of (begun_parts opens.opening event fits.adds.part)) are (length journal) (tt, keeps_same (prepend_known held now)) refl;
       journal_is = record {
         is = first_entries opens.opening event fits.adds.part ∙ sym fits.adds.grew;
@@ -283,16 +290,17 @@ runs_first_cut start now held event names s t journal number opens fits =
 abbrev declared_stopped : (start now : Option (List ℕ)) (why ended : Status) (names : NamesState) (lines : ℕ)
     → (opens : OpensAndStops start now why names lines)
     → StopsAt ended opens.stopped.left opens.stopped.held now names opens.stopped.count 0
+    → (ended ≡ status.SourceFault → AllFed start opens.stopped.left opens.stopped.read.texts)
     → lines ≡ counted_lines ended opens.stopped.count
     → Stopped start now ended (events_of (declared_parts opens.opening)) names 0 lines
-declared_stopped start now why ended names lines opens stop counted =
+declared_stopped start now why ended names lines opens stop feeds counted =
     stopped_as start now why ended opens.opening (events_of (declared_parts opens.opening)) names 0 0 lines
-    (opening_events opens.opening) opens.stopped stop counted
+    (opening_events opens.opening) opens.stopped stop feeds counted
 
 pub runs_none_more : (start now : Option (List ℕ)) (names : NamesState) (s : DomainState) (lines : ℕ) → OpensAndStops start now status.Done names lines → RunsAll start now names s status.Done names [] s lines
 runs_none_more start now names s lines opens = record {
   parts = declared_parts opens.opening;
-  stopped = declared_stopped start now status.Done status.Done names lines opens opens.stopped.stop opens.stopped.lines_are;
+  stopped = declared_stopped start now status.Done status.Done names lines opens opens.stopped.stop opens.stopped.feeds opens.stopped.lines_are;
   journal_is = record { is = opening_entries opens.opening; fits = declared_fit s opens.opening opens.are; ends = refl };
   declared = refl;
   attached = λ other. absurd (other refl);
@@ -390,6 +398,10 @@ refused_stop : (fault : AttachFault) (left now : Option (List ℕ)) (held : List
 refused_stop Failed left now held names count kept = (tt, kept)
 refused_stop Memory left now held names count kept = (tt, kept)
 
+refused_unfailed : (fault : AttachFault) → attach_status fault ≢ status.SourceFault
+refused_unfailed Failed failed = cc failed
+refused_unfailed Memory failed = cc failed
+
 refused_count : (fault : AttachFault) (count : ℕ) → count ≡ counted_lines (attach_status fault) count
 refused_count Failed count = refl
 refused_count Memory count = refl
@@ -430,6 +442,7 @@ module _ {D : Type 0} (seen : D → ImageState) (start now : Option (List ℕ)) 
         parts = runs.parts;
         stopped = stopped_as start now why (ended_status why faulty) (events_of runs.parts) (events_of runs.parts) after (length journal) (length journal) lines refl runs.stopped
             (ended_stop why faulty after runs.stopped.left now runs.stopped.held runs.stopped.count (length journal) readers runs.stopped.stop)
+            (ended_as (λ (w : Status). w ≡ status.SourceFault → AllFed start runs.stopped.left runs.stopped.read.texts) why faulty readers (λ _ failed. cc failed) runs.stopped.feeds)
             (runs.stopped.lines_are ∙ ended_count why faulty runs.stopped.count readers);
         final = t;
         journal_is = ended_journal why faulty (start_of after gives) t runs.parts journal readers
@@ -444,7 +457,7 @@ module _ {D : Type 0} (seen : D → ImageState) (start now : Option (List ℕ)) 
   pub replayed_unattached : (why : Status) (names : NamesState) (lines : ℕ) → IsReaders why → why ≢ status.Done → OpensAndStops start now why names lines → Replayed seen start now gives why lines names [] None None
   replayed_unattached why names lines readers other opens = record {
     parts = declared_parts opens.opening;
-    stopped = declared_stopped start now why why names lines opens opens.stopped.stop opens.stopped.lines_are;
+    stopped = declared_stopped start now why why names lines opens opens.stopped.stop opens.stopped.feeds opens.stopped.lines_are;
     final = start_of names gives;
     journal_is = record {
       is = opening_entries opens.opening;
@@ -459,14 +472,15 @@ module _ {D : Type 0} (seen : D → ImageState) (start now : Option (List ℕ)) 
   }
 
   -- one whose image couldn't be attached, or for whose lanes there was no memory
-  pub replayed_refused : (fault : AttachFault) (held : List ℕ) (first : Option Event) (names : NamesState) (lines : ℕ)
-      → Opened start held now first names lines → Replayed seen start now gives (attach_status fault) lines names [] None None
-  replayed_refused fault held None names lines opened =
+  pub replayed_refused : (fault : AttachFault) (reader : LinesState) (first : Option Event) (names : NamesState)
+      → Opened start reader now first names → Replayed seen start now gives (attach_status fault) reader.number names [] None None
+  replayed_refused fault reader None names opened =
       let parts : ScriptParts = declared_parts opened.opening in
       record {
         parts = parts;
-        stopped = declared_stopped start now status.Done (attach_status fault) names lines opened
+        stopped = declared_stopped start now status.Done (attach_status fault) names reader.number opened
             (refused_stop fault opened.stopped.left now opened.stopped.held names opened.stopped.count opened.stopped.stop.1)
+            (λ failed. absurd (refused_unfailed fault failed))
             (opened.stopped.lines_are ∙ refused_count fault opened.stopped.count);
         final = start_of names gives;
         journal_is = record {
@@ -480,12 +494,12 @@ module _ {D : Type 0} (seen : D → ImageState) (start now : Option (List ℕ)) 
             (declared_attaches opened.opening opened.stopped.left opened.are opened.stopped.stop.0);
         lanes_stand = refused_lanes D fault (start_of names gives);
       }
-  replayed_refused fault held (Some event) names lines opened =
+  replayed_refused fault reader (Some event) names opened =
       let parts : ScriptParts = begun_parts opened.opening event [] in
       record {
         parts = parts;
-        stopped = stopped_behind start now held event names lines (attach_status fault) opened (events_of parts) (first_events opened.opening event []) 0
-            (refused_stop fault (prepend_known held now) now held names lines (keeps_same (prepend_known held now))) (refused_count fault lines);
+        stopped = stopped_behind start now reader.held event names reader.number (attach_status fault) (refused_unfailed fault) opened (events_of parts) (first_events opened.opening event []) 0
+            (refused_stop fault (to_come reader now) now reader.held names reader.number (keeps_same (to_come reader now))) (refused_count fault reader.number);
         final = start_of names gives;
         journal_is = record {
           is = first_entries opened.opening event [];
@@ -494,19 +508,19 @@ module _ {D : Type 0} (seen : D → ImageState) (start now : Option (List ℕ)) 
         };
         image_is = tt;
         faults_are = refused_faults {D = D} fault None (start_of names gives).first.image.faults;
-        image_stands = refused_image D fault (events_of parts) (prepend_known held now)
-            (begun_attaches opened.opening event (prepend_known held now) opened.are (other_line event opened.other));
+        image_stands = refused_image D fault (events_of parts) (to_come reader now)
+            (begun_attaches opened.opening event (to_come reader now) opened.are (other_line event opened.other));
         lanes_stand = refused_lanes D fault (start_of names gives);
       }
 
   -- one whose image is too short
-  pub replayed_short : (need have : ℕ) (held : List ℕ) (first : Option Event) (names : NamesState) (lines : ℕ) (image : D) → seen image ≡ (start_of names gives).first.image
-      → Opened start held now first names lines → Replayed seen start now gives (status.ImageSize need have) lines names [] (Some image) None
-  replayed_short need have held None names lines image told opened =
+  pub replayed_short : (need have : ℕ) (reader : LinesState) (first : Option Event) (names : NamesState) (image : D) → seen image ≡ (start_of names gives).first.image
+      → Opened start reader now first names → Replayed seen start now gives (status.ImageSize need have) reader.number names [] (Some image) None
+  replayed_short need have reader None names image told opened =
       let parts : ScriptParts = declared_parts opened.opening in
       record {
         parts = parts;
-        stopped = declared_stopped start now status.Done (status.ImageSize need have) names lines opened (tt, opened.stopped.stop.1) opened.stopped.lines_are;
+        stopped = declared_stopped start now status.Done (status.ImageSize need have) names reader.number opened (tt, opened.stopped.stop.1) (λ failed. cc failed) opened.stopped.lines_are;
         final = start_of names gives;
         journal_is = record {
           is = opening_entries opened.opening;
@@ -518,11 +532,11 @@ module _ {D : Type 0} (seen : D → ImageState) (start now : Option (List ℕ)) 
         image_stands = (refl, declared_attaches opened.opening opened.stopped.left opened.are opened.stopped.stop.0);
         lanes_stand = refl;
       }
-  replayed_short need have held (Some event) names lines image told opened =
+  replayed_short need have reader (Some event) names image told opened =
       let parts : ScriptParts = begun_parts opened.opening event [] in
       record {
         parts = parts;
-        stopped = stopped_behind start now held event names lines (status.ImageSize need have) opened (events_of parts) (first_events opened.opening event []) 0 (tt, keeps_same (prepend_known held now)) refl;
+        stopped = stopped_behind start now reader.held event names reader.number (status.ImageSize need have) (λ failed. cc failed) opened (events_of parts) (first_events opened.opening event []) 0 (tt, keeps_same (to_come reader now)) refl;
         final = start_of names gives;
         journal_is = record {
           is = first_entries opened.opening event [];
@@ -531,7 +545,7 @@ module _ {D : Type 0} (seen : D → ImageState) (start now : Option (List ℕ)) 
         };
         image_is = nothing_between (seen image) (start_of names gives).first.image told;
         faults_are = tt;
-        image_stands = (refl, begun_attaches opened.opening event (prepend_known held now) opened.are (other_line event opened.other));
+        image_stands = (refl, begun_attaches opened.opening event (to_come reader now) opened.are (other_line event opened.other));
         lanes_stand = refl;
       }
 
@@ -539,7 +553,7 @@ module _ {D : Type 0} (seen : D → ImageState) (start now : Option (List ℕ)) 
   pub replayed_none : (names : NamesState) → names ≡ no_names → now ≡ start → Replayed seen start now gives status.NoMemory 0 names [] None None
   replayed_none names is same = record {
     parts = declared_parts [];
-    stopped = record { left = start; count = 0; read = read_none start names 0 is refl; held = []; stop = (tt, nothing_held start now same); lines_are = refl };
+    stopped = record { left = start; count = 0; read = read_none start names 0 is refl; held = []; stop = (tt, nothing_held start now same); feeds = λ failed. cc failed; lines_are = refl };
     final = start_of names gives;
     journal_is = record { is = refl; fits = declared_fit (start_of names gives) [] tt; ends = tt };
     image_is = tt;

@@ -1,6 +1,6 @@
 -- What holds of each disk where a script's journal led: its lane, its requests, its reads and its blocks.
 use Rattle.std.proofs.Common.{◌≡◌, ℕ, ◌≤◌, false, List, ◌∷◌, ◌++◌, length, slice_get, Some, IfSome, ap, ◌∙◌, subst}
-use Rattle.runs.specs.Run.{Run}
+use Rattle.runs.specs.Run.{Run, run_split}
 use Rattle.disk_law.specs.ListState.{ImageState}
 use Rattle.world_parts.specs.disk_model.DiskEvent.{Done, Works}
 use Rattle.world_parts.specs.disk_model.LaneState.{IsShape, LaneState, Shape, fresh}
@@ -14,10 +14,11 @@ use Rattle.world_parts.specs.world_laws.Settle.{OfLane, SettleEntry}
 use Rattle.world_parts.specs.world_laws.Sums.{IsUnforged}
 use Rattle.world_parts.proofs.world_laws.Along.{lane_at, lanes_run, shape_at}
 use Rattle.world_parts.proofs.world_laws.LaneLists.{each_there}
-use Rattle.world_parts.specs.world_laws.World.{IsWorld, WorldStep, fresh_world}
+use Rattle.world_parts.specs.world_laws.World.{IsWorld, WorldState, WorldStep, fresh_world}
 use Rattle.world_parts.specs.domain_laws.Domain.{DomainState}
 use Rattle.world_parts.specs.port_model.NetLaneState.{NetShape}
 use Rattle.world_parts.specs.channel_model.WireLog.{WireLog}
+use Rattle.world_parts.proofs.lane_laws.AgreementRuns.{run_agrees}
 use Rattle.world_parts.proofs.world_laws.Forging.{forged_by_events}
 use Rattle.script_laws.proofs.Failing.{fails_by_events}
 use Rattle.script_laws.proofs.FinishedBy.{finished_by}
@@ -26,7 +27,7 @@ use Rattle.script_laws.proofs.Moments.{moment, stands_at}
 use Rattle.script_laws.proofs.Settling.{FinishedAt}
 use Rattle.script_laws.proofs.DeclaredWorlds.{declared_world}
 use Rattle.script_laws.proofs.Undisturbed.{shows_last}
-use Rattle.script_laws.specs.Contents.{DiskHolds, ReadsShow}
+use Rattle.script_laws.specs.Contents.{DiskHolds, NoStoreFailed, ReadsShow}
 use Rattle.script_laws.specs.Headline.{OfDisk}
 use Rattle.script_laws.specs.Lanes.{LaneStands}
 use Rattle.script_laws.specs.Settled.{IsFinishedBy}
@@ -56,6 +57,27 @@ finishes disks image x shape are of_shape before of clean runs =
     finished_by shape (happened x before) s (shape_at 0 shapes x shape shapes_are of_shape) run
     (of.finished x s lane.1 unforged (agrees.stopped ∙ runs))
 
+-- READS, where entries led a world and nobody forged its lane
+front_reads : (disks : List DiskDecl) (image : ImageState) (x : ℕ) (shape : Shape) (first : List ℕ)
+    → IsWorld (shapes_of 0 disks) image → image.told ≡ Some first → slice_get (shapes_of 0 disks) x ≡ Some shape
+    → (entries : List SettleEntry) (w : WorldState) (s : LaneState)
+    → Run WorldStep (fresh_world (shapes_of 0 disks) image) entries w → slice_get w.lanes x ≡ Some s → IsUnforged s
+    → s.failed ≡ false → ReadsShow shape x first entries
+front_reads disks image x shape first world told of_shape entries w s run there unforged well =
+    let shapes : List Shape = shapes_of 0 disks in
+    let completion : (before : List SettleEntry) (id operation status : ℕ) (bytes : List ℕ) (behind : List SettleEntry)
+    → entries ≡ before ++ OfLane x (Works (Done id operation status bytes)) ∷ behind
+    → CompletionShows (region_of shape first) (log_at shape x before) status bytes =
+    λ before id operation status bytes behind is.
+    front_completion shapes image first x shape world told of_shape before id operation status bytes behind w s
+    (subst (λ (l : List SettleEntry). Run WorldStep (fresh_world shapes image) l w) is run) there unforged well in
+    record {
+      shows = completion;
+      undisturbed = λ before id operation status bytes behind is are.
+          shows_last shape x (region_of shape first) before status bytes are
+          (completion before id operation status bytes behind is);
+    }
+
 module _ (disks : List DiskDecl) (nets : List NetShape) (image : ImageState) (are : AreDisks disks)
     (long : IfSome image.told (λ bytes. bytes_needed disks ≤ length bytes)) (entries : List SettleEntry)
     (v : DomainState) (leads : Leads disks nets image entries v) (x : ℕ) (shape : Shape) (s : LaneState)
@@ -79,23 +101,21 @@ module _ (disks : List DiskDecl) (nets : List NetShape) (image : ImageState) (ar
     forged = forged_by_events shape (happened x entries) s lane_run;
   }
 
-  completion : (first : List ℕ) → image.told ≡ Some first → IsUnforged s → s.failed ≡ false → (before : List SettleEntry)
-      (id operation status : ℕ) (bytes : List ℕ) (behind : List SettleEntry)
-      → entries ≡ before ++ OfLane x (Works (Done id operation status bytes)) ∷ behind
-      → CompletionShows (region_of shape first) (log_at shape x before) status bytes
-  completion first told unforged well before id operation status bytes behind is =
-      front_completion (shapes_of 0 disks) image first x shape world told of_shape before id operation status bytes
-      behind v.first s
-      (subst (λ (l : List SettleEntry). Run WorldStep (fresh_world (shapes_of 0 disks) image) l v.first) is leads.run) there
-      unforged well
-
-  reads : (first : List ℕ) → image.told ≡ Some first → IsUnforged s → s.failed ≡ false → ReadsShow shape x first entries
-  reads first told unforged well = record {
-    shows = completion first told unforged well;
-    undisturbed = λ before id operation status bytes behind is are.
-        shows_last shape x (region_of shape first) before status bytes are
-        (completion first told unforged well before id operation status bytes behind is);
-  }
+  -- ALONG THE ENTRIES, as far as nobody forged it and no call of its store failed
+  reads : (first : List ℕ) → image.told ≡ Some first → (front behind : List SettleEntry) → entries ≡ front ++ behind
+      → (log_at shape x front).wire.forged ≡ false → NoStoreFailed (happened x front) → ReadsShow shape x first front
+  reads first told front behind is clean none =
+      let shapes : List Shape = shapes_of 0 disks in
+      let parts =
+      run_split WorldStep (fresh_world shapes image) v.first front behind
+      (subst (λ (l : List SettleEntry). Run WorldStep (fresh_world shapes image) l v.first) is leads.run) in
+      let lane = lane_at shapes image front parts.0 x shape parts.1 of_shape in
+      let run : Run LaneStep (fresh shape) (happened x front) lane.0 =
+      (lanes_run shapes image front parts.0 parts.1).each x shape lane.0 of_shape lane.1 in
+      let unforged : IsUnforged lane.0 =
+      ap (λ (w : WireLog). w.forged) (run_agrees shape (happened x front) lane.0 is_shape run).wire ∙ clean in
+      front_reads disks image x shape first world told of_shape front parts.0 lane.0 parts.1 lane.1 unforged
+      ((fails_by_events shape (happened x front) lane.0 run).1 none)
 
   holds : (first bytes : List ℕ) → image.told ≡ Some first → v.first.image.told ≡ Some bytes → IsUnforged s
       → s.failed ≡ false → DiskHolds shape x first entries bytes

@@ -18,6 +18,7 @@ pub mod ScriptLaws
 pub mod DeclaredWorlds
 pub mod Entries
 pub mod Failing
+pub mod Feeds
 pub mod FinishedBy
 pub mod LedLanes
 pub mod LeftWhere

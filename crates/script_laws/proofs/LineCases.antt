@@ -3,7 +3,7 @@ use Rattle.std.proofs.Common.{◌≡◌, ℕ, ◌<◌, true, false, List, [], le
 use Rattle.vdisk_msg.specs.declared.request.Request.TheVariants.{Read, Write, Flush}
 use Rattle.domain_script.specs.Limits.{AreTurns}
 use Rattle.domain_script.specs.Words.{IsWithin}
-use Rattle.domain_script.specs.declared.fields.Bounds.TheVariants.{Between}
+use Rattle.domain_script.specs.numbers.Bounds.TheVariants.{Between}
 use Rattle.domain_script.specs.declared.event.DiskDecl.{DiskDecl}
 use Rattle.domain_script.specs.declared.event.Event.{Event}
 use Rattle.domain_script.specs.declared.event.Event.TheVariants as line

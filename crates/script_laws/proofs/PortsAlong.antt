@@ -19,7 +19,7 @@ use Rattle.world_parts.proofs.domain_laws.Arriving.{own_run, rested_to_guest, re
 use Rattle.world_parts.proofs.domain_laws.ForgedPorts.{port_told}
 use Rattle.world_parts.proofs.domain_laws.Running.{fresh_many, port_runs, ports_run}
 use Rattle.world_parts.specs.domain_laws.Along.{port_happened}
-use Rattle.world_parts.specs.domain_laws.Domain.{DomainState, PortsStep}
+use Rattle.world_parts.specs.domain_laws.Domain.{DomainState, DomainStep, PortsStep}
 use Rattle.world_parts.specs.domain_laws.Forged.{NobodyForgesPort}
 use Rattle.world_parts.specs.domain_laws.Frames.{frames_arrived, frames_put, frames_queued, frames_switched, port_events}
 use Rattle.world_parts.specs.domain_laws.Settling.{HoldsNoFrame}
@@ -28,9 +28,32 @@ use Rattle.script_laws.proofs.Settling.{PortsRestAt}
 use Rattle.script_laws.proofs.Untold.{Untold, all_told, real_forged, real_settled, real_switched, told_arrived, told_forged, told_put, told_queued, told_switched, untold}
 use Rattle.script_laws.specs.Ports.{GoesByStates, OfPort, PortsStand, RestsBehind}
 use Rattle.world_parts.specs.Declared.{shapes_of, world_of}
+use Rattle.world_parts.specs.WorldEvents.{told_of}
 
 within : (k n m : ℕ) → k < n → n ≡ m → k < m
 within k n m less is = omega (arith, less, is)
+
+-- A FRONT of what is told, and what it is told of
+record ToldFront (real front : List SettleEntry) : Type 0 where
+  past : List SettleEntry
+  rest : List SettleEntry
+  is : real ≡ past ++ rest
+  told_is : front ≡ all_told past
+
+told_front : (real front behind : List SettleEntry) → all_told real ≡ front ++ behind → ToldFront real front
+told_front real [] behind is = record { past = []; rest = real; is = refl; told_is = refl }
+told_front (entry ∷ real) (first ∷ front) behind is =
+    let one : told_of entry ≡ first = cc is in
+    let others : all_told real ≡ front ++ behind = cc is in
+    let later : ToldFront real front = told_front real front behind others in
+    record {
+      past = entry ∷ later.past;
+      rest = later.rest;
+      is = ap (λ (l : List SettleEntry). entry ∷ l) later.is;
+      told_is = ap (λ (e : SettleEntry). e ∷ front) (sym one)
+          ∙ ap (λ (l : List SettleEntry). told_of entry ∷ l) later.told_is;
+    }
+told_front [] (first ∷ front) behind is = absurd (cc is)
 
 module _ (disks : List DiskDecl) (nets : List NetShape) (image : ImageState) (are : EachOf IsNetShape nets)
     (entries : List SettleEntry) (v : DomainState) (leads : Leads disks nets image entries v) where
@@ -68,9 +91,60 @@ module _ (disks : List DiskDecl) (nets : List NetShape) (image : ImageState) (ar
     put : frames_put k entries ≡ frames_put k leads.real
     put = ap (frames_put k) leads.told_is ∙ told_put k leads.real
 
+    -- A FRONT of the entries is told of one of the real ones, which led the port here
+    record FrontLed (front : List SettleEntry) : Type 0 where
+      past : List SettleEntry
+      told_is : front ≡ all_told past
+      at : DomainState
+      led : Run DomainStep Start past at
+      one : PortState
+      here : slice_get at.second k ≡ Some one
+
+    front_led : (front behind : List SettleEntry) → entries ≡ front ++ behind → FrontLed front
+    front_led front behind is =
+        let cut : ToldFront leads.real front = told_front leads.real front behind (sym leads.told_is ∙ is) in
+        let split =
+        run_split DomainStep Start v cut.past cut.rest
+        (subst (λ (l : List SettleEntry). Run DomainStep Start l v) cut.is leads.led) in
+        let one = get_within split.0.second k
+        (within k (length nets) (length split.0.second) (slice_get_within nets k shape of_shape)
+        (sym (fresh_many nets cut.past split.0.second (ports_run Start cut.past split.0 split.1)))) in
+        record {
+          past = cut.past;
+          told_is = cut.told_is;
+          at = split.0;
+          led = split.1;
+          one = one.0;
+          here = one.1;
+        }
+
+    clean_there : (front : List SettleEntry) (at : FrontLed front) → NobodyForgesPort (port_happened k front)
+        → IsUnforged at.one
+    clean_there front at none =
+        (port_told nets at.past at.at.second k shape at.one (ports_run Start at.past at.at at.led) of_shape at.here).1
+        (told_forged k at.past
+        (subst (λ (l : List SettleEntry). NobodyForgesPort (port_happened k l)) at.told_is none))
+
     in_order : (a b c d : List (List ℕ)) → a ≡ c → b ≡ d → InOrder 0 c d → InOrder 0 a b
     in_order a b c d one two order =
         subst (λ (l : List (List ℕ)). InOrder 0 l b) (sym one) (subst (InOrder 0 c) (sym two) order)
+
+    switch_order : (front : List SettleEntry) → FrontLed front → NobodyForgesPort (port_happened k front)
+        → InOrder 0 (frames_switched k front) (frames_queued k front)
+    switch_order front at none =
+        in_order (frames_switched k front) (frames_queued k front) (frames_switched k at.past) (frames_queued k at.past)
+        (ap (frames_switched k) at.told_is ∙ told_switched k at.past)
+        (ap (frames_queued k) at.told_is ∙ told_queued k at.past)
+        (to_switch (shapes_of 0 disks) image nets are at.past at.at k shape at.one at.led of_shape at.here
+        (clean_there front at none))
+
+    guest_order : (front : List SettleEntry) → FrontLed front → NobodyForgesPort (port_happened k front)
+        → InOrder 0 (frames_arrived k front) (frames_put k front)
+    guest_order front at none =
+        in_order (frames_arrived k front) (frames_put k front) (frames_arrived k at.past) (frames_put k at.past)
+        (ap (frames_arrived k) at.told_is ∙ told_arrived k at.past) (ap (frames_put k) at.told_is ∙ told_put k at.past)
+        (to_guest (shapes_of 0 disks) image nets are at.past at.at k shape at.one at.led of_shape at.here
+        (clean_there front at none))
 
     -- where it ends settled, it is at rest
     rests_now : (front : List SettleEntry) → entries ≡ front ++ Settled ∷ [] → IsUnforged s → HoldsNoFrame s
@@ -130,13 +204,8 @@ module _ (disks : List DiskDecl) (nets : List NetShape) (image : ImageState) (ar
       run = run;
       lawful = every_run shape (port_events k leads.real) s (sound_at nets k shape are of_shape) run;
       forged = forged;
-      to_switch = λ clean.
-          in_order (frames_switched k entries) (frames_queued k entries) (frames_switched k leads.real)
-          (frames_queued k leads.real) switched queued
-          (to_switch (shapes_of 0 disks) image nets are leads.real v k shape s leads.led of_shape there clean);
-      to_guest = λ clean.
-          in_order (frames_arrived k entries) (frames_put k entries) (frames_arrived k leads.real) (frames_put k leads.real)
-          arrived put (to_guest (shapes_of 0 disks) image nets are leads.real v k shape s leads.led of_shape there clean);
+      to_switch = λ front behind is none. switch_order front (front_led front behind is) none;
+      to_guest = λ front behind is none. guest_order front (front_led front behind is) none;
       all_to_switch = all_switch;
       all_to_guest = all_guest;
       rests = rests_behind;

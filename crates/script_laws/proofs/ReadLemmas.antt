@@ -12,11 +12,17 @@ use Rattle.domain_script.proofs.Disks.{are_disks_push, are_ports_push}
 use Rattle.domain_script.proofs.Firsts.{differ_push}
 use Rattle.domain_script.proofs.ScriptLemmas.{taken_more, taken_none}
 use Rattle.domain_script.proofs.Spelling.{Declares, DeclaresPort, declared_first, port_declared_first}
+use Rattle.script_reader.specs.declared.lines.LinesStop.{LinesStop}
+use Rattle.script_reader.specs.declared.lines.LinesStop.TheVariants.{Going}
+use Rattle.ldom_report.specs.LinesEnd.{counted_lines}
+use Rattle.ldom_report.specs.declared.status.Status.{Status}
+use Rattle.ldom_report.specs.declared.status.Status.TheVariants as status
 use Rattle.script_laws.specs.Attached.{AreOpening, is_opening}
-use Rattle.script_laws.specs.Opening.{Opens}
-use Rattle.script_laws.specs.Reading.{ReadsEvent}
+use Rattle.script_laws.specs.Opening.{Opens, OpensAndStops}
+use Rattle.script_laws.specs.Reading.{ReadsEvent, StopsAt}
 use Rattle.domain_script.specs.ScriptEvents.{AllSpell, no_names}
-use Rattle.script_laws.specs.Script.{ReadSoFar}
+use Rattle.script_laws.specs.Script.{AllFed, ReadSoFar}
+use Rattle.script_laws.proofs.Feeds.{fed_more, fed_none}
 use Rattle.script_laws.proofs.LineCases.{ends, noted_disks, noted_ports, stays_ended}
 
 pub spell_more : (texts : List (List ℕ)) (text : List ℕ) (first names after : NamesState) (events : List Event) (event : Event) → AllSpell texts first events names → Spells text names event → after ≡ noted names event
@@ -27,7 +33,7 @@ spell_more (t ∷ texts) text first names after [] event before spells is = absu
 spell_more (t ∷ texts) text first names after (e ∷ events) event before spells is = (before.0, spell_more texts text (noted first e) names after events event before.1 spells is)
 
 -- one more line
-pub read_more : (start rest left : Option (List ℕ)) (events : List Event) (event : Event) (names after : NamesState) (count next : ℕ) → ReadSoFar start rest events names count → ReadsEvent rest left names event after
+abbrev pub read_more : {stop : LinesStop} (start rest left : Option (List ℕ)) (events : List Event) (event : Event) (names after : NamesState) (count next : ℕ) → ReadSoFar start rest events names count → ReadsEvent stop rest left names event after
     → next ≡ count + 1 → next ≤ 20000 → ReadSoFar start left (events ++ event ∷ []) after next
 read_more start rest left events event names after count next so_far reads is few = record {
   texts = so_far.texts ++ reads.text ∷ [];
@@ -37,17 +43,18 @@ read_more start rest left events event names after count next so_far reads is fe
 }
 
 -- no line yet
-pub read_none : (start : Option (List ℕ)) (names : NamesState) (count : ℕ) → names ≡ no_names → count ≡ 0 → ReadSoFar start start [] names count
+abbrev pub read_none : (start : Option (List ℕ)) (names : NamesState) (count : ℕ) → names ≡ no_names → count ≡ 0 → ReadSoFar start start [] names count
 read_none start names count is zero = record { texts = []; taken = taken_none start; spell = is; counts = zero }
 
--- blank lines and declarations so far
-pub record OpensSoFar (start left : Option (List ℕ)) (names : NamesState) (count : ℕ) : Type 0 where
+-- blank lines and declarations so far, each with its line feed where the reader goes on
+pub record OpensSoFar (stop : LinesStop) (start left : Option (List ℕ)) (names : NamesState) (count : ℕ) : Type 0 where
   pub opening : List Event
   pub are : AreOpening opening
   pub read : ReadSoFar start left opening names count
+  pub feeds : stop ≡ Going → AllFed start left read.texts
 
-pub opens_none : (start : Option (List ℕ)) (names : NamesState) (count : ℕ) → names ≡ no_names → count ≡ 0 → OpensSoFar start start names count
-opens_none start names count is zero = record { opening = []; are = tt; read = read_none start names count is zero }
+pub opens_none : (stop : LinesStop) (start : Option (List ℕ)) (names : NamesState) (count : ℕ) → names ≡ no_names → count ≡ 0 → OpensSoFar stop start start names count
+opens_none stop start names count is zero = record { opening = []; are = tt; read = read_none start names count is zero; feeds = λ _. fed_none start }
 
 pub opening-append : (events more : List Event) → AreOpening events → AreOpening more → AreOpening (events ++ more)
 opening-append [] more first second = second
@@ -65,29 +72,49 @@ other_line event other = by_test (is_opening event) (λ is. other (is, tt))
     by_test true other = absurd (other refl)
     by_test false other = refl
 
-pub opens_more : (start rest left : Option (List ℕ)) (event : Event) (names after : NamesState) (count next : ℕ) → OpensSoFar start rest names count → ReadsEvent rest left names event after → next ≡ count + 1 → next ≤ 20000 → AreOpening (event ∷ [])
-    → OpensSoFar start left after next
-opens_more start rest left event names after count next so_far reads is few opening = record {
+pub opens_more : (was stop : LinesStop) (start rest left : Option (List ℕ)) (event : Event) (names after : NamesState) (count next : ℕ) → OpensSoFar was start rest names count → ReadsEvent stop rest left names event after → next ≡ count + 1
+    → next ≤ 20000 → AreOpening (event ∷ []) → OpensSoFar stop start left after next
+opens_more was stop start rest left event names after count next so_far reads is few opening = record {
   opening = so_far.opening ++ event ∷ [];
   are = opening-append so_far.opening (event ∷ []) so_far.are opening;
   read = read_more start rest left so_far.opening event names after count next so_far.read reads is few;
+  feeds = fed_more stop start rest left so_far.read.texts reads.text so_far.read.taken.taken reads.ends;
 }
 
-pub opens : (start rest left : Option (List ℕ)) (event : Event) (names after : NamesState) (count next : ℕ) → OpensSoFar start rest names count → ReadsEvent rest left names event after → next ≡ count + 1 → next ≤ 20000 → (AreOpening (event ∷ []) → ⊥)
-    → Opens start left event after next
-opens start rest left event names after count next so_far reads is few not_opening = record {
+pub opens : (was stop : LinesStop) (start rest left : Option (List ℕ)) (event : Event) (names after : NamesState) (count next : ℕ) → OpensSoFar was start rest names count → ReadsEvent stop rest left names event after → next ≡ count + 1
+    → next ≤ 20000 → (AreOpening (event ∷ []) → ⊥) → Opens stop start left event after next
+opens was stop start rest left event names after count next so_far reads is few not_opening = record {
   opening = so_far.opening;
   are = so_far.are;
   read = read_more start rest left so_far.opening event names after count next so_far.read reads is few;
+  feeds = fed_more stop start rest left so_far.read.texts reads.text so_far.read.taken.taken reads.ends;
   other = not_opening;
   ended = ap (λ (n : NamesState). n.ended) reads.noted_is ∙ ends names event (other_line event not_opening);
 }
 
+-- no further line is taken up: a source fails where the reader goes on
+pub opens_stop : (stop : LinesStop) (start rest now : Option (List ℕ)) (held : List ℕ) (names after : NamesState) (count entries lines : ℕ) (why : Status) → OpensSoFar stop start rest names count → StopsAt why rest held now names count entries
+    → (why ≡ status.SourceFault → stop ≡ Going) → entries ≡ 0 → lines ≡ counted_lines why count → after ≡ names → OpensAndStops start now why after lines
+opens_stop stop start rest now held names after count entries lines why so_far stops going none is same =
+    subst (λ (n : NamesState). OpensAndStops start now why n lines) (sym same) (record {
+      opening = so_far.opening;
+      are = so_far.are;
+      stopped = record {
+        left = rest;
+        count = count;
+        read = so_far.read;
+        held = held;
+        stop = subst (λ (n : ℕ). StopsAt why rest held now names count n) none stops;
+        feeds = λ failed. so_far.feeds (going failed);
+        lines_are = is;
+      };
+    })
+
 -- after the declarations none comes, so an event that is spelled is for one of the disks that were declared before
-pub still_ended : (rest left : Option (List ℕ)) (event : Event) (names after : NamesState) → ReadsEvent rest left names event after → names.ended ≡ true → after.ended ≡ true
+pub still_ended : {stop : LinesStop} (rest left : Option (List ℕ)) (event : Event) (names after : NamesState) → ReadsEvent stop rest left names event after → names.ended ≡ true → after.ended ≡ true
 still_ended rest left event names after reads ended = ap (λ (n : NamesState). n.ended) reads.noted_is ∙ stays_ended names event ended
 
-pub same_disks : (rest left : Option (List ℕ)) (event : Event) (names after : NamesState) → ReadsEvent rest left names event after → names.ended ≡ true → after.disks ≡ names.disks
+pub same_disks : {stop : LinesStop} (rest left : Option (List ℕ)) (event : Event) (names after : NamesState) → ReadsEvent stop rest left names event after → names.ended ≡ true → after.disks ≡ names.disks
 same_disks rest left event names after reads ended = ap (λ (n : NamesState). n.disks) reads.noted_is ∙ elim (noted_disks names event) [
   | inl declares ↦
       let spells : Spells reads.text names (line.Disk declares.0) = subst (λ (e : Event). Spells reads.text names e) declares.1 reads.spells in
@@ -95,7 +122,7 @@ same_disks rest left event names after reads ended = ap (λ (n : NamesState). n.
   | inr same ↦ same
 ]
 
-pub same_ports : (rest left : Option (List ℕ)) (event : Event) (names after : NamesState) → ReadsEvent rest left names event after → names.ended ≡ true → after.ports ≡ names.ports
+pub same_ports : {stop : LinesStop} (rest left : Option (List ℕ)) (event : Event) (names after : NamesState) → ReadsEvent stop rest left names event after → names.ended ≡ true → after.ports ≡ names.ports
 same_ports rest left event names after reads ended = ap (λ (n : NamesState). n.ports) reads.noted_is ∙ elim (noted_ports names event) [
   | inl declares ↦
       let spells : Spells reads.text names (line.Net declares.0) = subst (λ (e : Event). Spells reads.text names e) declares.1 reads.spells in

@@ -10,7 +10,10 @@ use Rattle.ldom_entries.specs.declared.entry.Entry.{Entry}
 use Rattle.ldom_report.specs.declared.status.Status.{Status}
 use Rattle.ldom_report.specs.declared.status.Status.TheVariants as status
 use Rattle.ldom_report.specs.Stops.{IsReaders}
+use Rattle.script_reader.specs.declared.lines.LinesStop.{LinesStop}
+use Rattle.script_reader.specs.declared.lines.LinesStop.TheVariants.{Going}
 use Rattle.script_laws.specs.Going.{ReadsOn, RunsLines}
+use Rattle.script_laws.specs.Script.{AllFed}
 use Rattle.world_parts.specs.Lines.{LineStarts, EventStep, line_of}
 use Rattle.world_parts.specs.Parts.{Fits, FitsSoFar}
 use Rattle.ldom_report.specs.LinesEnd.{counted_lines}
@@ -18,6 +21,7 @@ use Rattle.script_laws.specs.Reading.{ReadsEvent, StopsAt}
 use Rattle.world_parts.specs.domain_laws.Domain.{DomainState}
 use Rattle.world_parts.specs.Script.{BeginBelow, entries_in, events_in}
 use Rattle.domain_script.proofs.ScriptLemmas.{short-append, takes-append, takes_none}
+use Rattle.script_laws.proofs.Feeds.{fed_more, fed_none}
 use Rattle.script_laws.proofs.LineLists.{below_push, entries_push, events_both, whole_ends}
 use Rattle.script_laws.proofs.ReadLemmas.{spell_more}
 
@@ -33,8 +37,8 @@ abbrev on_none : (start : Option (List ℕ)) (names : NamesState) (number : ℕ)
 on_none start names number few = record { texts = []; taken = takes_none start; short = tt; few = omega (arith, few); spell = refl }
 
 -- one more line was read
-abbrev on_more : (start rest left : Option (List ℕ)) (before names after : NamesState) (number count next : ℕ) (events all : List Event) (event : Event)
-    → (read : ReadsOn start rest before number events names) → count ≡ number + length read.texts → ReadsEvent rest left names event after
+abbrev on_more : {stop : LinesStop} (start rest left : Option (List ℕ)) (before names after : NamesState) (number count next : ℕ) (events all : List Event) (event : Event)
+    → (read : ReadsOn start rest before number events names) → count ≡ number + length read.texts → ReadsEvent stop rest left names event after
     → next ≡ count + 1 → next ≤ 20000 → all ≡ events ++ event ∷ [] → ReadsOn start left before number all after
 on_more start rest left before names after number count next events all event read counts reads is few all_is = record {
   texts = read.texts ++ reads.text ∷ [];
@@ -45,8 +49,8 @@ on_more start rest left before names after number count next events all event re
       (spell_more read.texts reads.text before names after events event read.spell reads.spells reads.noted_is);
 }
 
--- the lines that were run so far
-pub record RunsSoFar (start : Option (List ℕ)) (before : NamesState) (old : List Entry) (s : DomainState) (number : ℕ)
+-- the lines that were run so far, each with its line feed where the reader goes on
+pub record RunsSoFar (stop : LinesStop) (start : Option (List ℕ)) (before : NamesState) (old : List Entry) (s : DomainState) (number : ℕ)
     (rest : Option (List ℕ)) (names : NamesState) (new : List Entry) (t : DomainState) (count : ℕ) : Type 0 where
   pub lines : List (Event × List Entry)
   pub read : ReadsOn start rest before number (events_in lines) names
@@ -54,16 +58,18 @@ pub record RunsSoFar (start : Option (List ℕ)) (before : NamesState) (old : Li
   pub run : Run EventStep s lines t
   pub below : BeginBelow (length old) lines
   pub counts : count ≡ number + length read.texts
+  pub feeds : stop ≡ Going → AllFed start rest read.texts
 
-pub runs_none : (start : Option (List ℕ)) (names : NamesState) (old : List Entry) (s : DomainState) (number : ℕ) → number ≤ 20000
-    → RunsSoFar start names old s number start names old s number
-runs_none start names old s number few = record {
+pub runs_none : (stop : LinesStop) (start : Option (List ℕ)) (names : NamesState) (old : List Entry) (s : DomainState) (number : ℕ) → number ≤ 20000
+    → RunsSoFar stop start names old s number start names old s number
+runs_none stop start names old s number few = record {
   lines = [];
   read = on_none start names number few;
   grew = sym (append-nil old);
   run = refl;
   below = tt;
   counts = omega arith;
+  feeds = λ _. fed_none start;
 }
 
 -- what stands before a line, by what stood before the first
@@ -81,10 +87,10 @@ module _ (lines : List (Event × List Entry)) (event : Event) (part : List Entry
       grew ∙ ap (λ (l : List Entry). l ++ part) so_far ∙ append_assoc old (entries_in lines) part
       ∙ ap (λ (l : List Entry). old ++ l) (sym (entries_push lines (event, part)))
 
-pub runs_more : (start rest left : Option (List ℕ)) (before names after : NamesState) (old mid new : List Entry) (s m t : DomainState)
-    (number count next : ℕ) (event : Event) → RunsSoFar start before old s number rest names mid m count → ReadsEvent rest left names event after
-    → next ≡ count + 1 → next ≤ 20000 → length mid < 2000000 → Fits m (line_of event) mid new t → RunsSoFar start before old s number left after new t next
-runs_more start rest left before names after old mid new s m t number count next event so_far reads is few below fits = record {
+pub runs_more : (was stop : LinesStop) (start rest left : Option (List ℕ)) (before names after : NamesState) (old mid new : List Entry) (s m t : DomainState)
+    (number count next : ℕ) (event : Event) → RunsSoFar was start before old s number rest names mid m count → ReadsEvent stop rest left names event after
+    → next ≡ count + 1 → next ≤ 20000 → length mid < 2000000 → Fits m (line_of event) mid new t → RunsSoFar stop start before old s number left after new t next
+runs_more was stop start rest left before names after old mid new s m t number count next event so_far reads is few below fits = record {
   lines = so_far.lines ++ (event, fits.adds.part) ∷ [];
   read = on_more start rest left before names after number count next (events_in so_far.lines)
       (events_in (so_far.lines ++ (event, fits.adds.part) ∷ [])) event so_far.read so_far.counts reads is few
@@ -94,13 +100,14 @@ runs_more start rest left before names after old mid new s m t number count next
   below = below_push (length old) so_far.lines (event, fits.adds.part) so_far.below
       (below_here old mid (entries_in so_far.lines) so_far.grew below);
   counts = omega (arith, is, so_far.counts, length-append so_far.read.texts (reads.text ∷ []));
+  feeds = fed_more stop start rest left so_far.read.texts reads.text so_far.read.taken reads.ends;
 }
 
--- no further line is taken up
-pub runs_stop : (start rest now : Option (List ℕ)) (held : List ℕ) (before names after : NamesState) (old new : List Entry) (s t : DomainState)
-    (number count lines : ℕ) (why : Status) → IsReaders why → RunsSoFar start before old s number rest names new t count → StopsAt why rest held now names count (length new)
-    → lines ≡ counted_lines why count → after ≡ names → RunsLines start now before old s number why after new t lines
-runs_stop start rest now held before names after old new s t number count lines why readers so_far stop is same =
+-- no further line is taken up: a source fails where the reader goes on
+pub runs_stop : (stop : LinesStop) (start rest now : Option (List ℕ)) (held : List ℕ) (before names after : NamesState) (old new : List Entry) (s t : DomainState)
+    (number count lines : ℕ) (why : Status) → IsReaders why → RunsSoFar stop start before old s number rest names new t count → StopsAt why rest held now names count (length new)
+    → (why ≡ status.SourceFault → stop ≡ Going) → lines ≡ counted_lines why count → after ≡ names → RunsLines start now before old s number why after new t lines
+runs_stop stop start rest now held before names after old new s t number count lines why readers so_far stops going is same =
     subst (λ (n : NamesState). RunsLines start now before old s number why n new t lines) (sym same) (record {
       parts = record { whole = so_far.lines; cut = None };
       left = rest;
@@ -109,7 +116,8 @@ runs_stop start rest now held before names after old new s t number count lines 
       fits = record { middle = t; run = so_far.run; last = refl; begin_below = so_far.below };
       ends = whole_ends so_far.lines why readers;
       held = held;
-      stop = subst (λ (n : ℕ). StopsAt why rest held now names n (length new)) so_far.counts stop;
+      stop = subst (λ (n : ℕ). StopsAt why rest held now names n (length new)) so_far.counts stops;
+      feeds = λ failed. so_far.feeds (going failed);
       lines_are = is ∙ ap (λ (n : ℕ). counted_lines why n) so_far.counts;
     })
 
@@ -118,9 +126,9 @@ keeps_same None = tt
 keeps_same (Some bytes) = refl
 
 -- memory was wanted in the midst of a line
-pub runs_cut : (start rest now : Option (List ℕ)) (held : List ℕ) (before names after : NamesState) (old mid new : List Entry) (s m t : DomainState)
-    (number count next : ℕ) (event : Event) → RunsSoFar start before old s number rest names mid m count
-    → ReadsEvent rest (prepend_known held now) names event after → next ≡ count + 1 → next ≤ 20000 → length mid < 2000000 → FitsSoFar m (line_of event) mid new t
+pub runs_cut : {was stop : LinesStop} (start rest now : Option (List ℕ)) (held : List ℕ) (before names after : NamesState) (old mid new : List Entry) (s m t : DomainState)
+    (number count next : ℕ) (event : Event) → RunsSoFar was start before old s number rest names mid m count
+    → ReadsEvent stop rest (prepend_known held now) names event after → next ≡ count + 1 → next ≤ 20000 → length mid < 2000000 → FitsSoFar m (line_of event) mid new t
     → RunsLines start now before old s number status.NoMemory after new t next
 runs_cut start rest now held before names after old mid new s m t number count next event so_far reads is few below fits = record {
   parts = record { whole = so_far.lines; cut = Some (event, fits.adds.part) };
@@ -139,5 +147,6 @@ runs_cut start rest now held before names after old mid new s m t number count n
   ends = tt;
   held = held;
   stop = (tt, keeps_same (prepend_known held now));
+  feeds = λ failed. cc failed;
   lines_are = omega (arith, is, so_far.counts, length-append so_far.read.texts (reads.text ∷ []));
 }

@@ -10,6 +10,7 @@ use Rattle.script_laws.specs.Attached.{AreOpening}
 use Rattle.world_parts.specs.Endings.{EndsSo, JournalIs, ending}
 use Rattle.script_laws.specs.Reading.{StopsAt}
 use Rattle.script_laws.specs.Replayed.{Stopped}
+use Rattle.script_laws.specs.Script.{AllFed}
 use Rattle.domain_script.specs.ScriptLines.{AreShort, TakesLines}
 use Rattle.domain_script.specs.ScriptEvents.{AllSpell}
 use Rattle.world_parts.specs.Script.{FitsScript, ScriptParts, events_of, journal_of}
@@ -24,7 +25,7 @@ pub record ReadsOn (start left : Option (List ℕ)) (before : NamesState) (numbe
   pub few : number + length texts ≤ most_lines
   pub spell : AllSpell texts before events after
 
--- they were read and run, and then no further one was taken up
+-- They were read and run, and then no further one was taken up. Where the source failed, each had its line feed.
 pub record RunsLines (start now : Option (List ℕ)) (before : NamesState) (old : List Entry) (s : DomainState) (number : ℕ)
     (why : Status) (after : NamesState) (new : List Entry) (t : DomainState) (lines : ℕ) : Type 0 where
   pub parts : ScriptParts
@@ -35,6 +36,7 @@ pub record RunsLines (start now : Option (List ℕ)) (before : NamesState) (old 
   pub ends : EndsSo (ending why) parts
   pub held : List ℕ
   pub stop : StopsAt why left held now after (number + length read.texts) (length new)
+  pub feeds : why ≡ status.SourceFault → AllFed start left read.texts
   pub lines_are : lines ≡ counted_lines why (number + length read.texts)
 
 -- From its first line on the script was read and run, and then no further line was taken up.

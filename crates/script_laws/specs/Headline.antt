@@ -1,5 +1,5 @@
 -- THE HEADLINE: what holds of the disks of every script, whatever it resets, stops, restarts and loses.
-use Rattle.std.specs.Prelude.{◌≡◌, ◌↔◌, ℕ, false, List, length, Some, IfSome, slice_get}
+use Rattle.std.specs.Prelude.{◌≡◌, ◌↔◌, ℕ, false, List, ◌++◌, length, Some, IfSome, slice_get}
 use Rattle.disk_law.specs.ListState.{ImageState}
 use Rattle.world_parts.specs.disk_model.LaneState.{LaneState, Shape}
 use Rattle.domain_script.specs.declared.event.DiskDecl.{DiskDecl}
@@ -17,7 +17,7 @@ use Rattle.script_laws.specs.LastRounds.{EachNamesExactly}
 use Rattle.script_laws.specs.Ports.{PortsStand}
 use Rattle.script_laws.specs.PortSettles.{PortSettles}
 use Rattle.script_laws.specs.Settled.{FinishesAll, LeftWhereBusy, RestsOrTicked, SettlesEnd, StillBehind, TicksAreNeeded}
-use Rattle.script_laws.specs.Told.{told}
+use Rattle.script_laws.specs.Told.{log_at, told}
 
 -- OF EACH DISK, by its number, with what of the image is its own. `first` is what the image told as it was attached. What
 -- is said only of a disk that nobody forged has a premise on that disk alone, whatever was forged of others.
@@ -29,9 +29,10 @@ pub record OfDisk (shape : Shape) (x : ℕ) (start : ImageState) (entries : List
   -- its state says whether the entries have a call of its store that failed: none where the image counts no fault
   pub failed : (s.failed ≡ false) ↔ NoStoreFailed (happened x entries)
   pub unfailed : now.faults ≡ 0 → s.failed ≡ false
-  -- where nobody forged it and no call of its store failed, over an image that tells its bytes
-  pub reads : (first : List ℕ) → start.told ≡ Some first → s.wire.forged ≡ false → s.failed ≡ false
-      → ReadsShow shape x first entries
+  -- over an image that tells its bytes: along the entries, as far as nobody forged it and no call of its store failed,
+  pub reads : (first : List ℕ) → start.told ≡ Some first → (front behind : List SettleEntry) → entries ≡ front ++ behind
+      → (log_at shape x front).wire.forged ≡ false → NoStoreFailed (happened x front) → ReadsShow shape x first front
+  -- and at their end
   pub holds : (first bytes : List ℕ) → start.told ≡ Some first → now.told ≡ Some bytes → s.wire.forged ≡ false
       → s.failed ≡ false → DiskHolds shape x first entries bytes
 

@@ -12,7 +12,7 @@ use Rattle.world_parts.specs.switch_laws.Ports as port
 use Rattle.world_parts.specs.world_laws.DiskKind as disk
 use Rattle.world_parts.specs.world_laws.Moves.{MovedIn, is_tick}
 use Rattle.world_parts.specs.world_laws.Settle.{OfLane, OfPort, SettleEntry, Unsettled, UnsettledPort}
-use Rattle.world_parts.specs.domain_laws.Lines.{AreSteps, DiskLane, EndTurn, PortLane, both_ends, lanes_from}
+use Rattle.world_parts.specs.domain_laws.Lines.{AreSteps, turns_over}
 use Rattle.script_laws.specs.PortSettles.{NamesPort, PortMovedIn, is_port_tick}
 use Rattle.script_laws.specs.Settled.{EndsUnsettled, WaitsBy}
 use Rattle.script_laws.specs.Told.{log_at, port_log_at, told, told_by}
@@ -28,9 +28,6 @@ leaves_none _ = false
 abbrev pub kept_steps : List SettleEntry → List SettleEntry
 kept_steps [] = []
 kept_steps (entry ∷ part) = (if leaves_none entry then [] else entry ∷ []) ++ kept_steps part
-
-abbrev pub turns_over : ℕ → ℕ → List EndTurn
-turns_over n m = both_ends (lanes_from DiskLane 0 n) ++ both_ends (lanes_from PortLane 0 m)
 
 pub record IsRound (n m : ℕ) (round : List SettleEntry) : Type 0 where
   pub steps : List SettleEntry

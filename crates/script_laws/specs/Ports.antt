@@ -28,14 +28,16 @@ pub record RestsBehind (shape : NetShape) (k : ℕ) (before : List SettleEntry) 
   pub rests : IsUnforged at → HoldsNoFrame at
 
 -- OF EACH PORT, by its number: what happened to it led it here, and is lawful, forged or not. What is told says whether
--- somebody forged it. Where nobody did, its frames arrive in order, each at most once; and where the script ends settled
--- and none is said to be lost, all of them. Behind each settle it is at rest.
+-- somebody forged it. As far as nobody did, its frames arrive in order, each at most once; and where the script ends
+-- settled and none is said to be lost, all of them. Behind each settle it is at rest.
 pub record OfPort (shape : NetShape) (k : ℕ) (entries real : List SettleEntry) (s : PortState) : Type 0 where
   pub run : Run PortStep (fresh_port shape) (port_events k real) s
   pub lawful : IsLawfulPort shape (port_events k real)
   pub forged : (IsUnforged s) ↔ NobodyForgesPort (port_happened k entries)
-  pub to_switch : IsUnforged s → InOrder 0 (frames_switched k entries) (frames_queued k entries)
-  pub to_guest : IsUnforged s → InOrder 0 (frames_arrived k entries) (frames_put k entries)
+  pub to_switch : (front behind : List SettleEntry) → entries ≡ front ++ behind
+      → NobodyForgesPort (port_happened k front) → InOrder 0 (frames_switched k front) (frames_queued k front)
+  pub to_guest : (front behind : List SettleEntry) → entries ≡ front ++ behind
+      → NobodyForgesPort (port_happened k front) → InOrder 0 (frames_arrived k front) (frames_put k front)
   pub all_to_switch : (front : List SettleEntry) → entries ≡ front ++ Settled ∷ [] → IsUnforged s
       → frames_lost A (port_events k real) ≡ 0 → frames_switched k entries ≡ frames_queued k entries
   pub all_to_guest : (front : List SettleEntry) → entries ≡ front ++ Settled ∷ [] → IsUnforged s

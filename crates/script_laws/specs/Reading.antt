@@ -12,13 +12,17 @@ use Rattle.ldom_report.specs.LinesEnd.{IsPast, most_entries}
 use Rattle.ldom_report.specs.declared.status.LimitKind.TheVariants as limit
 use Rattle.ldom_report.specs.declared.status.Status.{Status}
 use Rattle.ldom_report.specs.declared.status.Status.TheVariants as status
+use Rattle.script_reader.specs.declared.lines.LinesStop.{LinesStop}
+use Rattle.script_reader.specs.LinesState.{LineEnds}
 use Rattle.domain_script.specs.Limits.{most_line_bytes, most_lines}
 
--- the next line spells this event
-pub record ReadsEvent (rest left : Option (List ℕ)) (names : NamesState) (event : Event) (after : NamesState) : Type 0 where
+-- the next line spells this event, and ended as the reader behind it says
+pub record ReadsEvent (stop : LinesStop) (rest left : Option (List ℕ)) (names : NamesState) (event : Event)
+    (after : NamesState) : Type 0 where
   pub text : List ℕ
   pub taken : TakesLine rest left text
   pub short : length text ≤ most_line_bytes
+  pub ends : LineEnds stop rest left text
   pub spells : Spells text names event
   pub noted_is : after ≡ noted names event
 

@@ -15,19 +15,21 @@ use Rattle.world_parts.specs.Endings.{JournalIs, ending}
 use Rattle.world_parts.specs.domain_laws.Domain.{DomainState, Lanes}
 use Rattle.script_laws.specs.Reading.{StopsAt}
 use Rattle.script_laws.specs.LanesStand.{LanesStand}
-use Rattle.script_laws.specs.Script.{ReadSoFar}
+use Rattle.script_laws.specs.Script.{AllFed, ReadSoFar}
 use Rattle.disk_law.specs.ListState.{attached}
 use Rattle.world_parts.specs.Declared.{bytes_needed, nets_of, world_of}
 use Rattle.world_parts.specs.Script.{ScriptParts, events_of}
 
 -- These events were read, and then no further line was taken up, where the journal has so many entries; the report counts
--- so many lines. The source has `now` left, and what was taken from it and is in no line is held.
+-- so many lines. The source has `now` left, and what was taken from it and is in no line is held. Where the source
+-- failed, each line that was taken up had its line feed.
 pub record Stopped (start now : Option (List ℕ)) (why : Status) (events : List Event) (names : NamesState) (entries lines : ℕ) : Type 0 where
   pub left : Option (List ℕ)
   pub count : ℕ
   pub read : ReadSoFar start left events names count
   pub held : List ℕ
   pub stop : StopsAt why left held now names count entries
+  pub feeds : why ≡ status.SourceFault → AllFed start left read.texts
   pub lines_are : lines ≡ counted_lines why count
 
 -- why a run ended where no image was attached

@@ -4,4 +4,4 @@ pub use Rattle.domain_laws.proofs.world_laws as world_laws
 pub use Rattle.domain_laws.proofs.port_laws as port_laws
 pub use Rattle.domain_laws.proofs.lane_laws as lane_laws
 pub use Rattle.domain_laws.proofs.disk_model as disk_model
-pub use Rattle.switch_laws.proofs as switch_laws
+pub use Rattle.domain_laws.proofs.switch_laws as switch_laws

@@ -2,7 +2,7 @@
 use Rattle.std.proofs.Common.{Global, ◌≡◌, ◌∙◌, ap, refl, inl, inr, [], ◌∷◌, ◌++◌, map, codes, List, ℕ, Some}
 use Rattle.std.specs.String.{string_bytes}
 use Rattle.infallible_io.specs.States.{GrowingSinkState}
-use Rattle.script_laws.specs.PlainRun.{plain_text}
+use Rattle.ldom_replay.specs.script_laws.PlainRun.{plain_text}
 use Rattle.ldom_example.specs.Known.{script}
 use Rattle.ldom_report.specs.declared.status.Mode.TheVariants as mode
 use Rattle.ldom_example.proofs.KnownRun.{asks_zeros, clean, disk, events, full_limit, ids_are, image_is, quiet, text_is, zeros}

@@ -1,8 +1,9 @@
 use Rattle.std.proofs.Common.{ℕ, List, sym, ◌∙◌}
-use Rattle.domain_script.specs.Addresses.{is_among}
+use Rattle.domain_script.proofs.FreeAddresses.{free_told}
+use Rattle.script_words.specs.Addresses.{is_among}
 use Rattle.domain_script.specs.Declarations.{addresses}
-use Rattle.domain_script.specs.Words.{bytes_of}
-use Rattle.domain_script.proofs.AddressTests.{free_told, not_tested, tested}
+use Rattle.script_words.specs.Words.{bytes_of}
+use Rattle.script_words.proofs.AddressTests.{not_tested, tested}
 use Rattle.domain_script.proofs.addresses.has_taken_address.Goals as goal
 
 pub returns-in-Some : goal.returns-in-Some

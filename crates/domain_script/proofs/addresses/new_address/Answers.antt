@@ -1,7 +1,7 @@
 use Rattle.std.proofs.Common.{◌≡◌, ℕ, true, false, List, sym, ◌∙◌, subst}
-use Rattle.domain_script.specs.Addresses.{IsAddress}
+use Rattle.script_words.specs.Addresses.{IsAddress}
 use Rattle.domain_script.specs.NamesState.{IsFreeAddress}
-use Rattle.domain_script.proofs.HexWords.{one_exactly}
+use Rattle.script_words.proofs.HexWords.{one_exactly}
 use Rattle.domain_script.proofs.addresses.new_address.Goals as goal
 
 pub returns-in_err-address-clause-none : goal.returns-in_err-address-clause-none

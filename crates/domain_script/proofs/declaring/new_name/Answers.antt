@@ -1,5 +1,5 @@
 use Rattle.std.proofs.Common.{◌≡◌, true, false, sym, ◌∙◌, subst}
-use Rattle.domain_script.specs.declared.event.Name.{Name}
+use Rattle.script_words.specs.declared.spelled.Name.{Name}
 use Rattle.domain_script.specs.NamesState.{CanDeclare}
 use Rattle.domain_script.proofs.Naming.{one_name}
 use Rattle.domain_script.proofs.declaring.new_name.Goals as goal

@@ -1,7 +1,7 @@
 use Rattle.std.proofs.Common.{◌≡◌, arith}
 use Rattle.std.proofs.lemmas.Grind.{common_steps}
 use Rattle.domain_script.specs.declared.rows.RowKind.TheVariants as row
-use Rattle.domain_script.specs.Words.{words}
+use Rattle.script_words.specs.Words.{words}
 use Rattle.domain_script.proofs.RowLemmas.{if_filled, if_unfilled, no_row_at}
 use Rattle.domain_script.proofs.disk_rows.write_row.Goals as goal
 

@@ -1,7 +1,7 @@
 use Rattle.std.proofs.Common.{◌≡◌, length}
 use Rattle.std.specs.List.{list_any}
 use Rattle.domain_script.specs.Faults.{is_empty}
-use Rattle.domain_script.specs.Words.{words}
+use Rattle.script_words.specs.Words.{words}
 use Rattle.domain_script.proofs.faults.has_empty_part.Given as goal
 
 abbrev pub invariant-loop-part : goal.invariant-loop-part

@@ -1,7 +1,7 @@
 use Rattle.std.proofs.Common.{◌≡◌, drop, zip}
 use Rattle.std.specs.List.{list_any}
 use Rattle.domain_script.specs.Faults.{is_wrong}
-use Rattle.domain_script.specs.Words.{words}
+use Rattle.script_words.specs.Words.{words}
 use Rattle.domain_script.proofs.field_faults.is_any_wrong.Given as goal
 
 -- the rest of the fields have the rest of the words

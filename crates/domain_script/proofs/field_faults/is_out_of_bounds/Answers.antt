@@ -1,7 +1,7 @@
 use Rattle.std.proofs.Common.{Bool, ℕ, not, sym, ap, ◌∙◌}
 use Rattle.std.specs.Prelude.{◌&&◌}
-use Rattle.domain_script.specs.Words.{is_within, number_of}
-use Rattle.domain_script.proofs.WordTests.{is_number_from, number_is}
+use Rattle.script_words.specs.Words.{is_within, number_of}
+use Rattle.script_words.proofs.WordTests.{is_number_from, number_is}
 use Rattle.domain_script.proofs.field_faults.is_out_of_bounds.Goals as goal
 
 pub returns-in-Some : goal.returns-in-Some

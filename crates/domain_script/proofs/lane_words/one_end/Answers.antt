@@ -4,7 +4,7 @@ use Rattle.domain_script.specs.declared.fields.EndKind.{EndKind}
 use Rattle.domain_script.specs.declared.fields.Field.TheVariants.{End}
 use Rattle.domain_script.specs.NamesState.{NamesState}
 use Rattle.domain_script.specs.Spells.{IsOfKind, NamesEnd}
-use Rattle.domain_script.specs.Words.{words}
+use Rattle.script_words.specs.Words.{words}
 use Rattle.domain_script.proofs.FieldValues.{SpellsNothing}
 use Rattle.domain_script.proofs.RowLemmas.{no_one}
 use Rattle.domain_script.proofs.lane_words.one_end.Goals as goal

@@ -1,5 +1,5 @@
 use Rattle.domain_script.specs.declared.fields.Field.TheVariants.{Named}
-use Rattle.domain_script.specs.Words.{words}
+use Rattle.script_words.specs.Words.{words}
 use Rattle.domain_script.proofs.RowLemmas.{no_one}
 use Rattle.domain_script.proofs.lane_words.one_number.Goals as goal
 

@@ -1,5 +1,5 @@
 use Rattle.std.proofs.Common.{[], ◌∷◌}
-use Rattle.domain_script.specs.Words.{words}
+use Rattle.script_words.specs.Words.{words}
 use Rattle.domain_script.proofs.Spelling.{none_spelled}
 use Rattle.domain_script.proofs.parser.spelled_row.Goals as goal
 

@@ -1,6 +1,6 @@
 use Rattle.std.proofs.Common.{arith, refl}
 use Rattle.domain_script.specs.declared.rows.RowKind.TheVariants as row
-use Rattle.domain_script.specs.Words.{words}
+use Rattle.script_words.specs.Words.{words}
 use Rattle.domain_script.proofs.RowLemmas.{no_row_at}
 use Rattle.domain_script.proofs.port_rows.join_row.Goals as goal
 

@@ -1,8 +1,8 @@
 use Rattle.std.proofs.Common.{arith}
 use Rattle.domain_script.specs.declared.rows.RowKind.TheVariants as row
-use Rattle.domain_script.specs.Words.{words}
+use Rattle.script_words.specs.Words.{words}
 use Rattle.domain_script.proofs.RowLemmas.{no_row_found}
-use Rattle.domain_script.proofs.WordLemmas.{words_some}
+use Rattle.script_words.proofs.WordLemmas.{words_some}
 use Rattle.domain_script.proofs.rows.row_with_fields.Goals as goal
 
 pub returns-in-Settle-clause-none : goal.returns-in-Settle-clause-none

@@ -21,7 +21,7 @@ returns-in-Err-clause-replayed g c start opened =
     read.names c.into_run.result.names [] c.into_run.result.journal.entries None c.into_run.result.image None c.into_run.result.lanes
     c.into_run.ensures.status (c.into_run.ensures.lines ∙ c.number-lines.ensures) c.into_run.ensures.names
     (ap (λ (j : JournalState). j.entries) c.into_run.ensures.journal ∙ c.requires.journal) c.into_run.ensures.image c.into_run.ensures.lanes
-    (replayed_refused seen start now gives Memory read.lines.held c.args.first read.names read.lines.number opened)
+    (replayed_refused seen start now gives Memory read.lines c.args.first read.names opened)
 
 pub returns-in-Err-clause-sized : goal.returns-in-Err-clause-sized
 returns-in-Err-clause-sized g c start opened =
@@ -64,7 +64,7 @@ returns-in-Err-attach-clause-replayed g c start opened =
     read.names c.into_run-in-Err-attach.result.names [] c.into_run-in-Err-attach.result.journal.entries None c.into_run-in-Err-attach.result.image None c.into_run-in-Err-attach.result.lanes
     (c.into_run-in-Err-attach.ensures.status ∙ c.status_of.ensures) (c.into_run-in-Err-attach.ensures.lines ∙ c.number-lines-in-Err-attach.ensures) c.into_run-in-Err-attach.ensures.names
     (ap (λ (j : JournalState). j.entries) c.into_run-in-Err-attach.ensures.journal ∙ c.requires.journal) c.into_run-in-Err-attach.ensures.image c.into_run-in-Err-attach.ensures.lanes
-    (replayed_refused seen start now gives c.in-Err-attach.fault read.lines.held c.args.first read.names read.lines.number opened)
+    (replayed_refused seen start now gives c.in-Err-attach.fault read.lines c.args.first read.names opened)
 
 pub returns-in-Err-attach-clause-sized : goal.returns-in-Err-attach-clause-sized
 returns-in-Err-attach-clause-sized g c start opened =

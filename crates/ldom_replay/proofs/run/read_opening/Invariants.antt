@@ -7,7 +7,7 @@ abbrev pub invariant-loop-event : goal.invariant-loop-event
 invariant-loop-event g l = record {
   goes : GoesOn l.reader.lines (g.S.Source.left l.source);
   few : l.reader.lines.number ≤ 20000;
-  so_far : OpensSoFar (to_come l.fn.reader.lines (g.S.Source.left l.fn.source)) (to_come l.reader.lines (g.S.Source.left l.source)) l.reader.names l.reader.lines.number;
+  so_far : OpensSoFar l.reader.lines.stop (to_come l.fn.reader.lines (g.S.Source.left l.fn.source)) (to_come l.reader.lines (g.S.Source.left l.source)) l.reader.names l.reader.lines.number;
   journal : l.reader.journal ≡ l.fn.reader.journal;
   unfailed : g.S.Source.faults l.source ≡ g.S.Source.faults l.fn.source;
 }

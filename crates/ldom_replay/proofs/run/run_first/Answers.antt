@@ -11,7 +11,7 @@ use Rattle.ldom_world.specs.world_parts.Parts.{Fits, FitsSoFar}
 use Rattle.domain_script.specs.Spells.{IsDeclared}
 use Rattle.script_laws.proofs.LineCases.{for_declared}
 use Rattle.script_laws.proofs.Assembly.{runs_all, runs_first_cut, runs_none_more}
-use Rattle.ldom_report.proofs.StopLemmas.{readers_of}
+use Rattle.ldom_report.proofs.StopLemmas.{failed_at_source, readers_of}
 use Rattle.ldom_replay.proofs.run.run_first.Goals as goal
 
 pub returns-in-None-clause-runs : goal.returns-in-None-clause-runs
@@ -19,23 +19,23 @@ returns-in-None-clause-runs g c start opened =
     let now = g.S.Source.left c.args.source.now in
     subst (λ (l : List Entry). RunsAll start now c.args.reader.now.names c.args.world.now status.Done c.args.reader.now.names l c.args.world.now c.args.reader.now.lines.number) (sym c.requires.journal)
     (runs_none_more start now c.args.reader.now.names c.args.world.now c.args.reader.now.lines.number
-    (subst (λ (first : Option Event). Opened start c.args.reader.now.lines.held now first c.args.reader.now.names c.args.reader.now.lines.number) c.in-None.is opened))
+    (subst (λ (first : Option Event). Opened start c.args.reader.now.lines now first c.args.reader.now.names) c.in-None.is opened))
 
 pub returns-in-Ok-clause-runs : goal.returns-in-Ok-clause-runs
 returns-in-Ok-clause-runs g c start opened =
     let now = g.S.Source.left c.args.source.now in
-    runs_all start (to_come c.args.reader.now.lines now) (g.S.Source.left c.run_lines.new.source) c.in-Some.event c.args.reader.now.names c.run_lines.new.reader.names c.args.world.now c.apply.new.self c.run_lines.new.world c.apply.new.journal.entries c.run_lines.new.reader.journal.entries
+    runs_all c.args.reader.now.lines.stop start (to_come c.args.reader.now.lines now) (g.S.Source.left c.run_lines.new.source) c.in-Some.event c.args.reader.now.names c.run_lines.new.reader.names c.args.world.now c.apply.new.self c.run_lines.new.world c.apply.new.journal.entries c.run_lines.new.reader.journal.entries
     c.args.reader.now.lines.number (stop_lines c.run_lines.result c.run_lines.new.reader.lines.number) (stop_status c.run_lines.result c.run_lines.new.reader.lines.number)
     (readers_of c.run_lines.result c.run_lines.new.reader.lines.number)
-    (subst (λ (first : Option Event). Opened start c.args.reader.now.lines.held now first c.args.reader.now.names c.args.reader.now.lines.number) c.in-Some.is opened)
+    (subst (λ (first : Option Event). Opened start c.args.reader.now.lines now first c.args.reader.now.names) c.in-Some.is opened)
     (subst (λ (l : List Entry). Fits c.args.world.now (line_of c.in-Some.event) l c.apply.new.journal.entries c.apply.new.self) c.requires.journal c.in-Ok.ensures.fits)
-    c.run_lines.ensures.runs
+    c.run_lines.ensures.runs (λ failed. c.run_lines.ensures.going (failed_at_source c.run_lines.result c.run_lines.new.reader.lines.number failed))
 
 pub returns-in-Err-clause-runs : goal.returns-in-Err-clause-runs
 returns-in-Err-clause-runs g c start opened =
     let now = g.S.Source.left c.args.source.now in
     runs_first_cut start now c.args.reader.now.lines.held c.in-Some.event c.args.reader.now.names c.args.world.now c.apply.new.self c.apply.new.journal.entries c.args.reader.now.lines.number
-    (subst (λ (first : Option Event). Opened start c.args.reader.now.lines.held now first c.args.reader.now.names c.args.reader.now.lines.number) c.in-Some.is opened)
+    (subst (λ (first : Option Event). Opened start c.args.reader.now.lines now first c.args.reader.now.names) c.in-Some.is opened)
     (subst (λ (l : List Entry). FitsSoFar c.args.world.now (line_of c.in-Some.event) l c.apply.new.journal.entries c.apply.new.self) c.requires.journal c.in-Err.ensures.so_far)
 
 pub run_lines-requires-clause-goes : goal.run_lines-requires-clause-goes

@@ -1,4 +1,4 @@
-use Rattle.std.proofs.Common.{◌≡◌, ◌∙◌, List, length, ap, refl, subst, sym}
+use Rattle.std.proofs.Common.{◌∙◌, refl, subst, sym}
 use Rattle.ldom_entries.specs.JournalState.{JournalState}
 use Rattle.ldom_report.specs.declared.status.Status.{Status}
 use Rattle.script_laws.specs.Going.{RunsLines}
@@ -11,7 +11,7 @@ use Rattle.ldom_world.specs.world_parts.Parts.{Fits, FitsSoFar}
 use Rattle.ldom_replay.specs.NamesLanes.{HasLanes}
 use Rattle.ldom_replay.proofs.Beginning.{has_still}
 use Rattle.script_laws.proofs.RunLemmas.{runs_cut, runs_more, runs_none, runs_stop}
-use Rattle.ldom_report.proofs.StopLemmas.{readers_of}
+use Rattle.ldom_report.proofs.StopLemmas.{failed_at_source, readers_of}
 use Rattle.ldom_replay.proofs.run.run_lines.Goals as goal
 
 pub loop-stop-init : goal.loop-stop-init
@@ -23,7 +23,8 @@ loop-stop-init g c =
       ended = c.requires.ended;
       lanes = c.requires.lanes;
       agrees = c.requires.agrees;
-      so_far = runs_none start c.args.reader.now.names c.args.reader.now.journal.entries c.args.world.now c.args.reader.now.lines.number c.requires.few;
+      going = λ going. going;
+      so_far = runs_none c.args.reader.now.lines.stop start c.args.reader.now.names c.args.reader.now.journal.entries c.args.world.now c.args.reader.now.lines.number c.requires.few;
       unfailed = refl;
     }
 
@@ -43,7 +44,8 @@ loop-stop-preserved g c =
           (same_ports rest left c.read_event.new.event names after c.in-Ok.ensures.event c.loop-stop.invariant.ended)
           c.in-Ok-apply.ensures.many c.loop-stop.invariant.lanes;
       agrees = c.in-Ok-apply.ensures.agrees;
-      so_far = runs_more start rest left c.args.reader.now.names c.loop-stop.reader.names c.read_event.new.self.names c.args.reader.now.journal.entries c.loop-stop.reader.journal.entries c.apply.new.journal.entries
+      going = λ _. c.loop-stop.invariant.going (c.in-Ok.ensures.going (λ is. cc is));
+      so_far = runs_more c.loop-stop.reader.lines.stop c.read_event.new.self.lines.stop start rest left c.args.reader.now.names c.loop-stop.reader.names c.read_event.new.self.names c.args.reader.now.journal.entries c.loop-stop.reader.journal.entries c.apply.new.journal.entries
           c.args.world.now c.loop-stop.world c.apply.new.self c.args.reader.now.lines.number c.loop-stop.reader.lines.number c.read_event.new.self.lines.number c.read_event.new.event
           c.loop-stop.invariant.so_far c.in-Ok.ensures.event c.in-Ok.ensures.next.0 c.in-Ok.ensures.next.1 c.in-Ok.ensures.below
           (subst (λ (j : JournalState). Fits c.loop-stop.world (line_of c.read_event.new.event) j.entries c.apply.new.journal.entries c.apply.new.self) c.in-Ok.ensures.journal c.in-Ok-apply.ensures.fits);
@@ -66,9 +68,10 @@ returns-in-Err-clause-runs g c =
     let read = c.read_event.new.self in
     let why : Status = stop_status c.in-Err.stop read.lines.number in
     subst (λ (j : JournalState). RunsLines start now c.args.reader.now.names c.args.reader.now.journal.entries c.args.world.now c.args.reader.now.lines.number why read.names j.entries c.loop-stop.world (stop_lines c.in-Err.stop read.lines.number)) (sym c.in-Err.ensures.journal)
-    (runs_stop start rest now read.lines.held c.args.reader.now.names c.loop-stop.reader.names read.names
+    (runs_stop c.loop-stop.reader.lines.stop start rest now read.lines.held c.args.reader.now.names c.loop-stop.reader.names read.names
     c.args.reader.now.journal.entries c.loop-stop.reader.journal.entries c.args.world.now c.loop-stop.world c.args.reader.now.lines.number c.loop-stop.reader.lines.number
-    (stop_lines c.in-Err.stop read.lines.number) why (readers_of c.in-Err.stop read.lines.number) c.loop-stop.invariant.so_far c.in-Err.ensures.stop c.in-Err.ensures.lines.0 c.in-Err.ensures.lines.1)
+    (stop_lines c.in-Err.stop read.lines.number) why (readers_of c.in-Err.stop read.lines.number) c.loop-stop.invariant.so_far c.in-Err.ensures.stop
+    (λ failed. c.in-Err.ensures.going (λ is. let at_source = failed_at_source c.in-Err.stop read.lines.number failed in cc (at_source, is))) c.in-Err.ensures.lines.0 c.in-Err.ensures.lines.1)
 
 pub apply-requires-clause-event : goal.apply-requires-clause-event
 apply-requires-clause-event g c =

@@ -1,4 +1,5 @@
 use Rattle.std.proofs.Common.{◌≡◌, ◌-◌, ◌≤◌, true}
+use Rattle.script_reader.specs.declared.lines.LinesStop.TheVariants.{Going}
 use Rattle.script_reader.specs.LinesState.{GoesOn, to_come}
 use Rattle.ldom_replay.specs.NamesLanes.{HasLanes}
 use Rattle.ldom_world.specs.Steps.{Counted}
@@ -12,7 +13,8 @@ invariant-loop-stop g l = record {
   ended : l.reader.names.ended ≡ true;
   lanes : HasLanes l.reader.names l.world;
   agrees : Counted l.reader.journal.entries l.world;
-  so_far : RunsSoFar (to_come l.fn.reader.lines (g.S.Source.left l.fn.source)) l.fn.reader.names l.fn.reader.journal.entries l.fn.world l.fn.reader.lines.number
+  going : l.reader.lines.stop ≡ Going → l.fn.reader.lines.stop ≡ Going;
+  so_far : RunsSoFar l.reader.lines.stop (to_come l.fn.reader.lines (g.S.Source.left l.fn.source)) l.fn.reader.names l.fn.reader.journal.entries l.fn.world l.fn.reader.lines.number
       (to_come l.reader.lines (g.S.Source.left l.source)) l.reader.names l.reader.journal.entries l.world l.reader.lines.number;
   unfailed : g.S.Source.faults l.source ≡ g.S.Source.faults l.fn.source;
 }

@@ -20,7 +20,7 @@ returns-then-have-need-clause-replayed g c start gives opened attached =
     read.names c.into_run.result.names [] c.into_run.result.journal.entries (Some c.args.image) c.into_run.result.image None c.into_run.result.lanes
     c.into_run.ensures.status (c.into_run.ensures.lines ∙ c.number-lines.ensures) c.into_run.ensures.names
     (ap (λ (j : JournalState). j.entries) c.into_run.ensures.journal ∙ c.requires.journal) c.into_run.ensures.image c.into_run.ensures.lanes
-    (replayed_short seen start now gives (512 * c.blocks_declared-need.result) c.len-have.result read.lines.held c.args.first read.names read.lines.number c.args.image attached opened)
+    (replayed_short seen start now gives (512 * c.blocks_declared-need.result) c.len-have.result read.lines c.args.first read.names c.args.image attached opened)
 
 pub returns-then-have-need-clause-sized : goal.returns-then-have-need-clause-sized
 returns-then-have-need-clause-sized g c start gives opened attached =

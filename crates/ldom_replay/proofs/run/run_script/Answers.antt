@@ -54,7 +54,7 @@ returns-in-Ok-read_opening-clause-replayed g c =
     let left = g.S.Source.left c.args.source.now in
     let read = c.read_opening.new.reader in
     c.attach.ensures.replayed left
-    (subst (λ (start : Option (List ℕ)). Opens start (to_come read.lines (g.S.Source.left c.read_opening.new.source)) c.in-Ok-read_opening.event read.names read.lines.number)
+    (subst (λ (start : Option (List ℕ)). Opens read.lines.stop start (to_come read.lines (g.S.Source.left c.read_opening.new.source)) c.in-Ok-read_opening.event read.names read.lines.number)
     (from_start c.in-Ok.reader.lines left (ap (λ (l : LinesState). l.held) c.in-Ok.ensures.lines)) c.in-Ok-read_opening.ensures.opens)
 
 pub returns-in-End-clause-replayed : goal.returns-in-End-clause-replayed

@@ -2,7 +2,7 @@ use Rattle.std.proofs.Common.{ℕ, Bool, false, List, Option, Ok, subst, sym}
 use Rattle.script_reader.specs.LinesState.{GivesLine, Reads, to_come}
 use Rattle.ldom_report.specs.Stops.{StopsReading}
 use Rattle.ldom_report.specs.declared.stop.Stop.{Stop}
-use Rattle.ldom_report.proofs.NextLine.{goes_behind, same_number, stops_at, stops_at_end}
+use Rattle.ldom_report.proofs.NextLine.{goes_behind, going_before, same_number, stops_at, stops_at_end}
 use Rattle.ldom_report.proofs.stop.next_line.Goals as goal
 
 pub returns-in-Ok-true-clause-gives : goal.returns-in-Ok-true-clause-gives
@@ -46,3 +46,16 @@ returns-in-Err-clause-number g c =
     let rest : Option (List ℕ) = to_come c.args.lines.now (g.S.Source.left c.args.source.now) in
     let left : Option (List ℕ) = to_come c.advance.new.self (g.S.Source.left c.advance.new.source) in
     same_number c.in-Err.fault rest left c.args.lines.now c.advance.new.self (c.in-Err.ensures.reads c.requires.goes)
+
+pub returns-in-Ok-true-clause-going : goal.returns-in-Ok-true-clause-going
+returns-in-Ok-true-clause-going g c other =
+    let rest : Option (List ℕ) = to_come c.args.lines.now (g.S.Source.left c.args.source.now) in
+    let left : Option (List ℕ) = to_come c.advance.new.self (g.S.Source.left c.advance.new.source) in
+    going_before c.args.lines.now.stop rest left c.args.lines.now c.advance.new.self _ c.requires.goes c.in-Ok-true.ensures.advances
+    (λ is. cc (c.in-Ok-true.field-0-test, is))
+
+pub returns-in-Err-clause-going : goal.returns-in-Err-clause-going
+returns-in-Err-clause-going g c other =
+    let rest : Option (List ℕ) = to_come c.args.lines.now (g.S.Source.left c.args.source.now) in
+    let left : Option (List ℕ) = to_come c.advance.new.self (g.S.Source.left c.advance.new.source) in
+    going_before c.args.lines.now.stop rest left c.args.lines.now c.advance.new.self _ c.requires.goes c.in-Err.ensures.advances (λ is. cc is)

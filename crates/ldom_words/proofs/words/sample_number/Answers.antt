@@ -1,5 +1,5 @@
 use Rattle.std.proofs.Common.{ℕ, ◌<◌, ◌≤◌, sym, arith, rules}
-use Rattle.domain_script.specs.Words.{SpellsNumber}
+use Rattle.script_words.specs.Words.{SpellsNumber}
 use Rattle.ldom_words.specs.Words.{sample_count}
 use Rattle.ldom_words.proofs.Deciding.{sample_spelled, sample_too_large}
 use Rattle.ldom_words.proofs.words.sample_number.Goals as goal

@@ -1,6 +1,6 @@
 use Rattle.std.proofs.Common.{◌≡◌, ◌*◌, ◌≤◌, length, map, take}
-use Rattle.world_parts.specs.disk_model.LaneState.{fresh}
-use Rattle.world_parts.specs.Declared.{blocks_of, shapes_of}
+use Rattle.recorded_lanes.specs.world_parts.disk_model.LaneState.{fresh}
+use Rattle.recorded_lanes.specs.world_parts.Declared.{blocks_of, shapes_of}
 use Rattle.ldom_world.proofs.lanes.lanes_of.Given as goal
 
 abbrev pub invariant-loop-k : goal.invariant-loop-k

@@ -1,9 +1,9 @@
 use Rattle.std.proofs.Common.{◌≡◌, ◌≤◌, length, take}
-use Rattle.world_parts.specs.port_model.NetLaneState.{IsNetShape}
+use Rattle.recorded_lanes.specs.world_parts.port_model.NetLaneState.{IsNetShape}
 use Rattle.domain_script.specs.Declarations.{AddressesDiffer}
 use Rattle.lane_kinds.specs.Lanes.{EachOf}
-use Rattle.switched_ports.specs.Shapes.{shapes_of}
-use Rattle.world_parts.specs.Declared.{nets_of}
+use Rattle.recorded_lanes.specs.switched_ports.Shapes.{shapes_of}
+use Rattle.recorded_lanes.specs.world_parts.Declared.{nets_of}
 use Rattle.ldom_world.proofs.lanes.port_shapes.Given as goal
 
 abbrev pub invariant-loop-k : goal.invariant-loop-k

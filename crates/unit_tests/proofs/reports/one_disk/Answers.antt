@@ -1,7 +1,7 @@
 use Rattle.std.proofs.Common.{◌≡◌, refl, false, sym, subst, [], lit<, lit≤}
 use Rattle.domain_script.specs.declared.event.DiskDecl.{DiskDecl}
 use Rattle.domain_script.specs.declared.event.Event.TheVariants as event
-use Rattle.domain_script.specs.declared.event.Name.{Name}
+use Rattle.domain_script.specs.spelled.Name.{Name}
 use Rattle.domain_script.specs.declared.fields.LaneKind.TheVariants.{Disk}
 use Rattle.domain_script.specs.Declarations.{AreDisks, ArePorts, IsDisk}
 use Rattle.domain_script.specs.NamesState.{NamesState, CanDeclare, noted}

@@ -1,11 +1,11 @@
 use Rattle.std.proofs.Common.{sym, subst}
 use Rattle.std.specs.Prelude.{OnErr, OnOk}
-use Rattle.world_parts.specs.domain_laws.Lines.{Calls}
+use Rattle.recorded_lanes.specs.world_parts.domain_laws.Lines.{Calls}
 use Rattle.domain_script.specs.declared.fields.LaneKind.{LaneKind}
-use Rattle.ldom_world.specs.Called.{call_of}
+use Rattle.recorded_lanes.specs.Called.{call_of}
 use Rattle.ldom_world.proofs.world.World.call_on.Goals as goal
-use Rattle.world_parts.specs.Lines.{of_kind}
-use Rattle.world_parts.specs.Parts.{Fits, FitsSoFar}
+use Rattle.recorded_lanes.specs.world_parts.Lines.{of_kind}
+use Rattle.recorded_lanes.specs.world_parts.Parts.{Fits, FitsSoFar}
 
 pub returns-in-Disk-clause-fits : goal.returns-in-Disk-clause-fits
 returns-in-Disk-clause-fits g c =

@@ -1,10 +1,10 @@
 use Rattle.std.proofs.Common.{List}
-use Rattle.world_parts.specs.domain_laws.Domain.{PortsStep}
-use Rattle.world_parts.specs.port_model.PortState.{PortState}
-use Rattle.world_parts.specs.world_laws.Settle.{OfPort}
+use Rattle.recorded_lanes.specs.world_parts.domain_laws.Domain.{PortsStep}
+use Rattle.recorded_lanes.specs.world_parts.port_model.PortState.{PortState}
+use Rattle.recorded_lanes.specs.world_parts.world_laws.Settle.{OfPort}
 use Rattle.std.proofs.Common.{refl}
 use Rattle.std.proofs.lemmas.Result.{on_err_weaker, on_ok_weaker}
-use Rattle.world_parts.specs.domain_laws.Lines.{AnswersGroup, Joins}
+use Rattle.recorded_lanes.specs.world_parts.domain_laws.Lines.{AnswersGroup, Joins}
 use Rattle.ldom_world.proofs.Lifted.{answer_fits, both, given_at, lift_ports, nothing_begun, port_within, ports_counted}
 use Rattle.ldom_world.proofs.world.World.join.Goals as goal
 

@@ -1,5 +1,5 @@
 use Rattle.ldom_world.specs.SettleParts.{LaneNamesAdd}
-use Rattle.ldom_world.specs.Steps.{Counted}
+use Rattle.recorded_lanes.specs.Steps.{Counted}
 use Rattle.ldom_world.proofs.world.World.names_of.Given as goal
 
 abbrev pub invariant-loop-number : goal.invariant-loop-number

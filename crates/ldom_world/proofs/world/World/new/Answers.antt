@@ -1,5 +1,5 @@
 use Rattle.std.proofs.Common.{ap}
-use Rattle.world_parts.specs.domain_laws.Domain.{Lanes}
+use Rattle.recorded_lanes.specs.world_parts.domain_laws.Domain.{Lanes}
 use Rattle.ldom_world.proofs.Declaring.{all_within}
 use Rattle.ldom_world.proofs.world.World.new.Goals as goal
 

@@ -1,8 +1,8 @@
-use Rattle.world_parts.specs.world_laws.World.{WorldState, WorldStep}
-use Rattle.world_parts.specs.world_laws.Settle.{OfLane}
+use Rattle.recorded_lanes.specs.world_parts.world_laws.World.{WorldState, WorldStep}
+use Rattle.recorded_lanes.specs.world_parts.world_laws.Settle.{OfLane}
 use Rattle.std.proofs.Common.{refl}
 use Rattle.std.proofs.lemmas.Result.{on_err_weaker, on_ok_weaker}
-use Rattle.world_parts.specs.domain_laws.Lines.{AnswersCall, Calls, DiskLane, Pokes}
+use Rattle.recorded_lanes.specs.world_parts.domain_laws.Lines.{AnswersCall, Calls, DiskLane, Pokes}
 use Rattle.ldc_queue.specs.declared.end.End.TheVariants.{A}
 use Rattle.ldom_world.proofs.Lifted.{adds_grow, answer_fits, both, counted_at, disk_within, disks_counted, grows_by, lift_disks, nothing_begun, same_grows}
 use Rattle.ldom_world.proofs.world.World.poke_disk.Goals as goal

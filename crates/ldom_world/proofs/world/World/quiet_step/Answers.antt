@@ -1,7 +1,7 @@
 use Rattle.std.proofs.Common.{Bool, sym, subst}
 use Rattle.std.specs.Prelude.{IfOk}
 use Rattle.domain_script.specs.declared.fields.LaneKind.{LaneKind}
-use Rattle.ldom_report.specs.LaneEvents.{end_of}
+use Rattle.recorded_lanes.specs.ldom_report.LaneEvents.{end_of}
 use Rattle.ldom_world.specs.SettleParts.{MakesQuiet}
 use Rattle.ldom_world.proofs.world.World.quiet_step.Goals as goal
 

@@ -1,13 +1,13 @@
 use Rattle.std.proofs.Common.{Bool}
 use Rattle.std.proofs.lemmas.Result.{IfOk-weaker, on_err_weaker}
-use Rattle.world_parts.specs.domain_laws.Domain.{DomainStep}
-use Rattle.world_parts.specs.domain_laws.Lines.{Nothing}
-use Rattle.ldom_report.specs.LaneEvents.{end_of}
-use Rattle.world_parts.specs.world_laws.World.{WorldState, WorldStep}
-use Rattle.world_parts.specs.lane_laws.CalmEnds.{IsStep}
-use Rattle.world_parts.specs.world_laws.DiskKind.{is_calm}
-use Rattle.world_parts.specs.world_laws.Settle.{OfLane, entry_of}
-use Rattle.ldom_world.specs.Steps.{MakesQuietStep}
+use Rattle.recorded_lanes.specs.world_parts.domain_laws.Domain.{DomainStep}
+use Rattle.recorded_lanes.specs.world_parts.domain_laws.Lines.{Nothing}
+use Rattle.recorded_lanes.specs.ldom_report.LaneEvents.{end_of}
+use Rattle.recorded_lanes.specs.world_parts.world_laws.World.{WorldState, WorldStep}
+use Rattle.recorded_lanes.specs.world_parts.lane_laws.CalmEnds.{IsStep}
+use Rattle.recorded_lanes.specs.world_parts.world_laws.DiskKind.{is_calm}
+use Rattle.recorded_lanes.specs.world_parts.world_laws.Settle.{OfLane, entry_of}
+use Rattle.recorded_lanes.specs.Steps.{MakesQuietStep}
 use Rattle.ldom_world.proofs.Lifted.{both, counted_at, disk_within, disks_counted, disks_same_numbers, lift_disks, quiet_grows, quiet_step_at, same_at}
 use Rattle.ldom_world.proofs.world.World.quiet_step_disk.Goals as goal
 

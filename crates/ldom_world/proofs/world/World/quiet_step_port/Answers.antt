@@ -1,12 +1,12 @@
 use Rattle.std.proofs.Common.{Bool, List}
 use Rattle.std.proofs.lemmas.Result.{IfOk-weaker, on_err_weaker}
-use Rattle.world_parts.specs.domain_laws.Domain.{DomainStep, PortsStep}
-use Rattle.world_parts.specs.port_model.PortState.{PortState}
-use Rattle.ldom_report.specs.LaneEvents.{end_of}
-use Rattle.world_parts.specs.switch_laws.Ports.{IsStepOf, is_calm}
-use Rattle.world_parts.specs.world_laws.Settle.{OfPort}
-use Rattle.ldom_world.specs.Steps.{port_entry_of}
-use Rattle.ldom_world.specs.Steps.{MakesQuietPortStep}
+use Rattle.recorded_lanes.specs.world_parts.domain_laws.Domain.{DomainStep, PortsStep}
+use Rattle.recorded_lanes.specs.world_parts.port_model.PortState.{PortState}
+use Rattle.recorded_lanes.specs.ldom_report.LaneEvents.{end_of}
+use Rattle.recorded_lanes.specs.world_parts.switch_laws.Ports.{IsStepOf, is_calm}
+use Rattle.recorded_lanes.specs.world_parts.world_laws.Settle.{OfPort}
+use Rattle.recorded_lanes.specs.Steps.{port_entry_of}
+use Rattle.recorded_lanes.specs.Steps.{MakesQuietPortStep}
 use Rattle.ldom_world.proofs.Lifted.{both, given_at, lift_ports, port_within, ports_counted, ports_same_numbers, quiet_step_at, same_at}
 use Rattle.ldom_world.proofs.world.World.quiet_step_port.Goals as goal
 

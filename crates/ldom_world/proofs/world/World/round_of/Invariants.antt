@@ -1,6 +1,6 @@
 use Rattle.std.proofs.Common.{◌≡◌, length, take}
 use Rattle.ldom_world.specs.SettleParts.{LanesAdd}
-use Rattle.ldom_world.specs.Steps.{Counted}
+use Rattle.recorded_lanes.specs.Steps.{Counted}
 use Rattle.ldom_world.specs.TurnsMade.{SameNumbers}
 use Rattle.lane_kinds.specs.LanesMade.{all_true}
 use Rattle.ldom_world.proofs.world.World.round_of.Given as goal

@@ -1,6 +1,6 @@
-use Rattle.world_parts.specs.domain_laws.Domain.{lanes_in}
-use Rattle.world_parts.specs.domain_laws.Lines.{turns_of}
-use Rattle.ldom_world.specs.Steps.{Counted}
+use Rattle.recorded_lanes.specs.world_parts.domain_laws.Domain.{lanes_in}
+use Rattle.recorded_lanes.specs.world_parts.domain_laws.Lines.{turns_of}
+use Rattle.recorded_lanes.specs.Steps.{Counted}
 use Rattle.ldom_world.specs.TurnsMade.{TurnsMade}
 use Rattle.ldom_world.proofs.world.World.rounds.Given as goal
 

@@ -1,5 +1,5 @@
 use Rattle.ldom_world.specs.SettleParts.{RoundsAdd, marks_of}
-use Rattle.ldom_world.specs.Steps.{Counted}
+use Rattle.recorded_lanes.specs.Steps.{Counted}
 use Rattle.ldom_world.proofs.world.World.settle.Given as goal
 
 abbrev pub invariant-loop : goal.invariant-loop

@@ -1,5 +1,5 @@
 use Rattle.std.proofs.lemmas.Result.{on_ok_weaker}
-use Rattle.ldom_report.specs.LaneEvents.{end_of}
+use Rattle.recorded_lanes.specs.ldom_report.LaneEvents.{end_of}
 use Rattle.ldom_world.proofs.Turning.{disk_turned, port_turned}
 use Rattle.ldom_world.proofs.world.World.step.Goals as goal
 

@@ -1,6 +1,6 @@
 use Rattle.std.proofs.Common.{[], ◌∷◌}
-use Rattle.world_parts.specs.domain_laws.Lines.{turn}
-use Rattle.world_parts.specs.Lines.{lane_named}
+use Rattle.recorded_lanes.specs.world_parts.domain_laws.Lines.{turn}
+use Rattle.recorded_lanes.specs.world_parts.Lines.{lane_named}
 use Rattle.ldc_queue.specs.declared.end.End.TheVariants.{A, B}
 use Rattle.ldom_world.proofs.Turning.{at_error, both_made, first_alone, none_begun}
 use Rattle.ldom_world.proofs.world.World.step_both.Goals as goal

@@ -1,9 +1,9 @@
-use Rattle.world_parts.specs.world_laws.World.{WorldState, WorldStep}
-use Rattle.world_parts.specs.world_laws.Settle.{OfLane}
-use Rattle.ldom_report.specs.LaneEvents.{end_of}
+use Rattle.recorded_lanes.specs.world_parts.world_laws.World.{WorldState, WorldStep}
+use Rattle.recorded_lanes.specs.world_parts.world_laws.Settle.{OfLane}
+use Rattle.recorded_lanes.specs.ldom_report.LaneEvents.{end_of}
 use Rattle.std.proofs.lemmas.Result.{on_err_weaker, on_ok_weaker}
-use Rattle.world_parts.specs.lane_laws.CalmEnds.{IsStep}
-use Rattle.world_parts.specs.domain_laws.Lines.{Nothing}
+use Rattle.recorded_lanes.specs.world_parts.lane_laws.CalmEnds.{IsStep}
+use Rattle.recorded_lanes.specs.world_parts.domain_laws.Lines.{Nothing}
 use Rattle.ldom_world.proofs.Lifted.{adds_grow, both, counted_at, disk_within, disks_counted, disks_same_numbers, grows_by, lift_disks, same_at, same_grows, step_at}
 use Rattle.ldom_world.proofs.world.World.step_disk.Goals as goal
 

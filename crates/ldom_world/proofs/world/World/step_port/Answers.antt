@@ -1,10 +1,10 @@
 use Rattle.std.proofs.Common.{List}
-use Rattle.world_parts.specs.domain_laws.Domain.{PortsStep}
-use Rattle.world_parts.specs.port_model.PortState.{PortState}
-use Rattle.world_parts.specs.world_laws.Settle.{OfPort}
-use Rattle.ldom_report.specs.LaneEvents.{end_of}
+use Rattle.recorded_lanes.specs.world_parts.domain_laws.Domain.{PortsStep}
+use Rattle.recorded_lanes.specs.world_parts.port_model.PortState.{PortState}
+use Rattle.recorded_lanes.specs.world_parts.world_laws.Settle.{OfPort}
+use Rattle.recorded_lanes.specs.ldom_report.LaneEvents.{end_of}
 use Rattle.std.proofs.lemmas.Result.{on_err_weaker, on_ok_weaker}
-use Rattle.world_parts.specs.switch_laws.Ports.{IsStepOf}
+use Rattle.recorded_lanes.specs.world_parts.switch_laws.Ports.{IsStepOf}
 use Rattle.ldom_world.proofs.Lifted.{both, given_at, lift_ports, port_within, ports_counted, ports_same_numbers, same_at, step_at}
 use Rattle.ldom_world.proofs.world.World.step_port.Goals as goal
 

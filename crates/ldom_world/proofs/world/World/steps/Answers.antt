@@ -1,5 +1,5 @@
-use Rattle.ldom_report.specs.LaneEvents.{end_of}
-use Rattle.world_parts.specs.Lines.{lane_named}
+use Rattle.recorded_lanes.specs.ldom_report.LaneEvents.{end_of}
+use Rattle.recorded_lanes.specs.world_parts.Lines.{lane_named}
 use Rattle.ldom_world.proofs.Turning.{at_error, steps_want}
 use Rattle.ldom_world.proofs.world.World.steps.Goals as goal
 

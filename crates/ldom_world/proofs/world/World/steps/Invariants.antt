@@ -1,9 +1,9 @@
 use Rattle.std.proofs.Common.{replicate}
-use Rattle.world_parts.specs.domain_laws.Lines.{turn}
-use Rattle.ldom_report.specs.LaneEvents.{end_of}
+use Rattle.recorded_lanes.specs.world_parts.domain_laws.Lines.{turn}
+use Rattle.recorded_lanes.specs.ldom_report.LaneEvents.{end_of}
 use Rattle.ldom_world.specs.TurnsMade.{SameNumbers, TurnsMade}
-use Rattle.world_parts.specs.Lines.{lane_named}
-use Rattle.ldom_world.specs.Steps.{Counted}
+use Rattle.recorded_lanes.specs.world_parts.Lines.{lane_named}
+use Rattle.recorded_lanes.specs.Steps.{Counted}
 use Rattle.ldom_world.proofs.world.World.steps.Given as goal
 
 abbrev pub invariant-loop : goal.invariant-loop

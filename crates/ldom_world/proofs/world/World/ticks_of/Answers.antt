@@ -1,7 +1,7 @@
 use Rattle.std.proofs.Common.{◌<◌, arith}
 use Rattle.ldom_world.proofs.KindAdding.{ticks_want}
 use Rattle.ldom_world.proofs.SettlingAdds.{on_err}
-use Rattle.world_parts.specs.Lines.{number_of_kind}
+use Rattle.recorded_lanes.specs.world_parts.Lines.{number_of_kind}
 use Rattle.ldom_world.proofs.world.World.ticks_of.Goals as goal
 
 pub returns-in_err-ticked-clause-begun : goal.returns-in_err-ticked-clause-begun

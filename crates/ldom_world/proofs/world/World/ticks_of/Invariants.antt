@@ -1,6 +1,6 @@
 use Rattle.std.proofs.Common.{◌≡◌, length}
 use Rattle.ldom_world.specs.SettleParts.{LaneTicksAdd}
-use Rattle.ldom_world.specs.Steps.{Counted}
+use Rattle.recorded_lanes.specs.Steps.{Counted}
 use Rattle.ldom_world.specs.TurnsMade.{SameNumbers}
 use Rattle.ldom_world.proofs.world.World.ticks_of.Given as goal
 

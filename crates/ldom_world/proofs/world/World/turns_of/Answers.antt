@@ -1,6 +1,6 @@
 use Rattle.std.proofs.Common.{◌<◌, arith}
 use Rattle.ldom_world.proofs.Turning.{at_error, round_wants}
-use Rattle.world_parts.specs.Lines.{number_of_kind}
+use Rattle.recorded_lanes.specs.world_parts.Lines.{number_of_kind}
 use Rattle.ldom_world.proofs.world.World.turns_of.Goals as goal
 
 pub returns-in_err-step_both-clause-begun : goal.returns-in_err-step_both-clause-begun

@@ -1,5 +1,5 @@
 use Rattle.ldom_world.specs.TurnsMade.{SameNumbers, TurnsMade, lane_turns}
-use Rattle.ldom_world.specs.Steps.{Counted}
+use Rattle.recorded_lanes.specs.Steps.{Counted}
 use Rattle.ldom_world.proofs.world.World.turns_of.Given as goal
 
 abbrev pub invariant-loop-number : goal.invariant-loop-number

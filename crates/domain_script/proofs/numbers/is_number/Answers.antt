@@ -1,6 +1,0 @@
-use Rattle.std.proofs.Common.{◌∙◌}
-use Rattle.domain_script.proofs.WordTests.{number_tells}
-use Rattle.domain_script.proofs.numbers.is_number.Goals as goal
-
-pub returns : goal.returns
-returns c = c.is_some.ensures ∙ number_tells c.args.word.now c.number.result c.number.ensures.some c.number.ensures.none

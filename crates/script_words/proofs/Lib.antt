@@ -1,0 +1,9 @@
+pub mod Feeds
+pub mod WordLemmas
+pub mod NumberLemmas
+pub mod DecimalDigits
+pub mod LowerDigits
+pub mod HexWords
+pub mod SameName
+pub mod WordTests
+pub mod AddressTests
