@@ -5,20 +5,16 @@ use Rattle.std.specs.Prelude.{◌||◌, slice_index_or}
 use Rattle.ldom_entries.specs.Beside.{Holds, Lists, rest_of}
 use Rattle.ldom_entries.specs.Decoded.{AreComplete, entries_of, first_entry, kind_of, share}
 use Rattle.ldom_entries.specs.Seen.{BeginsSeen, PassesUnseen, is_seen, may_be_seen}
-use Rattle.ldom_entries.specs.Whole.{AreKeptWhole, is_whole}
+use Rattle.ldom_entries.specs.Whole.{AreKeptWhole}
 use Rattle.ldom_entries.specs.declared.entry.Entry.{Entry}
 use Rattle.ldom_entries.specs.declared.entry.Entry.TheVariants as entry
 use Rattle.ldom_entries.specs.declared.header.Header.{Header}
 use Rattle.ldom_entries.specs.declared.header.Header.TheVariants as header
 
-or_true : (a b : Bool) → b ≡ true → (a || b) ≡ true
-or_true true b is = refl
-or_true false b is = is
-
 -- the first of some entries that are kept whole may be seen, where there is one
 first_whole : (entries : List Entry) → AreKeptWhole entries → may_be_seen (slice_index_or entries 0 entry.Settled) ≡ true
 first_whole [] whole = refl
-first_whole (first ∷ others) whole = or_true (is_seen first) (is_whole first) whole.0
+first_whole (first ∷ others) whole = ap (λ (b : Bool). b || is_seen first) whole.0
 
 -- what stands beside a header doesn't change whether its entry may be seen
 seen_by_kind : (h : Header) (l : Lists) → Holds (share h) l → may_be_seen (first_entry h l) ≡ may_be_seen (kind_of h)

@@ -6,7 +6,8 @@ use Rattle.kept_requests.specs.Bytes.{BytesState}
 use Rattle.ldom_entries.specs.Whole.{AreKeptWhole}
 use Rattle.ldom_entries.specs.declared.entry.Entry.{Entry}
 
--- numbers, packets, descriptors, the bytes of reads, requests, causes of resets, and entries that are kept whole
+-- numbers, packets, descriptors, the bytes of reads, requests, causes of resets, frames of ports, and entries that are
+-- kept whole
 pub record Lists : Type 0 where
   pub numbers : List ℕ
   pub packets : List (List ℕ)
@@ -14,11 +15,12 @@ pub record Lists : Type 0 where
   pub reads : List BytesState
   pub requests : List Request
   pub causes : List Cause
+  pub frames : List (List ℕ)
   pub wholes : List Entry
 
 -- these lists
-abbrev pub made : List ℕ → List (List ℕ) → List (List ℕ) → List BytesState → List Request → List Cause → List Entry → Lists
-made n p d r q c w = record { numbers = n; packets = p; descriptors = d; reads = r; requests = q; causes = c; wholes = w }
+abbrev pub made : List ℕ → List (List ℕ) → List (List ℕ) → List BytesState → List Request → List Cause → List (List ℕ) → List Entry → Lists
+made n p d r q c f w = record { numbers = n; packets = p; descriptors = d; reads = r; requests = q; causes = c; frames = f; wholes = w }
 
 -- how many of each list an entry has
 pub record Share : Type 0 where
@@ -28,10 +30,11 @@ pub record Share : Type 0 where
   pub reads : ℕ
   pub requests : ℕ
   pub causes : ℕ
+  pub frames : ℕ
   pub wholes : ℕ
 
 abbrev pub nothing : Lists
-nothing = record { numbers = []; packets = []; descriptors = []; reads = []; requests = []; causes = []; wholes = [] }
+nothing = record { numbers = []; packets = []; descriptors = []; reads = []; requests = []; causes = []; frames = []; wholes = [] }
 
 -- one list alone
 abbrev pub only_numbers : List ℕ → Lists
@@ -49,6 +52,7 @@ join l m = record {
   reads = l.reads ++ m.reads;
   requests = l.requests ++ m.requests;
   causes = l.causes ++ m.causes;
+  frames = l.frames ++ m.frames;
   wholes = l.wholes ++ m.wholes;
 }
 
@@ -61,6 +65,7 @@ share_of s l = record {
   reads = take s.reads l.reads;
   requests = take s.requests l.requests;
   causes = take s.causes l.causes;
+  frames = take s.frames l.frames;
   wholes = take s.wholes l.wholes;
 }
 
@@ -72,6 +77,7 @@ rest_of s l = record {
   reads = drop s.reads l.reads;
   requests = drop s.requests l.requests;
   causes = drop s.causes l.causes;
+  frames = drop s.frames l.frames;
   wholes = drop s.wholes l.wholes;
 }
 
@@ -83,5 +89,6 @@ pub record Holds (s : Share) (l : Lists) : Type 0 where
   pub has_reads : s.reads ≤ length l.reads
   pub has_requests : s.requests ≤ length l.requests
   pub has_causes : s.causes ≤ length l.causes
+  pub has_frames : s.frames ≤ length l.frames
   pub has_wholes : s.wholes ≤ length l.wholes
   pub are_whole : AreKeptWhole (take s.wholes l.wholes)

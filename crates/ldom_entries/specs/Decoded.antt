@@ -28,7 +28,7 @@ who_at kind number the_part.Lane = OfLane (record { kind = kind; number = number
 who_at kind number the_part.Client = OfEnd (end_at (record { side = Client; kind = kind }) number)
 who_at kind number the_part.Server = OfEnd (end_at (record { side = Server; kind = kind }) number)
 
--- the first number beside an entry, and the second; its packet; its descriptor; its request; its cause; itself
+-- the first number beside an entry, and the second; its packet; its descriptor; its request; its cause; its frame; itself
 abbrev pub first_number : Lists → ℕ
 first_number l = slice_index_or l.numbers 0 0
 
@@ -47,6 +47,9 @@ request_in l = slice_index_or l.requests 0 Flush
 abbrev pub cause_in : Lists → Cause
 cause_in l = slice_index_or l.causes 0 Asked
 
+abbrev pub frame_in : Lists → BytesState
+frame_in l = filled (slice_index_or l.frames 0 [])
+
 abbrev pub whole_in : Lists → Entry
 whole_in l = slice_index_or l.wholes 0 entry.Settled
 
@@ -63,7 +66,8 @@ abbrev pub one_where : Bool → ℕ
 one_where true = 1
 one_where false = 0
 
--- so many of each list, and nothing whole; so many numbers and packets, and nothing else; one that is kept whole
+-- so many of each list, and no frame and nothing whole; so many numbers and packets, and nothing else; a frame with so
+-- many numbers; one that is kept whole
 abbrev pub these : ℕ → ℕ → ℕ → ℕ → ℕ → ℕ → Share
 these numbers packets descriptors reads requests causes = record {
   numbers = numbers;
@@ -72,11 +76,15 @@ these numbers packets descriptors reads requests causes = record {
   reads = reads;
   requests = requests;
   causes = causes;
+  frames = 0;
   wholes = 0;
 }
 
 abbrev pub needs : ℕ → ℕ → Share
 needs numbers packets = these numbers packets 0 0 0 0
+
+abbrev pub framed : ℕ → Share
+framed numbers = record (needs numbers 0) { frames = 1 }
 
 abbrev pub a_whole : Share
 a_whole = record (needs 0 0) { wholes = 1 }
@@ -86,6 +94,9 @@ abbrev pub share : Header → Share
 share (header.Accepted disk) = these 1 0 0 0 1 0
 share (header.Full part kind number) = needs 0 0
 share (header.Refused part kind why number) = needs 0 0
+share (header.Queued port) = framed 1
+share (header.Lost at number) = needs 0 1
+share (header.Injected at number) = needs 0 1
 share (header.Stopped disk) = needs 0 0
 share (header.Started disk) = needs 0 0
 share (header.Calm part kind number) = needs 0 0
@@ -105,6 +116,8 @@ share (header.NotMoved at fault number) = needs 1 0
 share (header.Stored at operation number) = needs 2 0
 share (header.NotStored at operation number) = needs 2 0
 share (header.Finished at number) = needs 2 0
+share (header.Frame at number) = framed 0
+share (header.Switched at number) = framed 2
 share (header.Reset at packet number) = these 1 (one_where packet) 0 0 0 1
 share header.Whole = a_whole
 
@@ -113,6 +126,9 @@ abbrev pub entry_of : Header → Lists → Entry
 entry_of (header.Accepted disk) l = entry.Accepted disk (first_number l) (request_in l)
 entry_of (header.Full part kind number) l = entry.Full (who_at kind number part)
 entry_of (header.Refused part kind why number) l = entry.Refused (who_at kind number part) why
+entry_of (header.Queued port) l = entry.Queued port (first_number l) (frame_in l)
+entry_of (header.Lost at number) l = entry.Lost (end_at at number) (packet_in l)
+entry_of (header.Injected at number) l = entry.Injected (end_at at number) (packet_in l)
 entry_of (header.Stopped disk) l = entry.Stopped disk
 entry_of (header.Started disk) l = entry.Started disk
 entry_of (header.Calm part kind number) l = entry.Calm (who_at kind number part)
@@ -132,6 +148,8 @@ entry_of (header.NotMoved at fault number) l = entry.Moved (end_at at number) (f
 entry_of (header.Stored at operation number) l = entry.Stored (end_at at number) operation (first_number l) (second_number l) false
 entry_of (header.NotStored at operation number) l = entry.Stored (end_at at number) operation (first_number l) (second_number l) true
 entry_of (header.Finished at number) l = entry.Finished (end_at at number) (first_number l) (second_number l)
+entry_of (header.Frame at number) l = entry.Frame (end_at at number) (frame_in l)
+entry_of (header.Switched at number) l = entry.Switched (end_at at number) (first_number l) (second_number l) (frame_in l)
 entry_of (header.Reset at packet number) l = entry.Reset (end_at at number) (cause_in l) (packet_where packet l) (first_number l)
 entry_of header.Whole l = whole_in l
 

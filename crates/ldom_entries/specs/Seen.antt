@@ -27,9 +27,9 @@ is_seen (entry.Switched e out full bytes) = is_dropped out full
 is_seen (entry.Reset e cause packet lost) = true
 is_seen other = false
 
--- an entry that may be seen: one that is kept whole isn't looked into
+-- an entry that may be seen: one that may be kept whole isn't looked into
 abbrev pub may_be_seen : Entry → Bool
-may_be_seen entry = is_seen entry || is_whole entry
+may_be_seen entry = is_whole entry || is_seen entry
 
 -- of `old` there is `new` left: what was passed over can't be seen
 pub record PassesUnseen (old new : List Entry) : Type 0 where

@@ -11,6 +11,9 @@ abbrev pub told : EntryRef → Entry
 told (shown.Accepted disk id request) = entry.Accepted disk id request.now
 told (shown.Full who) = entry.Full who
 told (shown.Refused who why) = entry.Refused who why
+told (shown.Queued port id bytes) = entry.Queued port id (filled bytes.now)
+told (shown.Lost e packet) = entry.Lost e packet
+told (shown.Injected e packet) = entry.Injected e packet
 told (shown.Stopped disk) = entry.Stopped disk
 told (shown.Started disk) = entry.Started disk
 told (shown.Calm who) = entry.Calm who
@@ -29,5 +32,7 @@ told (shown.Desc e slot bytes) = entry.Desc e slot bytes
 told (shown.Moved e unit fault) = entry.Moved e unit fault
 told (shown.Stored e operation block count failed) = entry.Stored e operation block count failed
 told (shown.Finished e slot status) = entry.Finished e slot status
+told (shown.Frame e bytes) = entry.Frame e (filled bytes.now)
+told (shown.Switched e out full bytes) = entry.Switched e out full (filled bytes.now)
 told (shown.Reset e cause packet lost) = entry.Reset e cause packet lost
 told (shown.Whole e) = e.now

@@ -1,8 +1,9 @@
 ghost use Rattle.std.specs.Prelude.{◌≡◌, ◌<◌, ◌≤◌, true, ◌∷◌, length};
 ghost use Rattle.ldom_entries.specs.Beside.{Holds, Lists, made, rest_of, share_of};
-ghost use Rattle.ldom_entries.specs.Decoded.{a_whole, cause_in, descriptor_in, entry_of, first_entry, first_number, kind_of};
-ghost use Rattle.ldom_entries.specs.Decoded.{needs, one_where, packet_in, packet_where, read_in, request_in};
-ghost use Rattle.ldom_entries.specs.Decoded.{second_number, share, these, whole_in};
+ghost use Rattle.ldom_entries.specs.Decoded.{a_whole, cause_in, descriptor_in, entry_of, first_entry, first_number};
+ghost use Rattle.ldom_entries.specs.Decoded.{frame_in, framed, kind_of, needs, one_where, packet_in, packet_where};
+ghost use Rattle.ldom_entries.specs.Decoded.{read_in, request_in, second_number, share, these, whole_in};
+ghost use Rattle.kept_requests.specs.Bytes.{filled};
 ghost use Rattle.ldom_entries.specs.Told.{told};
 ghost use Rattle.ldom_entries.specs.declared.entry.Entry.TheVariants as the_entry;
 ghost use Rattle.ldom_entries.specs.declared.header.Header.TheVariants as the_header;
@@ -13,7 +14,7 @@ use crate::{Bytes, KeptRequest, WholeEntry, Why};
 use cookie_copy::CopyFault;
 use domain_script::{EndName, LaneKind, Side};
 use std::marker::Model;
-use trimmed_arrays::{TrimmedArray, TrimmedRest};
+use trimmed_arrays::{StringsRest, TrimmedArray, TrimmedRest};
 use vio_tag::Cause;
 
 /// The mark of an entry that is written over.
@@ -31,6 +32,7 @@ pub struct Beside<'a> {
     reads: &'a [Bytes],
     requests: &'a [KeptRequest],
     causes: &'a [Cause],
+    frames: StringsRest<'a>,
     wholes: &'a [WholeEntry],
 }
 
@@ -39,7 +41,8 @@ impl<'a> Model for Beside<'a> {
 
     ghost Value = { Lists };
 
-    ghost view = { λ b. made b.numbers.now b.packets b.descriptors b.reads.now b.requests.now b.causes.now b.wholes.now };
+    ghost view = { λ b.
+        made b.numbers.now b.packets b.descriptors b.reads.now b.requests.now b.causes.now b.frames.items b.wholes.now };
 }
 
 impl<'a> Beside<'a> {
@@ -51,10 +54,12 @@ impl<'a> Beside<'a> {
         reads: &'a [Bytes],
         requests: &'a [KeptRequest],
         causes: &'a [Cause],
+        frames: StringsRest<'a>,
         wholes: &'a [WholeEntry],
     ) -> Self
         ensures { result ≡
-            made numbers.now packets.entry descriptors.entry reads.now requests.now causes.now wholes.now }
+            made numbers.now packets.entry descriptors.entry reads.now requests.now causes.now frames.entry.items
+            wholes.now }
     {
         Beside {
             numbers,
@@ -63,6 +68,7 @@ impl<'a> Beside<'a> {
             reads,
             requests,
             causes,
+            frames,
             wholes,
         }
     }
@@ -157,6 +163,18 @@ impl<'a> Beside<'a> {
         *cause
     }
 
+    /// Takes the next frame.
+    fn frame(&mut self) -> &'a [u8]
+        requires { 0 < length self.old.frames }
+        ensures frame { filled result.now ≡ frame_in (share_of (framed 0) self.old) }
+        ensures rest { self.new ≡ rest_of (framed 0) self.old }
+    {
+        match self.frames.next_string() {
+            Some(frame) => frame,
+            None => unreachable!(),
+        }
+    }
+
     /// Takes the next entry that is kept whole.
     fn whole(&mut self) -> &'a WholeEntry
         requires { 0 < length self.old.wholes }
@@ -178,6 +196,9 @@ impl<'a> Beside<'a> {
     {
         match header {
             Header::Accepted { disk } => *entry = self.accepted(disk),
+            Header::Queued { port } => *entry = self.queued(port),
+            Header::Lost { at, number } => *entry = self.lost(at, number),
+            Header::Injected { at, number } => *entry = self.injected(at, number),
             Header::Joined { at, number } => *entry = self.joined(at, number),
             Header::Took { at, opens, number } => *entry = self.took(at, opens, number),
             Header::Sent { at, opens, number } => *entry = self.sent(at, opens, number),
@@ -204,6 +225,8 @@ impl<'a> Beside<'a> {
                 number,
             } => *entry = self.stored(end_at(at, number), operation, true),
             Header::Finished { at, number } => *entry = self.finished(at, number),
+            Header::Frame { at, number } => *entry = self.frame_taken(at, number),
+            Header::Switched { at, number } => *entry = self.switched(at, number),
             Header::Reset { at, packet, number } => *entry = self.reset(at, packet, number),
             Header::Whole => *entry = EntryRef::Whole(self.whole()),
             plain => read_plain(plain, entry),
@@ -220,6 +243,9 @@ impl<'a> Beside<'a> {
             Header::Idle { .. } | Header::Off { .. } | Header::Blocked { .. } => {}
             Header::Stopped { .. } | Header::Started { .. } | Header::Calm { .. } => {}
             Header::Took { .. } | Header::Sent { .. } => {
+                self.packet();
+            }
+            Header::Lost { .. } | Header::Injected { .. } => {
                 self.packet();
             }
             Header::Joined { .. } | Header::Published { .. } => {
@@ -245,6 +271,43 @@ impl<'a> Beside<'a> {
             disk,
             id: self.number(),
             request: self.request(),
+        }
+    }
+
+    /// A frame was handed to a guest. Beside it: its id, and the frame.
+    fn queued(&mut self, port: u32) -> EntryRef<'a>
+        requires { Holds (framed 1) self.old }
+        ensures told { told result ≡ first_entry (the_header.Queued port) self.old }
+        ensures rest { self.new ≡ rest_of (framed 1) self.old }
+    {
+        EntryRef::Queued {
+            port,
+            id: self.number(),
+            bytes: self.frame(),
+        }
+    }
+
+    /// A packet was lost. Beside it: the packet.
+    fn lost(&mut self, at: EndMark, number: u32) -> EntryRef<'a>
+        requires { Holds (needs 0 1) self.old }
+        ensures told { told result ≡ first_entry (the_header.Lost at number) self.old }
+        ensures rest { self.new ≡ rest_of (needs 0 1) self.old }
+    {
+        EntryRef::Lost {
+            end: end_at(at, number),
+            packet: self.packet(),
+        }
+    }
+
+    /// A packet was forged. Beside it: the packet.
+    fn injected(&mut self, at: EndMark, number: u32) -> EntryRef<'a>
+        requires { Holds (needs 0 1) self.old }
+        ensures told { told result ≡ first_entry (the_header.Injected at number) self.old }
+        ensures rest { self.new ≡ rest_of (needs 0 1) self.old }
+    {
+        EntryRef::Injected {
+            end: end_at(at, number),
+            packet: self.packet(),
         }
     }
 
@@ -377,6 +440,33 @@ impl<'a> Beside<'a> {
             end: end_at(at, number),
             slot,
             status,
+        }
+    }
+
+    /// A guest took a frame. Beside it: the frame.
+    fn frame_taken(&mut self, at: EndMark, number: u32) -> EntryRef<'a>
+        requires { Holds (framed 0) self.old }
+        ensures told { told result ≡ first_entry (the_header.Frame at number) self.old }
+        ensures rest { self.new ≡ rest_of (framed 0) self.old }
+    {
+        EntryRef::Frame {
+            end: end_at(at, number),
+            bytes: self.frame(),
+        }
+    }
+
+    /// The switch took a frame. Beside it: the ports that have it, those that were full, and the frame.
+    fn switched(&mut self, at: EndMark, number: u32) -> EntryRef<'a>
+        requires { Holds (framed 2) self.old }
+        ensures told { told result ≡ first_entry (the_header.Switched at number) self.old }
+        ensures rest { self.new ≡ rest_of (framed 2) self.old }
+    {
+        let (out, full) = self.two_numbers();
+        EntryRef::Switched {
+            end: end_at(at, number),
+            out,
+            full,
+            bytes: self.frame(),
         }
     }
 

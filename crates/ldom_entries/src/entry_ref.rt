@@ -20,6 +20,19 @@ pub enum EntryRef<'a> {
         who: Who,
         why: Why,
     },
+    Queued {
+        port: u32,
+        id: u64,
+        bytes: &'a [u8],
+    },
+    Lost {
+        end: EndName,
+        packet: TrimmedArray<'a>,
+    },
+    Injected {
+        end: EndName,
+        packet: TrimmedArray<'a>,
+    },
     Stopped {
         disk: u32,
     },
@@ -98,6 +111,16 @@ pub enum EntryRef<'a> {
         end: EndName,
         slot: u64,
         status: u64,
+    },
+    Frame {
+        end: EndName,
+        bytes: &'a [u8],
+    },
+    Switched {
+        end: EndName,
+        out: u64,
+        full: u64,
+        bytes: &'a [u8],
     },
     Reset {
         end: EndName,

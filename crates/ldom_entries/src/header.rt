@@ -42,6 +42,22 @@ pub enum Header {
         why: Why,
         number: u32,
     },
+    /// Beside it: the id, and the frame.
+    Queued {
+        port: u32,
+    },
+
+    /// Beside it: the packet.
+    Lost {
+        at: EndMark,
+        number: u32,
+    },
+
+    /// Beside it: the packet.
+    Injected {
+        at: EndMark,
+        number: u32,
+    },
     Stopped {
         disk: u32,
     },
@@ -144,6 +160,18 @@ pub enum Header {
         number: u32,
     },
 
+    /// Beside it: the frame.
+    Frame {
+        at: EndMark,
+        number: u32,
+    },
+
+    /// Beside it: the two sets of ports, and the frame.
+    Switched {
+        at: EndMark,
+        number: u32,
+    },
+
     /// Beside it: the cause, how many frames were lost, and the packet where it has one.
     Reset {
         at: EndMark,
@@ -151,7 +179,7 @@ pub enum Header {
         number: u32,
     },
 
-    /// Beside it: the entry, of any other kind.
+    /// Beside it: the entry, of any other kind, or a frame's that came with memory of its own.
     Whole,
 }
 
@@ -164,9 +192,12 @@ impl Header {
             self,
             Header::Full { .. }
                 | Header::Refused { .. }
+                | Header::Queued { .. }
                 | Header::Settled
                 | Header::Unsettled { .. }
                 | Header::Done { .. }
+                | Header::Frame { .. }
+                | Header::Switched { .. }
                 | Header::Reset { .. }
                 | Header::Whole
         )

@@ -17,15 +17,16 @@ use Rattle.ldom_entries.specs.declared.header.Header.{Header}
 use Rattle.ldom_entries.specs.declared.header.Header.TheVariants as header
 
 lists_same : (a b : Lists) → a.numbers ≡ b.numbers → a.packets ≡ b.packets → a.descriptors ≡ b.descriptors → a.reads ≡ b.reads → a.requests ≡ b.requests
-    → a.causes ≡ b.causes → a.wholes ≡ b.wholes → a ≡ b
-lists_same a b n p d r q c w =
-    ap (λ (x : List ℕ). made x a.packets a.descriptors a.reads a.requests a.causes a.wholes) n
-    ∙ ap (λ (x : List (List ℕ)). made b.numbers x a.descriptors a.reads a.requests a.causes a.wholes) p
-    ∙ ap (λ (x : List (List ℕ)). made b.numbers b.packets x a.reads a.requests a.causes a.wholes) d
-    ∙ ap (λ (x : List BytesState). made b.numbers b.packets b.descriptors x a.requests a.causes a.wholes) r
-    ∙ ap (λ (x : List Request). made b.numbers b.packets b.descriptors b.reads x a.causes a.wholes) q
-    ∙ ap (λ (x : List Cause). made b.numbers b.packets b.descriptors b.reads b.requests x a.wholes) c
-    ∙ ap (λ (x : List Entry). made b.numbers b.packets b.descriptors b.reads b.requests b.causes x) w
+    → a.causes ≡ b.causes → a.frames ≡ b.frames → a.wholes ≡ b.wholes → a ≡ b
+lists_same a b n p d r q c f w =
+    ap (λ (x : List ℕ). made x a.packets a.descriptors a.reads a.requests a.causes a.frames a.wholes) n
+    ∙ ap (λ (x : List (List ℕ)). made b.numbers x a.descriptors a.reads a.requests a.causes a.frames a.wholes) p
+    ∙ ap (λ (x : List (List ℕ)). made b.numbers b.packets x a.reads a.requests a.causes a.frames a.wholes) d
+    ∙ ap (λ (x : List BytesState). made b.numbers b.packets b.descriptors x a.requests a.causes a.frames a.wholes) r
+    ∙ ap (λ (x : List Request). made b.numbers b.packets b.descriptors b.reads x a.causes a.frames a.wholes) q
+    ∙ ap (λ (x : List Cause). made b.numbers b.packets b.descriptors b.reads b.requests x a.frames a.wholes) c
+    ∙ ap (λ (x : List (List ℕ)). made b.numbers b.packets b.descriptors b.reads b.requests b.causes x a.wholes) f
+    ∙ ap (λ (x : List Entry). made b.numbers b.packets b.descriptors b.reads b.requests b.causes b.frames x) w
 
 -- lists that follow others leave an entry's share, and follow what is left
 share_join : (s : Share) (l m : Lists) → Holds s l → share_of s (join l m) ≡ share_of s l
@@ -37,6 +38,7 @@ share_join s l m h =
     (take-append-le s.reads l.reads m.reads h.has_reads)
     (take-append-le s.requests l.requests m.requests h.has_requests)
     (take-append-le s.causes l.causes m.causes h.has_causes)
+    (take-append-le s.frames l.frames m.frames h.has_frames)
     (take-append-le s.wholes l.wholes m.wholes h.has_wholes)
 
 rest_join : (s : Share) (l m : Lists) → Holds s l → rest_of s (join l m) ≡ join (rest_of s l) m
@@ -48,6 +50,7 @@ rest_join s l m h =
     (drop-append-le s.reads l.reads m.reads h.has_reads)
     (drop-append-le s.requests l.requests m.requests h.has_requests)
     (drop-append-le s.causes l.causes m.causes h.has_causes)
+    (drop-append-le s.frames l.frames m.frames h.has_frames)
     (drop-append-le s.wholes l.wholes m.wholes h.has_wholes)
 
 longer : {A : Type 0} (n : ℕ) (xs ys : List A) → n ≤ length xs → n ≤ length (xs ++ ys)
@@ -62,6 +65,7 @@ holds_join s l m h = record {
   has_reads = longer s.reads l.reads m.reads h.has_reads;
   has_requests = longer s.requests l.requests m.requests h.has_requests;
   has_causes = longer s.causes l.causes m.causes h.has_causes;
+  has_frames = longer s.frames l.frames m.frames h.has_frames;
   has_wholes = longer s.wholes l.wholes m.wholes h.has_wholes;
   are_whole = subst AreKeptWhole (sym (take-append-le s.wholes l.wholes m.wholes h.has_wholes)) h.are_whole;
 }
@@ -75,6 +79,7 @@ all_share l = record {
   reads = length l.reads;
   requests = length l.requests;
   causes = length l.causes;
+  frames = length l.frames;
   wholes = length l.wholes;
 }
 
@@ -87,6 +92,7 @@ share_all l =
     (take-length l.reads)
     (take-length l.requests)
     (take-length l.causes)
+    (take-length l.frames)
     (take-length l.wholes)
 
 rest_all : (l : Lists) → rest_of (all_share l) l ≡ nothing
@@ -98,6 +104,7 @@ rest_all l =
     (drop-length l.reads)
     (drop-length l.requests)
     (drop-length l.causes)
+    (drop-length l.frames)
     (drop-length l.wholes)
 
 holds_all : (l : Lists) → AreKeptWhole l.wholes → Holds (all_share l) l
@@ -108,6 +115,7 @@ holds_all l kept = record {
   has_reads = omega arith;
   has_requests = omega arith;
   has_causes = omega arith;
+  has_frames = omega arith;
   has_wholes = omega arith;
   are_whole = subst AreKeptWhole (sym (take-length l.wholes)) kept;
 }

@@ -39,6 +39,10 @@ option_items (Some packet) = packet ∷ []
 abbrev pub with_cause : ℕ → Cause → Option (List ℕ) → Lists
 with_cause n cause packet = record nothing { numbers = n ∷ []; packets = option_items packet; causes = cause ∷ [] }
 
+-- a frame, with numbers
+abbrev pub with_frame : List ℕ → List ℕ → Lists
+with_frame numbers frame = record nothing { numbers = numbers; frames = frame ∷ [] }
+
 -- an entry that is kept whole
 abbrev pub only_whole : Entry → Lists
 only_whole entry = record nothing { wholes = entry ∷ [] }

@@ -45,6 +45,7 @@ impl Model for Journal {
 #[tactic(auto, using(crate::proofs::Counting::counted))]
 impl Journal {
     ghost use Rattle.std.specs.Prelude.{◌↔◌, ◌^◌, max, Some, IsTrue, IfSome, IsNone, OnErr, OnOk, slice_get};
+    ghost use Rattle.kept_requests.specs.Bytes.{filled};
     ghost use Rattle.ldom_entries.specs.JournalState.{PutsEntry};
     ghost use Rattle.ldom_entries.specs.Told.{told};
     ghost use Rattle.ldom_entries.specs.declared.entry.Entry.TheVariants as the_entry;
@@ -246,8 +247,71 @@ impl Journal {
         self.resets += 1;
     }
 
+    /// A packet that had waited longest for an end, and was lost.
+    pub fn push_lost(&mut self, end: EndName, packet: &[u8; 64])
+        requires { 0 < self.old.room }
+        ensures { PutsEntry self.old (the_entry.Lost end packet.now) self.new }
+    {
+        let header = Header::Lost {
+            at: mark_of(end),
+            number: end.lane.number,
+        };
+        self.kept.push_packet(header, packet);
+    }
+
+    /// A packet that the peer never put, and that waits for an end.
+    pub fn push_injected(&mut self, end: EndName, packet: &[u8; 64])
+        requires { 0 < self.old.room }
+        ensures { PutsEntry self.old (the_entry.Injected end packet.now) self.new }
+    {
+        let header = Header::Injected {
+            at: mark_of(end),
+            number: end.lane.number,
+        };
+        self.kept.push_packet(header, packet);
+    }
+
+    /// A frame that was handed to a port's guest. As in the calls below, its bytes are copied.
+    pub fn push_queued(&mut self, port: u32, id: u64, bytes: &[u8])
+        requires room { 0 < self.old.room }
+        requires short { length bytes.now ≤ 1514 }
+        ensures { PutsEntry self.old (the_entry.Queued port id (filled bytes.now)) self.new }
+    {
+        self.kept.push_frame(Header::Queued { port }, &[id], bytes);
+    }
+
+    /// A frame that the switch took from a port, with the ports that have it and those whose queues were full.
+    pub fn push_switched(&mut self, end: EndName, out: u32, full: u32, bytes: &[u8])
+        requires room { 0 < self.old.room }
+        requires short { length bytes.now ≤ 1514 }
+        ensures { PutsEntry self.old (the_entry.Switched end out full (filled bytes.now)) self.new }
+    {
+        let header = Header::Switched {
+            at: mark_of(end),
+            number: end.lane.number,
+        };
+        self.kept
+            .push_frame(header, &[u64::from(out), u64::from(full)], bytes);
+    }
+
     /// A frame that a port's guest took.
-    pub fn push_frame(&mut self, end: EndName, bytes: Bytes)
+    pub fn push_frame(&mut self, end: EndName, bytes: &[u8])
+        requires room { 0 < self.old.room }
+        requires short { length bytes.now ≤ 1514 }
+        ensures { PutsEntry self.old (the_entry.Frame end (filled bytes.now)) self.new }
+    {
+        // That there are fewer than 2^63 entries is known by this call alone. So the count fits.
+        let _len = self.kept.len();
+        let header = Header::Frame {
+            at: mark_of(end),
+            number: end.lane.number,
+        };
+        self.kept.push_frame(header, &[], bytes);
+        self.frames += 1;
+    }
+
+    /// The same with bytes that have memory of their own, which is kept.
+    fn push_kept_frame(&mut self, end: EndName, bytes: Bytes)
         requires { 0 < self.old.room }
         ensures { PutsEntry self.old (the_entry.Frame end bytes) self.new }
     {
@@ -325,7 +389,7 @@ impl Journal {
                 status,
                 bytes,
             } => self.push_done(disk, id, operation, status, bytes),
-            Entry::Frame { end, bytes } => self.push_frame(end, bytes),
+            Entry::Frame { end, bytes } => self.push_kept_frame(end, bytes),
             other => self.push_other(other),
         }
     }
@@ -341,6 +405,8 @@ impl Journal {
         match entry {
             Entry::Full { who } => self.push_full(who),
             Entry::Refused { who, why } => self.push_refused(who, why),
+            Entry::Lost { end, packet } => self.push_lost(end, &packet),
+            Entry::Injected { end, packet } => self.push_injected(end, &packet),
             Entry::Stopped { disk } => self.kept.push_plain(Header::Stopped { disk }),
             Entry::Started { disk } => self.kept.push_plain(Header::Started { disk }),
             Entry::Calm { who } => self.push_calm(who),

@@ -1,5 +1,5 @@
 ghost use Rattle.std.specs.Prelude.{◌≡◌, ◌+◌, ◌<◌, ◌≤◌, [], ◌∷◌, length, true, vec_capacity, OnErr, OnOk};
-ghost use Rattle.ldom_entries.specs.Decoded.{entry_of, needs, share, these};
+ghost use Rattle.ldom_entries.specs.Decoded.{entry_of, framed, needs, share, these};
 
 use crate::parts::Parts;
 use domain_script::EndName;
@@ -42,7 +42,7 @@ impl KeptEntries {
     ghost use Rattle.std.specs.Prelude.{◌↔◌, ◌^◌, max, IsTrue};
     ghost use Rattle.ldom_entries.specs.Beside.{nothing, only_numbers, only_packets};
     ghost use Rattle.ldom_entries.specs.JournalState.{PutsEntry};
-    ghost use Rattle.ldom_journal.specs.PartsState.{with_read};
+    ghost use Rattle.ldom_journal.specs.PartsState.{with_frame, with_read};
     ghost use Rattle.ldom_entries.specs.Whole.{is_whole};
     ghost use Rattle.ldom_entries.specs.declared.entry.Entry.TheVariants as the_entry;
 
@@ -124,6 +124,19 @@ impl KeptEntries {
         ensures { PutsEntry self.old (entry_of header (with_read n m bytes)) self.new }
     {
         self.parts.put_read(n, m, bytes);
+        self.headers.push_reserved(header);
+        self.room -= 1;
+    }
+
+    /// PutsEntry an entry last beside which a frame stands, and numbers.
+    pub(crate) fn push_frame(&mut self, header: Header, numbers: &[u64], frame: &[u8])
+        requires room { 0 < self.old.room }
+        requires few { length numbers.now ≤ 2 }
+        requires short { length frame.now ≤ 1514 }
+        requires share { share header ≡ framed (length numbers.now) }
+        ensures { PutsEntry self.old (entry_of header (with_frame numbers.now frame.now)) self.new }
+    {
+        self.parts.put_frame(numbers, frame);
         self.headers.push_reserved(header);
         self.room -= 1;
     }

@@ -1,13 +1,13 @@
-ghost use Rattle.std.specs.Prelude.{◌≡◌, ◌^◌, ◌≤◌, ◌<◌, [], ◌∷◌, true, OnOk, OnErr};
+ghost use Rattle.std.specs.Prelude.{◌≡◌, ◌^◌, ◌≤◌, ◌<◌, [], ◌∷◌, length, true, OnOk, OnErr};
 
 use ldom_entries::{Beside, Bytes, Entry, KeptRequest, WholeEntry};
 use std::alloc::Global;
 use std::marker::Model;
-use trimmed_arrays::TrimmedArrays;
+use trimmed_arrays::{ByteStrings, TrimmedArrays};
 use vio_bytes::NoMemory;
 use vio_tag::Cause;
 
-/// What stands beside the headers of a journal: seven lists, each in the order of the entries, and the room that is
+/// What stands beside the headers of a journal: eight lists, each in the order of the entries, and the room that is
 /// left for more of them.
 #[derive(Debug, Drop)]
 pub(crate) struct Parts {
@@ -17,6 +17,7 @@ pub(crate) struct Parts {
     reads: Vec<Bytes>,
     requests: Vec<KeptRequest>,
     causes: Vec<Cause>,
+    frames: ByteStrings,
     wholes: Vec<WholeEntry>,
 
     /// For how many more entries there is room, whatever their kinds. An entry has two numbers at most, and one of
@@ -34,7 +35,7 @@ impl Model for Parts {
     ghost view = { λ p. record {
       lists =
           made p.numbers.items p.packets.items p.descriptors.items p.reads.items p.requests.items p.causes.items
-          p.wholes.items;
+          p.frames.items p.wholes.items;
       ready = p.ready;
     } };
 
@@ -47,6 +48,8 @@ impl Model for Parts {
       reads : length p.reads.items + p.ready ≤ vec_capacity p.reads;
       requests : length p.requests.items + p.ready ≤ vec_capacity p.requests;
       causes : length p.causes.items + p.ready ≤ vec_capacity p.causes;
+      frames : p.ready ≤ p.frames.room;
+      frame_most : p.frames.most ≡ 1514;
       wholes : length p.wholes.items + p.ready ≤ vec_capacity p.wholes;
     } };
 }
@@ -57,11 +60,14 @@ const PACKET: usize = 64;
 /// The bytes of a descriptor.
 const DESCRIPTOR: usize = 128;
 
+/// The most bytes of a frame.
+const FRAME: usize = 1514;
+
 impl Parts {
     ghost use Rattle.std.specs.Option.{option_copied};
     ghost use Rattle.ldom_entries.specs.Beside.{nothing, only_numbers, only_packets};
-    ghost use Rattle.ldom_journal.specs.PartsState.{PutsParts, only_whole, with_cause, with_descriptor, with_read};
-    ghost use Rattle.ldom_journal.specs.PartsState.{with_request};
+    ghost use Rattle.ldom_journal.specs.PartsState.{PutsParts, only_whole, with_cause, with_descriptor, with_frame};
+    ghost use Rattle.ldom_journal.specs.PartsState.{with_read, with_request};
     ghost use Rattle.ldom_entries.specs.Whole.{is_whole};
 
     /// Nothing, and no room. It takes no memory.
@@ -75,6 +81,7 @@ impl Parts {
             reads: Vec::new(alloc),
             requests: Vec::new(alloc),
             causes: Vec::new(alloc),
+            frames: ByteStrings::new(alloc, FRAME),
             wholes: Vec::new(alloc),
             ready: 0,
         }
@@ -102,6 +109,7 @@ impl Parts {
         self.reads.reserve(n)?;
         self.requests.reserve(n)?;
         self.causes.reserve(n)?;
+        self.frames.reserve(n)?;
         self.wholes.reserve(n)?;
         self.ready = n;
         Ok(())
@@ -187,6 +195,21 @@ impl Parts {
         self.ready -= 1;
     }
 
+    /// An entry with a frame, and two numbers at most.
+    pub(crate) fn put_frame(&mut self, numbers: &[u64], frame: &[u8])
+        requires room { 0 < self.old.ready }
+        requires few { length numbers.now ≤ 2 }
+        requires short { length frame.now ≤ 1514 }
+        ensures { PutsParts self.old (with_frame numbers.now frame.now) self.new }
+    {
+        match self.numbers.extend_from_slice(numbers) {
+            Ok(()) => {}
+            Err(_) => unreachable!(),
+        }
+        self.frames.push(frame);
+        self.ready -= 1;
+    }
+
     /// An entry that is kept whole.
     pub(crate) fn put_whole(&mut self, entry: Entry)
         requires room { 0 < self.old.ready }
@@ -208,6 +231,7 @@ impl Parts {
             self.reads.as_slice(),
             self.requests.as_slice(),
             self.causes.as_slice(),
+            self.frames.rest(),
             self.wholes.as_slice(),
         )
     }

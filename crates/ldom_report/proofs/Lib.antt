@@ -2,4 +2,3 @@ mod LineParts
 mod NextLine
 pub mod ReportLines
 pub mod StopLemmas
-mod WholeLines

@@ -51,16 +51,16 @@ pub leaves_none : (mode : Mode) (old new : List Entry) → old ≡ new → Leave
 leaves_none mode old new same =
     record { left_out = []; are = same; unshown = All-nil (λ (e : Entry). shows mode e ≡ false) }
 
-neither : (a b : Bool) → (a || b) ≡ false → a ≡ false
-neither true b is = is
-neither false b is = refl
+neither : (a b : Bool) → (a || b) ≡ false → b ≡ false
+neither true b is = absurd (cc is)
+neither false b is = is
 
 unshown : (entries : List Entry) → All (λ entry. may_be_seen entry ≡ false) entries → All (λ entry. shows Run entry ≡ false) entries
 unshown [] none = All-nil (λ (e : Entry). shows Run e ≡ false)
 unshown (entry ∷ entries) none =
     let P : Entry → Type 0 = λ e. may_be_seen e ≡ false in
     All-cons (λ (e : Entry). shows Run e ≡ false) entry entries
-    (neither (is_seen entry) (is_whole entry) (All-head P entry entries none)) (unshown entries (All-tail P entry entries none))
+    (neither (is_whole entry) (is_seen entry) (All-head P entry entries none)) (unshown entries (All-tail P entry entries none))
 
 pub leaves_unseen : (mode : Mode) (old middle new : List Entry) → mode ≡ Run → PassesUnseen old middle → middle ≡ new → LeavesOut mode old new
 leaves_unseen mode old middle new run passes same = record {

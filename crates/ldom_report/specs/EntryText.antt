@@ -91,7 +91,7 @@ tail_text (entry.Frame e bytes) = encode_lower bytes.items
 tail_text other = []
 
 -- AN ENTRY'S LINE before the words of a read, or the bytes of a poke or a frame, and the line feed. What lists the kinds
--- of entry: this and `meaning`, and in the code `push_head` those that are kept whole, and `push_front` the others.
+-- of entry: this and `meaning`, and in the code `push_whole` those that are kept whole, and `push_front` the others.
 abbrev pub head_text : Mode → Declared → Entry → List ℕ
 head_text mode declared (entry.Accepted disk id request) = id_text (codes "accepted ") declared (disk_lane disk) id ++ request_text request
 head_text mode declared (entry.Full who) = codes "full " ++ who_name declared who
@@ -132,7 +132,7 @@ shows Run entry = is_seen entry
 shows Trace entry = true
 shows EndOnly entry = false
 
--- Whether an entry is looked into for a mode: what is kept whole may turn out not to be shown.
+-- Whether an entry is looked into for a mode: what may be kept whole may turn out not to be shown.
 abbrev pub may_show : Mode → Entry → Bool
 may_show Run entry = may_be_seen entry
 may_show Trace entry = true

@@ -3,7 +3,6 @@ pub mod EntryText
 pub mod HasWords
 pub mod LaneEvents
 pub mod LeftOut
-pub mod LineParts
 pub mod LinesEnd
 pub mod Report
 pub mod Status

@@ -7,6 +7,7 @@ mod end_line;
 mod lines;
 mod port_lines;
 mod request_lines;
+mod shown;
 mod status;
 mod step_lines;
 mod stop;

@@ -4,20 +4,23 @@ ghost use Rattle.vio_io.specs.Causes.{Fails};
 ghost use Rattle.std.specs.Prelude.{All, IfSome, IsNone, OnOk, OnErr};
 ghost use Rattle.std.specs.Io.KnownBytes.{Appends};
 ghost use Rattle.domain_script.specs.NamesState.{declared_by};
-ghost use Rattle.ldom_report.specs.EntryText.{entry_lines, may_be_seen, may_show, report_entries};
+ghost use Rattle.ldom_report.specs.EntryText.{entry_lines, head_text, line_text, may_be_seen, may_show};
+ghost use Rattle.ldom_report.specs.EntryText.{report_entries, tail_text};
 ghost use Rattle.gathered_text.specs.Gathered.{Gathers, WroteFront};
 ghost use Rattle.ldom_report.specs.HasWords.{HasWords};
 ghost use Rattle.ldom_report.specs.LeftOut.{LeavesOut};
-ghost use Rattle.ldom_report.specs.LineParts.{front_text, rest_text};
 ghost use Rattle.ldom_entries.specs.Seen.{PassesUnseen};
 ghost use Rattle.ldom_entries.specs.Told.{told};
 ghost use Rattle.kept_requests.specs.BlockWord.{blocks_text};
 
+use crate::port_lines::{push_frame, push_queued, push_switched};
 use crate::request_lines::{push_about, push_accepted, push_done, push_of_disk, push_refused};
+use crate::shown::shows;
 use crate::step_lines::{
-    push_carried, push_descriptor, push_finished, push_joined, push_moved, push_reset, push_stored,
+    push_carried, push_descriptor, push_finished, push_joined, push_moved, push_packet, push_reset,
+    push_stored,
 };
-use crate::whole_lines::{push_whole, put_whole_rest};
+use crate::whole_lines::{push_whole, put_frame, put_whole_rest};
 use crate::{Bytes, Entries, EntryRef, Journal, Mode, VD_OP_BREAD};
 use domain_script::{LaneKind, Names};
 use gathered_text::{TEXT_ROOM, Text};
@@ -27,18 +30,20 @@ use vio_io::{Failed, Sink};
 /// More bytes than a line has, but for the words of a read.
 const LINE_ROOM: usize = 4096;
 
-/// Puts the line of an entry, up to the words of a read, or the bytes of a poke or a frame, and the line feed; of one that
-/// is kept whole, where the mode shows it.
+/// Puts the line of an entry, up to the words of a read, or the bytes of a poke or a frame, and the line feed.
 fn push_front(text: &mut Text, mode: Mode, entry: &EntryRef<'_>, names: &LineNames<'_>)
     requires words { HasWords names.now (told entry.now) }
     requires room { length text.old + LINE_ROOM ≤ TEXT_ROOM }
     ensures room { length text.new < TEXT_ROOM }
-    ensures text { text.new ≡ text.old ++ front_text mode names.now entry.now }
+    ensures text { text.new ≡ text.old ++ head_text mode names.now (told entry.now) }
 {
     match entry {
         EntryRef::Accepted { disk, id, request } => push_accepted(text, *disk, *id, request, names),
         EntryRef::Full { who } => push_about(text, b"full ", who, names),
         EntryRef::Refused { who, why } => push_refused(text, who, *why, names),
+        EntryRef::Queued { port, id, .. } => push_queued(text, *port, *id, names),
+        EntryRef::Lost { end, packet } => push_packet(text, b"lost ", *end, packet, names),
+        EntryRef::Injected { end, packet } => push_packet(text, b"injected ", *end, packet, names),
         EntryRef::Stopped { disk } => push_of_disk(text, b"stopped ", *disk, names),
         EntryRef::Started { disk } => push_of_disk(text, b"started ", *disk, names),
         EntryRef::Calm { who } => push_about(text, b"calm ", who, names),
@@ -80,6 +85,10 @@ fn push_front(text: &mut Text, mode: Mode, entry: &EntryRef<'_>, names: &LineNam
         EntryRef::Finished { end, slot, status } => push_finished(
             text, *end, *slot, *status, names,
         ),
+        EntryRef::Frame { end, .. } => push_frame(text, *end, names),
+        EntryRef::Switched { end, out, full, .. } => push_switched(
+            text, mode, *end, *out, *full, names,
+        ),
         EntryRef::Reset {
             end,
             cause,
@@ -108,21 +117,19 @@ fn put_words<K: Sink>(text: &mut Text, bytes: &Bytes, out: &mut K) -> Result<(),
 /// Puts what is left of an entry's line: the words of a read with status 0, or the bytes of a poke or a frame, and the
 /// line feed.
 #[tactic(auto, unfolding(kept_requests::specs::BlockWord::blocks_text))]
-fn put_rest<K: Sink>(
-    text: &mut Text,
-    mode: Mode,
-    entry: &EntryRef<'_>,
-    out: &mut K,
-) -> Result<(), Failed>
+fn put_rest<K: Sink>(text: &mut Text, entry: &EntryRef<'_>, out: &mut K) -> Result<(), Failed>
     requires { length text.old < TEXT_ROOM }
     ensures told { OnOk result (Gathers (K.written out.old) (K.written out.new) text.new
-        (text.old ++ rest_text mode entry.now)) }
+        (text.old ++ (tail_text (told entry.now) ++ codes "\n"))) }
     ensures front { OnErr result (WroteFront (K.written out.old) (K.written out.new)
-        (text.old ++ rest_text mode entry.now)) }
+        (text.old ++ (tail_text (told entry.now) ++ codes "\n"))) }
     ensures faults { Fails (IsErr result) (K.faults out.old) (K.faults out.new) }
 {
     match entry {
-        EntryRef::Whole(whole) => put_whole_rest(text, mode, whole.entry(), out),
+        EntryRef::Whole(whole) => put_whole_rest(text, whole.entry(), out),
+        EntryRef::Queued { bytes, .. } | EntryRef::Frame { bytes, .. } => put_frame(
+            text, bytes, out,
+        ),
         EntryRef::Read {
             operation: VD_OP_BREAD,
             status: 0,
@@ -136,7 +143,27 @@ fn put_rest<K: Sink>(
     }
 }
 
-/// Puts the line of an entry, where the mode shows it.
+/// Puts the line of an entry.
+fn put_shown<K: Sink>(
+    text: &mut Text,
+    mode: Mode,
+    entry: &EntryRef<'_>,
+    names: &LineNames<'_>,
+    out: &mut K,
+) -> Result<(), Failed>
+    requires { HasWords names.now (told entry.now) }
+    ensures told { OnOk result (Gathers (K.written out.old) (K.written out.new) text.new
+        (text.old ++ line_text mode names.now (told entry.now))) }
+    ensures front { OnErr result (WroteFront (K.written out.old) (K.written out.new)
+        (text.old ++ line_text mode names.now (told entry.now))) }
+    ensures faults { Fails (IsErr result) (K.faults out.old) (K.faults out.new) }
+{
+    text.make_room(LINE_ROOM, out)?;
+    push_front(text, mode, entry, names);
+    put_rest(text, entry, out)
+}
+
+/// The same where the mode shows the entry.
 fn put_line<K: Sink>(
     text: &mut Text,
     mode: Mode,
@@ -152,9 +179,11 @@ fn put_line<K: Sink>(
         (text.old ++ entry_lines mode names.now (told entry.now))) }
     ensures faults { Fails (IsErr result) (K.faults out.old) (K.faults out.new) }
 {
-    text.make_room(LINE_ROOM, out)?;
-    push_front(text, mode, entry, names);
-    put_rest(text, mode, entry, out)
+    if shows(mode, entry) {
+        put_shown(text, mode, entry, names, out)
+    } else {
+        Ok(())
+    }
 }
 
 /// The next entry that a user of the disks and ports may see. None where no further one is left.

@@ -68,19 +68,19 @@ fn push_unknown(text: &mut Text, end: EndName, names: &LineNames<'_>)
 }
 
 /// The ports that have a frame, and those whose queues were full.
-fn push_sets(text: &mut Text, end: EndName, out: u32, full: u32, names: &LineNames<'_>)
+fn push_sets(text: &mut Text, end: EndName, out: u64, full: u64, names: &LineNames<'_>)
     requires declared { IsEnd names.now end }
     requires room { length text.old + 100 ≤ TEXT_ROOM }
     ensures text { text.new ≡ text.old ++ sets_text names.now end out full }
     ensures len { length text.new ≤ length text.old + 100 }
 {
-    push_end_number(text, b"switched ", end, u64::from(out), names);
+    push_end_number(text, b"switched ", end, out, names);
     text.push(b" ");
-    text.push_number(u64::from(full));
+    text.push_number(full);
 }
 
 /// For how many ports a frame was dropped, since their queues were full.
-fn push_full(text: &mut Text, end: EndName, full: u32, names: &LineNames<'_>)
+fn push_full(text: &mut Text, end: EndName, full: u64, names: &LineNames<'_>)
     requires declared { IsEnd names.now end }
     requires room { length text.old + 100 ≤ TEXT_ROOM }
     ensures text { text.new ≡ text.old ++ full_text names.now end full }
@@ -96,8 +96,8 @@ fn push_first_line(
     text: &mut Text,
     mode: Mode,
     end: EndName,
-    out: u32,
-    full: u32,
+    out: u64,
+    full: u64,
     names: &LineNames<'_>,
 )
     requires declared { IsEnd names.now end }
@@ -119,8 +119,8 @@ fn push_dropped(
     text: &mut Text,
     mode: Mode,
     end: EndName,
-    out: u32,
-    full: u32,
+    out: u64,
+    full: u64,
     names: &LineNames<'_>,
 )
     requires declared { IsEnd names.now end }
@@ -137,8 +137,8 @@ pub fn push_switched(
     text: &mut Text,
     mode: Mode,
     end: EndName,
-    out: u32,
-    full: u32,
+    out: u64,
+    full: u64,
     names: &LineNames<'_>,
 )
     requires declared { IsEnd names.now end }

@@ -1,37 +1,18 @@
 // The lines of entries that are kept whole.
-ghost use Rattle.std.specs.Prelude.{◌≡◌, ◌+◌, ◌<◌, ◌≤◌, true, [], ◌++◌, length, codes, if◌then◌else◌, OnOk, OnErr, IsErr};
+ghost use Rattle.std.specs.Prelude.{◌≡◌, ◌+◌, ◌<◌, ◌≤◌, true, ◌++◌, length, codes, OnOk, OnErr, IsErr};
 ghost use Rattle.vio_io.specs.Causes.{Fails};
 ghost use Rattle.hex.specs.Hex.{encode_lower};
 ghost use Rattle.ldom_entries.specs.Whole.{is_whole};
-ghost use Rattle.ldom_report.specs.EntryText.{bytes_text, head_text, is_seen, number_text, shows, tail_text};
+ghost use Rattle.ldom_report.specs.EntryText.{head_text, number_text, tail_text};
 ghost use Rattle.ldom_report.specs.HasWords.{HasWords, IsEnd};
 ghost use Rattle.gathered_text.specs.Gathered.{Gathers, WroteFront};
 
 use crate::port_lines::{push_frame, push_member, push_queued, push_switched};
-use crate::step_lines::push_packet;
 use crate::{Bytes, Entry, Mode};
-use domain_script::{EndName, Side};
+use domain_script::EndName;
 use gathered_text::{TEXT_ROOM, Text};
-use line_words::{LineNames, push_end_number, put_bytes};
-use trimmed_arrays::TrimmedArray;
+use line_words::{LineNames, push_end_number, put_bytes, put_pieces};
 use vio_io::{Failed, Sink};
-
-/// An end and a packet with all its bytes, after the kind of their entry.
-#[tactic(auto, using(crate::proofs::WholeLines::padded_none))]
-fn push_whole_packet(
-    text: &mut Text,
-    kind: &[u8],
-    end: EndName,
-    packet: &[u8; 64],
-    names: &LineNames<'_>,
-)
-    requires declared { IsEnd names.now end }
-    requires room { length text.old + length kind.now + 527 ≤ TEXT_ROOM }
-    ensures text { text.new ≡ text.old ++ bytes_text kind.now names.now end packet.now }
-    ensures len { length text.new ≤ length text.old + length kind.now + 527 }
-{
-    push_packet(text, kind, end, &TrimmedArray::new(packet, 64), names);
-}
 
 /// An end and a place, after the kind of their entry, and a space.
 fn push_place(text: &mut Text, kind: &[u8], end: EndName, at: u64, names: &LineNames<'_>)
@@ -44,32 +25,8 @@ fn push_place(text: &mut Text, kind: &[u8], end: EndName, at: u64, names: &LineN
     text.push(b" ");
 }
 
-/// Whether a run shows an entry that is kept whole.
-fn is_seen(entry: &Entry) -> bool
-    requires { is_whole entry.now ≡ true }
-    ensures { result ≡ is_seen entry.now }
-{
-    match entry {
-        Entry::Frame { end, .. } => end.side == Side::Client,
-        Entry::Switched { out, full, .. } => *out == 0 || *full != 0,
-        _ => false,
-    }
-}
-
-/// Whether the mode shows an entry that is kept whole.
-fn shows(mode: Mode, entry: &Entry) -> bool
-    requires { is_whole entry.now ≡ true }
-    ensures { result ≡ shows mode entry.now }
-{
-    match mode {
-        Mode::Run => is_seen(entry),
-        Mode::Trace => true,
-        Mode::EndOnly => false,
-    }
-}
-
 /// Puts the head of the line of an entry that is kept whole. Each such kind has its arm.
-fn push_head(text: &mut Text, mode: Mode, entry: &Entry, names: &LineNames<'_>)
+pub fn push_whole(text: &mut Text, mode: Mode, entry: &Entry, names: &LineNames<'_>)
     requires whole { is_whole entry.now ≡ true }
     requires words { HasWords names.now entry.now }
     requires room { length text.old + 600 ≤ TEXT_ROOM }
@@ -79,34 +36,13 @@ fn push_head(text: &mut Text, mode: Mode, entry: &Entry, names: &LineNames<'_>)
     match entry {
         Entry::Queued { port, id, .. } => push_queued(text, *port, *id, names),
         Entry::Member { port, address } => push_member(text, *port, address, names),
-        Entry::Lost { end, packet } => push_whole_packet(text, b"lost ", *end, packet, names),
-        Entry::Injected { end, packet } => push_whole_packet(
-            text,
-            b"injected ",
-            *end,
-            packet,
-            names,
-        ),
         Entry::Poked { end, at, .. } => push_place(text, b"poked ", *end, *at, names),
         Entry::Frame { end, .. } => push_frame(text, *end, names),
-        Entry::Switched { end, out, full, .. } => push_switched(
-            text, mode, *end, *out, *full, names,
-        ),
+        Entry::Switched { end, out, full, .. } => {
+            let (out, full) = (u64::from(*out), u64::from(*full));
+            push_switched(text, mode, *end, out, full, names);
+        }
         _ => unreachable!(),
-    }
-}
-
-/// The same, where the mode shows the entry.
-pub fn push_whole(text: &mut Text, mode: Mode, entry: &Entry, names: &LineNames<'_>)
-    requires whole { is_whole entry.now ≡ true }
-    requires words { HasWords names.now entry.now }
-    requires room { length text.old + 600 ≤ TEXT_ROOM }
-    ensures text { text.new ≡ text.old ++
-        (if shows mode entry.now then head_text mode names.now entry.now else []) }
-    ensures len { length text.new ≤ length text.old + 600 }
-{
-    if shows(mode, entry) {
-        push_head(text, mode, entry, names);
     }
 }
 
@@ -125,7 +61,7 @@ fn put_digits<K: Sink>(text: &mut Text, bytes: &Bytes, out: &mut K) -> Result<()
 }
 
 /// Puts what is left of the line of an entry that is kept whole: the bytes of a poke or of a frame, and the line feed.
-fn put_tail<K: Sink>(text: &mut Text, entry: &Entry, out: &mut K) -> Result<(), Failed>
+pub fn put_whole_rest<K: Sink>(text: &mut Text, entry: &Entry, out: &mut K) -> Result<(), Failed>
     requires whole { is_whole entry.now ≡ true }
     requires room { length text.old < TEXT_ROOM }
     ensures told { OnOk result (Gathers (K.written out.old) (K.written out.new) text.new
@@ -145,24 +81,16 @@ fn put_tail<K: Sink>(text: &mut Text, entry: &Entry, out: &mut K) -> Result<(), 
     }
 }
 
-/// The same, where the mode shows the entry.
-pub fn put_whole_rest<K: Sink>(
-    text: &mut Text,
-    mode: Mode,
-    entry: &Entry,
-    out: &mut K,
-) -> Result<(), Failed>
-    requires whole { is_whole entry.now ≡ true }
-    requires room { length text.old < TEXT_ROOM }
+/// The same for bytes that are lent.
+#[tactic(auto, using(crate::proofs::LineParts::in_two_parts))]
+pub fn put_frame<K: Sink>(text: &mut Text, bytes: &[u8], out: &mut K) -> Result<(), Failed>
     ensures told { OnOk result (Gathers (K.written out.old) (K.written out.new) text.new
-        (text.old ++ (if shows mode entry.now then tail_text entry.now ++ codes "\n" else []))) }
+        (text.old ++ (encode_lower bytes.now ++ codes "\n"))) }
     ensures front { OnErr result (WroteFront (K.written out.old) (K.written out.new)
-        (text.old ++ (if shows mode entry.now then tail_text entry.now ++ codes "\n" else []))) }
+        (text.old ++ (encode_lower bytes.now ++ codes "\n"))) }
     ensures faults { Fails (IsErr result) (K.faults out.old) (K.faults out.new) }
 {
-    if shows(mode, entry) {
-        put_tail(text, entry, out)
-    } else {
-        Ok(())
-    }
+    put_pieces(text, bytes, out)?;
+    text.push(b"\n");
+    Ok(())
 }

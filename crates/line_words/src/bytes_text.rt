@@ -59,8 +59,8 @@ pub fn put_bytes<K: Sink>(text: &mut Text, bytes: &Bytes, out: &mut K) -> Result
     put_pieces(text, kept, out)
 }
 
-/// Puts the digits of bytes that are kept as they are.
-fn put_pieces<K: Sink>(text: &mut Text, bytes: &[u8], out: &mut K) -> Result<(), Failed>
+/// Puts the digits of bytes that are kept as they are. Room is left for one byte more.
+pub fn put_pieces<K: Sink>(text: &mut Text, bytes: &[u8], out: &mut K) -> Result<(), Failed>
     ensures room { OnOk result (length text.new < TEXT_ROOM) }
     ensures told { OnOk result (Gathers (K.written out.old) (K.written out.new) text.new (text.old ++ encode_lower bytes.now)) }
     ensures front { OnErr result (WroteFront (K.written out.old) (K.written out.new) (text.old ++ encode_lower bytes.now)) }

@@ -13,7 +13,7 @@ mod words;
 
 pub use array_text::push_array;
 pub use block_words::put_blocks;
-pub use bytes_text::put_bytes;
+pub use bytes_text::{put_bytes, put_pieces};
 pub use cause_text::push_reset_cause;
 pub use lane_names::LaneNames;
 pub use line_names::{push_end, push_end_number, push_id, push_lane, push_who};

@@ -1,7 +1,7 @@
 -- What a call of a port came to, and its entry: by what the call answered.
-use Rattle.std.proofs.Common.{◌≡◌, ℕ, Bool, true, false, Option, Some, None, List, length, Result, Ok, Err, refl, ap, subst, ◌∙◌}
-use Rattle.std.proofs.lemmas.Bool.{eq-eqb}
-use Rattle.std.specs.Prelude.{◌==◌, ◌&&◌}
+use Rattle.std.proofs.Common.{◌≡◌, ℕ, zero, suc, ◌+◌, ◌<◌, ◌≤◌, Bool, true, false, Option, Some, None, List, [], ◌∷◌, length, Result, Ok, Err, refl, ap, subst, ◌∙◌, arith}
+use Rattle.std.proofs.lemmas.Bool.{and_parts, eq-eqb, leb-true}
+use Rattle.std.specs.Prelude.{◌==◌, ◌&&◌, nat_le}
 use Rattle.domain_script.specs.LaneKinds.{port_lane}
 use Rattle.domain_script.specs.declared.event.EndName.{EndName}
 use Rattle.domain_script.specs.declared.event.Lane.{Lane}
@@ -15,7 +15,8 @@ use Rattle.world_parts.specs.port_model.NetEvent as net
 use Rattle.world_parts.specs.port_model.PortState.{OnLane, PortState}
 use Rattle.world_parts.specs.channel_model.WireEvent.{InjectedFull, NothingLost, NotInjected, PokeRefused}
 use Rattle.kept_requests.specs.Bytes.{BytesState, filled}
-use Rattle.lane_kinds.specs.Lanes.{EntryOf}
+use Rattle.lane_kinds.specs.Lanes.{AllStep, EntryOf, own_or}
+use Rattle.runs.specs.Run.{Run}
 use Rattle.ldc_queue.specs.declared.end.End.{End}
 use Rattle.ldc_queue.specs.declared.end.End.TheVariants.{A}
 use Rattle.ldc_queue.specs.declared.end.PutFault.{PutFault}
@@ -31,7 +32,7 @@ use Rattle.switched_ports.specs.net_lane.Events.{injected_event, lost_event, pok
 use Rattle.switched_ports.specs.net_lane.answers.GroupsFull.{GroupsFull as Refusal}
 use Rattle.switched_ports.specs.net_lane.answers.SendFault.{SendFault}
 use Rattle.switched_ports.specs.net_lane.answers.SendFault.TheVariants as fault
-use Rattle.world_parts.specs.switch_laws.Events.{OnPort, SwitchEvent}
+use Rattle.world_parts.specs.switch_laws.Events.{OnPort, SwitchEvent, SwitchStep}
 use Rattle.world_parts.specs.switch_laws.Ports.{ports as kind}
 use Rattle.switched_ports.specs.Given.{GivesNoMore, GivesOneMore}
 use Rattle.switched_ports.proofs.Entries.{one_more}
@@ -52,6 +53,24 @@ at_end k side x = own_said (is_end (PortLane k) (end_of side) (port_end k side))
 
 at_port : (k : ℕ) (x : SettleEntry) → if_so (k == k) x ≡ Some x
 at_port k x = own_said (k == k) x (eq-eqb k k refl)
+
+-- a frame that is held has no more than the most bytes
+held_short : (id : ℕ) (frame : List ℕ) (s m : PortState) → SwitchStep s (OnPort (OnLane (Gives A (Queued id frame)))) m
+    → length frame ≤ 1514
+held_short id frame s m step =
+    leb-true (length frame) 1514 (and_parts (nat_le 14 (length frame)) (nat_le (length frame) 1514) step.1.1.0.0).1
+
+given_short : (i j n id : ℕ) (frame : List ℕ) (w v : List PortState) → i < length w → j + i ≡ n
+    → AllStep kind j w n (OnPort (OnLane (Gives A (Queued id frame)))) v → length frame ≤ 1514
+given_short i j n id frame [] v within same step = absurd (omega (arith, within))
+given_short i j n id frame (s ∷ w) [] within same step = absurd step
+given_short zero j n id frame (s ∷ w) (t ∷ v) within same step =
+    let own : Run SwitchStep s (OnPort (OnLane (Gives A (Queued id frame))) ∷ []) t =
+    subst (λ (b : Bool). Run SwitchStep s (own_or b (OnPort (OnLane (Gives A (Queued id frame)))) []) t)
+    (eq-eqb j n (omega (arith, same))) step.0 in
+    held_short id frame s own.0 own.1
+given_short (suc i) j n id frame (s ∷ w) (t ∷ v) within same step =
+    given_short i (j + 1) n id frame w v (omega (arith, within)) (omega (arith, same)) step.1
 
 module _ (k : ℕ) (w v : List PortState) where
   -- one event of the port's lane alone, and its entry
@@ -77,6 +96,9 @@ module _ (k : ℕ) (w v : List PortState) where
 
     as_sent : (answer : Result ℕ SendFault) → sent ≡ answer → CameTo (Gives A (given answer frame))
     as_sent answer did = subst (λ (r : Result ℕ SendFault). CameTo (Gives A (given r frame))) did at
+
+    pub frame_short : (id : ℕ) → sent ≡ Ok id → length frame ≤ 1514
+    frame_short id did = given_short k 0 k id frame w v at.within (omega arith) (as_sent (Ok id) did).step.step
 
     pub frame_held : (id : ℕ) (bytes : BytesState) → sent ≡ Ok id → bytes ≡ filled frame
         → FrameAnswered (entry.Queued k id bytes)

@@ -27,7 +27,7 @@ use Rattle.switched_ports.specs.vnet_switch.declared.forwarding.Switched.{Switch
 use Rattle.world_parts.specs.world_laws.Settle.{OfPort}
 use Rattle.recorded_lanes.proofs.Adding.{none_adds, one_adds}
 use Rattle.recorded_lanes.proofs.Lifting.{count_push}
-use Rattle.recorded_lanes.specs.OnePort.{GivesBut, HasRoomForFrame, PortAnswers, PortEndSteps, PortLeaves, PortRecordedBut, PortRecords}
+use Rattle.recorded_lanes.specs.OnePort.{GivesBut, PortAnswers, PortEndSteps, PortLeaves, PortRecordedBut, PortRecords}
 use Rattle.recorded_lanes.specs.Steps.{MakesPortAnswer, MakesPortStep, MakesQuietPortStep}
 use Rattle.world_parts.specs.Parts.{Adds}
 
@@ -166,12 +166,6 @@ none_given A answer last (Some sets) Gives silent same gives = absurd (cc same)
 none_given B (out.Frame len) last (Some sets) Gives silent same gives = absurd (cc silent)
 none_given B answer last (Some sets) Gives silent same gives = absurd (cc same)
 
--- a frame fits into the room that was made for the longest
-fits_in : (answer : NetOut) (last : List ℕ) (room : ℕ) → TakesFrame answer last → 1514 ≤ room
-    → HasRoomForFrame answer last room
-fits_in (out.Frame len) last room is enough = omega (arith, is.most, enough)
-fits_in answer last room is enough = tt
-
 gives_by : (left : Bool) (w v : List PortState) → (left ≡ true → GivesNoMore w v) → GivesOneMore w v → GivesBut left w v
 gives_by true w v none one = none refl
 gives_by false w v none one = one
@@ -184,11 +178,8 @@ still_there k w v e answer sets entry =
 -- what was read of the port is of this end of it
 module _ (k : ℕ) (w v : List PortState) (e d : End) (answer : NetOut) (frame : List ℕ) (sets : Option Sets)
     (same_end : e ≡ d) (entry : EntryOf kind k w (step_event e (net_answer answer (last_at e k v)) sets) v) where
-  pub frame_fits : (room : ℕ) → TakesFrame answer (last_at e k v) → frame ≡ last_at d k v → 1514 ≤ room
-      → HasRoomForFrame answer frame room
-  frame_fits room takes last enough =
-      fits_in answer frame room
-      (subst (TakesFrame answer) (ap (λ (b : End). last_at b k v) same_end ∙ sym last) takes) enough
+  pub takes_frame : TakesFrame answer (last_at e k v) → frame ≡ last_at d k v → TakesFrame answer frame
+  takes_frame takes last = subst (TakesFrame answer) (ap (λ (b : End). last_at b k v) same_end ∙ sym last) takes
 
   same_entry : frame ≡ last_at d k v → EntryOf kind k w (step_event d (net_answer answer frame) sets) v
   same_entry last =

@@ -68,6 +68,13 @@ pub record PortAnswers (line : Line) (k : ℕ) (Answers : SwitchEvent → Type 0
   pub tells : TellsPort line k event entry
   pub gives : GivesOneMore w v
 
+-- and its entry was put last
+pub record RecordsPortAnswer (line : Line) (k : ℕ) (Answers : SwitchEvent → Type 0) (w : List PortState)
+    (old new : JournalState) (v : List PortState) : Type 0 where
+  pub entry : Entry
+  pub puts : PutsEntry old entry new
+  pub answer : PortAnswers line k Answers w entry v
+
 -- an end had nothing to do, and found no room for its packet
 abbrev pub port_rests : NetOut → Bool
 port_rests out.Idle = true
@@ -94,7 +101,3 @@ abbrev pub frame_entry : EndName → Option Sets → BytesState → Entry
 frame_entry e (Some sets) bytes = the_entry.Switched e sets.out sets.full bytes
 frame_entry e None bytes = the_entry.Frame e bytes
 
--- what a step needs to put a frame that it takes; no other answer carries any bytes
-abbrev pub HasRoomForFrame : NetOut → List ℕ → ℕ → Type 0
-HasRoomForFrame (out.Frame len) last room = length last ≤ room
-HasRoomForFrame _ last room = ⊤

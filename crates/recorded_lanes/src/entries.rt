@@ -135,7 +135,7 @@ fn record_client(
 }
 
 /// These bytes, by the room that was made for them; without bytes it stays.
-pub fn filled(room: &mut Bytes, bytes: &[u8], alloc: Global) -> Bytes
+fn filled(room: &mut Bytes, bytes: &[u8], alloc: Global) -> Bytes
     requires room { length bytes.now ≤ room.old.room }
     requires empty { room.old.items ≡ [] }
     ensures bytes { result.items ≡ bytes.now }

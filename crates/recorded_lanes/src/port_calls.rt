@@ -8,7 +8,7 @@ ghost use Rattle.world_parts.specs.domain_laws.Lines.{AnswersFrame, AnswersGroup
 ghost use Rattle.ldom_report.specs.LaneEvents.{end_of};
 ghost use Rattle.ldom_report.specs.Report.{accepted_count};
 ghost use Rattle.recorded_lanes.specs.Called.{call_of, unsent_entry};
-ghost use Rattle.recorded_lanes.specs.OnePort.{IsPortCall, PortAnswers};
+ghost use Rattle.recorded_lanes.specs.OnePort.{IsPortCall, PortAnswers, RecordsPortAnswer};
 ghost use Rattle.recorded_lanes.specs.Steps.{MakesPortAnswer};
 ghost use Rattle.kept_requests.specs.Bytes.{filled};
 ghost use Rattle.switched_ports.specs.Given.{GivenBelow};
@@ -25,7 +25,7 @@ use vio_tag::Cause;
 
 #[tactic(auto, using(crate::proofs::PortLifting::port_answered))]
 impl PortLanes {
-    /// The guest of a port is given a frame, once there is room for the entry and a copy of the bytes: it is held with
+    /// The guest of a port is given a frame, once there is room for the entry with a copy of the bytes: it is held with
     /// its id, or refused, or finds no room.
     pub fn send(&mut self, port: u32, frame: &[u8], journal: &mut Journal) -> Result<(), NoMemory>
         requires port { port < length self.old }
@@ -40,9 +40,7 @@ impl PortLanes {
         journal.reserve(1)?;
         // That there are fewer than 2^63 entries is known by this call alone. So the ids never run out.
         let _len = journal.len();
-        let kept = Bytes::from_slice(self.alloc, frame)?;
-        let entry = give_frame(&mut self.lanes, port, frame, kept);
-        journal.push(entry);
+        give_frame(&mut self.lanes, port, frame, journal);
         Ok(())
     }
 
@@ -120,20 +118,17 @@ impl PortLanes {
     }
 }
 
-/// Gives a guest a frame, and gives the entry, with this copy of the bytes where it is held.
-fn give_frame(lanes: &mut Ports, port: u32, frame: &[u8], kept: Bytes) -> Entry
+/// Gives a guest a frame, and puts the entry, with the bytes where it is held.
+fn give_frame(lanes: &mut Ports, port: u32, frame: &[u8], journal: &mut Journal)
     requires port { port < length lanes.old }
     requires few { GivenBelow (2 ^ 64 - 1) lanes.old }
-    requires kept { kept ≡ filled frame.now }
-    ensures { PortAnswers (Sends port frame.now) port (AnswersFrame frame.now) lanes.old result lanes.new }
+    requires ready { 0 < journal.old.room }
+    ensures { RecordsPortAnswer (Sends port frame.now) port (AnswersFrame frame.now) lanes.old journal.old journal.new
+        lanes.new }
 {
     match lanes.send(port, frame) {
-        Ok(id) => Entry::Queued {
-            port,
-            id,
-            bytes: kept,
-        },
-        Err(fault) => unsent(port, fault),
+        Ok(id) => journal.push_queued(port, id, frame),
+        Err(fault) => journal.push(unsent(port, fault)),
     }
 }
 

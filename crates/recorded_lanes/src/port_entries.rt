@@ -1,19 +1,19 @@
 // What an answer of a port's end leaves in the journal.
 
-ghost use Rattle.std.specs.Prelude.{◌≡◌, ◌<◌, ◌||◌, [], is_some};
+ghost use Rattle.std.specs.Prelude.{◌≡◌, ◌<◌, ◌≤◌, ◌||◌, is_some, length};
 ghost use Rattle.domain_script.specs.LaneKinds.{port_lane};
 ghost use Rattle.domain_script.specs.declared.fields.LaneKind.TheVariants as kinds;
 ghost use Rattle.ldom_report.specs.LaneEvents.{end_of};
 ghost use Rattle.recorded_lanes.specs.Called.{port_end};
 ghost use Rattle.ldom_entries.specs.JournalState.{PutsEntry};
-ghost use Rattle.recorded_lanes.specs.OnePort.{frame_entry, HasRoomForFrame, port_blocked, port_rests, PortLeaves, PortRecords};
+ghost use Rattle.recorded_lanes.specs.OnePort.{frame_entry, port_blocked, port_rests, PortLeaves, PortRecords};
 ghost use Rattle.switched_ports.specs.net_lane.Stepping.{net_answer};
 ghost use Rattle.switched_ports.specs.Events.{is_switched, ResetsOwn, step_event};
+ghost use Rattle.switched_ports.specs.HubSteps.{TakesFrame};
+ghost use Rattle.kept_requests.specs.Bytes.{filled};
 
-use crate::entries::filled;
 use domain_script::{EndName, Lane, LaneKind, Side};
-use ldom_report::{Bytes, Entry, Journal};
-use std::alloc::Global;
+use ldom_report::Journal;
 use switched_ports::{NetOut, Switched};
 
 /// The port with this number, as a lane.
@@ -45,26 +45,22 @@ pub fn leave_port(
     switched: Option<Switched>,
     frame: &[u8],
     in_settle: bool,
-    room: &mut Bytes,
-    alloc: Global,
     journal: &mut Journal,
 ) -> bool
     requires port { end.lane.kind ≡ kinds.Port }
     requires ready { 0 < journal.old.room }
-    requires room { HasRoomForFrame out.now frame.now room.old.room }
-    requires empty { room.old.items ≡ [] }
+    requires frame { TakesFrame out.now frame.now }
     requires switched { is_some switched ≡ is_switched (end_of end.side) out.now }
     requires own { ResetsOwn out.now }
-    ensures leaves { PortLeaves in_settle end.lane.number
+    ensures { PortLeaves in_settle end.lane.number
         (step_event (end_of end.side) (net_answer out.now frame.now) switched) journal.old result journal.new }
-    ensures empty { room.new.items ≡ [] }
 {
     let rests = port_rests(out);
     if in_settle && rests {
         return true;
     }
     let calm = rests || port_blocked(out);
-    record_port(end, out, switched, frame, room, alloc, journal);
+    record_port(end, out, switched, frame, journal);
     calm
 }
 
@@ -82,25 +78,21 @@ fn port_blocked(out: &NetOut) -> bool
     matches!(out, NetOut::Blocked)
 }
 
-/// Puts the entry of the step of a port's end last. The bytes of a frame are put into the room that was made for them.
+/// Puts the entry of the step of a port's end last.
 fn record_port(
     end: EndName,
     out: &NetOut,
     switched: Option<Switched>,
     frame: &[u8],
-    room: &mut Bytes,
-    alloc: Global,
     journal: &mut Journal,
 )
     requires port { end.lane.kind ≡ kinds.Port }
     requires ready { 0 < journal.old.room }
-    requires room { HasRoomForFrame out.now frame.now room.old.room }
-    requires empty { room.old.items ≡ [] }
+    requires frame { TakesFrame out.now frame.now }
     requires switched { is_some switched ≡ is_switched (end_of end.side) out.now }
     requires own { ResetsOwn out.now }
-    ensures records { PortRecords end.lane.number
+    ensures { PortRecords end.lane.number
         (step_event (end_of end.side) (net_answer out.now frame.now) switched) journal.old journal.new }
-    ensures empty { room.new.items ≡ [] }
 {
     match out {
         NetOut::Idle => journal.push_idle(end),
@@ -109,10 +101,7 @@ fn record_port(
         NetOut::Took { packet, opens } => journal.push_took(end, packet, *opens),
         NetOut::Sent { packet, opens } => journal.push_sent(end, packet, *opens),
         NetOut::Published { id } => journal.push_published(end, *id),
-        NetOut::Frame { .. } => {
-            let bytes = filled(room, frame, alloc);
-            record_frame(end, switched, bytes, journal);
-        }
+        NetOut::Frame { .. } => record_frame(end, switched, frame, journal),
         NetOut::Reset {
             cause,
             packet,
@@ -122,17 +111,13 @@ fn record_port(
 }
 
 /// Puts the entry of a frame last: a guest took it, or the switch, with the ports that it is for.
-fn record_frame(end: EndName, switched: Option<Switched>, bytes: Bytes, journal: &mut Journal)
+fn record_frame(end: EndName, switched: Option<Switched>, frame: &[u8], journal: &mut Journal)
     requires ready { 0 < journal.old.room }
-    ensures { PutsEntry journal.old (frame_entry end switched bytes) journal.new }
+    requires short { length frame.now ≤ 1514 }
+    ensures { PutsEntry journal.old (frame_entry end switched (filled frame.now)) journal.new }
 {
     match switched {
-        Some(sets) => journal.push(Entry::Switched {
-            end,
-            out: sets.out,
-            full: sets.full,
-            bytes,
-        }),
-        None => journal.push_frame(end, bytes),
+        Some(sets) => journal.push_switched(end, sets.out, sets.full, frame),
+        None => journal.push_frame(end, frame),
     }
 }

@@ -1,6 +1,6 @@
 // Steps of the ends of ports.
 
-ghost use Rattle.std.specs.Prelude.{◌≡◌, ◌<◌, ◌+◌, ◌-◌, ◌^◌, [], length, IfOk, OnErr, OnOk};
+ghost use Rattle.std.specs.Prelude.{◌≡◌, ◌<◌, ◌+◌, ◌-◌, ◌^◌, length, IfOk, OnErr, OnOk};
 ghost use Rattle.world_parts.specs.domain_laws.Domain.{PortsStep};
 ghost use Rattle.ldom_report.specs.LaneEvents.{end_of};
 ghost use Rattle.ldom_report.specs.Report.{accepted_count};
@@ -12,15 +12,10 @@ ghost use Rattle.switched_ports.specs.States.{last_at};
 use crate::entries::end_of;
 use crate::port_entries::{leave_port, port_end};
 use crate::ports::PortLanes;
-use crate::stepping::make_room;
 use domain_script::Side;
-use ldom_report::{Bytes, Journal};
-use std::alloc::Global;
+use ldom_report::Journal;
 use switched_ports::{NetOut, Ports};
 use vio_bytes::NoMemory;
-
-/// The most bytes of a frame.
-const MOST_FRAME: usize = 1514;
 
 impl PortLanes {
     /// One step of an end of the port with this number, once there is room for its entry.
@@ -37,7 +32,7 @@ impl PortLanes {
         journal.reserve(1)?;
         // That there are fewer than 2^63 entries is known by this call alone. So the ids never run out.
         let _len = journal.len();
-        self.step_end(port, side, false, journal)?;
+        self.step_end(port, side, false, journal);
         Ok(())
     }
 
@@ -60,63 +55,38 @@ impl PortLanes {
         journal.reserve(1)?;
         // That there are fewer than 2^63 entries is known by this call alone. So the ids never run out.
         let _len = journal.len();
-        let calm = self.step_end(port, side, true, journal)?;
-        Ok(calm)
+        Ok(self.step_end(port, side, true, journal))
     }
 
     /// One step of an end, in a settle or not, into room for its entry. Tells whether it was calm.
-    fn step_end(
-        &mut self,
-        port: u32,
-        side: Side,
-        in_settle: bool,
-        journal: &mut Journal,
-    ) -> Result<bool, NoMemory>
+    fn step_end(&mut self, port: u32, side: Side, in_settle: bool, journal: &mut Journal) -> bool
         requires port { port < length self.old }
         requires few { GivenBelow (2 ^ 64 - 1) self.old }
         requires ready { 0 < journal.old.room }
-        ensures steps { IfOk result (λ calm. PortEndSteps in_settle port (end_of side) self.old journal.old calm
-            journal.new self.new) }
-        ensures same { OnErr result ((self.new ≡ self.old) × (journal.new ≡ journal.old)) }
+        ensures { PortEndSteps in_settle port (end_of side) self.old journal.old result journal.new self.new }
     {
-        step_port(
-            &mut self.lanes,
-            port,
-            side,
-            in_settle,
-            &mut self.room,
-            self.alloc,
-            journal,
-        )
+        step_port(&mut self.lanes, port, side, in_settle, journal)
     }
 }
 
-/// One step of an end of a port, once there is room for a frame that it takes. Tells whether it was calm.
+/// One step of an end of a port. Tells whether it was calm.
 fn step_port(
     lanes: &mut Ports,
     port: u32,
     side: Side,
     in_settle: bool,
-    room: &mut Bytes,
-    alloc: Global,
     journal: &mut Journal,
-) -> Result<bool, NoMemory>
+) -> bool
     requires port { port < length lanes.old }
     requires few { GivenBelow (2 ^ 64 - 1) lanes.old }
-    requires empty { room.old.items ≡ [] }
     requires ready { 0 < journal.old.room }
-    ensures steps { IfOk result (λ calm. PortEndSteps in_settle port (end_of side) lanes.old journal.old calm
-        journal.new lanes.new) }
-    ensures same { OnErr result ((lanes.new ≡ lanes.old) × (journal.new ≡ journal.old)) }
-    ensures empty { room.new.items ≡ [] }
+    ensures { PortEndSteps in_settle port (end_of side) lanes.old journal.old result journal.new lanes.new }
 {
-    make_room(room, MOST_FRAME, alloc)?;
     let mut out = NetOut::Idle;
     let switched = lanes.step_into(port, end_of(side), &mut out);
     let end = port_end(port, side);
     let frame = last_frame(lanes, port, side);
-    let calm = leave_port(end, &out, switched, frame, in_settle, room, alloc, journal);
-    Ok(calm)
+    leave_port(end, &out, switched, frame, in_settle, journal)
 }
 
 /// The frame that an end of a port took last.

@@ -3,7 +3,6 @@ ghost use Rattle.lane_kinds.specs.Lanes.{sum_of};
 ghost use Rattle.world_parts.specs.switch_laws.Ports.{pending, waits_on};
 ghost use Rattle.switched_ports.specs.States.{PortAt};
 
-use ldom_report::Bytes;
 use std::alloc::Global;
 use std::marker::Model;
 use switched_ports::Ports;
@@ -13,20 +12,15 @@ use switched_ports::Ports;
 pub struct PortLanes {
     pub(crate) alloc: Global,
     pub(crate) lanes: Ports,
-
-    /// Room for the next frame that an end takes.
-    pub(crate) room: Bytes,
 }
 
 impl Model for PortLanes {
-    ghost use Rattle.std.specs.Prelude.{[], ◌≡◌, List};
+    ghost use Rattle.std.specs.Prelude.{List};
     ghost use Rattle.world_parts.specs.port_model.PortState.{PortState};
 
     ghost Value = { List PortState };
 
     ghost view = { λ p. p.lanes };
-
-    ghost invariant = { λ p. p.room.items ≡ [] };
 }
 
 impl PortLanes {
@@ -34,11 +28,7 @@ impl PortLanes {
     pub fn over(alloc: Global, lanes: Ports) -> Self
         ensures { result ≡ lanes }
     {
-        PortLanes {
-            alloc,
-            lanes,
-            room: Bytes::empty(alloc),
-        }
+        PortLanes { alloc, lanes }
     }
 
     /// How many there are.
@@ -69,11 +59,7 @@ impl PortLanes {
     pub fn finish(self) -> Ports
         ensures { result ≡ self }
     {
-        let PortLanes {
-            alloc: _,
-            lanes,
-            room: _,
-        } = self;
+        let PortLanes { alloc: _, lanes } = self;
         lanes
     }
 }

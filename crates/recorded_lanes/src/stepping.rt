@@ -129,7 +129,7 @@ fn client_step(
 }
 
 /// Makes room for so many bytes, if there isn't yet.
-pub(crate) fn make_room(room: &mut Bytes, least: usize, alloc: Global) -> Result<(), NoMemory>
+fn make_room(room: &mut Bytes, least: usize, alloc: Global) -> Result<(), NoMemory>
     requires empty { room.old.items ≡ [] }
     ensures made { OnOk result (least ≤ room.new.room) }
     ensures empty { room.new.items ≡ [] }

@@ -1,43 +1,34 @@
 ghost use Rattle.std.specs.Prelude.{◌≡◌, ◌≤◌, ◌∷◌, [], IfSome, IsNone};
-ghost use Rattle.trimmed_arrays.specs.Trimmed.{AreFronts, untrimmed};
+ghost use Rattle.trimmed_arrays.specs.Trimmed.{untrimmed};
 
 use crate::array::TrimmedArray;
+use crate::strings_rest::StringsRest;
 use std::marker::Model;
 
 /// The arrays that are still to be read, in order.
 #[derive(Drop)]
 pub struct TrimmedRest<'a> {
-    size: usize,
-    lengths: &'a [u8],
-    bytes: &'a [u8],
+    fronts: StringsRest<'a>,
 }
 
 impl<'a> Model for TrimmedRest<'a> {
     ghost use Rattle.std.specs.Prelude.{◌≤◌, List, ℕ};
-    ghost use Rattle.trimmed_arrays.specs.Trimmed.{AreFronts, untrimmed};
+    ghost use Rattle.trimmed_arrays.specs.Trimmed.{untrimmed};
 
     ghost Value = { List (List ℕ) };
 
-    ghost view = { λ r. untrimmed r.size r.lengths.now r.bytes.now };
+    ghost view = { λ r. untrimmed r.fronts.most r.fronts.items };
 
-    ghost invariant = { λ r. record {
-      fronts : AreFronts r.size r.lengths.now r.bytes.now;
-      small : r.size ≤ 255;
-    } };
+    ghost invariant = { λ r. r.fronts.most ≤ 255 };
 }
 
 impl<'a> TrimmedRest<'a> {
-    /// The arrays whose fronts have these lengths.
-    pub(crate) fn new(size: usize, lengths: &'a [u8], bytes: &'a [u8]) -> Self
-        requires fronts { AreFronts size lengths.now bytes.now }
-        requires small { size ≤ 255 }
-        ensures { result ≡ untrimmed size lengths.now bytes.now }
+    /// The arrays with these fronts.
+    pub(crate) fn new(fronts: StringsRest<'a>) -> Self
+        requires { fronts.most ≤ 255 }
+        ensures { result ≡ untrimmed fronts.entry.most fronts.entry.items }
     {
-        TrimmedRest {
-            size,
-            lengths,
-            bytes,
-        }
+        TrimmedRest { fronts }
     }
 
     /// Takes the next array, if there is one.
@@ -46,14 +37,7 @@ impl<'a> TrimmedRest<'a> {
         ensures none { IsNone result → self.old ≡ [] }
         ensures ended { IsNone result → self.new ≡ [] }
     {
-        match self.lengths {
-            [length, lengths @ ..] => {
-                let (front, bytes) = self.bytes.split_at(usize::from(*length));
-                self.lengths = lengths;
-                self.bytes = bytes;
-                Some(TrimmedArray::new(front, self.size))
-            }
-            [] => None,
-        }
+        let front = self.fronts.next_string()?;
+        Some(TrimmedArray::new(front, self.fronts.most()))
     }
 }

@@ -47,8 +47,9 @@ const HUB: EndName = EndName {
 /// The row of no entry.
 const NOTHING: Row = ("nothing", 0, 0);
 
-/// The rows of `of_lines`, `of_ends`, `of_servers`, `of_ports` and `of_forgers`, and whether a user may see the entry.
-fn rows() -> [(Row, bool); 31] {
+/// The rows of `of_lines`, `of_ends`, `of_servers`, `of_ports`, `of_forgers` and `note_lent`, and whether a user may
+/// see the entry.
+fn rows() -> [(Row, bool); 34] {
     [
         (("accepted", 3, 2), false),
         (("full", 13, 0), true),
@@ -65,7 +66,7 @@ fn rows() -> [(Row, bool); 31] {
         (("off", 31, 0), false),
         (("blocked", 30, 0), false),
         (("joined", 30, 4), false),
-        (("lost", 31, 64), true),
+        (("lost", 31, 64), false),
         (("took", 30, 0), false),
         (("sent", 31, 3), false),
         (("published", 30, 6), false),
@@ -79,8 +80,11 @@ fn rows() -> [(Row, bool); 31] {
         (("member", 2, 9), true),
         (("frame", 20, 14), true),
         (("switched", 21, 65), true),
-        (("injected", 20, 64), true),
+        (("injected", 20, 64), false),
         (("poked", 21, 8191), true),
+        (("queued", 2, 14), true),
+        (("frame", 20, 3), true),
+        (("switched", 21, 65), true),
     ]
 }
 
@@ -308,13 +312,23 @@ fn note_forgers(alloc: Global, journal: &mut Journal) -> Result<(), NoMemory> {
     Ok(())
 }
 
+/// Puts what comes of frames last whose bytes are lent.
+fn note_lent(journal: &mut Journal) -> Result<(), NoMemory> {
+    journal.reserve(3)?;
+    journal.push_queued(2, 3, &[7; 14]);
+    journal.push_frame(GUEST, &[8; 3]);
+    journal.push_switched(HUB, 6, 5, &[]);
+    Ok(())
+}
+
 /// Puts an entry of each kind last.
 pub(crate) fn note_each_kind(alloc: Global, journal: &mut Journal) -> Result<(), NoMemory> {
     note_lines(alloc, journal)?;
     note_ends(journal)?;
     note_servers(journal)?;
     note_ports(alloc, journal)?;
-    note_forgers(alloc, journal)
+    note_forgers(alloc, journal)?;
+    note_lent(journal)
 }
 
 /// An end's lane and its side, as a number of two digits.
@@ -377,6 +391,11 @@ fn row(entry: Option<EntryRef<'_>>) -> Row {
         EntryRef::Moved { end, unit, .. } => ("moved", at(end), unit),
         EntryRef::Stored { end, count, .. } => ("stored", at(end), count),
         EntryRef::Finished { end, status, .. } => ("finished", at(end), status),
+        EntryRef::Lost { end, packet } => ("lost", at(end), front(Some(packet))),
+        EntryRef::Injected { end, packet } => ("injected", at(end), front(Some(packet))),
+        EntryRef::Queued { port, bytes, .. } => ("queued", port.into(), bytes.len() as u64),
+        EntryRef::Frame { end, bytes } => ("frame", at(end), bytes.len() as u64),
+        EntryRef::Switched { end, out, full, .. } => ("switched", at(end), 10 * out + full),
         EntryRef::Reset { end, packet, .. } => ("reset", at(end), front(packet)),
         EntryRef::Whole(whole) => whole_row(whole.entry()),
     }
@@ -385,7 +404,6 @@ fn row(entry: Option<EntryRef<'_>>) -> Row {
 /// The row of an entry that is kept whole.
 fn whole_row(entry: &Entry) -> Row {
     match entry {
-        Entry::Lost { end, packet } => ("lost", at(*end), packet.len() as u64),
         Entry::Queued { port, bytes, .. } => ("queued", (*port).into(), bytes.len() as u64),
         Entry::Member { port, address } => ("member", (*port).into(), address[5].into()),
         Entry::Frame { end, bytes } => ("frame", at(*end), bytes.len() as u64),
@@ -396,7 +414,6 @@ fn whole_row(entry: &Entry) -> Row {
                 10 * u64::from(*out) + u64::from(*full),
             )
         }
-        Entry::Injected { end, packet } => ("injected", at(*end), packet.len() as u64),
         Entry::Poked { end, at: place, .. } => ("poked", at(*end), *place),
         _ => ("other", 0, 0),
     }
@@ -445,7 +462,7 @@ fn reads_each(journal: &Journal) -> bool {
             return false;
         }
     }
-    next_row(&mut rest) == NOTHING && row_at(journal, 31) == NOTHING
+    next_row(&mut rest) == NOTHING && row_at(journal, 34) == NOTHING
 }
 
 #[test]
@@ -480,7 +497,7 @@ fn is_counted(journal: &Journal) -> bool {
         journal.frames(),
         journal.len(),
     ];
-    counts == [1, 2, 2, 1, 31] && !journal.is_empty()
+    counts == [1, 2, 2, 2, 34] && !journal.is_empty()
 }
 
 fn new_is_empty(alloc: Global) -> bool {

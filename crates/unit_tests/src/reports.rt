@@ -275,7 +275,7 @@ fn a_failing_sink_gets_a_front_of_the_lines(rt: HostRuntime) -> Result<(), Fail>
 }
 
 /// Whether the last line over a journal of each kind is written. That has one request that was taken up, two
-/// completions, two resets and one frame.
+/// completions, two resets and two frames.
 fn ends<K: Sink>(
     alloc: Global,
     lines: u32,
@@ -302,12 +302,12 @@ fn last_lines() -> [(u32, Status, &'static str); 3] {
         (
             2,
             Status::Limit { line, kind },
-            "end lines=2 accepted=1 done=2 pending=0 resets=2 frames=1 status=8 at=3 limit=entries\n",
+            "end lines=2 accepted=1 done=2 pending=0 resets=2 frames=2 status=8 at=3 limit=entries\n",
         ),
         (
             20000,
             Status::ImageSize { need, have },
-            "end lines=20000 accepted=1 done=2 pending=0 resets=2 frames=1 status=7 need=18446744073709551615 have=0\n",
+            "end lines=20000 accepted=1 done=2 pending=0 resets=2 frames=2 status=7 need=18446744073709551615 have=0\n",
         ),
         (0, Status::Usage, "usage: ldom COMMAND [WORD]\n"),
     ]

@@ -13,22 +13,22 @@ pub returns-clause-made : goal.returns-clause-made
 returns-clause-made c =
     makes_port_step c.args.self.now c.step_end.new.self c.args.port (end_of c.args.side) c.reserve.new.self _ c.step_end.new.journal
     c.args.journal.now.entries c.in_ok-reserve.ensures.entries
-    c.in_ok-step_end.ensures.steps
+    c.step_end.ensures
 
 pub returns-clause-many : goal.returns-clause-many
 returns-clause-many c =
     port_step_many c.args.self.now c.step_end.new.self c.args.port (end_of c.args.side) c.reserve.new.self _ c.step_end.new.journal
     c.args.journal.now.entries c.in_ok-reserve.ensures.entries false
-    c.in_ok-step_end.ensures.steps
+    c.step_end.ensures
 
 pub returns-clause-agrees : goal.returns-clause-agrees
 returns-clause-agrees c =
     port_step_given c.args.self.now c.step_end.new.self c.args.port (end_of c.args.side) c.reserve.new.self _ c.step_end.new.journal
     c.args.journal.now.entries c.in_ok-reserve.ensures.entries false
-    c.in_ok-step_end.ensures.steps c.requires.agrees
+    c.step_end.ensures c.requires.agrees
 
 pub returns-clause-accepted : goal.returns-clause-accepted
 returns-clause-accepted c =
     port_step_accepted c.args.self.now c.step_end.new.self c.args.port (end_of c.args.side) c.reserve.new.self _ c.step_end.new.journal
     c.args.journal.now.entries c.in_ok-reserve.ensures.entries false
-    c.in_ok-step_end.ensures.steps
+    c.step_end.ensures
