@@ -1,5 +1,5 @@
 -- One event of one port, and what it leaves in the journal.
-use Rattle.std.specs.Prelude.{◌≡◌, ℕ, ◌≤◌, Bool, true, false, ◌&&◌, List, length, Option, Some, None, ⊤}
+use Rattle.std.specs.Prelude.{◌≡◌, ℕ, Bool, true, false, ◌&&◌, List, Option, Some, None, ⊤}
 use Rattle.ldc_queue.specs.declared.end.End.{End}
 use Rattle.switched_ports.specs.net_lane.net_out.NetOut.{NetOut}
 use Rattle.switched_ports.specs.net_lane.net_out.NetOut.TheVariants as out
@@ -100,4 +100,3 @@ IsCallOf kinds.Port call = IsPortCall call
 abbrev pub frame_entry : EndName → Option Sets → BytesState → Entry
 frame_entry e (Some sets) bytes = the_entry.Switched e sets.out sets.full bytes
 frame_entry e None bytes = the_entry.Frame e bytes
-
