@@ -395,7 +395,13 @@ fn row(entry: Option<EntryRef<'_>>) -> Row {
         EntryRef::Injected { end, packet } => ("injected", at(end), front(Some(packet))),
         EntryRef::Queued { port, bytes, .. } => ("queued", port.into(), bytes.len() as u64),
         EntryRef::Frame { end, bytes } => ("frame", at(end), bytes.len() as u64),
-        EntryRef::Switched { end, out, full, .. } => ("switched", at(end), 10 * out + full),
+        EntryRef::Switched { end, out, full, .. } => {
+            (
+                "switched",
+                at(end),
+                out.saturating_mul(10).saturating_add(full),
+            )
+        }
         EntryRef::Reset { end, packet, .. } => ("reset", at(end), front(packet)),
         EntryRef::Whole(whole) => whole_row(whole.entry()),
     }
