@@ -56,21 +56,7 @@ use Rattle.channel_laws.specs.PacketCauses.{Judges, LinkJudged, WholeJudged, bod
 -- THE MESSAGE: an open handshake declines what it takes, and all else is out of order
 open_row : (role : Role) (h : Handshake) (subtype : Subtype) (sid : ℕ) (body : MsgBody) → row role Open h subtype sid body ≡ Faults the_cause.Order
 open_row Initiator h subtype sid (Ver major minor class) = refl
-open_row Initiator h subtype sid (Attr bytes) = refl
-open_row Initiator h subtype sid (DringReg ident slots slot_size options number cookies) = refl
-open_row Initiator h subtype sid (DringUnreg ident) = refl
-open_row Initiator h subtype sid (DringData seq ident start end state) = refl
-open_row Initiator h subtype sid Ready = refl
-open_row Initiator h subtype sid (Mcast set number addresses) = refl
-open_row Initiator h subtype sid (Plain envelope) = refl
-open_row Responder h subtype sid (Ver major minor class) = refl
-open_row Responder h subtype sid (Attr bytes) = refl
-open_row Responder h subtype sid (DringReg ident slots slot_size options number cookies) = refl
-open_row Responder h subtype sid (DringUnreg ident) = refl
-open_row Responder h subtype sid (DringData seq ident start end state) = refl
-open_row Responder h subtype sid Ready = refl
-open_row Responder h subtype sid (Mcast set number addresses) = refl
-open_row Responder h subtype sid (Plain envelope) = refl
+open_row _ h subtype sid _ = refl
 
 refused_if : (b : Bool) (h : Handshake) (take : HandshakeTake) → take ≡ Faults the_cause.Order → refused_by (if b then Goes h else take) ≡ (if b then None else Some the_cause.Order)
 refused_if true h take is = refl
@@ -91,17 +77,7 @@ body_judged : (own : Message → Option Cause) (h : Handshake) (message : Messag
     → judged_body own h message body ≡ body_cause own message body
 body_judged own h message (DringData seq ident start end state) is open_now sound = refl
 body_judged own h message (Mcast set number addresses) is open_now sound = refl
-body_judged own h message (Ver major minor class) is open_now sound =
-    take_refused h message open_now sound ∙ ap (λ (b : MsgBody). if is_declined message.subtype b then None else Some the_cause.Order) is
-body_judged own h message (Attr bytes) is open_now sound =
-    take_refused h message open_now sound ∙ ap (λ (b : MsgBody). if is_declined message.subtype b then None else Some the_cause.Order) is
-body_judged own h message (DringReg ident slots slot_size options number cookies) is open_now sound =
-    take_refused h message open_now sound ∙ ap (λ (b : MsgBody). if is_declined message.subtype b then None else Some the_cause.Order) is
-body_judged own h message (DringUnreg ident) is open_now sound =
-    take_refused h message open_now sound ∙ ap (λ (b : MsgBody). if is_declined message.subtype b then None else Some the_cause.Order) is
-body_judged own h message Ready is open_now sound =
-    take_refused h message open_now sound ∙ ap (λ (b : MsgBody). if is_declined message.subtype b then None else Some the_cause.Order) is
-body_judged own h message (Plain envelope) is open_now sound =
+body_judged own h message _ is open_now sound =
     take_refused h message open_now sound ∙ ap (λ (b : MsgBody). if is_declined message.subtype b then None else Some the_cause.Order) is
 
 -- a sid that is known

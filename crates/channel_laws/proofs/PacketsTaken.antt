@@ -80,8 +80,6 @@ most_at PeerRingAnswered = 2
 most_at _ = 1
 
 parts_at : (d : Deal) (n : Place) → FewCookies d → parts (length (canonical (message_at d n))) ≤ most_at n
-parts_at d VersionSaid few = omega (arith, length_canonical (message_at d VersionSaid))
-parts_at d VersionAnswered few = omega (arith, length_canonical (message_at d VersionAnswered))
 parts_at d AttributesSaid few = omega (arith, length_canonical (message_at d AttributesSaid), said_long d.asks.both_rings d.asks (minor_of d) refl)
 parts_at d AttributesAnswered few =
     omega (arith, length_canonical (message_at d AttributesAnswered), answered_long d.answers.both_rings d.answers (minor_of d) (said_attributes d.asks (minor_of d)) refl)
@@ -89,11 +87,7 @@ parts_at d RingSaid few = (ring_parts d.sid 0 d.asks.slots d.asks.slot_size 1 d.
 parts_at d RingAnswered few = (ring_parts d.sid d.sid d.asks.slots d.asks.slot_size 1 d.asks.count d.asks.cookies few.asks).1
 parts_at d PeerRingSaid few = (ring_parts d.sid 0 d.answers.slots d.answers.slot_size 1 d.answers.count d.answers.cookies few.answers).0
 parts_at d PeerRingAnswered few = (ring_parts d.sid d.sid d.answers.slots d.answers.slot_size 1 d.answers.count d.answers.cookies few.answers).1
-parts_at d ReadySaid few = omega (arith, length_canonical (message_at d ReadySaid))
-parts_at d ReadyAnswered few = omega (arith, length_canonical (message_at d ReadyAnswered))
-parts_at d PeerReadySaid few = omega (arith, length_canonical (message_at d PeerReadySaid))
-parts_at d PeerReadyAnswered few = omega (arith, length_canonical (message_at d PeerReadyAnswered))
-parts_at d AllSaid few = omega (arith, length_canonical (message_at d AllSaid))
+parts_at d n few = omega (arith, length_canonical (message_at d n))
 
 -- FROM ONE PLACE TO THE NEXT, which the other end's message leads to
 abbrev place_left : Bool → Deal → Role → Place → ℕ

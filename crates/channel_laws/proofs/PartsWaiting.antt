@@ -77,13 +77,11 @@ pub record SaysLong (role : Role) (c : EndCore) (turns : List Turn) : Type 0 whe
   pub long : LongSaid turns
 
 long_move : (role : Role) (c : EndCore) (move : EndMove) (t : EndCore) (turns : List Turn) → SaysLong role c turns → EndStep role c move t → LongSaid (turns_after turns move)
-long_move role c Begins t turns says step = tt
-long_move role c Renews t turns says step = tt
-long_move role c (Fails cause packet) t turns says step = tt
 long_move role c (Hears packet opens) t turns says step = says.long
 long_move role c (Says packet opens) t turns says step = says_long turns packet (end_said role c t turns packet opens says.stands step) says.long
 long_move role c Waits t turns says step = says.long
 long_move role c Stays t turns says step = says.long
+long_move role c _ t turns says step = tt
 
 pub long_run : (entries : ℕ) (asks answers : Offer) (events : List CoreEvent) (s : LaneCore) → CoreFits entries asks answers
     → Run CoreStep (fresh_core entries asks answers) events s → EndsAll SaysLong s (transcript_behind events)

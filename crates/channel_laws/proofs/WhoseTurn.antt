@@ -162,13 +162,7 @@ last_asked false d RingAnswered here turn = omega arith
 last_asked false d PeerRingSaid here turn = absurd here
 last_asked false d ReadyAnswered here turn = omega arith
 last_asked false d PeerReadySaid here turn = omega arith
-last_asked both d VersionSaid here turn = absurd (cc turn)
-last_asked both d AttributesSaid here turn = absurd (cc turn)
-last_asked both d RingSaid here turn = absurd (cc turn)
-last_asked both d PeerRingAnswered here turn = absurd (cc turn)
-last_asked both d ReadySaid here turn = absurd (cc turn)
-last_asked both d PeerReadyAnswered here turn = absurd (cc turn)
-last_asked both d AllSaid here turn = absurd (cc turn)
+last_asked both d _ here turn = absurd (cc turn)
 
 pub initiator_done : (both : Bool) (d : Deal) (h g : Handshake) (mine theirs : List Turn) → (at : AtPlace both d Initiator h mine) → (there : AtPlace both d Responder g theirs)
     → there.place ≡ AllSaid → IsFront (heard theirs) (said mine) → at.place ≡ AllSaid
