@@ -4,22 +4,14 @@ use Rattle.std.proofs.Common.{◌≡◌, ℕ, ◌≤◌, inl, inr, Bool, true, f
 use Rattle.std.specs.Prelude.{is_some}
 use Rattle.std.proofs.lemmas.List.{append-nil}
 use Rattle.ldc_packet.specs.declared.packet.Packet.{Packet}
+use Rattle.channel_laws.specs.Vocabulary.{ChannelState, Initiator, LinkPhase, LinkState, Offer, OneWay, Responder, Sides, Turn, Up, first_phase, heard, is_established, is_up, live, numbered_heard}
+use Rattle.channel_laws.specs.Vocabulary.{numbered_said, owed_in, owes, said}
 use Rattle.ldc_packet.specs.Spelling.{canonical}
-use Rattle.ldc_link.specs.declared.phase.LinkPhase.{LinkPhase}
 use Rattle.ldc_link.specs.declared.phase.LinkPhase.TheVariants as phase
-use Rattle.ldc_link.specs.declared.phase.Role.TheVariants.{Initiator, Responder}
-use Rattle.ldc_link.specs.LinkState.{LinkState, first_phase, is_established, is_up}
-use Rattle.ldc_link.specs.Putting.{owed_in, owes}
-use Rattle.ldc_queue.specs.declared.end.ChannelState.{ChannelState}
-use Rattle.ldc_queue.specs.declared.end.ChannelState.TheVariants.{Up}
 use Rattle.ldc_queue.specs.Fragments.{fragments_in}
 use Rattle.ldc_queue.specs.Messages.{whole_in}
 use Rattle.ldc_queue.specs.Numbered.{numbered}
-use Rattle.ldc_queue.specs.OneStream.{OneWay, live}
-use Rattle.ldc_queue.specs.Transcript.{Turn, numbered_heard, numbered_said}
-use Rattle.vio_handshake.specs.declared.session.Offer.{Offer}
 use Rattle.channel_model.proofs.SameSayings.{heard_is, said_is}
-use Rattle.channel_model.specs.Sayings.{heard, said}
 use Rattle.channel_laws.proofs.Apart.{true_is_false}
 use Rattle.channel_laws.proofs.HandshakePlaces.{deal, place_open}
 use Rattle.channel_laws.proofs.HandshakesPlaced.{Meets}
@@ -28,7 +20,6 @@ use Rattle.channel_laws.proofs.WhoseTurn.{both_done}
 use Rattle.channel_laws.specs.Conversing.{Converse}
 use Rattle.channel_laws.specs.LinkPlaces.{AnswerTaken, AtMost, BothUp, LinkPlace, LinksAt, ModeAgreed, ModeAnswered, ModePut, ModeTaken, NothingPut, ReadyFirst, ReadyPut, VersionPut, VersionTaken, live_phase}
 use Rattle.channel_laws.specs.LinkPlaces as link
-use Rattle.channel_laws.specs.Sides.{Sides}
 
 -- WHAT WAS SAID WAS HEARD where nothing was lost and nothing waits
 no_packets : (xs : List (List ℕ)) → length xs ≤ 0 → xs ≡ []

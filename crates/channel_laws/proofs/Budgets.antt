@@ -1,19 +1,12 @@
 -- The budget of an end: it is never above 34,000, doesn't grow but by what the end takes, and falls with each packet that it puts.
 use Rattle.std.proofs.Common.{◌≡◌, ℕ, ◌+◌, ◌*◌, ◌≤◌, Bool, true, false, Option, Some, None, List, [], ◌∷◌, length, drop, refl, sym, ap, ◌∙◌, subst, arith, length-drop}
 use Rattle.std.proofs.lemmas.Bool.{leb-false}
-use Rattle.ldc_link.specs.declared.phase.LinkPhase.{LinkPhase}
+use Rattle.channel_laws.specs.Vocabulary.{EndAnew, EndCore, EndSays, EndStands, EndStays, EndWaits, Handshake, Holding, Holds, HoldsOn, HoldsOwed, HoldsOwn, Initiator, LinkPhase, LinkState}
+use Rattle.channel_laws.specs.Vocabulary.{Message, OwedIsShort, Responder, Role, Turn, canonical, first_phase, handshake_sent, holds, is_established, is_up, offered, opens_by_put}
 use Rattle.ldc_link.specs.declared.phase.LinkPhase.TheVariants as phase
-use Rattle.ldc_link.specs.declared.phase.Role.{Role}
-use Rattle.ldc_link.specs.declared.phase.Role.TheVariants.{Initiator, Responder}
-use Rattle.ldc_link.specs.LinkState.{LinkState, first_phase, is_established, is_up, offered}
-use Rattle.ldc_queue.specs.Transcript.{Turn}
-use Rattle.vio_handshake.specs.declared.handshake.Handshake.{Handshake}
 use Rattle.vio_handshake.specs.declared.handshake.Phase.{Phase}
 use Rattle.vio_handshake.specs.declared.handshake.Phase.TheVariants.{Open, OwnReady, OwnRing, PeerReadyTaken, PeerRingTaken, Version}
-use Rattle.vio_handshake.specs.Rules.{opens_by_put, handshake_sent}
 use Rattle.vio_handshake.specs.State.{begun, joined_handshake, handshake_up}
-use Rattle.vio_tag.specs.declared.message.Message.{Message}
-use Rattle.vio_tag.specs.Spelling.{canonical}
 use Rattle.channel_laws.proofs.EndCases.{PutControl, PutMore, PutOwn, PutReady, PutHandshake, PutWhat, end_put}
 use Rattle.channel_laws.proofs.EndStanding.{held_stands, holds_some, last_none, open_up, owing_up, up_empty}
 use Rattle.channel_laws.proofs.HandshakeCases.{Opens, Owes, OwnReadyFollows, ReadyFollows, RingFollows, RowSent, row_sent}
@@ -21,9 +14,6 @@ use Rattle.channel_laws.proofs.LinkCases.{ControlPut, ModeAnswered, ModeOffered,
 use Rattle.channel_laws.proofs.Short.{short_within, some_bytes}
 use Rattle.channel_laws.proofs.TurnCases.{SaysLast}
 use Rattle.channel_laws.specs.Budget.{budget, budget_in, messages_left, one_more, one_owed, opening_left, owed_left}
-use Rattle.channel_laws.specs.EndCore.{EndCore, holds}
-use Rattle.channel_laws.specs.EndStep.{EndAnew, EndSays, EndStays, EndWaits, Holding, Holds, HoldsOn, HoldsOwed, HoldsOwn}
-use Rattle.channel_laws.specs.Standing.{EndStands, OwedIsShort}
 
 -- SUMS
 budget_less : (ph : LinkPhase) (n m : ℕ) → n ≤ m → budget_in ph n ≤ budget_in ph m

@@ -2,29 +2,20 @@
 use Rattle.std.proofs.Common.{◌≡◌, ℕ, Bool, true, false, Option, Some, None, Ok, Err, List, ◌++◌, refl, sym, subst, inl, inr, ◌⊎◌}
 use Rattle.std.specs.Prelude.{◌&&◌, ◌||◌, not, Result, if◌then◌else◌, nat_eq, ⊤}
 use Rattle.std.proofs.lemmas.Bool.{eqb-true}
-use Rattle.ldc_link.specs.Taking.{may_come}
+use Rattle.channel_laws.specs.Vocabulary.{Attr, Cause, DringData, DringReg, DringUnreg, GapOf, Mcast, Message, Plain, Rdx, SpellsMessage, Turn, Ver, count_heard, counts_next, ctrl_at, ended_by}
+use Rattle.channel_laws.specs.Vocabulary.{env_at, half_heard, is_declined, may_come, seqid_at, type_at, whole_with}
 use Rattle.ldc_packet.specs.declared.packet.PacketFault.{PacketFault}
 use Rattle.ldc_packet.specs.Fault.{first_fault}
-use Rattle.ldc_packet.specs.Spelling.{ctrl_at, env_at, seqid_at, type_at}
 use Rattle.ldc_queue.specs.Fragments.{fragment_at, is_part}
 use Rattle.ldc_queue.specs.Numbered.{is_numbered}
-use Rattle.ldc_queue.specs.Transcript.{Turn}
-use Rattle.vio_handshake.specs.Rules.{is_declined}
 use Rattle.vio_tag.proofs.Deciding.{some_result}
 use Rattle.vio_tag.proofs.NoFault.{spelled_no_fault}
-use Rattle.vio_tag.specs.declared.cause.Cause.{Cause}
 use Rattle.vio_tag.specs.declared.cause.Cause.TheVariants as the_cause
-use Rattle.vio_tag.specs.declared.message.Message.{Message}
 use Rattle.vio_tag.specs.declared.message.MsgBody.{MsgBody}
-use Rattle.vio_tag.specs.declared.message.MsgBody.TheVariants.{Attr, DringData, DringReg, DringUnreg, Mcast, Plain, Rdx, Ver}
 use Rattle.vio_tag.specs.declared.message.TagFault.{TagFault}
 use Rattle.vio_tag.specs.Decoding.{Decodes}
 use Rattle.vio_tag.specs.Fault as message
-use Rattle.vio_tag.specs.Spelling.{SpellsMessage}
-use Rattle.channel_model.specs.Messages.{ended_by, whole_with}
 use Rattle.channel_model.specs.ResetSays.{MessageSays, PacketSays}
-use Rattle.channel_model.specs.Sayings.{count_heard, half_heard}
-use Rattle.channel_model.specs.WireAt.{GapOf, counts_next}
 use Rattle.channel_laws.proofs.LinkResets.{other_number}
 use Rattle.channel_laws.proofs.Resets.{by_message}
 use Rattle.channel_laws.proofs.TurnCases.{EndsBy}

@@ -2,25 +2,16 @@
 use Rattle.std.proofs.Common.{◌≡◌, ℕ, ◌+◌, ◌≤◌, Bool, true, false, ◌⊎◌, inl, inr, List, [], ◌∷◌, ◌++◌, length, drop, Some, refl, sym, ap, subst, arith, length-append}
 use Rattle.std.specs.Prelude.{slice_get}
 use Rattle.ldc_packet.specs.declared.packet.Body.TheVariants.{Rdx}
-use Rattle.ldc_packet.specs.declared.packet.Subtype.TheVariants.{Info}
+use Rattle.channel_laws.specs.Vocabulary.{A, ChannelState, Down, EndAnew, EndCore, EndHears, EndSays, EndStands, EndStays, EndWaits, Hears, Holding, Holds, HoldsOn, HoldsOwed, HoldsOwn, Info}
+use Rattle.channel_laws.specs.Vocabulary.{Initiator, IsPhaseOf, LinkPhase, LinkState, Resetting, Responder, Role, Sides, Turn, Up, anew, control, fresh_link, goes_on, lossy_behind, missed, other}
+use Rattle.channel_laws.specs.Vocabulary.{peer_behind, put, queue_behind, shut, swapped, took, upset}
 use Rattle.ldc_packet.specs.Spelling.{canonical}
 use Rattle.ldc_link.proofs.Following.{takes_follow}
 use Rattle.ldc_link.proofs.FollowingPuts.{puts_follow}
-use Rattle.ldc_link.specs.declared.phase.LinkPhase.{LinkPhase}
-use Rattle.ldc_link.specs.declared.phase.Role.{Role}
-use Rattle.ldc_link.specs.declared.phase.Role.TheVariants.{Initiator, Responder}
-use Rattle.ldc_link.specs.LinkState.{LinkState, fresh_link}
-use Rattle.ldc_link.specs.Putting.{control}
 use Rattle.ldc_queue.proofs.Streams.{stream_step}
-use Rattle.ldc_queue.specs.declared.end.ChannelState.{ChannelState}
-use Rattle.ldc_queue.specs.declared.end.ChannelState.TheVariants.{Down, Resetting, Up}
-use Rattle.ldc_queue.specs.declared.end.End.TheVariants.{A}
 use Rattle.ldc_queue.specs.Numbered.{is_numbered, numbered}
 use Rattle.ldc_queue.specs.QueueEvent.{Close, Join, Lose, Put, Take}
 use Rattle.ldc_queue.specs.QueueLog.{IsFirst, lost_behind, lost_past}
-use Rattle.ldc_queue.specs.Transcript.{Turn}
-use Rattle.ldc_queue.specs.Wire.{peer_behind, queue_behind, upset}
-use Rattle.channel_model.specs.WireLog.{lossy_behind}
 use Rattle.channel_laws.proofs.Budgets.{anew_budget, budget_small, says_budget, stays_budget, waits_budget}
 use Rattle.channel_laws.proofs.EndCases.{PutControl, PutMore, PutOwn, PutReady, PutHandshake, PutWhat, end_put, end_took}
 use Rattle.channel_laws.proofs.EndStanding.{held_stands, stands_step}
@@ -29,10 +20,6 @@ use Rattle.channel_laws.proofs.LinkCases.{ControlHeard, ControlPut, ControlTaken
 use Rattle.channel_laws.proofs.TurnCases.{SaysPart}
 use Rattle.channel_laws.specs.Budget.{budget}
 use Rattle.channel_laws.specs.Conversing.{AreFew, Converse, controls, live_budget, live_puts, live_takes, puts_left, queue_log, takes_left, unless, unnumbered}
-use Rattle.channel_laws.specs.EndCore.{EndCore, Hears}
-use Rattle.channel_laws.specs.EndStep.{EndAnew, EndHears, EndSays, EndStays, EndWaits, Holding, Holds, HoldsOn, HoldsOwed, HoldsOwn}
-use Rattle.channel_laws.specs.Sides.{Sides, anew, goes_on, missed, other, put, shut, swapped, took}
-use Rattle.channel_laws.specs.Standing.{EndStands, IsPhaseOf}
 
 -- FROM THE OTHER SIDE
 pub swap_converse : (role : Role) (s : Sides) → Converse role s → Converse (other role) (swapped s)

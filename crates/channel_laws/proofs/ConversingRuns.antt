@@ -1,39 +1,25 @@
 -- Along every run that nobody forged the two ends converse, so that what an end heard is a front of what the other said.
 use Rattle.std.proofs.Common.{◌≡◌, ℕ, ◌≤◌, false, Some, List, [], ◌∷◌, ◌++◌, refl, sym, ap, ◌∙◌, subst, arith}
 use Rattle.std.specs.Prelude.{slice_get}
-use Rattle.runs.specs.Run.{Run}
-use Rattle.ldc_link.specs.declared.phase.Role.{Role}
-use Rattle.ldc_link.specs.declared.phase.Role.TheVariants.{Initiator}
+use Rattle.channel_laws.specs.Vocabulary.{A, B, ChannelState, CoreEvent, CoreFits, CoreStep, Down, End, Initiator, IsFront, IsUp, LaneCore, LinkState, Offer, OneStream, Resetting, Role, Run, Sides}
+use Rattle.channel_laws.specs.Vocabulary.{TakesBytes, TranscriptLog, Turn, Up, fresh_core, heard, live, nothing_said, numbered_heard, numbered_said, peer_of, said, sides_of, took}
+use Rattle.channel_laws.specs.Vocabulary.{transcript_behind, transcript_of}
 use Rattle.ldc_queue.proofs.Messages.{messages_front}
 use Rattle.ldc_link.proofs.Following.{takes_follow}
 use Rattle.ldc_link.specs.Following.{Follows}
-use Rattle.ldc_link.specs.LinkState.{LinkState}
-use Rattle.ldc_link.specs.Taking.{Heard, TakesBytes}
+use Rattle.ldc_link.specs.Taking.{Heard}
 use Rattle.ldc_queue.specs.QueueEvent.{Take}
 use Rattle.ldc_queue.specs.QueueLog.{lost_past}
 use Rattle.ldc_queue.proofs.Streams.{heard_front, stream_begins, stream_step}
-use Rattle.ldc_queue.specs.declared.end.ChannelState.{ChannelState}
-use Rattle.ldc_queue.specs.declared.end.ChannelState.TheVariants.{Down, Resetting, Up}
-use Rattle.ldc_queue.specs.declared.end.End.{End}
-use Rattle.ldc_queue.specs.declared.end.End.TheVariants.{A, B}
 use Rattle.ldc_queue.specs.Fragments.{fragments_in}
 use Rattle.ldc_queue.specs.Messages.{messages_heard, whole_in}
 use Rattle.ldc_queue.specs.Numbered.{numbered}
-use Rattle.ldc_queue.specs.OneStream.{IsFront, OneStream, live}
 use Rattle.ldc_queue.specs.Transcript as turn
-use Rattle.ldc_queue.specs.Transcript.{Turn, numbered_heard, numbered_said}
-use Rattle.ldc_queue.specs.Wire.{peer_of}
-use Rattle.vio_handshake.specs.declared.session.Offer.{Offer}
 use Rattle.channel_model.proofs.SameSayings.{heard_is, said_is}
-use Rattle.channel_model.specs.Sayings.{heard, said}
-use Rattle.channel_model.specs.TranscriptLog.{TranscriptLog, nothing_said, transcript_of}
-use Rattle.channel_model.specs.WireAt.{IsUp}
 use Rattle.channel_laws.proofs.Conversations.{anew_converse, first_waits, missed_converse, put_converse, shut_converse, stays_converse, swap_converse, took_converse, waits_converse}
 use Rattle.channel_laws.proofs.FewLost.{below_turn, few_begins}
 use Rattle.channel_laws.proofs.Lifting.{ActsKeep, CoreHolds, core_run}
 use Rattle.channel_laws.specs.Conversing.{Converse, queue_log}
-use Rattle.channel_laws.specs.LaneCore.{CoreEvent, CoreFits, CoreStep, LaneCore, fresh_core, transcript_behind}
-use Rattle.channel_laws.specs.Sides.{Sides, sides_of, took}
 
 pub converse_keeps : ActsKeep Converse
 converse_keeps = record {

@@ -1,10 +1,6 @@
 -- The laws of two ends on a channel, along every run.
 use Rattle.std.proofs.Common.{◌≡◌, ℕ, true, false, List}
-use Rattle.runs.specs.Lawful.{log_of}
-use Rattle.runs.specs.Run.{Run}
-use Rattle.ldc_link.specs.declared.phase.Role.TheVariants.{Initiator, Responder}
-use Rattle.vio_handshake.specs.declared.session.Offer.{Offer}
-use Rattle.channel_model.specs.Sayings.{heard}
+use Rattle.channel_laws.specs.Vocabulary.{CoreEvent, CoreFits, CoreStep, EndStands, Initiator, LaneCore, Offer, Responder, Run, fresh_core, heard, log_of, sides_of, transcript_behind}
 use Rattle.channel_laws.proofs.ConversingRuns.{converse_run}
 use Rattle.channel_laws.proofs.EndResting.{open_rests}
 use Rattle.channel_laws.proofs.EndUttering.{speaks_run}
@@ -14,10 +10,7 @@ use Rattle.channel_laws.proofs.Sessions.{converse_knows}
 use Rattle.channel_laws.specs.Conversing.{Converse}
 use Rattle.channel_laws.specs.CoreLog.{RoomStands, UpStands, after, nothing_yet}
 use Rattle.channel_laws.specs.Grounds.{OpenRests, RestsOn}
-use Rattle.channel_laws.specs.LaneCore.{CoreEvent, CoreFits, CoreStep, LaneCore, fresh_core, transcript_behind}
 use Rattle.channel_laws.specs.LinkPlaces.{LinksAt}
-use Rattle.channel_laws.specs.Sides.{sides_of}
-use Rattle.channel_laws.specs.Standing.{EndStands}
 
 -- AN END
 pub stands_a : (entries : ℕ) (asks answers : Offer) (events : List CoreEvent) (s : LaneCore) → CoreFits entries asks answers

@@ -1,24 +1,12 @@
 -- What is known of two ends and the wire along every run, in the log of its events.
 use Rattle.std.proofs.Common.{◌≡◌, ℕ, ◌+◌, ◌<◌, ◌≤◌, false, List, [], ◌∷◌, ◌++◌, drop, length, refl, sym, ap, ◌∙◌, subst, arith, length-append, length-drop}
-use Rattle.runs.specs.Lawful.{Lawful, log_of, run_lawful}
-use Rattle.runs.specs.Run.{Run}
-use Rattle.ldc_link.specs.declared.phase.Role.{Role}
-use Rattle.ldc_link.specs.declared.phase.Role.TheVariants.{Initiator, Responder}
-use Rattle.ldc_queue.specs.declared.end.ChannelState.{ChannelState}
-use Rattle.ldc_queue.specs.declared.end.ChannelState.TheVariants.{Down, Resetting, Up}
-use Rattle.ldc_queue.specs.declared.end.End.{End}
-use Rattle.ldc_queue.specs.declared.end.End.TheVariants.{A, B}
-use Rattle.ldc_queue.specs.Wire.{peer_behind, queue_behind, state_of, upset}
-use Rattle.vio_handshake.specs.declared.session.Offer.{Offer}
-use Rattle.channel_model.specs.TranscriptLog.{nothing_said}
-use Rattle.channel_model.specs.WireEvent.{Blocked, Declines, Idle, Injected, Joined, Lost, Poked, Reset, Sent, Took, WireEvent}
-use Rattle.channel_model.specs.WireLog.{WireLog, wire_moved}
+use Rattle.channel_laws.specs.Vocabulary.{A, B, Beside, Blocked, ChannelState, Closes, CoreEvent, CoreFits, CoreStands, CoreStep, Declines, Down, End, Idle, Initiator, Injected, Joined, LaneCore}
+use Rattle.channel_laws.specs.Vocabulary.{Lawful, Lost, Offer, OnChannel, Poked, Reset, Resetting, Responder, Role, Run, Sent, Sides, Took, Up, WireEvent, WireLog, WireStands, end_of, fresh_core}
+use Rattle.channel_laws.specs.Vocabulary.{log_of, nothing_said, peer_behind, queue_behind, run_lawful, sides_of, state_of, upset, wire_after, wire_moved}
 use Rattle.channel_laws.proofs.EndStanding.{fresh_end_stands}
 use Rattle.channel_laws.proofs.EndUttering.{EndSpeaks, fresh_speaks, speaks_step}
 use Rattle.channel_laws.proofs.Lifting.{ActsKeep, CoreHolds, EndsAll, core_step, ends_step}
 use Rattle.channel_laws.specs.CoreLog.{CoreLog, RoomStands, UpStands, after, nothing_yet}
-use Rattle.channel_laws.specs.LaneCore.{Beside, Closes, CoreEvent, CoreFits, CoreStands, CoreStep, LaneCore, OnChannel, WireStands, end_of, fresh_core, wire_after}
-use Rattle.channel_laws.specs.Sides.{Sides, sides_of}
 
 -- THE QUEUES
 pub record Room (n : ℕ) (w : WireLog) : Type 0 where

@@ -3,35 +3,24 @@ use Rattle.std.proofs.Common.{◌≡◌, ℕ, ◌≤◌, Bool, true, false, ◌|
 use Rattle.std.specs.Prelude.{◌&&◌, if◌then◌else◌, nat_eq, nat_le, not, Result, Ok, Err}
 use Rattle.std.proofs.lemmas.Bool.{leb-true}
 use Rattle.ldc_packet.specs.declared.packet.Body.TheVariants.{Rdx}
-use Rattle.ldc_packet.specs.declared.packet.Subtype.TheVariants.{Info}
+use Rattle.channel_laws.specs.Vocabulary.{ComesUp, EndCore, EndHears, EndSays, EndStands, EndsHandshake, EndsOwn, Faults, Goes as GoesOn, GoesOpen, Handshake, HandshakeTake, HandshakeTakes}
+use Rattle.channel_laws.specs.Vocabulary.{Heard as Heard_, HearsDecoded, HearsWhole, Info, Initiator, IsOwn, IsPhaseOf, LinkPhase, LinkState, Message, PutKind, Responder, Role, SpellsMessage}
+use Rattle.channel_laws.specs.Vocabulary.{TakesBytes, Turn, answer_to, cleared, control, counted, ending, handshake_behind, handshake_sent, handshake_take, heard, is_established, is_up, kind_in}
+use Rattle.channel_laws.specs.Vocabulary.{kind_of, opened_by, opens_by_put, put_opens, risen_at}
 use Rattle.ldc_packet.specs.Spelling.{canonical as packet_bytes}
-use Rattle.ldc_queue.specs.Transcript.{Heard as Heard_, Turn}
-use Rattle.ldc_link.specs.declared.phase.LinkPhase.{LinkPhase}
 use Rattle.ldc_link.specs.declared.phase.LinkPhase.TheVariants as phase
-use Rattle.ldc_link.specs.declared.phase.Role.{Role}
-use Rattle.ldc_link.specs.declared.phase.Role.TheVariants.{Initiator, Responder}
 use Rattle.ldc_link.specs.Following.{Follows}
-use Rattle.ldc_link.specs.LinkState.{LinkState, cleared, is_established, is_up}
-use Rattle.ldc_link.specs.Putting.{control}
-use Rattle.ldc_link.specs.Taking.{Heard, TakesBytes, answer_to, counted}
-use Rattle.vio_handshake.specs.declared.handshake.Handshake.{Handshake}
-use Rattle.vio_handshake.specs.Rules.{Faults, Goes, GoesOpen, HandshakeTake, opens_by_put, handshake_sent, handshake_take}
+use Rattle.ldc_link.specs.Taking.{Heard}
+use Rattle.vio_handshake.specs.Rules.{Goes}
 use Rattle.vio_handshake.specs.State.{handshake_up}
-use Rattle.vio_tag.specs.declared.message.Message.{Message}
 use Rattle.vio_tag.specs.declared.message.TagFault.{TagFault}
 use Rattle.vio_tag.specs.Decoding.{Decodes}
 use Rattle.vio_tag.specs.Form.{IsWellFormed}
-use Rattle.vio_tag.specs.Spelling.{SpellsMessage}
-use Rattle.channel_model.specs.EndPuts.{ComesUp, EndsOwn, EndsHandshake, Goes as GoesOn, PutKind, ending, kind_in, put_opens, handshake_behind}
-use Rattle.channel_model.specs.Sayings.{heard}
 use Rattle.channel_laws.proofs.Apart.{true_is_false}
 use Rattle.channel_laws.proofs.HandshakeCases.{HandshakeTook, goes_took, never_opens, opens_took}
 use Rattle.channel_laws.proofs.LinkCases.{ControlGone, ControlHeard, ControlPut, ControlTaken, LinkHeard, LinkPut, ModeAgreed, ModeAnswered, ModeAsked, ModeOffered, PartGone, PartHeard, ReadyGone, ReadyHeard, VersionAgreed, VersionAnswered, VersionAsked, VersionOffered, VersionRefused, behind_part, behind_ready, canonical_is, link_heard, link_put, put_quiet, ready_loud}
 use Rattle.channel_laws.proofs.PutSayings.{control_kind}
 use Rattle.channel_laws.proofs.TurnCases.{EndsBy, HearsOn, SaysLast, SaysMore, SaysNothing, SaysPart, hears_on, says_last, says_more, says_nothing, says_part}
-use Rattle.channel_laws.specs.EndCore.{EndCore}
-use Rattle.channel_laws.specs.EndStep.{EndHears, EndSays, HandshakeTakes, HearsDecoded, HearsWhole, IsOwn, kind_of, opened_by, risen_at}
-use Rattle.channel_laws.specs.Standing.{EndStands, IsPhaseOf}
 
 -- A MESSAGE that became whole by the packet
 pub record TookMessage (c : EndCore) (turns : List Turn) (packet : List ℕ) (now : LinkState) (message : Message) : Type 0 where

@@ -1,39 +1,27 @@
 -- Each move of an end leaves its link's phase and its handshake as its turns have them.
 use Rattle.std.proofs.Common.{◌≡◌, ℕ, ◌≤◌, Bool, true, false, ◌||◌, inl, inr, Option, Some, None, List, [], ◌∷◌, ◌++◌, refl, sym, ap, ◌∙◌, subst, arith}
 use Rattle.std.specs.Prelude.{◌==◌, Result, Ok}
-use Rattle.runs.specs.Run.{Run}
-use Rattle.ldc_link.specs.declared.phase.LinkPhase.{LinkPhase}
+use Rattle.channel_laws.specs.Vocabulary.{Ack, Attr, Begins, CoreEvent, CoreFits, CoreStep, DringData, DringReg, DringUnreg, EndBegins, EndCore, EndHears, EndMove, EndSays, EndStands, EndStep}
+use Rattle.channel_laws.specs.Vocabulary.{Fails, Faults, GoesOpen, Handshake, HandshakeTake, Heard as Heard_, Hears, Info, Initiator, IsOfSession, IsShort, LaneCore, LinkPhase, LinkState, Mcast}
+use Rattle.channel_laws.specs.Vocabulary.{Message, Nack, Offer, OwedIsShort, Plain, Rdx as Ready, Renews, Responder, Role, Run, Said as Said_, Says, SpellsMessage, Stays, Turn, Ver, Waits}
+use Rattle.channel_laws.specs.Vocabulary.{canonical, ctrl_at, ended_by, env_at, first_phase, fresh_core, fresh_end, half_heard, half_said, handshake_sent, handshake_take, heard, in_mode}
+use Rattle.channel_laws.specs.Vocabulary.{is_established, is_rdx, is_up, number_at, phase_behind_put, phase_behind_rdx, phase_behind_rtr, phase_behind_rts, phase_behind_vers, subtype_code}
+use Rattle.channel_laws.specs.Vocabulary.{transcript_behind, turns_after}
 use Rattle.ldc_link.specs.declared.phase.LinkPhase.TheVariants as phase
-use Rattle.ldc_link.specs.declared.phase.Role.{Role}
-use Rattle.ldc_link.specs.declared.phase.Role.TheVariants.{Initiator, Responder}
-use Rattle.ldc_link.specs.LinkState.{LinkState, first_phase, is_established, is_up}
-use Rattle.ldc_link.specs.Putting.{phase_behind_put}
-use Rattle.ldc_link.specs.Taking.{in_mode, phase_behind_rdx, phase_behind_rtr, phase_behind_rts, phase_behind_vers}
 use Rattle.ldc_packet.specs.declared.packet.Body.TheVariants.{Rdx}
 use Rattle.ldc_packet.specs.declared.packet.Subtype.{Subtype}
-use Rattle.ldc_packet.specs.declared.packet.Subtype.TheVariants.{Ack, Info, Nack}
-use Rattle.ldc_packet.specs.Spelling.{ctrl_at, env_at, subtype_at, subtype_code}
+use Rattle.ldc_packet.specs.Spelling.{subtype_at}
 use Rattle.ldc_queue.specs.Fragments.{is_part}
-use Rattle.ldc_queue.specs.Transcript.{Heard as Heard_, Said as Said_, Turn}
-use Rattle.vio_bytes.specs.Place.{number_at}
 use Rattle.vio_tag.proofs.Deciding.{some_result}
 use Rattle.vio_tag.proofs.Reading.{one_result, spelled_decodes}
-use Rattle.vio_tag.specs.declared.message.Message.{Message}
 use Rattle.vio_tag.specs.declared.message.MsgBody.{MsgBody}
-use Rattle.vio_tag.specs.declared.message.MsgBody.TheVariants.{Attr, DringData, DringReg, DringUnreg, Mcast, Plain, Rdx as Ready, Ver}
 use Rattle.vio_tag.specs.declared.message.TagFault.{TagFault}
 use Rattle.vio_tag.specs.Form.{IsWellFormed}
-use Rattle.vio_tag.specs.Spelling.{SpellsMessage, canonical}
-use Rattle.vio_handshake.specs.declared.handshake.Handshake.{Handshake}
 use Rattle.vio_handshake.specs.declared.handshake.Phase.TheVariants.{Down, Version}
-use Rattle.vio_handshake.specs.declared.session.Offer.{Offer}
 use Rattle.vio_handshake.specs.Messages.{info}
-use Rattle.vio_handshake.specs.Rules.{Faults, Goes, GoesOpen, HandshakeTake, handshake_sent, handshake_take}
+use Rattle.vio_handshake.specs.Rules.{Goes}
 use Rattle.vio_handshake.specs.State.{begun, handshake_up, joined_handshake, next_sid, no_session}
 use Rattle.vio_handshake.proofs.PlaceRows.{GoesTo}
-use Rattle.channel_model.specs.Messages.{ended_by}
-use Rattle.channel_model.specs.Sayings.{half_heard, half_said, heard}
-use Rattle.channel_model.specs.TranscriptLog.{is_rdx}
 use Rattle.channel_laws.proofs.Apart.{false_is_true, true_is_false}
 use Rattle.channel_laws.proofs.Conversations.{held_phase}
 use Rattle.channel_laws.proofs.EndCases.{EndTook, NoMessage, PutControl, PutMore, PutOwn, PutReady, PutHandshake, PutWhat, Rises, TookHandshake, TookMessage, TookOwn, TookWhat, end_put, end_took, taken_down}
@@ -46,11 +34,7 @@ use Rattle.channel_laws.proofs.LinkCases.{ControlGone, ControlHeard, ControlPut,
 use Rattle.channel_laws.proofs.Sids.{loud_rdx, part_rdx, quiet_rdx, row_last, sent_last}
 use Rattle.channel_laws.proofs.TurnCases.{SaysLast, heard_none, heard_some, said_none, said_some}
 use Rattle.channel_laws.specs.Cuts.{Carries}
-use Rattle.channel_laws.specs.EndCore.{Begins, EndCore, EndMove, Fails, Hears, Renews, Says, Stays, Waits, fresh_end}
 use Rattle.channel_laws.specs.EndFold.{EndFolds, behind_decoded, behind_heard, behind_said, decoded_of, down_with, handshake_of, is_of_session, moved_by, or_stays, phase_by, phase_heard, sent_unless, subtype_named, up_if, up_with}
-use Rattle.channel_laws.specs.EndStep.{EndBegins, EndHears, EndSays, EndStep, IsOfSession}
-use Rattle.channel_laws.specs.LaneCore.{CoreEvent, CoreFits, CoreStep, LaneCore, fresh_core, transcript_behind, turns_after}
-use Rattle.channel_laws.specs.Standing.{EndStands, IsShort, OwedIsShort}
 
 -- WHAT A LINK HEARS moves its phase by the packet's fields
 named_is : (s : Subtype) → subtype_named (subtype_code s) ≡ s

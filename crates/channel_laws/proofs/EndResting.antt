@@ -2,32 +2,22 @@
 use Rattle.std.proofs.Common.{◌≡◌, ℕ, Bool, true, false, Option, Some, None, inl, inr, List, [], ◌∷◌, ◌++◌, refl, sym, ap, ◌∙◌, subst}
 use Rattle.std.specs.Prelude.{◌==◌, ◌&&◌, ◌||◌, if◌then◌else◌}
 use Rattle.std.proofs.lemmas.Bool.{eqb-true}
-use Rattle.ldc_link.specs.declared.phase.Role.{Role}
-use Rattle.ldc_link.specs.declared.phase.Role.TheVariants.{Initiator, Responder}
-use Rattle.ldc_queue.specs.Transcript.{Heard, Turn}
+use Rattle.channel_laws.specs.Vocabulary.{Begins, DringReg, EndBegins, EndCore, EndHears, EndMove, EndSays, EndStands, EndStep, Fails, Handshake, Heard, Hears, Holding, Holds, HoldsOn, HoldsOwed}
+use Rattle.channel_laws.specs.Vocabulary.{HoldsOwn, Initiator, LinkState, Message, Renews, Responder, Role, Says, SpellsMessage, Stays, Turn, Ver, Waits, behind_ring, handshake_sent, heard}
+use Rattle.channel_laws.specs.Vocabulary.{peer_named, sid_fault, turns_after}
 use Rattle.map_table.specs.declared.cookie.Cookie.{Cookie}
-use Rattle.ldc_link.specs.LinkState.{LinkState}
-use Rattle.vio_handshake.specs.declared.handshake.Handshake.{Handshake}
 use Rattle.vio_handshake.specs.declared.handshake.Phase.{Phase}
 use Rattle.vio_handshake.specs.declared.handshake.Phase.TheVariants.{Attributes, Open, OwnReady, OwnRing, PeerReady, PeerReadyTaken, PeerRing, PeerRingTaken, Version}
 use Rattle.vio_handshake.specs.declared.session.Session.{Session}
 use Rattle.vio_handshake.specs.Messages.{ack, info, nack}
-use Rattle.vio_handshake.specs.Rules.{behind_ring, owes, peer_named, handshake_sent, sid_fault}
+use Rattle.vio_handshake.specs.Rules.{owes}
 use Rattle.vio_handshake.specs.State.{begun, fresh_handshake, joined_handshake, session_in, session_of, handshake_up}
 use Rattle.vio_tag.specs.declared.cause.Cause.TheVariants.{Sid}
-use Rattle.vio_tag.specs.declared.message.Message.{Message}
-use Rattle.vio_tag.specs.declared.message.MsgBody.TheVariants.{DringReg, Ver}
 use Rattle.vio_tag.specs.Form.{IsWellFormed}
-use Rattle.vio_tag.specs.Spelling.{SpellsMessage}
-use Rattle.channel_model.specs.Sayings.{heard}
 use Rattle.channel_laws.proofs.EndCases.{NoMessage, PutControl, PutMore, PutOwn, PutReady, PutHandshake, PutWhat, Rises, TookMessage, TookOwn, TookHandshake, TookWhat, end_put, end_took}
 use Rattle.channel_laws.proofs.EndStanding.{held_stands, opened_phase, stands_step}
 use Rattle.channel_laws.proofs.HandshakeCases.{AttributesAgreed, AttributesAsked, AttributesRefused, Declined, OneRingAgreed, Opened, Opens, Owes, OwnReadyFollows, PeerAgreed, ReadyAgreed, ReadyAsked, ReadyFollows, RingAgreed, RingAsked, RingFollows, RingRefused, RowSent, RowTaken, VersionAgreed, VersionAsked, VersionRefused, row_sent}
-use Rattle.channel_laws.specs.EndCore.{Begins, EndCore, EndMove, Fails, Hears, Renews, Says, Stays, Waits}
-use Rattle.channel_laws.specs.EndStep.{EndBegins, EndHears, EndSays, EndStep, Holding, Holds, HoldsOn, HoldsOwed, HoldsOwn}
 use Rattle.channel_laws.specs.Grounds.{Among, OpenRests, OwnHeard, PeerHeard, RestsOn, RestsIn, VersionHeard, When, answers, has_named, knows_own, knows_peer, knows_sid, knows_version}
-use Rattle.channel_laws.specs.LaneCore.{turns_after}
-use Rattle.channel_laws.specs.Standing.{EndStands}
 
 -- WHAT WAS HEARD before is heard still
 abbrev Grows : List (List ℕ) → List (List ℕ) → Type 0

@@ -6,30 +6,21 @@ use Rattle.std.proofs.lemmas.List.{drop_all, length-take, take-append-drop}
 use Rattle.ldc_link.proofs.Coming.{clears_follow, offers_follow}
 use Rattle.ldc_link.proofs.Following.{joins_follow, takes_follow}
 use Rattle.ldc_link.proofs.FollowingPuts.{puts_follow}
-use Rattle.ldc_link.specs.declared.phase.LinkPhase.{LinkPhase}
+use Rattle.channel_laws.specs.Vocabulary.{Begins, DringUnreg, EndBegins, EndCore, EndHears, EndMove, EndRenews, EndSays, EndStands, EndStays, EndStep, Fails, Handshake, HandshakeStands}
+use Rattle.channel_laws.specs.Vocabulary.{Heard as Heard_, Hears, Holding, Holds, HoldsOn, HoldsOwed, HoldsOwn, Info, Initiator, IsBelow, IsPhaseOf, IsShort, KeepsOwn, LinkPhase, LinkStands}
+use Rattle.channel_laws.specs.Vocabulary.{LinkState, Message, Offer, OwedIsShort, Plain, Renews, Responder, Role, Said as Said_, Says, Stays, TakesBytes, Turn, Waits, behind_ring, canonical}
+use Rattle.channel_laws.specs.Vocabulary.{cleared, first_phase, fresh_end, fresh_link, half_said, handshake_sent, holds, is_declined, is_established, is_open_in, is_up, offered, opens_by_put}
+use Rattle.channel_laws.specs.Vocabulary.{owed_in, owes, part_owed, turns_after}
 use Rattle.ldc_link.specs.declared.phase.LinkPhase.TheVariants as phase
-use Rattle.ldc_link.specs.declared.phase.Role.{Role}
-use Rattle.ldc_link.specs.declared.phase.Role.TheVariants.{Initiator, Responder}
 use Rattle.ldc_link.specs.Following.{Follows}
-use Rattle.ldc_link.specs.LinkState.{LinkState, cleared, first_phase, fresh_link, is_established, is_up, offered}
-use Rattle.ldc_link.specs.Putting.{owed_in, owes, part_owed}
-use Rattle.ldc_link.specs.Taking.{Heard, TakesBytes}
+use Rattle.ldc_link.specs.Taking.{Heard}
 use Rattle.ldc_queue.specs.Messages.{is_empty}
-use Rattle.ldc_queue.specs.Transcript.{Heard as Heard_, Said as Said_, Turn}
 use Rattle.ldc_packet.specs.declared.packet.Subtype.{Subtype}
-use Rattle.ldc_packet.specs.declared.packet.Subtype.TheVariants.{Info}
-use Rattle.vio_handshake.specs.declared.handshake.Handshake.{Handshake}
 use Rattle.vio_handshake.specs.declared.handshake.Phase.{Phase}
 use Rattle.vio_handshake.specs.declared.handshake.Phase.TheVariants.{Down, Open}
-use Rattle.vio_handshake.specs.declared.session.Offer.{Offer}
 use Rattle.vio_handshake.specs.declared.session.Session.{Session}
-use Rattle.vio_handshake.specs.Rules.{behind_ring, is_declined, opens_by_put, handshake_sent}
 use Rattle.vio_handshake.specs.State.{begun, fresh_handshake, joined_handshake, handshake_up}
-use Rattle.vio_tag.specs.declared.message.Message.{Message}
 use Rattle.vio_tag.specs.declared.message.MsgBody.{MsgBody}
-use Rattle.vio_tag.specs.declared.message.MsgBody.TheVariants.{DringUnreg, Plain}
-use Rattle.vio_tag.specs.Spelling.{canonical}
-use Rattle.channel_model.specs.Sayings.{half_said}
 use Rattle.channel_laws.proofs.Apart.{false_is_true, none_is_some, not_open, true_is_false}
 use Rattle.channel_laws.proofs.EndCases.{EndTook, NoMessage, PutControl, PutMore, PutOwn, PutReady, PutHandshake, PutWhat, Rises, TookOwn, TookHandshake, TookWhat, end_put, end_took, put_down}
 use Rattle.channel_laws.proofs.HandshakeCases.{AttributesAgreed, AttributesAsked, AttributesRefused, Declined, OneRingAgreed, Opened, Opens, Owes, OwnReadyFollows, PeerAgreed, ReadyAgreed, ReadyAsked, ReadyFollows, RingAgreed, RingAsked, RingFollows, RingRefused, RowSent, RowTaken, VersionAgreed, VersionAsked, VersionRefused, row_sent}
@@ -38,10 +29,6 @@ use Rattle.channel_laws.proofs.LinkCases as link_cases
 use Rattle.channel_laws.proofs.Short.{ComesShort, answered_short, message_comes, said_short, short_within}
 use Rattle.channel_laws.proofs.TurnCases.{SaysLast, SaysMore, SaysNothing}
 use Rattle.channel_laws.specs.Cuts.{Carries, Cuts, HoldsIts}
-use Rattle.channel_laws.specs.EndCore.{Begins, EndCore, EndMove, Fails, Hears, Renews, Says, Stays, Waits, fresh_end, holds}
-use Rattle.channel_laws.specs.EndStep.{EndBegins, EndHears, EndRenews, EndSays, EndStays, EndStep, Holding, Holds, HoldsOn, HoldsOwed, HoldsOwn, KeepsOwn}
-use Rattle.channel_laws.specs.LaneCore.{turns_after}
-use Rattle.channel_laws.specs.Standing.{EndStands, HandshakeStands, IsBelow, IsPhaseOf, IsShort, LinkStands, OwedIsShort, is_open_in}
 
 -- WHAT IT HOLDS
 pub holds_down : (k : LinkState) → is_up k ≡ false → holds k ≡ true → ⊥

@@ -1,27 +1,19 @@
 -- Each move of an end leaves what it said as its handshake has it.
 use Rattle.std.proofs.Common.{◌≡◌, ◌<◌, ◌≤◌, min, ℕ, Bool, true, false, Option, Some, None, List, [], ◌∷◌, ◌++◌, refl, sym, ap, ◌∙◌, subst, arith}
-use Rattle.runs.specs.Run.{Run}
+use Rattle.channel_laws.specs.Vocabulary.{Ack, Attr, Begins, CoreEvent, CoreFits, CoreStep, DringData, DringReg, EndCore, EndHears, EndMove, EndSays, EndStands, EndStep, Fails, Handshake, Hears}
+use Rattle.channel_laws.specs.Vocabulary.{Info, Initiator, IsFront, IsOfSession, LaneCore, Mcast, Message, Nack, Offer, Rdx, Renews, Responder, Role, Run, Said, Says as Says_, Stays, Turn, Ver}
+use Rattle.channel_laws.specs.Vocabulary.{Waits, agrees_minor, behind_ring, fresh_core, fresh_end, half_said, handshake_sent, is_established, knows, own_named, peer_named, refuses_version, said}
+use Rattle.channel_laws.specs.Vocabulary.{transcript_behind, turns_after}
 use Rattle.ldc_link.specs.declared.phase.LinkPhase.TheVariants as phase
-use Rattle.ldc_link.specs.declared.phase.Role.{Role}
-use Rattle.ldc_link.specs.declared.phase.Role.TheVariants.{Initiator, Responder}
-use Rattle.ldc_link.specs.LinkState.{is_established}
 use Rattle.ldc_packet.specs.declared.packet.Subtype.{Subtype}
-use Rattle.ldc_packet.specs.declared.packet.Subtype.TheVariants.{Ack, Info, Nack}
-use Rattle.ldc_queue.specs.OneStream.{IsFront}
-use Rattle.ldc_queue.specs.Transcript.{Said, Turn}
 use Rattle.map_table.specs.declared.cookie.Cookie.{Cookie}
 use Rattle.vio_handshake.specs.Attributes.{answered_attributes, said_attributes}
-use Rattle.vio_handshake.specs.declared.handshake.Handshake.{Handshake}
 use Rattle.vio_handshake.specs.declared.handshake.Phase.{Phase}
 use Rattle.vio_handshake.specs.declared.handshake.Phase.TheVariants.{Attributes, Down, Open, OwnReady, OwnRing, PeerReady, PeerReadyTaken, PeerRing, PeerRingTaken, Version}
-use Rattle.vio_handshake.specs.declared.session.Offer.{Offer}
 use Rattle.vio_handshake.specs.Messages.{ack, info, nack, own_ring}
-use Rattle.vio_handshake.specs.Rules.{agrees_minor, behind_ring, knows, owes, own_named, peer_named, refuses_version, handshake_sent}
+use Rattle.vio_handshake.specs.Rules.{owes}
 use Rattle.vio_handshake.specs.State.{begun, fresh_handshake, joined_handshake, handshake_up}
-use Rattle.vio_tag.specs.declared.message.Message.{Message}
 use Rattle.vio_tag.specs.declared.message.MsgBody.{MsgBody}
-use Rattle.vio_tag.specs.declared.message.MsgBody.TheVariants.{Attr, DringData, DringReg, Mcast, Rdx, Ver}
-use Rattle.channel_model.specs.Sayings.{half_said, said}
 use Rattle.channel_laws.proofs.Apart.{false_is_true, not_taken}
 use Rattle.channel_laws.proofs.EndCases.{EndTook, NoMessage, PutControl, PutMore, PutOwn, PutReady, PutHandshake, PutWhat, Rises, TookOwn, TookHandshake, TookWhat, end_put, end_took}
 use Rattle.channel_laws.proofs.EndResting.{StandsResting, held_handshake, of_sid, resting_step}
@@ -30,11 +22,7 @@ use Rattle.channel_laws.proofs.HandshakeCases.{AttributesAgreed, AttributesAsked
 use Rattle.channel_laws.proofs.Lifting.{EndsAll, ends_run}
 use Rattle.channel_laws.proofs.TurnCases.{SaysLast}
 use Rattle.channel_laws.specs.Cuts.{Carries}
-use Rattle.channel_laws.specs.EndCore.{Begins, EndCore, fresh_end, EndMove, Fails, Hears, Renews, Says as Says_, Stays, Waits}
-use Rattle.channel_laws.specs.EndStep.{EndHears, EndSays, EndStep, IsOfSession}
 use Rattle.channel_laws.specs.Grounds.{When, has_named, knows_sid, knows_version}
-use Rattle.channel_laws.specs.LaneCore.{CoreEvent, CoreFits, CoreStep, LaneCore, fresh_core, transcript_behind, turns_after}
-use Rattle.channel_laws.specs.Standing.{EndStands}
 use Rattle.channel_laws.specs.Utterances.{Only, OwesSo, SaysByPhase, SaysBody, SaysBytes, SaysEach, SaysSid, Utters}
 
 -- WHAT A MESSAGE that was said may speak of stays

@@ -1,22 +1,14 @@
 -- Two ends at rest on a channel which nobody forged and on which nothing was lost: both sessions are open, and each heard all that the other said.
 use Rattle.std.proofs.Common.{◌≡◌, ℕ, true, false, None, List, [], ◌∷◌, refl, sym}
 use Rattle.std.specs.Prelude.{slice_get}
-use Rattle.runs.specs.Lawful.{log_of}
-use Rattle.runs.specs.Run.{Run}
-use Rattle.ldc_queue.specs.declared.end.End.{End}
-use Rattle.ldc_queue.specs.declared.end.End.TheVariants.{A, B}
-use Rattle.ldc_queue.specs.Wire.{peer_of}
-use Rattle.vio_handshake.specs.declared.session.Offer.{Offer}
+use Rattle.channel_laws.specs.Vocabulary.{A, B, CoreEvent, CoreFits, CoreStep, End, LaneCore, Offer, Run, TranscriptLog, fresh_core, heard, log_of, peer_of, said, sides_of, transcript_behind}
+use Rattle.channel_laws.specs.Vocabulary.{transcript_of}
 use Rattle.vio_handshake.specs.Offers.{Match}
-use Rattle.channel_model.specs.Sayings.{heard, said}
-use Rattle.channel_model.specs.TranscriptLog.{TranscriptLog, transcript_of}
 use Rattle.channel_laws.proofs.AtRest.{BothRest, HeardAll, heard_all, rests_open}
 use Rattle.channel_laws.proofs.CoreLaws.{conversing, links_placed}
 use Rattle.channel_laws.proofs.Sessions.{meets_knows}
 use Rattle.channel_laws.specs.CoreLog.{CoreLog, after, nothing_yet}
 use Rattle.channel_laws.specs.EndsAtRest.{IsAtRest}
-use Rattle.channel_laws.specs.LaneCore.{CoreEvent, CoreFits, CoreStep, LaneCore, fresh_core, transcript_behind}
-use Rattle.channel_laws.specs.Sides.{sides_of}
 
 -- no packet waits first, so none waits
 pub none_waits : (waiting : List (List ℕ)) → slice_get waiting 0 ≡ None → waiting ≡ []

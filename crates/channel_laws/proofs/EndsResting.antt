@@ -1,16 +1,11 @@
 -- Each move of an end leaves it resting on what it heard, and having said what its handshake holds.
 use Rattle.std.proofs.Common.{List, [], sym, ◌∙◌, ◌≤◌}
-use Rattle.ldc_link.specs.declared.phase.Role.{Role}
-use Rattle.ldc_queue.specs.Transcript.{Turn}
-use Rattle.vio_handshake.specs.declared.session.Offer.{Offer}
+use Rattle.channel_laws.specs.Vocabulary.{EndCore, EndMove, EndStep, Offer, Role, Turn, fresh_end, turns_after}
 use Rattle.channel_laws.proofs.EndStanding.{opened_phase}
 use Rattle.channel_laws.proofs.EndUttering.{EndSpeaks, fresh_speaks, speaks_step}
 use Rattle.channel_laws.proofs.HandshakeFitting.{fits_step, fresh_fits}
-use Rattle.channel_laws.specs.EndCore.{EndCore, EndMove, fresh_end}
 use Rattle.channel_laws.specs.EndRests.{EndRests, EndUtters}
-use Rattle.channel_laws.specs.EndStep.{EndStep}
 use Rattle.channel_laws.specs.HandshakeFits.{HandshakeFits}
-use Rattle.channel_laws.specs.LaneCore.{turns_after}
 
 rests_of : (role : Role) (c : EndCore) (turns : List Turn) → EndSpeaks role c turns → HandshakeFits role c.offer c.handshake → EndRests role c turns
 rests_of role c turns speaks fits = record {

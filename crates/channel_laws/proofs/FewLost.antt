@@ -1,9 +1,7 @@
 -- FEW ARE LOST between two packets with numbers that an end takes: the sums, act by act.
 use Rattle.std.proofs.Common.{◌≡◌, ℕ, ◌+◌, ◌≤◌, ◌<◌, Bool, true, false, List, [], ◌∷◌, ◌++◌, length, drop, ap, ◌∙◌, arith}
-use Rattle.ldc_link.specs.declared.phase.LinkPhase.{LinkPhase}
+use Rattle.channel_laws.specs.Vocabulary.{ChannelState, Down, LinkPhase, Resetting, Up}
 use Rattle.ldc_link.specs.declared.phase.LinkPhase.TheVariants as phase
-use Rattle.ldc_queue.specs.declared.end.ChannelState.{ChannelState}
-use Rattle.ldc_queue.specs.declared.end.ChannelState.TheVariants.{Down, Resetting, Up}
 use Rattle.ldc_queue.specs.Numbered.{is_numbered, kept}
 use Rattle.ldc_queue.specs.QueueLog.{IsFirst, lost_past}
 use Rattle.channel_laws.specs.Conversing.{AreFew, live_budget, live_puts, live_takes, puts_left, takes_left, unless, unnumbered}

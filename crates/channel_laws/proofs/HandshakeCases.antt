@@ -2,25 +2,20 @@
 use Rattle.std.proofs.Common.{◌≡◌, ℕ, ◌≤◌, Bool, true, false, Option, Some, None, List, min, inl, inr, refl, sym, ap, ◌∙◌, subst}
 use Rattle.std.specs.Prelude.{◌==◌, ◌&&◌, nat_le, if◌then◌else◌, ⊤}
 use Rattle.std.proofs.lemmas.Bool.{and_parts, eqb-true, leb-true}
-use Rattle.ldc_link.specs.declared.phase.Role.{Role}
-use Rattle.ldc_link.specs.declared.phase.Role.TheVariants.{Initiator, Responder}
+use Rattle.channel_laws.specs.Vocabulary.{Ack, Attr, Cause, DringReg, DringUnreg, Faults, GoesOpen, Handshake, HandshakeTake, Info, Initiator, IsOfSession, Message, Nack, Plain, Rdx, Responder}
+use Rattle.channel_laws.specs.Vocabulary.{Role, Ver, agrees_minor, answered, asked, behind_ring, fault_or, handshake_hear, handshake_sent, handshake_take, is_declined, knows, opens_by_put}
+use Rattle.channel_laws.specs.Vocabulary.{own_named, peer_named, put_in, refuses_version, ring_asked, row, sid_fault}
 use Rattle.ldc_packet.specs.declared.packet.Subtype.{Subtype}
-use Rattle.ldc_packet.specs.declared.packet.Subtype.TheVariants.{Ack, Info, Nack}
 use Rattle.map_table.specs.declared.cookie.Cookie.{Cookie}
-use Rattle.vio_tag.specs.declared.cause.Cause.{Cause}
-use Rattle.vio_tag.specs.declared.message.Message.{Message}
 use Rattle.vio_tag.specs.declared.message.MsgBody.{MsgBody}
-use Rattle.vio_tag.specs.declared.message.MsgBody.TheVariants.{Attr, DringReg, DringUnreg, Plain, Rdx, Ver}
 use Rattle.vio_handshake.proofs.PlaceRows.{GoesTo}
 use Rattle.vio_handshake.specs.Acceptance.{accepts_ring}
 use Rattle.vio_handshake.specs.Attributes.{accepts_answered, accepts_said, answered_attributes, said_attributes}
-use Rattle.vio_handshake.specs.declared.handshake.Handshake.{Handshake}
 use Rattle.vio_handshake.specs.declared.handshake.Phase.{Phase}
 use Rattle.vio_handshake.specs.declared.handshake.Phase.TheVariants.{Attributes, Open, OwnReady, OwnRing, PeerReady, PeerReadyTaken, PeerRing, PeerRingTaken, Version}
 use Rattle.vio_handshake.specs.Messages.{ack, info, nack, own_ring}
-use Rattle.vio_handshake.specs.Rules.{Faults, Goes, GoesOpen, HandshakeTake, agrees_minor, answered, asked, behind_ring, fault_or, is_declined, knows, opens_by_put, own_named, owes, peer_named, put_in, refuses_version, ring_asked, row, handshake_hear, handshake_sent, handshake_take, sid_fault}
+use Rattle.vio_handshake.specs.Rules.{Goes, owes}
 use Rattle.channel_laws.proofs.Apart.{roles_differ, true_is_false}
-use Rattle.channel_laws.specs.EndStep.{IsOfSession}
 
 -- A MESSAGE THAT WAS TAKEN: what the handshake is after it, and whether its session opens by it
 pub data RowTaken (h : Handshake) (message : Message) (t : Handshake) (opens : Bool) : Type 0 where

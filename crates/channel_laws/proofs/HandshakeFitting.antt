@@ -2,18 +2,12 @@
 use Rattle.std.proofs.Common.{◌≡◌, ℕ, Bool, true, false, Option, Some, None, List, refl, sym, ap, ◌∙◌, subst}
 use Rattle.std.specs.Prelude.{◌==◌, ◌&&◌, nat_le, bit_and, take, ◌*◌}
 use Rattle.std.proofs.lemmas.Bool.{eqb-true}
-use Rattle.runs.specs.Run.{Run}
-use Rattle.ldc_link.specs.declared.phase.Role.{Role}
-use Rattle.ldc_link.specs.declared.phase.Role.TheVariants.{Initiator, Responder}
-use Rattle.ldc_queue.specs.Transcript.{Turn}
+use Rattle.channel_laws.specs.Vocabulary.{Begins, CoreEvent, CoreFits, CoreStep, EndCore, EndMove, EndSays, EndStands, EndStep, Fails, Handshake, Hears, Initiator, LaneCore, Message, Offer, Renews}
+use Rattle.channel_laws.specs.Vocabulary.{Responder, Role, Run, Says, Stays, Turn, Waits, fresh_core, handshake_sent, opens_by_put, transcript_behind, turns_after}
 use Rattle.map_table.specs.declared.cookie.Cookie.{Cookie}
-use Rattle.vio_tag.specs.declared.message.Message.{Message}
 use Rattle.vio_handshake.specs.Acceptance.{accepts_ring, hold_ring}
-use Rattle.vio_handshake.specs.declared.handshake.Handshake.{Handshake}
 use Rattle.vio_handshake.specs.declared.handshake.Phase.{Phase}
 use Rattle.vio_handshake.specs.declared.handshake.Phase.TheVariants.{OwnRing}
-use Rattle.vio_handshake.specs.declared.session.Offer.{Offer}
-use Rattle.vio_handshake.specs.Rules.{handshake_sent, opens_by_put}
 use Rattle.vio_handshake.specs.State.{begun, fresh_handshake, handshake_up, joined_handshake}
 use Rattle.channel_laws.proofs.Apart.{false_is_true, true_is_false}
 use Rattle.channel_laws.proofs.EndCases.{EndTook, NoMessage, PutControl, PutHandshake, PutMore, PutOwn, PutReady, PutWhat, Rises, TookHandshake, TookOwn, TookWhat, end_put, end_took}
@@ -21,12 +15,8 @@ use Rattle.channel_laws.proofs.EndResting.{held_handshake}
 use Rattle.channel_laws.proofs.EndStanding.{fresh_end_stands, held_stands, stands_step}
 use Rattle.channel_laws.proofs.HandshakeCases.{AttributesAgreed, AttributesAsked, AttributesRefused, Declined, OneRingAgreed, Opened, Opens, Owes, OwnReadyFollows, PeerAgreed, ReadyAgreed, ReadyAsked, ReadyFollows, RingAgreed, RingAsked, RingFollows, RingRefused, RowSent, RowTaken, VersionAgreed, VersionAsked, VersionRefused, row_sent}
 use Rattle.channel_laws.proofs.Lifting.{EndsAll, ends_run}
-use Rattle.channel_laws.specs.EndCore.{Begins, EndCore, EndMove, Fails, Hears, Renews, Says, Stays, Waits}
-use Rattle.channel_laws.specs.EndStep.{EndSays, EndStep}
 use Rattle.channel_laws.specs.Grounds.{has_named}
 use Rattle.channel_laws.specs.HandshakeFits.{HandshakeFits, OwedFits, takes_ring}
-use Rattle.channel_laws.specs.LaneCore.{CoreEvent, CoreFits, CoreStep, LaneCore, fresh_core, transcript_behind, turns_after}
-use Rattle.channel_laws.specs.Standing.{EndStands}
 
 -- what isn't owed fits
 none_fits : (phase : Phase) (owed : Option Message) → owed ≡ None → OwedFits phase owed

@@ -3,35 +3,21 @@
 use Rattle.std.proofs.Common.{◌≡◌, ◌≢◌, ℕ, ◌^◌, ◌<◌, Bool, true, false, Option, Some, None, List, [], ◌∷◌, ◌++◌, refl, sym, ap, ◌∙◌, subst, append_assoc, ◌⊎◌, inl, inr}
 use Rattle.std.specs.Prelude.{⊤}
 use Rattle.std.proofs.lemmas.List.{append-nil}
-use Rattle.ldc_link.specs.declared.phase.Role.{Role}
-use Rattle.ldc_link.specs.declared.phase.Role.TheVariants.{Initiator, Responder}
-use Rattle.ldc_link.specs.LinkState.{is_up}
-use Rattle.ldc_queue.specs.declared.end.ChannelState.TheVariants.{Up}
-use Rattle.ldc_queue.specs.OneStream.{IsFront}
-use Rattle.ldc_queue.specs.Transcript.{Turn}
+use Rattle.channel_laws.specs.Vocabulary.{EndCore, EndStands, GoesOpen, Handshake, HandshakeTake, Initiator, IsFront, IsOfSession, Message, Offer, OfferFits, Responder, Role, Sides, SpellsMessage}
+use Rattle.channel_laws.specs.Vocabulary.{Turn, Up, canonical, handshake_sent, handshake_take, heard, is_open_in, is_up, other, said}
 use Rattle.vio_tag.proofs.Canonical.{canonical_spells}
 use Rattle.vio_tag.proofs.Same.{spelled_once}
-use Rattle.vio_tag.specs.declared.message.Message.{Message}
 use Rattle.vio_tag.specs.Form.{IsWellFormed}
-use Rattle.vio_tag.specs.Spelling.{SpellsMessage, canonical}
-use Rattle.vio_handshake.specs.declared.handshake.Handshake.{Handshake}
 use Rattle.vio_handshake.specs.declared.handshake.Phase.TheVariants.{Open}
-use Rattle.vio_handshake.specs.declared.session.Offer.{Offer}
 use Rattle.vio_handshake.specs.Offers.{Match}
-use Rattle.vio_handshake.specs.Rules.{Goes, GoesOpen, HandshakeTake, handshake_sent, handshake_take}
+use Rattle.vio_handshake.specs.Rules.{Goes}
 use Rattle.vio_handshake.specs.State.{begun, joined_handshake, next_sid, handshake_up}
 use Rattle.vio_handshake.proofs.MessageWidths.{OfferHasWidths, message_has_widths, message_is_well_formed}
 use Rattle.vio_handshake.proofs.PlaceRows.{Fits, GoesTo, put_at, take_at}
 use Rattle.vio_handshake.proofs.Places.{AllSaid, AttributesAnswered, AttributesSaid, Deal, IsPlace, PeerReadyAnswered, PeerReadySaid, PeerRingAnswered, PeerRingSaid, Place, ReadyAnswered, ReadySaid, RingAnswered, RingSaid, VersionAnswered, VersionSaid, message_at, next, owed_by, owner, phase_at, handshake_at}
-use Rattle.channel_model.specs.Sayings.{heard, said}
 use Rattle.channel_laws.proofs.Apart.{not_open, some_is_none, some_same}
 use Rattle.channel_laws.proofs.EndStanding.{opened_phase}
 use Rattle.channel_laws.proofs.Script.{PeerSaid, all_before, bytes_at, hears_beyond, hears_next, not_last, other_next, said_at, said_by, says_next, script}
-use Rattle.channel_laws.specs.EndCore.{EndCore}
-use Rattle.channel_laws.specs.EndStep.{IsOfSession}
-use Rattle.channel_laws.specs.LaneCore.{OfferFits}
-use Rattle.channel_laws.specs.Sides.{Sides, other}
-use Rattle.channel_laws.specs.Standing.{EndStands, is_open_in}
 
 -- A MESSAGE OF THE SESSION that a deal makes
 pub record IsOwn (d : Deal) (bytes : List ℕ) : Type 0 where

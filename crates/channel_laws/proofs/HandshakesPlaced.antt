@@ -2,31 +2,17 @@
 use Rattle.std.proofs.Common.{◌≡◌, ℕ, ◌^◌, ◌<◌, ◌≤◌, Bool, true, false, Some, List, [], ◌∷◌, ◌++◌, refl, sym, ap, ◌∙◌, subst, arith, ◌⊎◌, inl, inr}
 use Rattle.std.specs.Prelude.{slice_get}
 use Rattle.std.proofs.lemmas.List.{append-nil}
-use Rattle.ldc_link.specs.declared.phase.LinkPhase.{LinkPhase}
+use Rattle.channel_laws.specs.Vocabulary.{ChannelState, Down, DringData, DringUnreg, EndAnew, EndCore, EndHears, EndSays, EndStands, Handshake, Heard, Holding, Holds, HoldsOn, HoldsOwed, HoldsOwn}
+use Rattle.channel_laws.specs.Vocabulary.{Info, Initiator, IsBelow, IsFront, IsOfSession, LinkPhase, LinkState, Mcast, Message, Offer, Plain, Resetting, Responder, Role, Said, Sides, SpellsMessage}
+use Rattle.channel_laws.specs.Vocabulary.{Turn, Up, anew, canonical, envelope_at, envelope_code, first_phase, fresh_core, goes_on, half_said, handshake_sent, heard, is_declined, is_established}
+use Rattle.channel_laws.specs.Vocabulary.{is_up, nothing_said, other, peer_behind, put, said, shut, sides_of, swapped, took, upset}
 use Rattle.ldc_link.specs.declared.phase.LinkPhase.TheVariants as phase
-use Rattle.ldc_link.specs.declared.phase.Role.{Role}
-use Rattle.ldc_link.specs.declared.phase.Role.TheVariants.{Initiator, Responder}
-use Rattle.ldc_link.specs.LinkState.{LinkState, first_phase, is_established, is_up}
 use Rattle.ldc_packet.specs.declared.packet.Subtype.{Subtype}
-use Rattle.ldc_packet.specs.declared.packet.Subtype.TheVariants.{Info}
-use Rattle.ldc_queue.specs.declared.end.ChannelState.{ChannelState}
-use Rattle.ldc_queue.specs.declared.end.ChannelState.TheVariants.{Down, Resetting, Up}
-use Rattle.ldc_queue.specs.OneStream.{IsFront}
-use Rattle.ldc_queue.specs.Transcript.{Heard, Said, Turn}
-use Rattle.ldc_queue.specs.Wire.{peer_behind, upset}
-use Rattle.vio_tag.specs.declared.message.Message.{Message}
 use Rattle.vio_tag.specs.declared.message.MsgBody.{MsgBody}
-use Rattle.vio_tag.specs.declared.message.MsgBody.TheVariants.{DringData, DringUnreg, Mcast, Plain}
 use Rattle.vio_tag.specs.Form.{HasForm}
-use Rattle.vio_tag.specs.Spelling.{SpellsMessage, canonical, envelope_at, envelope_code}
-use Rattle.vio_handshake.specs.declared.handshake.Handshake.{Handshake}
 use Rattle.vio_handshake.specs.declared.handshake.Phase.TheVariants.{Open}
-use Rattle.vio_handshake.specs.declared.session.Offer.{Offer}
-use Rattle.vio_handshake.specs.Rules.{is_declined, handshake_sent}
 use Rattle.vio_handshake.specs.State.{begun, joined_handshake, next_sid, handshake_up}
 use Rattle.vio_handshake.proofs.Places.{AllSaid, Deal, IsPlace, Place, VersionSaid, last_at, handshake_at}
-use Rattle.channel_model.specs.Sayings.{half_said, heard, said}
-use Rattle.channel_model.specs.TranscriptLog.{nothing_said}
 use Rattle.channel_laws.proofs.Apart.{false_is_true, none_is_some, roles_differ, true_is_false}
 use Rattle.channel_laws.proofs.Conversations.{held_phase}
 use Rattle.channel_laws.proofs.ConversingRuns.{HeardFrom, converse_keeps, first_converse, hears_next}
@@ -39,12 +25,7 @@ use Rattle.channel_laws.proofs.LinkPlaced.{first_links, links_keep, ready_at}
 use Rattle.channel_laws.proofs.TurnCases.{SaysLast}
 use Rattle.channel_laws.specs.Conversing.{Converse}
 use Rattle.channel_laws.specs.Cuts.{Carries, CarriesOwed, CarriesOwn}
-use Rattle.channel_laws.specs.EndCore.{EndCore}
-use Rattle.channel_laws.specs.EndStep.{EndAnew, EndHears, EndSays, Holding, Holds, HoldsOn, HoldsOwed, HoldsOwn, IsOfSession}
-use Rattle.channel_laws.specs.LaneCore.{fresh_core}
 use Rattle.channel_laws.specs.LinkPlaces.{LinksAt, ModeAgreed, live_phase, phase_at}
-use Rattle.channel_laws.specs.Sides.{Sides, anew, goes_on, other, put, shut, sides_of, swapped, took}
-use Rattle.channel_laws.specs.Standing.{EndStands, IsBelow}
 
 -- ALL THAT TWO ENDS KEEP where nobody forged
 pub record Meets (asks answers : Offer) (role : Role) (s : Sides) : Type 0 where

@@ -1,14 +1,8 @@
 -- Where both sessions are open and nobody forged, each end heard the other's attributes as its offer says them at the minor that was agreed on.
 use Rattle.std.proofs.Common.{◌≡◌, ℕ, ◌^◌, ◌<◌, Bool, true, false, List, ◌++◌, refl, sym, ap, ◌∙◌, subst, inl, inr}
-use Rattle.runs.specs.Lawful.{log_of}
-use Rattle.runs.specs.Run.{Run}
-use Rattle.ldc_link.specs.declared.phase.Role.TheVariants.{Initiator, Responder}
-use Rattle.vio_handshake.specs.declared.handshake.Handshake.{Handshake}
-use Rattle.vio_handshake.specs.declared.session.Offer.{Offer}
+use Rattle.channel_laws.specs.Vocabulary.{CoreEvent, CoreFits, CoreStep, Handshake, Initiator, LaneCore, Offer, Responder, Run, TranscriptLog, fresh_core, heard, log_of, transcript_behind}
 use Rattle.vio_handshake.specs.Offers.{Match}
 use Rattle.vio_handshake.proofs.Places.{AllSaid, AttributesAnswered, AttributesSaid, Deal, Place, asked_in_all, handshake_at, message_at}
-use Rattle.channel_model.specs.Sayings.{heard}
-use Rattle.channel_model.specs.TranscriptLog.{TranscriptLog}
 use Rattle.channel_laws.proofs.CoreRuns.{Knows}
 use Rattle.channel_laws.proofs.EndStanding.{open_up}
 use Rattle.channel_laws.proofs.HandshakePlaces.{AtPlace, Matches, deal, message_at_spelled, open_place}
@@ -18,7 +12,6 @@ use Rattle.channel_laws.proofs.Sessions.{both_up, meets_knows, transcript_is}
 use Rattle.channel_laws.specs.CoreLog.{CoreLog, after, nothing_yet}
 use Rattle.channel_laws.specs.Grounds.{Among}
 use Rattle.channel_laws.specs.KnownAttributes.{KnowAttributes}
-use Rattle.channel_laws.specs.LaneCore.{CoreEvent, CoreFits, CoreStep, LaneCore, fresh_core, transcript_behind}
 
 -- THE MESSAGE is among those that an end says until its session is open
 asked_among : (both : Bool) (asks answers : Offer) (sid : ℕ) (more : List (List ℕ)) → Matches asks answers → sid < 2 ^ 32

@@ -2,27 +2,13 @@
 -- nobody forged.
 use Rattle.std.proofs.Common.{◌≡◌, Bool, ℕ, ◌+◌, ◌<◌, true, false, inl, inr, Option, Some, List, [], length, refl, sym, ap, ◌∙◌, subst}
 use Rattle.std.specs.Prelude.{slice_get, ⊤}
-use Rattle.runs.specs.Lawful.{run_lawful}
-use Rattle.runs.specs.Run.{Run}
-use Rattle.ldc_link.specs.declared.phase.Role.{Role}
-use Rattle.ldc_link.specs.declared.phase.Role.TheVariants.{Initiator, Responder}
-use Rattle.ldc_link.specs.LinkState.{fresh_link}
-use Rattle.ldc_queue.specs.declared.end.ChannelState.TheVariants.{Up}
-use Rattle.ldc_queue.specs.declared.end.End.{End}
-use Rattle.ldc_queue.specs.declared.end.End.TheVariants.{A, B}
-use Rattle.ldc_queue.specs.Transcript.{Turn}
-use Rattle.vio_handshake.specs.declared.session.Offer.{Offer}
-use Rattle.vio_tag.specs.declared.cause.Cause.{Cause}
-use Rattle.channel_model.specs.TranscriptLog.{TranscriptLog, nothing_said, transcript_of}
-use Rattle.channel_model.specs.WireEvent.{Blocked, ByRestart, ByScript, ByStep, ByTick, Declines, Giver, Idle, Injected, Joined, Lost, Poked, Reset, Sent, Took, giver}
-use Rattle.channel_model.specs.WireLog.{WireLog, wire_moved}
+use Rattle.channel_laws.specs.Vocabulary.{A, B, Beside, Blocked, ByRestart, ByScript, ByStep, ByTick, Cause, Closes, CoreEvent, CoreFits, CoreStep, Declines, End, EndAnew, EndBegins, EndCore}
+use Rattle.channel_laws.specs.Vocabulary.{EndHears, EndMove, EndRenews, EndSays, EndStands, EndStays, EndStep, EndWaits, Giver, Idle, Initiator, Injected, Joined, LaneCore, Lost, Offer, OnChannel}
+use Rattle.channel_laws.specs.Vocabulary.{Poked, Reset, Responder, Role, Run, Sent, Sides, Stays, Took, TranscriptLog, Turn, Up, WireLog, anew, fresh_core, fresh_end, fresh_link, giver, goes_on}
+use Rattle.channel_laws.specs.Vocabulary.{missed, move_of, nothing_said, other, put, reset_move, run_lawful, shut, sides_in, sides_of, swapped, took, transcript_after, transcript_behind}
+use Rattle.channel_laws.specs.Vocabulary.{transcript_of, turns_after, wire_after, wire_moved}
 use Rattle.channel_laws.proofs.Apart.{true_is_false}
 use Rattle.channel_laws.proofs.EndStanding.{fresh_end_stands, stands_step}
-use Rattle.channel_laws.specs.EndCore.{EndCore, EndMove, Stays, fresh_end}
-use Rattle.channel_laws.specs.EndStep.{EndAnew, EndBegins, EndHears, EndRenews, EndSays, EndStays, EndStep, EndWaits}
-use Rattle.channel_laws.specs.LaneCore.{Beside, Closes, CoreEvent, CoreFits, CoreStep, LaneCore, OnChannel, fresh_core, move_of, reset_move, transcript_after, transcript_behind, turns_after, wire_after}
-use Rattle.channel_laws.specs.Sides.{Sides, anew, goes_on, missed, other, put, shut, sides_in, sides_of, swapped, took}
-use Rattle.channel_laws.specs.Standing.{EndStands}
 
 -- THE TURNS of each end are those of its moves
 reset_turns : (g : Giver) (turns : List Turn) (cause : Cause) (packet : Option (List ℕ)) → turns_after turns (reset_move g cause packet) ≡ []

@@ -8,24 +8,22 @@ use Rattle.ldc_packet.specs.declared.packet.Body.TheVariants.{Part, Rdx, Rtr, Rt
 use Rattle.ldc_packet.specs.declared.packet.Packet.{Packet}
 use Rattle.ldc_packet.specs.declared.packet.PacketFault.{PacketFault}
 use Rattle.ldc_packet.specs.declared.packet.Subtype.{Subtype}
-use Rattle.ldc_packet.specs.declared.packet.Subtype.TheVariants.{Ack, Info, Nack}
+use Rattle.channel_laws.specs.Vocabulary.{Ack, Cause, Info, LinkPhase, LinkState, Nack, SpellsPacket, TakesBytes, Unheard, answer_to, begun_behind_put, control, count, counted, ctrl_at, first_part}
+use Rattle.channel_laws.specs.Vocabulary.{goes_to, has_more, is_established, left_behind_put, next_number, number_behind_put, owed_in, part_owed, phase_behind_put, phase_behind_rdx}
+use Rattle.channel_laws.specs.Vocabulary.{phase_behind_rtr, phase_behind_rts, phase_behind_vers, seqid_at, takes_body, takes_decoded, type_at, with_link, with_part}
 use Rattle.ldc_packet.specs.Decoding.{Unpacks}
 use Rattle.ldc_packet.specs.Form.{HasForm, HasWidths}
-use Rattle.ldc_packet.specs.Spelling.{SpellsPacket, canonical, ctrl_at, seqid_at, type_at}
+use Rattle.ldc_packet.specs.Spelling.{canonical}
 use Rattle.ldc_queue.specs.Fragments.{fragment_at, is_part}
 use Rattle.ldc_queue.specs.Messages.{MayCome}
 use Rattle.ldc_queue.specs.Numbered.{is_numbered}
 use Rattle.ldc_link.proofs.Hearing.{heard_step, numbered_rightly}
 use Rattle.ldc_link.proofs.Saying.{same_pair}
 use Rattle.ldc_link.proofs.Spelled.{has_number, has_part, spelled_fragment, spelled_numbered, spelled_part}
-use Rattle.ldc_link.specs.declared.phase.LinkPhase.{LinkPhase}
 use Rattle.ldc_link.specs.declared.phase.LinkPhase.TheVariants as phase
 use Rattle.ldc_link.specs.Calls.{Puts}
 use Rattle.ldc_link.specs.Following.{OffersLittle}
-use Rattle.ldc_link.specs.LinkState.{LinkState, is_established, next_number}
-use Rattle.ldc_link.specs.Putting.{begun_behind_put, control, first_part, has_more, left_behind_put, number_behind_put, owed_in, part_owed, phase_behind_put, with_link}
-use Rattle.ldc_link.specs.Taking.{Heard, TakesBytes, Unheard, answer_to, count, counted, goes_to, phase_behind_rdx, phase_behind_rtr, phase_behind_rts, phase_behind_vers, takes_body, takes_decoded, with_part}
-use Rattle.vio_tag.specs.declared.cause.Cause.{Cause}
+use Rattle.ldc_link.specs.Taking.{Heard}
 use Rattle.vio_tag.specs.declared.cause.Cause.TheVariants as the_cause
 use Rattle.channel_laws.proofs.Apart.{false_is_true, none_is_some}
 

@@ -4,29 +4,19 @@ use Rattle.std.specs.Prelude.{slice_get}
 use Rattle.ldc_packet.proofs.Reading.{unpacked}
 use Rattle.ldc_packet.specs.declared.packet.Body.TheVariants.{Rdx}
 use Rattle.ldc_packet.specs.declared.packet.Packet.{Packet}
-use Rattle.ldc_packet.specs.declared.packet.Subtype.TheVariants.{Ack, Info}
+use Rattle.channel_laws.specs.Vocabulary.{Ack, ChannelState, Down, EndAnew, EndCore, EndHears, EndSays, EndStands, Info, Initiator, LinkPhase, LinkState, LinkTake, Offer, Resetting, Responder}
+use Rattle.channel_laws.specs.Vocabulary.{Role, Sides, TakesBytes, Turn, Up, anew, first_part, first_phase, fresh_core, goes_on, goes_to, in_mode, link_take, live, lossy_behind, missed}
+use Rattle.channel_laws.specs.Vocabulary.{nothing_said, numbered_heard, numbered_said, other, peer_behind, phase_behind_rtr, phase_behind_rts, phase_behind_vers, put, queue_behind, shut, sides_of}
+use Rattle.channel_laws.specs.Vocabulary.{swapped, takes_decoded, took, upset}
 use Rattle.ldc_packet.specs.Decoding.{Unpacks}
 use Rattle.ldc_packet.specs.Form.{HasWidths, IsWellFormed}
 use Rattle.ldc_packet.specs.Spelling.{canonical}
 use Rattle.ldc_link.proofs.Following.{loud, quiet}
 use Rattle.ldc_link.proofs.Saying.{first_form}
-use Rattle.ldc_link.specs.declared.phase.LinkPhase.{LinkPhase}
 use Rattle.ldc_link.specs.declared.phase.LinkPhase.TheVariants as phase
-use Rattle.ldc_link.specs.declared.phase.Role.{Role}
-use Rattle.ldc_link.specs.declared.phase.Role.TheVariants.{Initiator, Responder}
-use Rattle.ldc_link.specs.LinkState.{LinkState, first_phase}
-use Rattle.ldc_link.specs.Putting.{first_part}
-use Rattle.ldc_link.specs.Taking.{Heard, LinkTake, TakesBytes, goes_to, in_mode, link_take, phase_behind_rtr, phase_behind_rts, phase_behind_vers, takes_decoded}
+use Rattle.ldc_link.specs.Taking.{Heard}
 use Rattle.ldc_link.specs.Following.{Follows}
-use Rattle.ldc_queue.specs.declared.end.ChannelState.{ChannelState}
-use Rattle.ldc_queue.specs.declared.end.ChannelState.TheVariants.{Down, Resetting, Up}
 use Rattle.ldc_queue.specs.Numbered.{is_numbered, numbered}
-use Rattle.ldc_queue.specs.OneStream.{live}
-use Rattle.ldc_queue.specs.Transcript.{Turn, numbered_heard, numbered_said}
-use Rattle.vio_handshake.specs.declared.session.Offer.{Offer}
-use Rattle.channel_model.specs.TranscriptLog.{nothing_said}
-use Rattle.ldc_queue.specs.Wire.{peer_behind, queue_behind, upset}
-use Rattle.channel_model.specs.WireLog.{lossy_behind}
 use Rattle.channel_laws.proofs.Apart.{links_differ, true_is_false}
 use Rattle.channel_laws.proofs.Conversations.{held_phase}
 use Rattle.channel_laws.proofs.EndCases.{end_took}
@@ -34,12 +24,7 @@ use Rattle.channel_laws.proofs.EndStanding.{held_stands}
 use Rattle.channel_laws.proofs.Lifting.{ActsKeep}
 use Rattle.channel_laws.proofs.LinkCases.{ControlGone, ControlHeard, LinkHeard, LinkPut, ModeAnswered as ModeAnswered_, ModeOffered, PartGone, PartHeard, ReadyGone, ReadyHeard, VersionAnswered as VersionAnswered_, VersionOffered, VersionRefused, canonical_is, link_put, part_loud, put_quiet, ready_loud, taken_quiet}
 use Rattle.channel_laws.proofs.TurnCases.{SaysPart, says_part}
-use Rattle.channel_laws.specs.EndCore.{EndCore}
-use Rattle.channel_laws.specs.EndStep.{EndAnew, EndHears, EndSays}
 use Rattle.channel_laws.specs.LinkPlaces.{AllNumbered, AnswerTaken, AtMost, BothUp, EachPart, HeardAt, IsPartOf, IsReady, LinkPlace, LinksAt, ModeAgreed, ModeAnswered, ModePut, ModeTaken, NothingPut, ReadyFirst, ReadyPut, SaidAt, VersionAnswered, VersionPut, VersionTaken, Waits, live_phase, mode_answer, mode_offer, phase_at, version_answer, version_offer}
-use Rattle.channel_laws.specs.LaneCore.{fresh_core}
-use Rattle.channel_laws.specs.Sides.{Sides, anew, goes_on, missed, other, put, shut, sides_of, swapped, took}
-use Rattle.channel_laws.specs.Standing.{EndStands}
 
 -- FROM THE OTHER SIDE
 pub swap_links : (role : Role) (s : Sides) → LinksAt role s → LinksAt (other role) (swapped s)

@@ -2,20 +2,14 @@
 use Rattle.std.proofs.Common.{◌≡◌, Bool, ℕ, ◌<◌, ◌≤◌, true, false, Some, List, [], ◌∷◌, ◌++◌, length, sym, ap, ◌∙◌, subst, arith, inl, inr}
 use Rattle.std.specs.Prelude.{slice_get}
 use Rattle.ldc_link.specs.declared.phase.LinkPhase.TheVariants as phase
-use Rattle.ldc_link.specs.declared.phase.Role.{Role}
-use Rattle.ldc_link.specs.declared.phase.Role.TheVariants.{Initiator, Responder}
+use Rattle.channel_laws.specs.Vocabulary.{Cause, ChannelState, Down, Initiator, LinkState, OneWay, Resetting, Responder, Role, Sides, TakesBytes, Turn, Unheard, Up, first_phase, live}
+use Rattle.channel_laws.specs.Vocabulary.{numbered_heard, numbered_said, other}
 use Rattle.ldc_link.specs.Following.{Follows}
-use Rattle.ldc_link.specs.LinkState.{LinkState, first_phase}
-use Rattle.ldc_link.specs.Taking.{Heard, TakesBytes, Unheard}
-use Rattle.ldc_queue.specs.declared.end.ChannelState.{ChannelState}
-use Rattle.ldc_queue.specs.declared.end.ChannelState.TheVariants.{Down, Resetting, Up}
+use Rattle.ldc_link.specs.Taking.{Heard}
 use Rattle.ldc_queue.specs.Fragments.{fragments_in}
 use Rattle.ldc_queue.specs.Messages.{AllMayCome}
 use Rattle.ldc_queue.specs.Numbered.{is_numbered, numbered}
-use Rattle.ldc_queue.specs.OneStream.{OneWay, live}
 use Rattle.ldc_queue.specs.QueueLog.{IsFirst}
-use Rattle.ldc_queue.specs.Transcript.{Turn, numbered_heard, numbered_said}
-use Rattle.vio_tag.specs.declared.cause.Cause.{Cause}
 use Rattle.channel_laws.proofs.Conversations.{first_waits}
 use Rattle.channel_laws.proofs.FewLost.{below_turn}
 use Rattle.channel_laws.proofs.LinkPlaced.{TheOne, agreed_taken, answer_taken, first_numbered, mode_taken, nothing_first, offer_taken, the_one}
@@ -25,7 +19,6 @@ use Rattle.channel_laws.proofs.PartsSaid.{PartsSaid}
 use Rattle.channel_laws.specs.Conversing.{Converse}
 use Rattle.channel_laws.specs.LinkPlaces.{BothUp, EachPart, HeardAt, LinkPlace, LinksAt, ModeAnswered, ModePut, ReadyFirst, ReadyPut, SaidAt, VersionAnswered, VersionPut, Waits, live_phase, mode_answer, mode_offer, phase_at, version_answer, version_offer}
 use Rattle.channel_laws.specs.Resetting.{IsGapBehindLoss}
-use Rattle.channel_laws.specs.Sides.{Sides, other}
 
 -- what is known of the way to an end that is up
 record WayTo (lossy : Bool) (k : LinkState) (turns : List Turn) (said waiting : List (List ℕ)) (packet : List ℕ) : Type 0 where

@@ -2,12 +2,13 @@
 use Rattle.std.proofs.Common.{◌≡◌, ◌≢◌, ℕ, Bool, true, false, List, None, Ok, Err, refl, sym, ap, ◌∙◌, subst, inl, inr, ◌⊎◌}
 use Rattle.std.specs.Prelude.{◌&&◌, IfErr, Result, if◌then◌else◌, nat_eq, ⊤}
 use Rattle.std.proofs.lemmas.Bool.Decides.{eqb_tells}
-use Rattle.ldc_link.specs.declared.phase.LinkPhase.{LinkPhase}
+use Rattle.channel_laws.specs.Vocabulary.{Ack, Cause, Info, LinkPhase, LinkState, LinkTake, Nack, TakesBytes, Turn, Unheard, count, count_heard, counts_next, ctrl_at, env_at, goes_to, half_heard}
+use Rattle.channel_laws.specs.Vocabulary.{in_mode, is_up, may_come, number_at, phase_behind_rdx, phase_behind_rtr, phase_behind_rts, phase_behind_vers, seqid_at, subtype_code, takes_body}
+use Rattle.channel_laws.specs.Vocabulary.{takes_decoded, takes_part, type_at, type_code, with_part}
 use Rattle.ldc_link.specs.declared.phase.LinkPhase.TheVariants as phase
 use Rattle.ldc_link.specs.Conversing.{IsData, fragment_of}
 use Rattle.ldc_link.specs.Following.{Follows}
-use Rattle.ldc_link.specs.LinkState.{LinkState, is_up}
-use Rattle.ldc_link.specs.Taking.{Heard, LinkTake, TakesBytes, Unheard, count, goes_to, in_mode, may_come, phase_behind_rdx, phase_behind_rtr, phase_behind_rts, phase_behind_vers, takes_body, takes_decoded, takes_part, with_part}
+use Rattle.ldc_link.specs.Taking.{Heard}
 use Rattle.ldc_link.proofs.Spelled.{has_number, has_part, spelled_fragment, spelled_numbered, spelled_part}
 use Rattle.ldc_packet.proofs.NoFault.{spelled_no_fault}
 use Rattle.ldc_packet.specs.declared.packet.Body.{Body}
@@ -15,19 +16,13 @@ use Rattle.ldc_packet.specs.declared.packet.Body.TheVariants.{Part, Rdx, Rtr, Rt
 use Rattle.ldc_packet.specs.declared.packet.Packet.{Packet}
 use Rattle.ldc_packet.specs.declared.packet.PacketFault.{PacketFault}
 use Rattle.ldc_packet.specs.declared.packet.Subtype.{Subtype}
-use Rattle.ldc_packet.specs.declared.packet.Subtype.TheVariants.{Ack, Info, Nack}
 use Rattle.ldc_packet.specs.Decoding.{Unpacks}
 use Rattle.ldc_packet.specs.Fault.{first_fault}
-use Rattle.ldc_packet.specs.Spelling.{SpellsBody, ctrl_at, env_at, seqid_at, subtype_at, subtype_code, type_at, type_code}
+use Rattle.ldc_packet.specs.Spelling.{SpellsBody, subtype_at}
 use Rattle.ldc_queue.specs.Fragments.{Fragment, fragment_at, is_part}
 use Rattle.ldc_queue.specs.Numbered.{is_numbered}
-use Rattle.ldc_queue.specs.Transcript.{Turn}
-use Rattle.vio_bytes.specs.Place.{number_at}
-use Rattle.vio_tag.specs.declared.cause.Cause.{Cause}
 use Rattle.vio_tag.specs.declared.cause.Cause.TheVariants as the_cause
 use Rattle.channel_model.proofs.SameSayings.{half_heard_is}
-use Rattle.channel_model.specs.Sayings.{count_heard, half_heard}
-use Rattle.channel_model.specs.WireAt.{counts_next}
 use Rattle.channel_laws.proofs.Numbering.{count_heard_is}
 use Rattle.channel_laws.specs.Resetting.{SaysWhy}
 

@@ -5,24 +5,18 @@ use Rattle.std.proofs.lemmas.Bool.{eq-eqb, eqb-true, le-leb}
 use Rattle.ldc_packet.specs.declared.packet.Body.{Body}
 use Rattle.ldc_packet.specs.declared.packet.Body.TheVariants.{Part, Rdx, Rtr, Rts, Vers}
 use Rattle.ldc_packet.specs.declared.packet.Subtype.{Subtype}
-use Rattle.ldc_packet.specs.declared.packet.Subtype.TheVariants.{Info}
-use Rattle.ldc_packet.specs.Spelling.{seqid_at}
+use Rattle.channel_laws.specs.Vocabulary.{Cause, Info, LinkPhase, LinkState, LinkTake, OneWay, TakesBytes, Turn, Unheard, begins_rightly, control, count, counted, goes_to, in_turn, is_established}
+use Rattle.channel_laws.specs.Vocabulary.{is_up, may_come, numbered_heard, phase_behind_rdx, seqid_at, takes_body, takes_part, with_part}
 use Rattle.ldc_link.proofs.Spelled.{has_part, spelled_fragment, spelled_part}
-use Rattle.ldc_link.specs.declared.phase.LinkPhase.{LinkPhase}
 use Rattle.ldc_link.specs.declared.phase.LinkPhase.TheVariants as phase
 use Rattle.ldc_link.specs.Conversing.{IsData, fragment_of}
 use Rattle.ldc_link.specs.Following.{Follows}
-use Rattle.ldc_link.specs.LinkState.{LinkState, is_established, is_up}
-use Rattle.ldc_link.specs.Putting.{control}
-use Rattle.ldc_link.specs.Taking.{Heard, LinkTake, TakesBytes, Unheard, begins_rightly, count, counted, goes_to, in_turn, may_come, phase_behind_rdx, takes_body, takes_part, with_part}
+use Rattle.ldc_link.specs.Taking.{Heard}
 use Rattle.ldc_queue.proofs.Messages.{fragments_in-append}
 use Rattle.ldc_queue.specs.Fragments.{Fragment, fragment_at, fragments_in, is_part, joins}
 use Rattle.ldc_queue.specs.Messages.{AllMayCome, MayCome, half_in, half_with, is_empty}
 use Rattle.ldc_queue.specs.Numbered.{is_numbered, numbered}
-use Rattle.ldc_queue.specs.OneStream.{OneWay}
 use Rattle.ldc_queue.specs.QueueLog.{IsFirst}
-use Rattle.ldc_queue.specs.Transcript.{Turn, numbered_heard}
-use Rattle.vio_tag.specs.declared.cause.Cause.{Cause}
 use Rattle.vio_tag.specs.declared.cause.Cause.TheVariants as the_cause
 use Rattle.channel_laws.proofs.Apart.{true_is_false}
 use Rattle.channel_laws.specs.Resetting.{IsGapBehindLoss}

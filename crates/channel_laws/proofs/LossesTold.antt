@@ -1,17 +1,8 @@
 -- A wire is lossy exactly where a packet was lost behind the last event that emptied the queues.
 use Rattle.std.proofs.Common.{◌≡◌, ◌≢◌, ℕ, Bool, true, false, List, [], ◌∷◌, ◌++◌, refl, sym, ap, ◌∙◌, subst, inl, inr, ◌⊎◌}
-use Rattle.runs.specs.Lawful.{Lawful, log_append, log_of}
-use Rattle.runs.specs.Run.{Run}
-use Rattle.ldc_queue.specs.declared.end.ChannelState.{ChannelState}
-use Rattle.ldc_queue.specs.declared.end.ChannelState.TheVariants.{Down, Resetting, Up}
-use Rattle.ldc_queue.specs.declared.end.End.{End}
-use Rattle.ldc_queue.specs.declared.end.End.TheVariants.{A, B}
-use Rattle.ldc_queue.specs.Wire.{queue_behind, state_of, waiting_for}
-use Rattle.vio_handshake.specs.declared.session.Offer.{Offer}
-use Rattle.channel_model.specs.WireEvent.{Blocked, Declines, Idle, Injected, Joined, Lost, Poked, Reset, Sent, Took}
-use Rattle.channel_model.specs.WireLog.{WireLog, lossy_behind}
+use Rattle.channel_laws.specs.Vocabulary.{A, B, Beside, Blocked, ChannelState, Closes, CoreEvent, CoreFits, CoreStep, Declines, Down, End, Idle, Injected, Joined, LaneCore, Lawful, Lost, Offer}
+use Rattle.channel_laws.specs.Vocabulary.{OnChannel, Poked, Reset, Resetting, Run, Sent, Took, Up, WireLog, fresh_core, log_append, log_of, lossy_behind, queue_behind, state_of, waiting_for}
 use Rattle.channel_laws.specs.CoreLog.{CoreLog, after, nothing_yet}
-use Rattle.channel_laws.specs.LaneCore.{Beside, Closes, CoreEvent, CoreFits, CoreStep, LaneCore, OnChannel, fresh_core}
 use Rattle.channel_laws.specs.LossStands.{Empties, EmptiesNone, LossAmong, LossStands}
 use Rattle.channel_laws.proofs.CoreLaws.{wire_is}
 

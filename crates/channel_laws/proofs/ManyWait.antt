@@ -1,11 +1,8 @@
 -- Both links are up where many packets wait for both ends; and a link that is up and owes a packet holds a message.
 use Rattle.std.proofs.Common.{◌≡◌, ℕ, ◌≤◌, Bool, true, inl, inr, List, [], ◌∷◌, length, refl, sym, ap, ◌∙◌, arith}
 use Rattle.std.specs.Prelude.{is_some}
-use Rattle.ldc_link.specs.declared.phase.Role.TheVariants.{Initiator, Responder}
-use Rattle.ldc_link.specs.declared.phase.LinkPhase.{LinkPhase}
+use Rattle.channel_laws.specs.Vocabulary.{Initiator, LinkPhase, LinkState, Responder, owed_in, owes, part_owed}
 use Rattle.ldc_link.specs.declared.phase.LinkPhase.TheVariants as phase
-use Rattle.ldc_link.specs.LinkState.{LinkState}
-use Rattle.ldc_link.specs.Putting.{owed_in, owes, part_owed}
 use Rattle.ldc_packet.specs.declared.packet.Packet.{Packet}
 use Rattle.channel_laws.specs.LinkPlaces.{AnswerTaken, AtMost, BothUp, LinkPlace, ModeAgreed, ModeAnswered, ModePut, ModeTaken, NothingPut, ReadyPut, VersionAnswered, VersionPut, VersionTaken, Waits}
 

@@ -3,13 +3,10 @@
 use Rattle.std.proofs.Common.{◌≡◌, ℕ, ◌+◌, ◌<◌, ◌≤◌, ◌%◌, Bool, true, List, [], ◌∷◌, ◌++◌, drop, length, refl, sym, ap, ◌∙◌, subst, append_assoc, arith, ◌⊎◌, inl, inr}
 use Rattle.ldc_packet.proofs.Canonical.{canonical_spells}
 use Rattle.ldc_packet.specs.declared.packet.Body.TheVariants.{Rdx}
-use Rattle.ldc_packet.specs.declared.packet.Subtype.TheVariants.{Info}
-use Rattle.ldc_packet.specs.Spelling.{SpellsPacket, seqid_at}
+use Rattle.channel_laws.specs.Vocabulary.{Info, OneWay, SpellsPacket, control, seqid_at}
 use Rattle.ldc_link.proofs.Following.{loud, loud_counts}
-use Rattle.ldc_link.specs.Putting.{control}
 use Rattle.ldc_queue.proofs.Streams.{count_up_later, way_took}
 use Rattle.ldc_queue.specs.Numbered.{CountUp, is_numbered, kept, numbered}
-use Rattle.ldc_queue.specs.OneStream.{OneWay}
 use Rattle.ldc_queue.specs.QueueLog.{IsFirst}
 use Rattle.channel_laws.specs.LinkPlaces.{EachPart, IsPartOf, IsReady, ReadyFirst}
 

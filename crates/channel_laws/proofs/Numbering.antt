@@ -3,17 +3,18 @@ use Rattle.std.proofs.Common.{◌≡◌, ℕ, ◌+◌, ◌%◌, ◌<◌, Bool, t
 use Rattle.std.specs.Prelude.{Result, not}
 use Rattle.std.proofs.lemmas.Bool.{leb-false}
 use Rattle.std.proofs.lemmas.List.{length-take}
-use Rattle.runs.specs.Lawful.{Lawful}
-use Rattle.runs.specs.Run.{Run}
+use Rattle.channel_laws.specs.Vocabulary.{A, B, Beside, Blocked, Closes, CoreEvent, CoreFits, CoreStands, CoreStep, Declines, EndCore, EndHears, EndSays, EndStands, Idle, Info, Initiator, Injected}
+use Rattle.channel_laws.specs.Vocabulary.{IsHeard, IsHeardPart, IsSaid, IsSaidPart, Joined, LaneCore, Lawful, LinkState, Lost, Offer, OnChannel, Poked, Reset, Responder, Role, Run, Sent}
+use Rattle.channel_laws.specs.Vocabulary.{TakesBytes, Took, Turn, WireEvent, WireHeardAt, WireLog, WireSaidAt, control, count_heard, count_said, counts_next, first_part, fresh_core, half_heard}
+use Rattle.channel_laws.specs.Vocabulary.{half_said, more_if, numbered_heard, numbered_said, seqid_at, takes_decoded}
 use Rattle.ldc_packet.proofs.NoFault.{spelled_no_fault}
 use Rattle.ldc_packet.specs.declared.packet.Body.{Body}
 use Rattle.ldc_packet.specs.declared.packet.Body.TheVariants.{Part, Rdx, Rtr, Rts, Vers}
 use Rattle.ldc_packet.specs.declared.packet.Packet.{Packet}
 use Rattle.ldc_packet.specs.declared.packet.PacketFault.{PacketFault}
-use Rattle.ldc_packet.specs.declared.packet.Subtype.TheVariants.{Info}
 use Rattle.ldc_packet.specs.Decoding.{Unpacks}
 use Rattle.ldc_packet.specs.Form.{HasWidths, IsWellFormed}
-use Rattle.ldc_packet.specs.Spelling.{canonical, seqid_at}
+use Rattle.ldc_packet.specs.Spelling.{canonical}
 use Rattle.ldc_link.proofs.Following.{takes_follow}
 use Rattle.ldc_link.proofs.FollowingPuts.{puts_follow}
 use Rattle.ldc_link.proofs.Hearing.{heard_step}
@@ -21,25 +22,13 @@ use Rattle.ldc_link.proofs.Saying.{first_form}
 use Rattle.ldc_link.proofs.Spelled.{has_part, spelled_fragment, spelled_part}
 use Rattle.ldc_link.specs.Conversing.{IsData}
 use Rattle.ldc_link.specs.declared.phase.LinkPhase.TheVariants as phase
-use Rattle.ldc_link.specs.declared.phase.Role.{Role}
-use Rattle.ldc_link.specs.declared.phase.Role.TheVariants.{Initiator, Responder}
 use Rattle.ldc_link.specs.Following.{Follows, OffersLittle}
-use Rattle.ldc_link.specs.LinkState.{LinkState}
-use Rattle.ldc_link.specs.Putting.{control, first_part}
-use Rattle.ldc_link.specs.Taking.{Heard, TakesBytes, takes_decoded}
-use Rattle.ldc_queue.specs.declared.end.End.TheVariants.{A, B}
+use Rattle.ldc_link.specs.Taking.{Heard}
 use Rattle.ldc_queue.specs.Fragments.{Fragment, fragment_at, is_part}
 use Rattle.ldc_queue.specs.Messages.{is_empty}
 use Rattle.ldc_queue.specs.Numbered.{CountUp, is_numbered, kept}
 use Rattle.ldc_queue.specs.Transcript as turn
-use Rattle.ldc_queue.specs.Transcript.{Turn, numbered_heard, numbered_said}
-use Rattle.vio_handshake.specs.declared.session.Offer.{Offer}
 use Rattle.channel_model.proofs.SameSayings.{half_heard_is}
-use Rattle.channel_model.specs.Sayings.{count_heard, count_said, half_heard, half_said}
-use Rattle.channel_model.specs.TranscriptLog.{more_if}
-use Rattle.channel_model.specs.WireAt.{IsHeard, IsHeardPart, IsSaid, IsSaidPart, WireHeardAt, WireSaidAt, counts_next}
-use Rattle.channel_model.specs.WireLog.{WireLog}
-use Rattle.channel_model.specs.WireEvent.{Blocked, Declines, Idle, Injected, Joined, Lost, Poked, Reset, Sent, Took, WireEvent}
 use Rattle.channel_laws.proofs.Apart.{true_is_false}
 use Rattle.channel_laws.proofs.ConversingRuns.{converse_keeps, first_converse}
 use Rattle.channel_laws.proofs.CoreRuns.{Knows, knows_run}
@@ -49,10 +38,6 @@ use Rattle.channel_laws.proofs.TurnCases.{SaysPart, says_part}
 use Rattle.channel_laws.specs.Conversing.{Converse}
 use Rattle.channel_laws.specs.CoreLog.{CoreLog, HeardAt, SaidAt, TableAt, after, nothing_yet}
 use Rattle.channel_laws.specs.Cuts.{Cuts}
-use Rattle.channel_laws.specs.EndCore.{EndCore}
-use Rattle.channel_laws.specs.EndStep.{EndHears, EndSays}
-use Rattle.channel_laws.specs.LaneCore.{Beside, Closes, CoreEvent, CoreFits, CoreStands, CoreStep, LaneCore, OnChannel, fresh_core}
-use Rattle.channel_laws.specs.Standing.{EndStands}
 
 -- THE COUNTS of a transcript
 kept_more : (b : Bool) (packet : List ℕ) (n : ℕ) (xs : List (List ℕ)) → n ≡ length xs → more_if b n ≡ length (xs ++ kept b packet [])

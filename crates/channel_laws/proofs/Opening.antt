@@ -2,29 +2,18 @@
 -- up to where it stands, and what stands aside.
 use Rattle.std.proofs.Common.{◌≡◌, ℕ, ◌%◌, Bool, true, false, ◌⊎◌, inl, inr, Option, Some, None, List, [], ◌∷◌, ◌++◌, drop, refl, sym, ap, ◌∙◌, subst, arith}
 use Rattle.std.specs.Prelude.{⊤}
-use Rattle.ldc_link.specs.declared.phase.LinkPhase.{LinkPhase}
+use Rattle.channel_laws.specs.Vocabulary.{Attr, DringData, DringReg, DringUnreg, EndCore, Handshake, Heard, Initiator, LinkPhase, Mcast, Message, Nack, Plain, Rdx, Responder, Role, Said}
+use Rattle.channel_laws.specs.Vocabulary.{SpellsMessage, Turn, Ver, canonical, envelope_code, half_heard, half_said, is_up, subtype_code}
 use Rattle.ldc_link.specs.declared.phase.LinkPhase.TheVariants as phase
-use Rattle.ldc_link.specs.declared.phase.Role.{Role}
-use Rattle.ldc_link.specs.declared.phase.Role.TheVariants.{Initiator, Responder}
-use Rattle.ldc_link.specs.LinkState.{is_up}
 use Rattle.ldc_packet.specs.declared.packet.Subtype.{Subtype}
-use Rattle.ldc_packet.specs.declared.packet.Subtype.TheVariants.{Nack}
-use Rattle.ldc_packet.specs.Spelling.{subtype_code}
 use Rattle.ldc_queue.specs.Fragments.{fragment_at, is_part}
-use Rattle.ldc_queue.specs.Transcript.{Heard, Said, Turn}
-use Rattle.vio_tag.specs.declared.message.Message.{Message}
 use Rattle.vio_tag.specs.declared.message.MsgBody.{MsgBody}
-use Rattle.vio_tag.specs.declared.message.MsgBody.TheVariants.{Attr, DringData, DringReg, DringUnreg, Mcast, Plain, Rdx, Ver}
 use Rattle.vio_tag.specs.Spelling as message_at
-use Rattle.vio_tag.specs.Spelling.{SpellsMessage, canonical, envelope_code}
-use Rattle.vio_handshake.specs.declared.handshake.Handshake.{Handshake}
 use Rattle.vio_handshake.specs.declared.handshake.Phase.{Phase}
 use Rattle.vio_handshake.specs.declared.handshake.Phase.TheVariants.{Attributes, Down, Open, OwnReady, OwnRing, PeerReady, PeerReadyTaken, PeerRing, PeerRingTaken, Version}
 use Rattle.channel_model.specs.HandshakeOrder.{ComesUpBelow, EndsAs, FollowsRow, Hears, HearsControl, Line, MayEnd, Meets, Says, SaysControl, opening_lines, own_ring_lines, row, sid_in_bytes}
-use Rattle.channel_model.specs.Sayings.{half_heard, half_said}
 use Rattle.channel_laws.proofs.HandshakeCases.{NothingFollows}
 use Rattle.channel_laws.proofs.TurnCases.{EndsBy}
-use Rattle.channel_laws.specs.EndCore.{EndCore}
 
 -- THE LINK: how many of the opening's lines are to come in a phase, and those that are met
 abbrev pub link_left : LinkPhase → ℕ

@@ -3,35 +3,21 @@ use Rattle.std.proofs.Common.{◌≡◌, ℕ, Bool, true, false, ◌⊎◌, inl,
 use Rattle.std.specs.Prelude.{if◌then◌else◌, nat_eq}
 use Rattle.std.proofs.lemmas.Bool.{eqb-true, leb-true}
 use Rattle.std.proofs.lemmas.List.{take_all}
-use Rattle.runs.specs.Run.{Run}
+use Rattle.channel_laws.specs.Vocabulary.{A, Ack, B, Begins, CoreEvent, CoreFits, CoreStep, End, EndCore, EndHears, EndMove, EndSays, EndStands, EndStep, Fails, Handshake, Heard, Hears, Info}
+use Rattle.channel_laws.specs.Vocabulary.{Initiator, IsPhaseOf, LaneCore, LinkPhase, LinkState, Message, Nack, Offer, OnChannel, Renews, Responder, Role, Run, Said, Says, Sent as Sent_, Stays}
+use Rattle.channel_laws.specs.Vocabulary.{Took as Took_, Turn, Ver, Waits, control, end_of, first_phase, fresh_core, fresh_end, fresh_link, half_said, handshake_sent, is_established, is_up}
+use Rattle.channel_laws.specs.Vocabulary.{opens_by_put, put_in, role_of, sid_fault, transcript_behind, transcript_of, turns_after}
 use Rattle.ldc_packet.specs.declared.packet.Body.TheVariants.{Rdx, Rtr, Rts, Vers}
 use Rattle.ldc_packet.specs.declared.packet.Packet.{Packet}
-use Rattle.ldc_packet.specs.declared.packet.Subtype.TheVariants.{Ack, Info, Nack}
 use Rattle.ldc_packet.specs.Spelling.{canonical}
-use Rattle.ldc_link.specs.declared.phase.LinkPhase.{LinkPhase}
 use Rattle.ldc_link.specs.declared.phase.LinkPhase.TheVariants as phase
-use Rattle.ldc_link.specs.declared.phase.Role.{Role}
-use Rattle.ldc_link.specs.declared.phase.Role.TheVariants.{Initiator, Responder}
-use Rattle.ldc_link.specs.LinkState.{LinkState, first_phase, fresh_link, is_established, is_up}
-use Rattle.ldc_link.specs.Putting.{control}
-use Rattle.ldc_queue.specs.declared.end.End.{End}
-use Rattle.ldc_queue.specs.declared.end.End.TheVariants.{A, B}
 use Rattle.ldc_queue.specs.Fragments.{fragment_at, is_part}
-use Rattle.ldc_queue.specs.Transcript.{Heard, Said, Turn}
-use Rattle.vio_tag.specs.declared.message.Message.{Message}
-use Rattle.vio_tag.specs.declared.message.MsgBody.TheVariants.{Ver}
 use Rattle.vio_tag.specs.Spelling as message_at
-use Rattle.vio_handshake.specs.declared.handshake.Handshake.{Handshake}
 use Rattle.vio_handshake.specs.declared.handshake.Phase.{Phase}
 use Rattle.vio_handshake.specs.declared.handshake.Phase.TheVariants.{Down, Open}
-use Rattle.vio_handshake.specs.declared.session.Offer.{Offer}
 use Rattle.vio_handshake.specs.Messages.{info}
-use Rattle.vio_handshake.specs.Rules.{opens_by_put, put_in, handshake_sent, sid_fault}
 use Rattle.vio_handshake.specs.State.{begun, joined_handshake, next_sid, handshake_up}
 use Rattle.channel_model.specs.HandshakeOrder.{ComesUpBelow, Control, FollowsRow, HandshakeOrder, Hears as Hears_, HearsControl, IsControlOf, IsVersNack, Line, MayEnd, RdxGiven, RtrAnswered, RtsAsked, Says as Says_, SaysControl, VersAgreed, VersOffer}
-use Rattle.channel_model.specs.Sayings.{half_said}
-use Rattle.channel_model.specs.TranscriptLog.{transcript_of}
-use Rattle.channel_model.specs.WireEvent.{Sent as Sent_, Took as Took_}
 use Rattle.channel_laws.proofs.Apart.{false_is_true, none_is_some}
 use Rattle.channel_laws.proofs.EndCases.{EndTook, NoMessage, PutControl, PutMore, PutOwn, PutReady, PutHandshake, PutWhat, Rises, TookMessage, TookOwn, TookHandshake, TookWhat, end_put, end_took, put_down, taken_down}
 use Rattle.channel_laws.proofs.EndResting.{StandsResting, held_handshake, of_sid, resting_step}
@@ -47,11 +33,7 @@ use Rattle.channel_laws.proofs.Opening.{EndCame, HandshakeComes, IsComing, IsNex
 use Rattle.channel_laws.proofs.OpeningRows.{Comes_, GoesOn, Opens_, initiator_row, responder_row, sent_row}
 use Rattle.channel_laws.proofs.TurnCases.{SaysLast}
 use Rattle.channel_laws.specs.Cuts.{Carries, CarriesOwed, CarriesOwn}
-use Rattle.channel_laws.specs.EndCore.{Begins, EndCore, EndMove, Fails, Hears, Renews, Says, Stays, Waits, fresh_end}
-use Rattle.channel_laws.specs.EndStep.{EndHears, EndSays, EndStep}
 use Rattle.channel_laws.specs.Grounds.{When, knows_sid}
-use Rattle.channel_laws.specs.LaneCore.{CoreEvent, CoreFits, CoreStep, LaneCore, OnChannel, end_of, fresh_core, role_of, transcript_behind, turns_after}
-use Rattle.channel_laws.specs.Standing.{EndStands, IsPhaseOf}
 
 -- A CONTROL PACKET that is heard
 wrong_role : (role : Role) (ph before : LinkPhase) (X : Type 0) → IsPhaseOf role ph → ph ≡ before → (IsPhaseOf role before → ⊥) → X

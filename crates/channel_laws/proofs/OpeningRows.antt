@@ -1,23 +1,14 @@
 -- Each row of a handshake is the next line of its end's order, stands aside, or opens the session.
 use Rattle.std.proofs.Common.{◌≡◌, ℕ, ◌%◌, Bool, true, false, ◌⊎◌, inl, inr, Some, None, List, ◌∷◌, ◌++◌, drop, min, refl, sym, ap, ◌∙◌, subst}
-use Rattle.ldc_link.specs.declared.phase.Role.{Role}
-use Rattle.ldc_link.specs.declared.phase.Role.TheVariants.{Initiator, Responder}
+use Rattle.channel_laws.specs.Vocabulary.{Ack, Attr, DringReg, Handshake, Heard, Info, Initiator, Message, Nack, Rdx, Responder, Role, Said, SpellsMessage, Turn, Ver, behind_ring, envelope_code}
+use Rattle.channel_laws.specs.Vocabulary.{half_heard, own_named, subtype_code}
 use Rattle.ldc_packet.specs.declared.packet.Subtype.{Subtype}
-use Rattle.ldc_packet.specs.declared.packet.Subtype.TheVariants.{Ack, Info, Nack}
-use Rattle.ldc_packet.specs.Spelling.{subtype_code}
-use Rattle.ldc_queue.specs.Transcript.{Heard, Said, Turn}
-use Rattle.vio_tag.specs.declared.message.Message.{Message}
 use Rattle.vio_tag.specs.declared.message.MsgBody.{MsgBody}
-use Rattle.vio_tag.specs.declared.message.MsgBody.TheVariants.{Attr, DringReg, Rdx, Ver}
-use Rattle.vio_tag.specs.Spelling.{SpellsMessage, envelope_code}
 use Rattle.vio_handshake.specs.Attributes.{answered_attributes, said_attributes}
-use Rattle.vio_handshake.specs.declared.handshake.Handshake.{Handshake}
 use Rattle.vio_handshake.specs.declared.handshake.Phase.{Phase}
 use Rattle.vio_handshake.specs.declared.handshake.Phase.TheVariants.{Attributes, Open, OwnReady, OwnRing, PeerReady, PeerReadyTaken, PeerRing, PeerRingTaken, Version}
 use Rattle.vio_handshake.specs.Messages.{ack, info, nack, own_ring}
-use Rattle.vio_handshake.specs.Rules.{behind_ring, own_named}
 use Rattle.channel_model.specs.HandshakeOrder.{EndsAs, FollowsRow, HandshakeOrder, OpensBy, opening_lines, own_ring_lines, row}
-use Rattle.channel_model.specs.Sayings.{half_heard}
 use Rattle.channel_laws.proofs.Apart.{none_is_some, roles_differ}
 use Rattle.channel_laws.proofs.HandshakeCases.{AttributesAgreed, AttributesAsked, AttributesRefused, Declined, NothingFollows, OneRingAgreed, Opened, Opens, Owes, OwnReadyFollows, PeerAgreed, ReadyAgreed, ReadyAsked, ReadyFollows, RingAgreed, RingAsked, RingFollows, RingRefused, RowSent, RowTaken, VersionAgreed, VersionAsked, VersionRefused}
 use Rattle.channel_laws.proofs.Opening.{Comes, HandshakeComes, IsComing, IsNext, Owing, SaysWhole, Waiting, any_sid, comes_up, heard_line, hears_aside, last_follows, met, said_line, sid_of}

@@ -1,15 +1,15 @@
 -- An end whose session is open resets itself for the first cause that a packet has, and takes the packet where it has none.
 use Rattle.std.proofs.Common.{◌≡◌, ℕ, Bool, true, false, Option, Some, None, Ok, Err, List, ◌++◌, refl, sym, ap, ◌∙◌, subst, inr}
 use Rattle.std.specs.Prelude.{◌&&◌, ◌||◌, not, Result, if◌then◌else◌, nat_eq, ⊤}
-use Rattle.runs.specs.Run.{Run}
-use Rattle.ldc_link.specs.declared.phase.LinkPhase.{LinkPhase}
+use Rattle.channel_laws.specs.Vocabulary.{A, Attr, B, Cause, CoreEvent, CoreFits, CoreStep, DringData, DringReg, DringUnreg, End, EndCore, Faults, Handshake, HandshakeTake, Initiator, LaneCore}
+use Rattle.channel_laws.specs.Vocabulary.{LinkPhase, LinkState, LinkTake, Mcast, Message, Offer, Plain, Rdx as Ready, Responder, Role, Run, TakesBytes, Turn, Unheard, Ver, count, count_heard}
+use Rattle.channel_laws.specs.Vocabulary.{counts_next, ctrl_at, end_of, ended_by, env_at, fault_or, fresh_core, goes_to, half_heard, handshake_hear, handshake_take, is_declined, is_established}
+use Rattle.channel_laws.specs.Vocabulary.{is_up, may_come, phase_behind_rdx, phase_behind_rtr, phase_behind_rts, phase_behind_vers, role_of, row, seqid_at, sid_fault, takes_body, takes_decoded}
+use Rattle.channel_laws.specs.Vocabulary.{takes_part, transcript_behind, transcript_of, type_at, type_code, whole_of, whole_with, with_part}
 use Rattle.ldc_link.specs.declared.phase.LinkPhase.TheVariants as phase
-use Rattle.ldc_link.specs.declared.phase.Role.{Role}
-use Rattle.ldc_link.specs.declared.phase.Role.TheVariants.{Initiator, Responder}
 use Rattle.ldc_link.specs.Conversing.{IsData, fragment_of}
 use Rattle.ldc_link.specs.Following.{Follows}
-use Rattle.ldc_link.specs.LinkState.{LinkState, is_established, is_up}
-use Rattle.ldc_link.specs.Taking.{Heard, LinkTake, TakesBytes, Unheard, count, goes_to, may_come, phase_behind_rdx, phase_behind_rtr, phase_behind_rts, phase_behind_vers, takes_body, takes_decoded, takes_part, whole_of, with_part}
+use Rattle.ldc_link.specs.Taking.{Heard}
 use Rattle.ldc_link.proofs.Spelled.{has_number, has_part, spelled_fragment, spelled_numbered, spelled_part}
 use Rattle.ldc_packet.proofs.NoFault.{spelled_no_fault}
 use Rattle.ldc_packet.specs.declared.packet.Body.{Body}
@@ -19,38 +19,24 @@ use Rattle.ldc_packet.specs.declared.packet.PacketFault.{PacketFault}
 use Rattle.ldc_packet.specs.declared.packet.Subtype.{Subtype}
 use Rattle.ldc_packet.specs.Decoding.{Unpacks}
 use Rattle.ldc_packet.specs.Fault.{first_fault}
-use Rattle.ldc_packet.specs.Spelling.{SpellsBody, ctrl_at, env_at, seqid_at, type_at, type_code}
-use Rattle.ldc_queue.specs.declared.end.End.{End}
-use Rattle.ldc_queue.specs.declared.end.End.TheVariants.{A, B}
+use Rattle.ldc_packet.specs.Spelling.{SpellsBody}
 use Rattle.ldc_queue.specs.Fragments.{Fragment, fragment_at, is_part}
 use Rattle.ldc_queue.specs.Numbered.{is_numbered}
-use Rattle.ldc_queue.specs.Transcript.{Turn}
-use Rattle.vio_handshake.specs.declared.handshake.Handshake.{Handshake}
 use Rattle.vio_handshake.specs.declared.handshake.Phase.{Phase}
 use Rattle.vio_handshake.specs.declared.handshake.Phase.TheVariants.{Open}
-use Rattle.vio_handshake.specs.declared.session.Offer.{Offer}
-use Rattle.vio_handshake.specs.Rules.{Faults, Goes, HandshakeTake, fault_or, handshake_hear, handshake_take, is_declined, row, sid_fault}
+use Rattle.vio_handshake.specs.Rules.{Goes}
 use Rattle.vio_tag.proofs.Deciding.{some_result}
 use Rattle.vio_tag.proofs.Reading.{one_result}
-use Rattle.vio_tag.specs.declared.cause.Cause.{Cause}
 use Rattle.vio_tag.specs.declared.cause.Cause.TheVariants as the_cause
-use Rattle.vio_tag.specs.declared.message.Message.{Message}
 use Rattle.vio_tag.specs.declared.message.MsgBody.{MsgBody}
-use Rattle.vio_tag.specs.declared.message.MsgBody.TheVariants.{Attr, DringData, DringReg, DringUnreg, Mcast, Plain, Rdx as Ready, Ver}
 use Rattle.vio_tag.specs.declared.message.TagFault.{TagFault}
 use Rattle.channel_model.proofs.SameSayings.{half_heard_is}
-use Rattle.channel_model.specs.Messages.{ended_by, whole_with}
-use Rattle.channel_model.specs.Sayings.{count_heard, half_heard}
-use Rattle.channel_model.specs.TranscriptLog.{transcript_of}
-use Rattle.channel_model.specs.WireAt.{counts_next}
 use Rattle.channel_laws.proofs.EndCases.{stays_risen}
 use Rattle.channel_laws.proofs.EndResting.{StandsResting, open_rests}
 use Rattle.channel_laws.proofs.EndStanding.{open_up, opened_phase}
 use Rattle.channel_laws.proofs.EndUttering.{speaks_run}
 use Rattle.channel_laws.proofs.Numbering.{count_heard_is}
-use Rattle.channel_laws.specs.EndCore.{EndCore}
 use Rattle.channel_laws.specs.EndFold.{decoded_of}
-use Rattle.channel_laws.specs.LaneCore.{CoreEvent, CoreFits, CoreStep, LaneCore, end_of, fresh_core, role_of, transcript_behind}
 use Rattle.channel_laws.specs.PacketCauses.{Judges, LinkJudged, WholeJudged, body_cause, decoded_cause, fault_cause, fault_first, judged, judged_body, message_cause, mode_cause, names_mode, number_cause, packet_cause, part_cause, refused_by}
 
 -- THE MESSAGE: an open handshake declines what it takes, and all else is out of order

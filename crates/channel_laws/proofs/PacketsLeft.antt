@@ -2,25 +2,15 @@
 -- its session. Where the messages that it may begin count too, it doesn't rise.
 use Rattle.std.proofs.Common.{◌≡◌, ℕ, ◌+◌, ◌≤◌, ◌⊎◌, inl, inr, Bool, true, false, Option, Some, List, [], ◌∷◌, length, drop, refl, sym, ap, ◌∙◌, subst, arith, length-drop}
 use Rattle.std.proofs.lemmas.Bool.{leb-false}
-use Rattle.ldc_link.specs.declared.phase.LinkPhase.{LinkPhase}
+use Rattle.channel_laws.specs.Vocabulary.{ComesUp, EndAnew, EndCore, EndSays, EndStands, EndStays, EndWaits, EndsHandshake, EndsOwn, Goes, Handshake, HandshakeStands, Holding, Holds, HoldsOn}
+use Rattle.channel_laws.specs.Vocabulary.{HoldsOwed, HoldsOwn, Initiator, LinkPhase, LinkState, Message, Offer, PutKind, Rdx, Responder, Role, Turn, Ver, canonical, first_phase, handshake_sent}
+use Rattle.channel_laws.specs.Vocabulary.{holds, is_established, is_open_in, kind_of, offered, opens_by_put, owes, put_opens}
 use Rattle.ldc_link.specs.declared.phase.LinkPhase.TheVariants as phase
-use Rattle.ldc_link.specs.declared.phase.Role.{Role}
-use Rattle.ldc_link.specs.declared.phase.Role.TheVariants.{Initiator, Responder}
-use Rattle.ldc_link.specs.LinkState.{LinkState, first_phase, is_established, offered}
-use Rattle.ldc_link.specs.Putting.{owes}
-use Rattle.ldc_queue.specs.Transcript.{Turn}
-use Rattle.vio_handshake.specs.declared.handshake.Handshake.{Handshake}
 use Rattle.vio_handshake.specs.declared.handshake.Phase.{Phase}
 use Rattle.vio_handshake.specs.declared.handshake.Phase.TheVariants.{Open, OwnReady, OwnRing, PeerReadyTaken, PeerRingTaken, Version}
 use Rattle.vio_handshake.specs.Messages.{info, own_ring}
-use Rattle.vio_handshake.specs.declared.session.Offer.{Offer}
-use Rattle.vio_handshake.specs.Rules.{handshake_sent, opens_by_put}
 use Rattle.vio_handshake.specs.State.{begun, fresh_handshake, handshake_up, joined_handshake, next_sid}
 use Rattle.vio_tag.proofs.Canonical.{length_canonical}
-use Rattle.vio_tag.specs.declared.message.Message.{Message}
-use Rattle.vio_tag.specs.declared.message.MsgBody.TheVariants.{Rdx, Ver}
-use Rattle.vio_tag.specs.Spelling.{canonical}
-use Rattle.channel_model.specs.EndPuts.{ComesUp, EndsHandshake, EndsOwn, Goes, PutKind, put_opens}
 use Rattle.channel_laws.proofs.Apart.{none_is_some, true_is_false}
 use Rattle.channel_laws.proofs.EndCases.{PutControl, PutHandshake, PutMore, PutOwn, PutReady, PutWhat, end_put}
 use Rattle.channel_laws.proofs.EndStanding.{few_offered, held_stands, holds_some, last_none, open_up, owing_up, up_empty}
@@ -28,10 +18,7 @@ use Rattle.channel_laws.proofs.HandshakeCases.{Opens, Owes, OwnReadyFollows, Rea
 use Rattle.channel_laws.proofs.LinkCases.{ControlPut, ModeAnswered, ModeOffered, VersionAnswered, VersionOffered, VersionRefused, behind_part, behind_ready}
 use Rattle.channel_laws.proofs.Short.{short_within, some_bytes}
 use Rattle.channel_laws.proofs.TurnCases.{SaysLast}
-use Rattle.channel_laws.specs.EndCore.{EndCore, holds}
-use Rattle.channel_laws.specs.EndStep.{EndAnew, EndSays, EndStays, EndWaits, Holding, Holds, HoldsOn, HoldsOwed, HoldsOwn, kind_of}
 use Rattle.channel_laws.specs.PacketsLeft.{all_in, all_of, first_packets, held_left, later, later_in, left_in, messages_in, own_in, packets_left, parts, parts_owed}
-use Rattle.channel_laws.specs.Standing.{EndStands, HandshakeStands, is_open_in}
 
 -- SUMS
 left_more : (ph : LinkPhase) (all n m more : ℕ) → n ≤ m + more → left_in ph all n ≤ left_in ph all m + more

@@ -2,41 +2,22 @@
 use Rattle.std.proofs.Common.{◌≡◌, ℕ, ◌+◌, ◌≤◌, Bool, true, false, Option, Some, List, [], ◌∷◌, ◌++◌, length, refl, sym, ap, ◌∙◌, subst, inl, inr, arith}
 use Rattle.std.specs.Prelude.{if◌then◌else◌, nat_eq, slice_get, take}
 use Rattle.std.proofs.lemmas.List.{length-take}
-use Rattle.runs.specs.Lawful.{log_of}
-use Rattle.runs.specs.Run.{Run}
-use Rattle.ldc_link.specs.declared.phase.LinkPhase.{LinkPhase}
+use Rattle.channel_laws.specs.Vocabulary.{A, B, ChannelState, CoreEvent, CoreFits, CoreStep, DringReg, End, EndCore, EndHears, Handshake, Initiator, IsFront, LaneCore, LinkPhase, LinkState}
+use Rattle.channel_laws.specs.Vocabulary.{Message, Offer, OnChannel, Responder, Role, Run, Sides, Took, TranscriptLog, Turn, Up, answer_to, canonical, end_of, first_phase, fresh_core}
+use Rattle.channel_laws.specs.Vocabulary.{handshake_take, heard, holds, is_established, is_up, log_of, other, said, sides_of, swapped, took}
 use Rattle.ldc_link.specs.declared.phase.LinkPhase.TheVariants as phase
-use Rattle.ldc_link.specs.declared.phase.Role.{Role}
-use Rattle.ldc_link.specs.declared.phase.Role.TheVariants.{Initiator, Responder}
-use Rattle.ldc_link.specs.LinkState.{LinkState, first_phase, is_established, is_up}
-use Rattle.ldc_link.specs.Taking.{answer_to}
-use Rattle.ldc_queue.specs.declared.end.ChannelState.{ChannelState}
-use Rattle.ldc_queue.specs.declared.end.ChannelState.TheVariants.{Up}
-use Rattle.ldc_queue.specs.declared.end.End.{End}
-use Rattle.ldc_queue.specs.declared.end.End.TheVariants.{A, B}
-use Rattle.ldc_queue.specs.OneStream.{IsFront}
 use Rattle.ldc_queue.specs.Transcript as turn
-use Rattle.ldc_queue.specs.Transcript.{Turn}
 use Rattle.map_table.proofs.Putting.{length-cookies_bytes}
 use Rattle.map_table.specs.declared.cookie.Cookie.{Cookie}
-use Rattle.vio_handshake.specs.declared.handshake.Handshake.{Handshake}
 use Rattle.vio_handshake.specs.declared.handshake.Phase.TheVariants.{Open}
-use Rattle.vio_handshake.specs.declared.session.Offer.{Offer}
 use Rattle.vio_handshake.specs.Messages.{ack, info}
 use Rattle.vio_handshake.specs.Offers.{Match}
-use Rattle.vio_handshake.specs.Rules.{handshake_take}
 use Rattle.vio_handshake.specs.State.{handshake_up}
 use Rattle.vio_handshake.proofs.MessageWidths.{answered_long, said_long}
 use Rattle.vio_handshake.specs.Attributes.{said_attributes}
 use Rattle.vio_handshake.proofs.PlaceRows.{take_at}
 use Rattle.vio_handshake.proofs.Places.{AllSaid, AttributesAnswered, AttributesSaid, Deal, IsPlace, PeerReadyAnswered, PeerReadySaid, PeerRingAnswered, PeerRingSaid, Place, ReadyAnswered, ReadySaid, RingAnswered, RingSaid, VersionAnswered, VersionSaid, handshake_at, message_at, minor_of, next, offer_at, owner, phase_at}
 use Rattle.vio_tag.proofs.Canonical.{length_canonical}
-use Rattle.vio_tag.specs.declared.message.Message.{Message}
-use Rattle.vio_tag.specs.declared.message.MsgBody.TheVariants.{DringReg}
-use Rattle.vio_tag.specs.Spelling.{canonical}
-use Rattle.channel_model.specs.Sayings.{heard, said}
-use Rattle.channel_model.specs.TranscriptLog.{TranscriptLog}
-use Rattle.channel_model.specs.WireEvent.{Took}
 use Rattle.channel_laws.proofs.Apart.{false_is_true, none_is_some, not_turn, true_is_false}
 use Rattle.channel_laws.proofs.ConversingRuns.{HeardFrom, hears_next}
 use Rattle.channel_laws.proofs.CoreRuns.{Knows}
@@ -51,13 +32,9 @@ use Rattle.channel_laws.proofs.PacketsLeft.{held_empty, up_left}
 use Rattle.channel_laws.proofs.Script.{not_last}
 use Rattle.channel_laws.proofs.Sessions.{meets_knows}
 use Rattle.channel_laws.specs.CoreLog.{after, nothing_yet}
-use Rattle.channel_laws.specs.EndCore.{EndCore, holds}
-use Rattle.channel_laws.specs.EndStep.{EndHears}
-use Rattle.channel_laws.specs.LaneCore.{CoreEvent, CoreFits, CoreStep, LaneCore, OnChannel, end_of, fresh_core}
 use Rattle.channel_laws.specs.LinkPlaces as link
 use Rattle.channel_laws.specs.LinkPlaces.{LinkPlace, live_phase}
 use Rattle.channel_laws.specs.PacketsLeft.{all_in, held_left, later, later_in, left_in, messages_in, packets_left, parts, parts_owed}
-use Rattle.channel_laws.specs.Sides.{Sides, other, sides_of, swapped, took}
 
 -- THE MESSAGES of a handshake: the registration of a ring and its answer take two packets at most, each other one
 ring_parts : (sid ident slots slot_size options count : ℕ) (cookies : List Cookie) → count ≤ 5

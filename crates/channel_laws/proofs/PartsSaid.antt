@@ -1,33 +1,23 @@
 -- Along every run the parts of messages that an end said since it last began are those that may come, one after the other.
 use Rattle.std.proofs.Common.{◌≡◌, ℕ, ◌≤◌, Bool, true, false, List, [], ◌∷◌, ◌++◌, length, take, refl, sym, ◌∙◌, subst, arith}
 use Rattle.std.proofs.lemmas.List.{append-nil, length-take-le}
-use Rattle.runs.specs.Run.{Run}
+use Rattle.channel_laws.specs.Vocabulary.{Begins, CoreEvent, CoreFits, CoreStep, EndCore, EndMove, EndStands, EndStep, Fails, Hears, Initiator, IsSaid, IsSaidPart, LaneCore, Offer, Renews}
+use Rattle.channel_laws.specs.Vocabulary.{Responder, Role, Run, Said, Says, SpellsPacket, Stays, Turn, Waits, fresh_core, half_said, numbered_said, transcript_behind, turns_after}
 use Rattle.ldc_packet.proofs.Canonical.{canonical_spells}
 use Rattle.ldc_packet.specs.declared.packet.Body.{Body}
 use Rattle.ldc_packet.specs.declared.packet.Body.TheVariants.{Part, Rdx, Rtr, Rts, Vers}
 use Rattle.ldc_packet.specs.declared.packet.Subtype.{Subtype}
 use Rattle.ldc_packet.specs.Form.{HasForm}
-use Rattle.ldc_packet.specs.Spelling.{SpellsPacket}
 use Rattle.ldc_link.proofs.Following.{parts_more, quiet}
 use Rattle.ldc_link.proofs.Spelled.{has_part, spelled_fragment, spelled_part}
 use Rattle.ldc_link.specs.Conversing.{IsData, fragment_of}
 use Rattle.ldc_queue.specs.Fragments.{Fragment, fragment_at, fragments_in, is_part}
 use Rattle.ldc_queue.specs.Messages.{AllMayCome, MayCome, half_in, half_with}
 use Rattle.ldc_queue.specs.Numbered.{is_numbered}
-use Rattle.ldc_queue.specs.Transcript.{Said, Turn, numbered_said}
 use Rattle.channel_model.proofs.SameSayings.{half_said_is}
-use Rattle.channel_model.specs.Sayings.{half_said}
-use Rattle.channel_model.specs.WireAt.{IsSaid, IsSaidPart}
-use Rattle.ldc_link.specs.declared.phase.Role.{Role}
-use Rattle.ldc_link.specs.declared.phase.Role.TheVariants.{Initiator, Responder}
-use Rattle.vio_handshake.specs.declared.session.Offer.{Offer}
 use Rattle.channel_laws.proofs.EndStanding.{fresh_end_stands, stands_step}
 use Rattle.channel_laws.proofs.Lifting.{EndsAll, ends_run}
 use Rattle.channel_laws.proofs.Numbering.{end_said}
-use Rattle.channel_laws.specs.EndCore.{Begins, EndCore, EndMove, Fails, Hears, Renews, Says, Stays, Waits}
-use Rattle.channel_laws.specs.EndStep.{EndStep}
-use Rattle.channel_laws.specs.LaneCore.{CoreEvent, CoreFits, CoreStep, LaneCore, fresh_core, transcript_behind, turns_after}
-use Rattle.channel_laws.specs.Standing.{EndStands}
 
 abbrev pub PartsSaid : List Turn → Type 0
 PartsSaid turns = AllMayCome [] (fragments_in (numbered_said turns))

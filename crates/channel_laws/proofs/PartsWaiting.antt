@@ -3,35 +3,23 @@
 use Rattle.std.proofs.Common.{◌≡◌, ℕ, ◌+◌, ◌*◌, ◌≤◌, Bool, true, false, List, [], ◌∷◌, ◌++◌, length, refl, sym, ap, ◌∙◌, subst, arith, length-append}
 use Rattle.std.specs.Prelude.{⊤}
 use Rattle.std.proofs.lemmas.List.{append-nil}
-use Rattle.runs.specs.Run.{Run}
+use Rattle.channel_laws.specs.Vocabulary.{Begins, ChannelState, CoreEvent, CoreFits, CoreStep, EndCore, EndMove, EndStands, EndStep, Fails, Hears, Initiator, IsSaid, IsSaidPart, LaneCore, Offer}
+use Rattle.channel_laws.specs.Vocabulary.{OneWay, Renews, Responder, Role, Run, Said, Says, Sides, Stays, Turn, Up, Waits, fresh_core, half_said, heard, live, numbered_heard, numbered_said, said}
+use Rattle.channel_laws.specs.Vocabulary.{transcript_behind, turns_after}
 use Rattle.ldc_link.proofs.Following.{parts_more, quiet}
-use Rattle.ldc_link.specs.declared.phase.Role.{Role}
-use Rattle.ldc_link.specs.declared.phase.Role.TheVariants.{Initiator, Responder}
 use Rattle.ldc_queue.proofs.Messages.{fragments_in-append, half_in-append, whole_in-append}
-use Rattle.ldc_queue.specs.declared.end.ChannelState.{ChannelState}
-use Rattle.ldc_queue.specs.declared.end.ChannelState.TheVariants.{Up}
 use Rattle.ldc_queue.specs.Fragments.{Fragment, fragment_at, fragments_in, is_part, joins}
 use Rattle.ldc_queue.specs.Messages.{AllMayCome, half_in, half_with, whole_in, whole_with}
 use Rattle.ldc_queue.specs.Numbered.{is_numbered, kept, numbered}
-use Rattle.ldc_queue.specs.OneStream.{OneWay, live}
-use Rattle.ldc_queue.specs.Transcript.{Said, Turn, numbered_heard, numbered_said}
-use Rattle.vio_handshake.specs.declared.session.Offer.{Offer}
 use Rattle.channel_model.proofs.SameSayings.{half_said_is, heard_is, said_is}
-use Rattle.channel_model.specs.Sayings.{half_said, heard, said}
-use Rattle.channel_model.specs.WireAt.{IsSaid, IsSaidPart}
 use Rattle.channel_laws.proofs.EndStanding.{fresh_end_stands, stands_step}
 use Rattle.channel_laws.proofs.Lifting.{EndsAll, ends_run}
 use Rattle.channel_laws.proofs.LinkTurns.{part_is}
 use Rattle.channel_laws.proofs.Numbering.{end_said}
 use Rattle.channel_laws.proofs.PartsSaid.{PartsSaid}
 use Rattle.channel_laws.specs.Conversing.{Converse}
-use Rattle.channel_laws.specs.EndCore.{Begins, EndCore, EndMove, Fails, Hears, Renews, Says, Stays, Waits}
-use Rattle.channel_laws.specs.EndStep.{EndStep}
-use Rattle.channel_laws.specs.LaneCore.{CoreEvent, CoreFits, CoreStep, LaneCore, fresh_core, transcript_behind, turns_after}
 use Rattle.channel_laws.specs.LinkPlaces.{AllNumbered, BothUp, EachPart, LinkPlace, LinksAt, ReadyFirst, SaidAt, HeardAt}
 use Rattle.channel_laws.specs.LinkPlaces as link
-use Rattle.channel_laws.specs.Sides.{Sides}
-use Rattle.channel_laws.specs.Standing.{EndStands}
 
 -- A PART that isn't the last of its message has 56 bytes
 abbrev pub IsLong : Fragment → Type 0

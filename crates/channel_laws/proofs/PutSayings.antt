@@ -4,16 +4,11 @@ use Rattle.std.specs.Prelude.{nat_le}
 use Rattle.std.proofs.lemmas.Bool.{leb-true}
 use Rattle.std.proofs.lemmas.List.{drop_all, take-append-drop}
 use Rattle.ldc_packet.specs.declared.packet.Body.TheVariants.{Rdx}
-use Rattle.ldc_packet.specs.declared.packet.Subtype.TheVariants.{Info}
-use Rattle.ldc_link.specs.declared.phase.LinkPhase.{LinkPhase}
+use Rattle.channel_laws.specs.Vocabulary.{ComesUp, EndsHandshake, EndsOwn, Goes, Info, LinkPhase, LinkState, PutKind, Said, Turn, behind_put, ending, half_said, is_established, is_up, kind_in}
+use Rattle.channel_laws.specs.Vocabulary.{left_behind_put, put_kind, said}
 use Rattle.ldc_link.specs.declared.phase.LinkPhase.TheVariants as phase
 use Rattle.ldc_link.specs.Calls.{Puts}
 use Rattle.ldc_link.specs.Following.{Follows}
-use Rattle.ldc_link.specs.LinkState.{LinkState, is_established, is_up}
-use Rattle.ldc_link.specs.Putting.{behind_put, left_behind_put}
-use Rattle.ldc_queue.specs.Transcript.{Said, Turn}
-use Rattle.channel_model.specs.EndPuts.{ComesUp, EndsOwn, EndsHandshake, Goes, PutKind, ending, kind_in, put_kind}
-use Rattle.channel_model.specs.Sayings.{half_said, said}
 use Rattle.channel_laws.proofs.LinkCases.{ControlGone, ControlPut, LinkPut, ModeAnswered, ModeOffered, PartGone, ReadyGone, VersionAnswered, VersionOffered, VersionRefused, canonical_is, link_put, put_quiet, ready_loud}
 use Rattle.channel_laws.proofs.TurnCases.{SaysNothing, SaysPart, says_last, says_more, says_nothing, says_part}
 

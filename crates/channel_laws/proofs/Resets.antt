@@ -2,38 +2,24 @@
 -- session.
 use Rattle.std.proofs.Common.{◌≡◌, ℕ, Option, Some, None, Ok, Err, List, refl, sym, subst, inl, inr}
 use Rattle.std.specs.Prelude.{Result}
-use Rattle.runs.specs.Run.{Run}
-use Rattle.ldc_link.specs.declared.phase.Role.{Role}
-use Rattle.ldc_link.specs.declared.phase.Role.TheVariants.{Initiator, Responder}
-use Rattle.ldc_link.specs.LinkState.{LinkState}
-use Rattle.ldc_link.specs.Taking.{Heard, LinkTake, TakesBytes, Unheard}
+use Rattle.channel_laws.specs.Vocabulary.{A, B, ByStep, Cause, CoreEvent, CoreFits, CoreStep, DecodedFails, End, EndCore, EndFails, EndStands, EndStep, Faults, Giver, GoesOpen, Handshake}
+use Rattle.channel_laws.specs.Vocabulary.{HandshakeTake, Initiator, LaneCore, LinkFails, LinkState, LinkTake, Message, Offer, OnChannel, Reset, Responder, Role, Run, TakesBytes, Turn, Unheard}
+use Rattle.channel_laws.specs.Vocabulary.{WholeFails, end_of, fresh_core, giver, handshake_take, reset_move, risen_at, transcript_behind, transcript_of}
+use Rattle.ldc_link.specs.Taking.{Heard}
 use Rattle.ldc_packet.specs.Fault.{first_fault}
-use Rattle.ldc_queue.specs.declared.end.End.{End}
-use Rattle.ldc_queue.specs.declared.end.End.TheVariants.{A, B}
-use Rattle.ldc_queue.specs.Transcript.{Turn}
-use Rattle.vio_handshake.specs.declared.handshake.Handshake.{Handshake}
-use Rattle.vio_handshake.specs.declared.session.Offer.{Offer}
-use Rattle.vio_handshake.specs.Rules.{Faults, Goes, GoesOpen, HandshakeTake, handshake_take}
+use Rattle.vio_handshake.specs.Rules.{Goes}
 use Rattle.vio_tag.proofs.NoFault.{spelled_no_fault}
-use Rattle.vio_tag.specs.declared.cause.Cause.{Cause}
 use Rattle.vio_tag.specs.declared.cause.Cause.TheVariants as the_cause
-use Rattle.vio_tag.specs.declared.message.Message.{Message}
 use Rattle.vio_tag.specs.declared.message.TagFault.{TagFault}
 use Rattle.vio_tag.specs.Decoding.{Decodes}
 use Rattle.channel_model.specs.ResetSays.{EndsMessage, MessageSays, ended}
-use Rattle.channel_model.specs.TranscriptLog.{transcript_of}
-use Rattle.channel_model.specs.WireEvent.{ByStep, Giver, Reset, giver}
 use Rattle.channel_laws.proofs.HandshakeResets.{HandshakeWhy, Spelled, handshake_why}
 use Rattle.channel_laws.proofs.LinkCases.{link_heard}
 use Rattle.channel_laws.proofs.LinkResets.{link_why}
 use Rattle.channel_laws.proofs.Numbering.{heard_so}
 use Rattle.channel_laws.proofs.TurnCases.{EndsBy, EndsWhole, hears_on}
-use Rattle.channel_laws.specs.EndCore.{EndCore}
-use Rattle.channel_laws.specs.EndStep.{DecodedFails, EndFails, EndStep, LinkFails, WholeFails, risen_at}
-use Rattle.channel_laws.specs.LaneCore.{CoreEvent, CoreFits, CoreStep, LaneCore, OnChannel, end_of, fresh_core, reset_move, transcript_behind}
 use Rattle.channel_laws.specs.Resetting.{ResetsFor, SaysWhy}
 use Rattle.channel_laws.proofs.Lifting.{EndsAll, stand_run}
-use Rattle.channel_laws.specs.Standing.{EndStands}
 
 -- THE MESSAGE that the packet ends says why
 pub by_message : (turns : List Turn) (packet bytes : List ℕ) (cause : Cause) → first_fault packet ≡ None → EndsBy turns packet bytes → MessageSays bytes cause → SaysWhy turns packet cause

@@ -2,13 +2,9 @@
 -- next that the other says.
 use Rattle.std.proofs.Common.{◌≡◌, ◌≢◌, ℕ, ◌+◌, Bool, true, false, Option, Some, List, [], ◌∷◌, ◌++◌, take, drop, length, refl, sym, ap, ◌∙◌, arith, length-append, append_assoc, ◌⊎◌, inl, inr}
 use Rattle.std.proofs.lemmas.List.{append-nil, take-append-drop}
-use Rattle.ldc_link.specs.declared.phase.Role.{Role}
-use Rattle.ldc_link.specs.declared.phase.Role.TheVariants.{Initiator, Responder}
-use Rattle.ldc_queue.specs.OneStream.{IsFront}
-use Rattle.vio_tag.specs.Spelling.{canonical}
+use Rattle.channel_laws.specs.Vocabulary.{Initiator, IsFront, Responder, Role, canonical, other}
 use Rattle.vio_handshake.proofs.Places.{AllSaid, AttributesAnswered, AttributesSaid, Deal, IsPlace, PeerReadyAnswered, PeerReadySaid, PeerRingAnswered, PeerRingSaid, Place, ReadyAnswered, ReadySaid, RingAnswered, RingSaid, VersionAnswered, VersionSaid, message_at, next, owner}
 use Rattle.channel_laws.proofs.Apart.{some_is_none}
-use Rattle.channel_laws.specs.Sides.{other}
 
 -- THE PLACES in their order, and how many go before one
 abbrev pub ending : List Place

@@ -1,29 +1,13 @@
 -- Where both sessions are open and nobody forged, both ends are up, what each heard is as the other has it, and the sessions are one.
 use Rattle.std.proofs.Common.{◌≡◌, ℕ, Bool, true, false, List, [], ◌∷◌, ◌++◌, inl, inr, refl, sym, ap, ◌∙◌, subst}
 use Rattle.std.specs.Prelude.{⊤}
-use Rattle.runs.specs.Run.{Run}
-use Rattle.ldc_link.specs.declared.phase.Role.{Role}
-use Rattle.ldc_link.specs.declared.phase.Role.TheVariants.{Initiator, Responder}
-use Rattle.ldc_link.specs.LinkState.{is_up}
-use Rattle.ldc_queue.specs.declared.end.ChannelState.{ChannelState}
-use Rattle.ldc_queue.specs.declared.end.ChannelState.TheVariants.{Down, Resetting, Up}
-use Rattle.ldc_queue.specs.declared.end.End.{End}
-use Rattle.ldc_queue.specs.declared.end.End.TheVariants.{A, B}
-use Rattle.ldc_queue.specs.OneStream.{IsFront}
-use Rattle.ldc_queue.specs.Transcript.{Turn}
-use Rattle.ldc_queue.specs.Wire.{peer_of}
-use Rattle.runs.specs.Lawful.{log_of}
-use Rattle.vio_handshake.specs.declared.handshake.Handshake.{Handshake}
-use Rattle.vio_handshake.specs.declared.session.Offer.{Offer}
+use Rattle.channel_laws.specs.Vocabulary.{A, B, ChannelState, CoreEvent, CoreFits, CoreStep, Down, End, EndCore, EndStands, Handshake, Initiator, IsFront, IsUp, LaneCore, Message, Offer, Resetting}
+use Rattle.channel_laws.specs.Vocabulary.{Responder, Role, Run, Sides, TranscriptLog, Turn, Up, Ver, end_of, fresh_core, heard, is_up, log_of, peer_of, role_of, said, sides_of, swapped}
+use Rattle.channel_laws.specs.Vocabulary.{transcript_after, transcript_behind, transcript_of}
 use Rattle.vio_handshake.specs.Messages.{ack, info}
 use Rattle.vio_handshake.specs.Offers.{Match}
 use Rattle.vio_handshake.specs.Pairing.{KnowsBoth}
 use Rattle.vio_handshake.proofs.Places.{AllSaid, Deal, answered_in_all, asked_in_all, handshake_at}
-use Rattle.vio_tag.specs.declared.message.Message.{Message}
-use Rattle.vio_tag.specs.declared.message.MsgBody.TheVariants.{Ver}
-use Rattle.channel_model.specs.Sayings.{heard, said}
-use Rattle.channel_model.specs.TranscriptLog.{TranscriptLog, transcript_of}
-use Rattle.channel_model.specs.WireAt.{IsUp}
 use Rattle.channel_laws.proofs.Apart.{true_is_false}
 use Rattle.channel_laws.proofs.ConversingRuns.{converse_keeps, first_converse, heard_messages, messages_of, unheard}
 use Rattle.channel_laws.proofs.CoreRuns.{Knows, knows_run}
@@ -35,12 +19,8 @@ use Rattle.channel_laws.proofs.HandshakesPlaced.{Meets, first_meets, meets_keep,
 use Rattle.channel_laws.proofs.WhoseTurn.{initiator_done}
 use Rattle.channel_laws.specs.Conversing.{Converse}
 use Rattle.channel_laws.specs.CoreLog.{CoreLog, after, nothing_yet}
-use Rattle.channel_laws.specs.EndCore.{EndCore}
 use Rattle.channel_laws.specs.Grounds.{Among}
-use Rattle.channel_laws.specs.LaneCore.{CoreEvent, CoreFits, CoreStep, LaneCore, end_of, fresh_core, role_of, transcript_after, transcript_behind}
 use Rattle.channel_laws.specs.OneSession.{AreOneSession}
-use Rattle.channel_laws.specs.Sides.{Sides, sides_of, swapped}
-use Rattle.channel_laws.specs.Standing.{EndStands}
 use Rattle.channel_laws.specs.Utterances.{SaysEach}
 
 -- THE TALK of a run is that of its log

@@ -6,14 +6,10 @@ use Rattle.map_table.specs.Cookies.{cookies_bytes}
 use Rattle.map_table.specs.declared.cookie.Cookie.{Cookie}
 use Rattle.vio_handshake.proofs.MessageWidths.{answered_long, said_long}
 use Rattle.vio_handshake.specs.Attributes.{answered_attributes, said_attributes}
-use Rattle.vio_handshake.specs.declared.session.Offer.{Offer}
+use Rattle.channel_laws.specs.Vocabulary.{Attr, DringData, DringReg, DringUnreg, IsShort, Mcast, Message, Offer, Plain, Rdx, SpellsBody, SpellsMessage, Ver, body_bytes, canonical}
 use Rattle.vio_tag.proofs.Canonical.{length_canonical}
-use Rattle.vio_tag.specs.declared.message.Message.{Message}
 use Rattle.vio_tag.specs.declared.message.MsgBody.{MsgBody}
-use Rattle.vio_tag.specs.declared.message.MsgBody.TheVariants.{Attr, DringData, DringReg, DringUnreg, Mcast, Plain, Rdx, Ver}
 use Rattle.vio_tag.specs.Form.{HasForm, IsWellFormed}
-use Rattle.vio_tag.specs.Spelling.{SpellsBody, SpellsMessage, body_bytes, canonical}
-use Rattle.channel_laws.specs.Standing.{IsShort}
 
 -- what bytes decode to is short, or of no kind that a handshake owes
 abbrev pub ComesShort : MsgBody → Type 0

@@ -2,25 +2,14 @@
 use Rattle.std.proofs.Common.{◌≡◌, ℕ, ◌+◌, ◌%◌, Bool, true, false, ◌||◌, List, [], ◌∷◌, Option, refl, sym, ap, ◌∙◌, arith}
 use Rattle.std.specs.Prelude.{⊤, nat_eq, ◌&&◌}
 use Rattle.std.proofs.lemmas.Bool.{eqb-true}
-use Rattle.runs.specs.Lawful.{log_of, run_lawful}
-use Rattle.runs.specs.Run.{Run}
-use Rattle.ldc_link.specs.declared.phase.Role.{Role}
-use Rattle.ldc_link.specs.declared.phase.Role.TheVariants.{Initiator, Responder}
+use Rattle.channel_laws.specs.Vocabulary.{A, B, Begins, Beside, Blocked, ByRestart, ByScript, ByStep, ByTick, Cause, Closes, CoreEvent, CoreFits, CoreStep, Declines, EndCore, EndHears, EndMove}
+use Rattle.channel_laws.specs.Vocabulary.{EndSays, EndStands, EndStep, Fails, Giver, Handshake, Hears, Idle, Info, Initiator, Injected, Joined, LaneCore, Lost, Message, Offer, OnChannel, Poked}
+use Rattle.channel_laws.specs.Vocabulary.{Renews, Reset, Responder, Role, Run, Says, Sent, Stays, Took, TranscriptLog, Turn, Waits, ctrl_at, fresh_core, giver, handshake_sent, is_rdx, log_of}
+use Rattle.channel_laws.specs.Vocabulary.{more_if, move_of, nothing_said, reset_move, run_lawful, transcript_after, type_at}
 use Rattle.ldc_packet.specs.declared.packet.Body.TheVariants.{Rdx}
-use Rattle.ldc_packet.specs.declared.packet.Subtype.TheVariants.{Info}
-use Rattle.ldc_packet.specs.Spelling.{ctrl_at, type_at}
-use Rattle.ldc_queue.specs.declared.end.End.TheVariants.{A, B}
 use Rattle.ldc_queue.specs.Fragments.{is_part}
 use Rattle.ldc_queue.specs.Numbered.{is_numbered}
-use Rattle.ldc_queue.specs.Transcript.{Turn}
-use Rattle.vio_handshake.specs.declared.handshake.Handshake.{Handshake}
-use Rattle.vio_handshake.specs.declared.session.Offer.{Offer}
-use Rattle.vio_handshake.specs.Rules.{handshake_sent}
 use Rattle.vio_handshake.specs.State.{begun, joined_handshake, handshake_up}
-use Rattle.vio_tag.specs.declared.cause.Cause.{Cause}
-use Rattle.vio_tag.specs.declared.message.Message.{Message}
-use Rattle.channel_model.specs.TranscriptLog.{TranscriptLog, is_rdx, more_if, nothing_said}
-use Rattle.channel_model.specs.WireEvent.{Blocked, ByRestart, ByScript, ByStep, ByTick, Declines, Giver, Idle, Injected, Joined, Lost, Poked, Reset, Sent, Took, giver}
 use Rattle.channel_laws.proofs.Apart.{roles_differ}
 use Rattle.channel_laws.proofs.EndCases.{EndTook, NoMessage, PutControl, PutMore, PutOwn, PutReady, PutHandshake, PutWhat, Rises, TookOwn, TookHandshake, TookWhat, end_put, end_took}
 use Rattle.channel_laws.proofs.EndResting.{held_handshake}
@@ -29,10 +18,6 @@ use Rattle.channel_laws.proofs.HandshakeCases.{AttributesAgreed, AttributesAsked
 use Rattle.channel_laws.proofs.Lifting.{EndsAll, ends_step}
 use Rattle.channel_laws.proofs.LinkCases.{canonical_is, put_quiet, ready_loud}
 use Rattle.channel_laws.specs.CoreLog.{comings_after}
-use Rattle.channel_laws.specs.EndCore.{Begins, EndCore, EndMove, Fails, Hears, Renews, Says, Stays, Waits}
-use Rattle.channel_laws.specs.EndStep.{EndHears, EndSays, EndStep}
-use Rattle.channel_laws.specs.LaneCore.{Beside, Closes, CoreEvent, CoreFits, CoreStep, LaneCore, OnChannel, fresh_core, move_of, reset_move, transcript_after}
-use Rattle.channel_laws.specs.Standing.{EndStands}
 
 -- A PACKET that was put is RDX, or isn't
 pub quiet_rdx : (packet : List ℕ) → is_numbered packet ≡ false → is_rdx packet ≡ false

@@ -1,22 +1,17 @@
 -- The toy kind's row of the handshake and its equal sessions, by the laws of two ends.
 use Rattle.std.proofs.Common.{◌≡◌, ℕ, false, true, List, [], ◌∷◌, refl, ap, arith}
 use Rattle.std.specs.Prelude.{is_some}
-use Rattle.runs.specs.Run.{Run}
-use Rattle.ldc_queue.specs.declared.end.End.{End}
-use Rattle.ldc_queue.specs.declared.end.End.TheVariants.{A, B}
-use Rattle.ldc_queue.specs.Transcript.{Heard, Said}
+use Rattle.channel_laws.specs.Vocabulary.{A, B, CoreEvent, CoreFits, CoreStep, End, Heard, OfferFits, OnChannel, Run, Said, role_of, transcript_behind, transcript_of}
 use Rattle.map_table.specs.Cookies.{IsCookie, no_cookie}
 use Rattle.map_table.proofs.Each.{each_replicate}
 use Rattle.vio_handshake.specs.Acceptance.{hold_ring}
 use Rattle.vio_handshake.specs.Offers.{FitsRing, Match}
 use Rattle.channel_model.specs.HandshakeOrder.{HandshakeOrder}
-use Rattle.channel_model.specs.TranscriptLog.{transcript_of}
 use Rattle.channel_model.specs.WireEvent as event
 use Rattle.channel_laws.proofs.EndsAtRest.{two_at_rest_open}
 use Rattle.channel_laws.proofs.OpeningOrder.{opens_hearing, opens_saying}
 use Rattle.channel_laws.proofs.Sessions.{open_sessions_one}
 use Rattle.channel_laws.specs.EndsAtRest.{IsAtRest}
-use Rattle.channel_laws.specs.LaneCore.{CoreEvent, CoreFits, CoreStep, OfferFits, OnChannel, role_of, transcript_behind}
 use Rattle.channel_laws.specs.OneSession.{AreOneSession}
 use Rattle.channel_laws.specs.ToyKind.{ToyLane, ToyStep, fresh_toys, toy_lane, toy_offer}
 

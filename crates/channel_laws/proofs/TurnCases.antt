@@ -2,19 +2,14 @@
 use Rattle.std.proofs.Common.{◌≡◌, ℕ, ◌≤◌, ◌-◌, Bool, true, false, Option, Some, None, List, [], ◌∷◌, ◌++◌, length, drop, take, replicate, refl, sym, ap, ◌∙◌, subst, arith, length-append}
 use Rattle.std.specs.Prelude.{◌&&◌, min, nat_le, not}
 use Rattle.std.proofs.lemmas.List.{length-take, take-append-le, take_all}
-use Rattle.ldc_packet.specs.declared.packet.Subtype.TheVariants.{Info}
+use Rattle.channel_laws.specs.Vocabulary.{Heard, Info, LinkState, Said, Turn, ended_by, first_part, half_heard, half_past, half_said, heard, part_bytes, said, whole_by, whole_of, whole_past}
+use Rattle.channel_laws.specs.Vocabulary.{whole_with}
 use Rattle.ldc_packet.specs.Spelling.{canonical}
 use Rattle.ldc_queue.specs.Fragments.{Fragment, fragment_at, is_part}
-use Rattle.ldc_queue.specs.Transcript.{Heard, Said, Turn}
 use Rattle.ldc_link.proofs.Saying.{first_form}
 use Rattle.ldc_link.proofs.Spelled.{has_part, spelled_fragment, spelled_part}
 use Rattle.ldc_link.specs.Following.{Follows}
-use Rattle.ldc_link.specs.LinkState.{LinkState}
-use Rattle.ldc_link.specs.Putting.{first_part, part_bytes}
-use Rattle.ldc_link.specs.Taking.{whole_of}
 use Rattle.channel_model.proofs.SameSayings.{half_heard_is}
-use Rattle.channel_model.specs.Messages.{ended_by, whole_with}
-use Rattle.channel_model.specs.Sayings.{half_heard, half_past, half_said, heard, said, whole_by, whole_past}
 use Rattle.channel_laws.proofs.LinkCases.{ControlHeard, IsPacket, LinkHeard, PartHeard, ReadyHeard, canonical_is, ready_loud, taken_quiet}
 
 -- A PACKET THAT IS NO PART says nothing of a message

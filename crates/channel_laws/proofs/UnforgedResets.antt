@@ -1,32 +1,19 @@
 -- Where nobody forged and the offers match, an end resets itself for a gap behind a loss alone, or for a cause of its session.
 use Rattle.std.proofs.Common.{◌≡◌, ℕ, Bool, true, false, Option, Some, None, Ok, Err, List, ◌∷◌, refl, sym, ap, ◌∙◌, subst, ◌⊎◌, inl, inr}
 use Rattle.std.specs.Prelude.{Result, slice_get}
-use Rattle.runs.specs.Lawful.{log_of}
-use Rattle.runs.specs.Run.{Run}
-use Rattle.ldc_link.specs.declared.phase.Role.{Role}
-use Rattle.ldc_link.specs.declared.phase.Role.TheVariants.{Initiator, Responder}
-use Rattle.ldc_link.specs.LinkState.{LinkState, is_established, is_up}
-use Rattle.ldc_link.specs.Taking.{Heard, LinkTake, TakesBytes, Unheard}
-use Rattle.ldc_queue.specs.declared.end.ChannelState.TheVariants.{Up}
-use Rattle.ldc_queue.specs.declared.end.End.{End}
-use Rattle.ldc_queue.specs.declared.end.End.TheVariants.{A, B}
+use Rattle.channel_laws.specs.Vocabulary.{A, B, ByStep, Cause, CoreEvent, CoreFits, CoreStep, DecodedFails, End, EndCore, EndFails, EndStep, Faults, Giver, GoesOpen, Handshake, HandshakeTake}
+use Rattle.channel_laws.specs.Vocabulary.{Initiator, IsOwnReset, LaneCore, LinkFails, LinkState, LinkTake, MayReset, Message, Offer, OnChannel, Reset, Responder, Role, Run, Sides, TakesBytes}
+use Rattle.channel_laws.specs.Vocabulary.{TranscriptLog, Unheard, Up, WholeFails, end_of, fresh_core, giver, handshake_take, is_established, is_up, log_of, other, reset_move, risen_at, said}
+use Rattle.channel_laws.specs.Vocabulary.{sides_of, swapped, transcript_of, waiting_for}
+use Rattle.ldc_link.specs.Taking.{Heard}
 use Rattle.ldc_queue.specs.Transcript as turn
-use Rattle.ldc_queue.specs.Wire.{waiting_for}
-use Rattle.vio_handshake.specs.declared.handshake.Handshake.{Handshake}
-use Rattle.vio_handshake.specs.declared.session.Offer.{Offer}
 use Rattle.vio_handshake.specs.Offers.{Match}
-use Rattle.vio_handshake.specs.Rules.{Faults, Goes, GoesOpen, HandshakeTake, handshake_take}
+use Rattle.vio_handshake.specs.Rules.{Goes}
 use Rattle.vio_handshake.proofs.PlaceRows.{GoesTo, take_at}
 use Rattle.vio_handshake.proofs.Places.{message_at, next, owner, handshake_at}
 use Rattle.vio_tag.proofs.NoFault.{spelled_no_fault}
-use Rattle.vio_tag.specs.declared.cause.Cause.{Cause}
-use Rattle.vio_tag.specs.declared.message.Message.{Message}
 use Rattle.vio_tag.specs.declared.message.TagFault.{TagFault}
 use Rattle.vio_tag.specs.Decoding.{Decodes}
-use Rattle.channel_model.specs.Sayings.{said}
-use Rattle.channel_model.specs.TranscriptLog.{TranscriptLog, transcript_of}
-use Rattle.channel_model.specs.WireAt.{IsOwnReset, MayReset}
-use Rattle.channel_model.specs.WireEvent.{ByStep, Giver, Reset, giver}
 use Rattle.channel_laws.proofs.Apart.{none_is_some, some_is_none}
 use Rattle.channel_laws.proofs.ConversingRuns.{HeardFrom, hears_next}
 use Rattle.channel_laws.proofs.CoreRuns.{Knows}
@@ -41,11 +28,7 @@ use Rattle.channel_laws.proofs.Script.{bytes_at, not_last}
 use Rattle.channel_laws.proofs.Sessions.{meets_knows, transcript_is}
 use Rattle.channel_laws.proofs.TurnCases.{HearsOn, hears_on}
 use Rattle.channel_laws.specs.CoreLog.{after, nothing_yet}
-use Rattle.channel_laws.specs.EndCore.{EndCore}
-use Rattle.channel_laws.specs.EndStep.{DecodedFails, EndFails, EndStep, LinkFails, WholeFails, risen_at}
-use Rattle.channel_laws.specs.LaneCore.{CoreEvent, CoreFits, CoreStep, LaneCore, OnChannel, end_of, fresh_core, reset_move}
 use Rattle.channel_laws.specs.Resetting.{IsGapBehindLoss, LiesInMessage, LiesInSession}
-use Rattle.channel_laws.specs.Sides.{Sides, other, sides_of, swapped}
 
 -- A MESSAGE that became whole: the link was up before
 whole_up : (k m : LinkState) (packet bytes : List ℕ) → k.whole ≡ None → m.whole ≡ Some bytes → LinkHeard k packet m → is_up k ≡ true

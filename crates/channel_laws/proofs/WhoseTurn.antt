@@ -4,17 +4,11 @@ use Rattle.std.proofs.Common.{◌≡◌, ◌≢◌, ℕ, zero, suc, ◌+◌, ◌
 use Rattle.std.specs.Prelude.{is_some}
 use Rattle.std.proofs.lemmas.Bool.{leb-false, leb-true}
 use Rattle.std.proofs.lemmas.List.{length-take}
-use Rattle.ldc_link.specs.declared.phase.Role.{Role}
-use Rattle.ldc_link.specs.declared.phase.Role.TheVariants.{Initiator, Responder}
-use Rattle.ldc_queue.specs.OneStream.{IsFront}
-use Rattle.ldc_queue.specs.Transcript.{Turn}
-use Rattle.vio_handshake.specs.declared.handshake.Handshake.{Handshake}
+use Rattle.channel_laws.specs.Vocabulary.{Handshake, Initiator, IsFront, Responder, Role, Turn, heard, other, said}
 use Rattle.vio_handshake.proofs.Places.{AllSaid, AttributesAnswered, AttributesSaid, Deal, IsPlace, PeerReadyAnswered, PeerReadySaid, PeerRingAnswered, PeerRingSaid, Place, ReadyAnswered, ReadySaid, RingAnswered, RingSaid, VersionAnswered, VersionSaid, owner}
-use Rattle.channel_model.specs.Sayings.{heard, said}
 use Rattle.channel_laws.proofs.Apart.{none_is_some, true_is_false}
 use Rattle.channel_laws.proofs.HandshakePlaces.{AtPlace, owes_at, owes_none, owes_not, who}
 use Rattle.channel_laws.proofs.Script.{all_places, before, behind, bytes_at, index, next_at, not_last, one_if, own_role, said_at, said_by, said_by-append, same_next}
-use Rattle.channel_laws.specs.Sides.{other}
 
 -- THE ORDER OF PLACES: before a later one all was said that comes at an earlier one
 past : (xs ys : List Place) (n : Place) (j : ℕ) → length xs < j → (rest : List Place) × (take j (xs ++ n ∷ ys) ≡ xs ++ n ∷ rest)

@@ -1,29 +1,14 @@
 -- On a lane that nobody forged what a client that is up has heard acknowledged the server finished.
 use Rattle.std.proofs.Common.{◌≡◌, ℕ, ◌≤◌, false, Option, Some, None, List, [], inl, inr, sym, ap, ◌∙◌, subst, arith}
-use Rattle.runs.specs.Lawful.{log_of}
-use Rattle.runs.specs.Run.{Run}
-use Rattle.ldc_queue.specs.declared.end.ChannelState.TheVariants.{Up}
-use Rattle.ldc_queue.specs.declared.end.End.TheVariants.{A}
-use Rattle.ldc_queue.specs.OneStream.{IsFront}
-use Rattle.lane_laws.specs.Agreement.{ClientAgrees, ServerAgrees}
-use Rattle.disk_model.specs.ClientState.{ClientSession}
-use Rattle.disk_model.specs.DiskEvent.{DiskEvent}
-use Rattle.lane_laws.specs.DiskLog.{DiskLog, after, nothing_yet}
-use Rattle.disk_model.specs.LaneState.{IsShape, LaneState, Shape, fresh}
-use Rattle.disk_model.specs.LaneStep.{LaneStep}
-use Rattle.channel_model.specs.Sayings.{heard, said}
-use Rattle.disk_model.specs.ServerState.{ServerSession, Work}
-use Rattle.channel_model.specs.TranscriptLog.{TranscriptLog}
-use Rattle.channel_model.specs.WireLog.{WireLog}
-use Rattle.lane_laws.specs.WorkLaws.{IfServer}
-use Rattle.lane_laws.specs.WorkLog.{ClientCounts, ServerCounts}
+use Rattle.channel_laws.specs.Vocabulary.{A, IsFront, Run, TranscriptLog, Up, WireLog, heard, log_of, said}
+use Rattle.lane_laws.specs.Vocabulary.{ClientAgrees, ClientCounts, ClientSession, DiskEvent, DiskLog, IfServer, IsShape, LaneState, LaneStep, ServerAgrees, ServerCounts, ServerOrder, ServerSession}
+use Rattle.lane_laws.specs.Vocabulary.{Shape, Work, acked_of, after, announced_of, fresh, nothing_yet, range_sum}
 use Rattle.lane_laws.proofs.Agreeing.{front_sum}
 use Rattle.lane_laws.proofs.LaneCores.{transcript_is}
 use Rattle.lane_laws.proofs.HeardFront.{heard_messages, unheard_client}
 use Rattle.lane_laws.proofs.LaneCounting.{Knows, run_knows}
 use Rattle.channel_laws.proofs.Apart.{some_same}
 use Rattle.channel_laws.proofs.HandshakesPlaced.{up_or}
-use Rattle.lane_laws.specs.Counted.{ServerOrder, acked_of, announced_of, range_sum}
 use Rattle.lane_laws.specs.LaneTranscripts.{transcript_behind}
 use Rattle.lane_laws.specs.SlotsInOrder.{ServerAt}
 

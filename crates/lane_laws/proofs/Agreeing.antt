@@ -1,27 +1,12 @@
 -- The sessions of a lane that nobody forged agree after every run: they are of one ring, and their counts stand in their order.
 use Rattle.std.proofs.Common.{◌≡◌, ℕ, ◌+◌, ◌^◌, ◌<◌, ◌≤◌, true, false, Option, Some, None, List, length, take, refl, sym, ap, ◌∙◌, subst, arith, length-drop}
 use Rattle.std.specs.Prelude.{is_some, ⊤}
-use Rattle.runs.specs.Lawful.{log_of, run_lawful}
-use Rattle.runs.specs.Run.{Run}
-use Rattle.ldc_queue.specs.declared.end.ChannelState.TheVariants.{Up}
-use Rattle.ldc_queue.specs.declared.end.End.TheVariants.{A, B}
-use Rattle.ldc_queue.specs.OneStream.{IsFront}
-use Rattle.vio_handshake.specs.declared.session.Offer.{Offer}
-use Rattle.channel_model.specs.Sayings.{heard, said}
-use Rattle.channel_model.specs.TranscriptLog.{TranscriptLog}
-use Rattle.channel_model.specs.WireAt.{IsUp}
-use Rattle.channel_model.specs.WireLog.{WireLog}
+use Rattle.channel_laws.specs.Vocabulary.{A, B, IsFront, IsUp, Offer, Run, TranscriptLog, Up, WireLog, heard, log_of, run_lawful, said, wrapped}
 use Rattle.channel_laws.proofs.Apart.{some_same}
-use Rattle.lane_laws.specs.Agreement.{ClientAgrees, ClientCountsAgree, ServerAgrees}
-use Rattle.lane_laws.specs.DiskLog.{DiskLog, after, nothing_yet}
-use Rattle.lane_laws.specs.WorkLaws.{IfServer}
-use Rattle.lane_laws.specs.WorkLog.{ClientCounts, ServerCounts}
-use Rattle.disk_model.specs.ClientState.{ClientSession}
-use Rattle.disk_model.specs.DiskEvent.{DiskEvent}
-use Rattle.disk_model.specs.LaneState.{IsShape, LaneState, Shape, fresh}
-use Rattle.disk_model.specs.LaneStep.{LaneStep}
+use Rattle.lane_laws.specs.Vocabulary.{AlwaysAgree, ClientAgrees, ClientCounts, ClientCountsAgree, ClientSession, DiskEvent, DiskLog, IfServer, InServerOrder, IsShape, LaneState, LaneStep, OneRing}
+use Rattle.lane_laws.specs.Vocabulary.{RangeStands, ServerAgrees, ServerCounts, ServerOrder, ServerSession, Shape, SlotRange, Work, acked_of, after, announced_of, fresh, nothing_yet, range_sum}
+use Rattle.lane_laws.specs.Vocabulary.{total}
 use Rattle.disk_model.specs.Offering.{client_offer, own_cookies}
-use Rattle.disk_model.specs.ServerState.{ServerSession, SlotRange, Work}
 use Rattle.lane_laws.proofs.CarriedRuns.{AllStand, all_step, fresh_all}
 use Rattle.lane_laws.proofs.HeardFront.{heard_messages}
 use Rattle.lane_laws.proofs.LaneCounting.{Knows, run_knows}
@@ -30,12 +15,8 @@ use Rattle.lane_laws.proofs.OneSession.{client_in_session, one_session}
 use Rattle.lane_laws.proofs.LaneCores.{transcript_is}
 use Rattle.lane_laws.proofs.RangeSums.{sum_front}
 use Rattle.lane_laws.proofs.RingRuns.{issued_behind}
-use Rattle.lane_laws.specs.Counted.{InServerOrder, RangeStands, ServerOrder, acked_of, announced_of, range_sum}
 use Rattle.lane_laws.specs.LaneTranscripts.{transcript_behind}
 use Rattle.lane_laws.specs.OneSession.{AreOneSession}
-use Rattle.channel_model.specs.Ranges.{wrapped}
-use Rattle.lane_laws.specs.Remaining.{total}
-use Rattle.lane_laws.specs.RingAgreed.{AlwaysAgree, OneRing}
 use Rattle.lane_laws.proofs.Sharing.{in_order}
 
 -- THE IDS are below 2^64

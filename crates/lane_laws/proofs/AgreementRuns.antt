@@ -1,13 +1,7 @@
 -- Along every run a lane agrees with its log.
 use Rattle.std.proofs.Common.{◌≡◌, List, sym, ap, ◌∙◌}
-use Rattle.runs.specs.Lawful.{log_of}
-use Rattle.runs.specs.Run.{Run}
-use Rattle.ldc_link.specs.declared.phase.Role.TheVariants.{Initiator, Responder}
-use Rattle.lane_laws.specs.Agreement.{AgreesWithLog}
-use Rattle.lane_laws.specs.DiskLog.{after, nothing_yet}
-use Rattle.disk_model.specs.DiskEvent.{DiskEvent}
-use Rattle.disk_model.specs.LaneState.{IsShape, LaneState, Shape, fresh}
-use Rattle.disk_model.specs.LaneStep.{LaneStep}
+use Rattle.channel_laws.specs.Vocabulary.{Initiator, Responder, Run, log_of}
+use Rattle.lane_laws.specs.Vocabulary.{AgreesWithLog, DiskEvent, IsShape, LaneState, LaneStep, Shape, after, client_core, fresh, nothing_yet, server_core}
 use Rattle.lane_laws.proofs.EndsFold.{client_end, run_both, server_end}
 use Rattle.lane_laws.proofs.FailedRuns.{run_failed}
 use Rattle.lane_laws.proofs.FirstStays.{run_first}
@@ -20,7 +14,6 @@ use Rattle.lane_laws.proofs.NearAgreeing as near
 use Rattle.lane_laws.proofs.WorkNexts.{next_agrees}
 use Rattle.lane_laws.proofs.WorkRuns.{run_working}
 use Rattle.lane_laws.proofs.LaneChannel.{client_stands, lane_folds, link_agrees, no_sids, run_sids, server_stands}
-use Rattle.lane_laws.specs.ChannelEnds.{client_core, server_core}
 
 pub run_agrees : (shape : Shape) (events : List DiskEvent) (s : LaneState) → IsShape shape → Run LaneStep (fresh shape) events s → AgreesWithLog s (log_of after (nothing_yet shape) events)
 run_agrees shape events s sound run =

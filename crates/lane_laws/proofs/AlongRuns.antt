@@ -1,11 +1,7 @@
 -- What may be said of an event after each run of a lane is a law along every run, and what is one may be said of the last event of each.
 use Rattle.std.proofs.Common.{◌≡◌, List, [], ◌∷◌, ◌++◌, refl, sym, ap, ◌∙◌, subst}
-use Rattle.runs.specs.Lawful.{Lawful, lawful_split, log_append, log_of, run_lawful}
-use Rattle.runs.specs.Run.{Run, run_push}
-use Rattle.lane_laws.specs.DiskLog.{DiskLog, after, nothing_yet}
-use Rattle.disk_model.specs.DiskEvent.{DiskEvent}
-use Rattle.disk_model.specs.LaneState.{IsShape, LaneState, Shape, fresh}
-use Rattle.disk_model.specs.LaneStep.{LaneStep}
+use Rattle.channel_laws.specs.Vocabulary.{Lawful, Run, lawful_split, log_append, log_of, run_lawful, run_push}
+use Rattle.lane_laws.specs.Vocabulary.{DiskEvent, DiskLog, IsShape, LaneState, LaneStep, Shape, after, fresh, nothing_yet}
 
 record Reached (shape : Shape) (s : LaneState) (l : DiskLog) : Type 0 where
   events : List DiskEvent

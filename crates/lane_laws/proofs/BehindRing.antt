@@ -2,26 +2,18 @@
 use Rattle.std.proofs.Common.{◌≡◌, ℕ, ◌+◌, ◌-◌, ◌*◌, ◌<◌, ◌≤◌, List, [], ◌∷◌, drop, take, length, refl, sym, ap, ◌∙◌, arith, length-drop, inr, None}
 use Rattle.std.proofs.lemmas.List.{drop-drop, take_all}
 use Rattle.dring.proofs.Turning.{length-free_slots, slot_fits}
-use Rattle.dring.specs.Slots.{free_slots, free_state}
+use Rattle.lane_laws.specs.Vocabulary.{Flush, HoldsIssued, Reach, Read, Request, RingOf, ServerState, Work, Write, buffer_place, descriptor_of, filled_buffer, free_slots, free_state, header_of}
+use Rattle.lane_laws.specs.Vocabulary.{published_memory, ring_pages, size_of, status_word, with_done, with_status, with_word, word_fault, written}
 use Rattle.vdisk_msg.proofs.Repeated.{length-repeated}
-use Rattle.vdisk_msg.specs.declared.request.Request.{Request}
-use Rattle.vdisk_msg.specs.declared.request.Request.TheVariants.{Flush, Read, Write}
 use Rattle.vdisk_msg.specs.Descriptor as slot_says
-use Rattle.vdisk_msg.specs.Requested.{buffer_place, descriptor_of, ring_pages, size_of, status_word}
-use Rattle.vdisk_msg.specs.Requests.{written}
 use Rattle.vio_bytes.proofs.Putting.{drop-put_at, length-put_at}
 use Rattle.vio_bytes.proofs.Ranges.{range_at-put_at_part}
 use Rattle.vio_bytes.specs.Place.{put_at}
 use Rattle.vio_bytes.specs.Range.{range_at}
-use Rattle.disk_model.specs.ClientStep.{filled_buffer, published_memory}
-use Rattle.disk_model.specs.ServerState.{ServerState, Work}
-use Rattle.cookie_copy.specs.Reach.{Reach}
-use Rattle.disk_model.specs.ServerWork.{header_of, with_done, with_status, with_word, word_fault}
 use Rattle.lane_laws.proofs.MemoryStanding.{desc_long, filled_long, word_long}
 use Rattle.lane_laws.proofs.RingServer.{Reaches, header_long, status_is_long}
 use Rattle.lane_laws.proofs.RingWrites.{ring_word}
 use Rattle.lane_laws.specs.MemoryStands.{memory_long}
-use Rattle.lane_laws.specs.RingSlots.{HoldsIssued, RingOf}
 use Rattle.lane_laws.proofs.Changes.{filled}
 
 -- the ring's pages

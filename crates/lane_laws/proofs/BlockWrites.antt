@@ -4,9 +4,7 @@ use Rattle.std.specs.Prelude.{slice_get}
 use Rattle.std.proofs.lemmas.Bool.{cases_lt}
 use Rattle.std.proofs.lemmas.Bool.Decides.{nat_tests}
 use Rattle.vdisk_msg.proofs.Repeated.{length-repeated}
-use Rattle.vdisk_msg.specs.declared.request.Request.{Request}
-use Rattle.vdisk_msg.specs.declared.request.Request.TheVariants.{Flush, Read, Write}
-use Rattle.vdisk_msg.specs.Requests.{AreSound, after_request, blocks_defect, defect, written}
+use Rattle.lane_laws.specs.Vocabulary.{AreSound, Flush, Read, Request, Write, after_request, blocks_defect, defect, written}
 use Rattle.vio_bytes.proofs.Putting.{length-put_at}
 use Rattle.vio_bytes.proofs.Ranges.{range_at-put_at_inside, range_at-put_at_outside}
 use Rattle.vio_bytes.specs.Place.{put_at}

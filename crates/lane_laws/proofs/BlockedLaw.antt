@@ -1,30 +1,14 @@
 -- An end that finds no room has a packet to put.
 use Rattle.std.proofs.Common.{◌≡◌, ◌≢◌, ◌<◌, ◌≤◌, Bool, true, false, Option, Some, None, ◌++◌, length, sym, ap, ◌∙◌, subst, arith, refl, inl, inr}
-use Rattle.ldc_link.specs.declared.phase.Role.TheVariants.{Initiator, Responder}
-use Rattle.ldc_link.specs.LinkState.{LinkState}
-use Rattle.ldc_link.specs.Putting.{owes, owes_control, owes_in}
-use Rattle.ldc_queue.specs.declared.end.End.TheVariants.{A, B}
-use Rattle.vio_tag.specs.declared.message.Message.{Message}
-use Rattle.vio_handshake.specs.declared.handshake.Handshake.{Handshake}
-use Rattle.dring.specs.Slots.{range_length}
-use Rattle.channel_model.specs.Sayings.{half_said}
-use Rattle.disk_model.specs.ClientPutting.{client_holds, is_announcing}
+use Rattle.channel_laws.specs.Vocabulary.{A, B, Handshake, Initiator, LinkState, Message, Responder, half_said, owes, owes_control, owes_in}
+use Rattle.lane_laws.specs.Vocabulary.{ClientCounts, ClientMay, ClientSession, ClientState, DiskLog, InOrder, InServerOrder, LaneState, RangeStands, ServerCounts, ServerSession, ServerState}
+use Rattle.lane_laws.specs.Vocabulary.{SlotRange, client_core, client_handshake, client_holds, is_announcing, range_length, server_handshake}
 use Rattle.disk_model.specs.ClientRule as client
-use Rattle.disk_model.specs.ClientState.{ClientSession, ClientState}
-use Rattle.disk_model.specs.LaneState.{LaneState}
 use Rattle.disk_model.specs.ServerPutting.{server_holds}
 use Rattle.disk_model.specs.ServerRule as server
-use Rattle.disk_model.specs.ServerState.{ServerSession, ServerState, SlotRange}
 use Rattle.channel_laws.proofs.Apart.{none_is_some, some_is_none}
 use Rattle.channel_laws.specs.EndFold.{link_phase}
-use Rattle.lane_laws.specs.ChannelEnds.{client_core}
-use Rattle.lane_laws.specs.Counted.{InServerOrder, RangeStands}
-use Rattle.lane_laws.specs.DiskLog.{DiskLog}
 use Rattle.lane_laws.specs.OrderLaws.{HasToPut}
-use Rattle.lane_laws.specs.RuleFacts.{ClientMay}
-use Rattle.lane_laws.specs.Sound.{InOrder}
-use Rattle.lane_laws.specs.WorkLaws.{client_handshake, server_handshake}
-use Rattle.lane_laws.specs.WorkLog.{ClientCounts, ServerCounts}
 use Rattle.lane_laws.proofs.ClientFolds.{calm_up, sends_some}
 use Rattle.lane_laws.proofs.ClientPutCounting.{OwnInfo, own_info}
 use Rattle.lane_laws.proofs.Counting.{OfClient, OfServer, of_client, of_server}

@@ -1,17 +1,9 @@
 -- Along every run of a lane that nobody forged and whose store didn't fail the buffers of published writes hold what they write.
 use Rattle.std.proofs.Common.{◌≡◌, ℕ, ◌+◌, ◌*◌, ◌%◌, false, List, drop, sym, ap, ◌∙◌, arith}
-use Rattle.runs.specs.Lawful.{log_of}
-use Rattle.runs.specs.Run.{Run}
-use Rattle.vdisk_msg.specs.declared.request.Request.TheVariants.{Write}
-use Rattle.vdisk_msg.specs.Requested.{buffer_of, buffer_place}
+use Rattle.channel_laws.specs.Vocabulary.{Run, WireLog, log_of}
+use Rattle.lane_laws.specs.Vocabulary.{DiskEvent, IsShape, LaneState, LaneStep, Shape, Write, after, buffer_of, buffer_place, fresh, nothing_yet, view_of}
 use Rattle.vio_bytes.specs.Range.{range_at}
-use Rattle.channel_model.specs.WireLog.{WireLog}
-use Rattle.lane_laws.specs.DiskLog.{after, nothing_yet}
-use Rattle.disk_model.specs.DiskEvent.{DiskEvent}
-use Rattle.disk_model.specs.LaneState.{IsShape, LaneState, Shape, fresh}
-use Rattle.disk_model.specs.LaneStep.{LaneStep}
 use Rattle.lane_laws.specs.Contents.{ContentsStand, WorkHeld, WritesHeld}
-use Rattle.lane_laws.specs.LaneView.{view_of}
 use Rattle.lane_laws.proofs.BehindRing.{range_behind, ring_end}
 use Rattle.lane_laws.proofs.Holding.{known_at}
 use Rattle.lane_laws.proofs.LaneRuns.{run_contents}

@@ -1,28 +1,14 @@
 -- What resets, an opening session, requests, turns and calm calls are to a lane's view.
 use Rattle.std.proofs.Common.{◌≡◌, ℕ, true, false, Option, Some, None, List, [], ◌∷◌, ◌++◌, drop, refl, sym, ap, ◌∙◌, subst, arith}
-use Rattle.ldc_queue.specs.declared.end.End.{End}
-use Rattle.ldc_queue.specs.declared.end.End.TheVariants.{A, B}
-use Rattle.ldc_queue.specs.Wire.{peer_behind}
-use Rattle.vio_tag.specs.declared.cause.Cause.{Cause}
-use Rattle.channel_model.specs.WireEvent.{Reset, Sent, Took, WireEvent}
-use Rattle.channel_model.specs.WireLog.{WireLog, wire_moved}
+use Rattle.channel_laws.specs.Vocabulary.{A, B, Cause, End, Reset, Sent, Took, WireEvent, WireLog, peer_behind, seen, wire_moved}
 use Rattle.channel_laws.proofs.Apart.{ends_differ, some_same}
-use Rattle.lane_laws.specs.DiskLog.{DiskLog, after}
-use Rattle.lane_laws.specs.WorkLaws.{IfServer}
-use Rattle.lane_laws.specs.WorkLog.{ServerCounts}
-use Rattle.disk_model.specs.ClientState.{ClientSession, ClientState, opened_session}
-use Rattle.disk_model.specs.DiskEvent.{Accepted, Admitted, Asks, Calm, DiskEvent, Full, Off, OnWire, Refused, Calms, Started, Stopped, Switched, Switches}
-use Rattle.disk_model.specs.LaneState.{LaneState, NearCounts}
-use Rattle.disk_model.specs.LaneStep.{LaneStep, RestStep, TurnStep, WireStep}
-use Rattle.channel_model.specs.Seeing.{seen}
-use Rattle.disk_model.specs.ServerState.{Work}
+use Rattle.lane_laws.specs.Vocabulary.{Accepted, Admitted, Asks, Calm, Calms, ClientSession, ClientState, DiskEvent, DiskLog, Full, IfServer, LaneState, LaneStep, NearCounts, Off, OnWire, OneRing}
+use Rattle.lane_laws.specs.Vocabulary.{Refused, RestStep, ServerCounts, Started, Stopped, Switched, Switches, TurnStep, WireStep, Work, after, opened_session, view_of, work_while}
 use Rattle.lane_laws.proofs.RingWire.{published_of, sent_clears, wire_same}
 use Rattle.lane_laws.proofs.SlotsStepping.{StepFacts}
 use Rattle.lane_laws.proofs.StandingSteps.{wire_only}
-use Rattle.lane_laws.specs.RingAgreed.{OneRing}
 use Rattle.lane_laws.specs.Contents.{ContentsStand}
 use Rattle.lane_laws.specs.ImageStep.{content_after}
-use Rattle.lane_laws.specs.LaneView.{view_of, work_while}
 use Rattle.lane_laws.proofs.BehindRing.{cleared_behind, ring_end}
 use Rattle.lane_laws.proofs.Changes.{Asked, Opened, Rested}
 use Rattle.lane_laws.proofs.Leaving.{client_opened, keeps_same}

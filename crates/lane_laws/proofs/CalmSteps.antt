@@ -1,16 +1,8 @@
 -- A calm step of an end leaves the wire and the other end as they were, and the end still.
 use Rattle.std.proofs.Common.{◌≡◌, ◌+◌, ◌⊎◌, inl, inr, true, false, Some, length, refl, sym, ap, ◌∙◌, subst}
-use Rattle.ldc_queue.specs.declared.end.ChannelState.TheVariants.{Up}
-use Rattle.ldc_queue.specs.declared.end.End.{End}
-use Rattle.ldc_queue.specs.declared.end.End.TheVariants.{A, B}
-use Rattle.ldc_queue.specs.Wire.{peer_of}
-use Rattle.channel_model.specs.WireEvent.{Blocked, Idle}
-use Rattle.lane_laws.specs.DiskLog.{DiskLog, after}
-use Rattle.disk_model.specs.ClientPutting.{client_holds}
+use Rattle.channel_laws.specs.Vocabulary.{A, B, Blocked, End, Idle, Up, peer_of}
+use Rattle.lane_laws.specs.Vocabulary.{ClientMay, DiskEvent, DiskLog, LaneState, LaneStep, Off, OnWire, ServerMay, Switches, after, client_holds}
 use Rattle.disk_model.specs.ClientRule as client_rules
-use Rattle.disk_model.specs.DiskEvent.{DiskEvent, Off, OnWire, Switches}
-use Rattle.disk_model.specs.LaneState.{LaneState}
-use Rattle.disk_model.specs.LaneStep.{LaneStep}
 use Rattle.disk_model.specs.ServerPutting.{server_holds}
 use Rattle.disk_model.specs.ServerRule as server_rules
 use Rattle.lane_laws.proofs.ClientHolding.{holds_up}
@@ -18,7 +10,6 @@ use Rattle.lane_laws.proofs.IdleRuns.{client_same, server_same}
 use Rattle.lane_laws.proofs.LaneCounting.{knows_step}
 use Rattle.lane_laws.proofs.Ruling.{client_may, server_may}
 use Rattle.lane_laws.proofs.ServerSpeaking.{server_holds_up}
-use Rattle.lane_laws.specs.RuleFacts.{ClientMay, ServerMay}
 use Rattle.channel_laws.proofs.EndsAtRest.{none_waits}
 use Rattle.lane_laws.proofs.IdleLaw.{idle_client, idle_server, not_below}
 use Rattle.lane_laws.proofs.IdleRules.{client_idles, server_idles}

@@ -1,20 +1,15 @@
 -- Along every run a read that succeeded carries 512 bytes a block, and every other completion none.
 use Rattle.std.proofs.Common.{◌*◌, List, arith}
 use Rattle.std.proofs.lemmas.List.{length-replicate}
-use Rattle.runs.specs.Lawful.{Lawful, run_lawful}
-use Rattle.runs.specs.Run.{Run}
-use Rattle.lane_laws.specs.DiskLog.{DiskLog, after, nothing_yet}
+use Rattle.channel_laws.specs.Vocabulary.{Lawful, Run, run_lawful}
+use Rattle.lane_laws.specs.Vocabulary.{ClientSound, DiskEvent, DiskLog, Done, IsShape, LaneState, LaneStep, Shape, Works, after, fresh, nothing_yet, pages_of}
 use Rattle.lane_laws.specs.RequestLaws.{CarriesAt}
-use Rattle.disk_model.specs.DiskEvent.{DiskEvent, Done, Works}
-use Rattle.disk_model.specs.LaneState.{IsShape, LaneState, Shape, fresh, pages_of}
-use Rattle.disk_model.specs.LaneStep.{LaneStep}
 use Rattle.lane_laws.proofs.LaneStepping.{fresh_sound, sound_step}
 use Rattle.lane_laws.proofs.MemorySteps.{carried_long, memory_step}
 use Rattle.lane_laws.proofs.LaneViews.{at_client}
 use Rattle.lane_laws.proofs.Requesting.{completed_next}
 use Rattle.lane_laws.proofs.StandingRuns.{fresh_stands, stands_step}
 use Rattle.lane_laws.specs.MemoryStands.{MemoryStands}
-use Rattle.lane_laws.specs.Sound.{ClientSound}
 use Rattle.lane_laws.specs.Standing.{LaneInvariant}
 
 -- what an event may carry

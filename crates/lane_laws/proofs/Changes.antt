@@ -1,16 +1,11 @@
 -- How a lane's view changes at an event, kind by kind, with what is known there.
 use Rattle.std.specs.Prelude.{◌≡◌, ℕ, ◌+◌, ◌-◌, ◌*◌, ◌/◌, ◌%◌, ◌<◌, ◌≤◌, ◌⊎◌, List, [], ◌∷◌, ◌++◌, length, Option, Some, None, slice_get}
 use Rattle.vdisk_msg.specs.declared.request.Fill.{Fill}
-use Rattle.vdisk_msg.specs.declared.request.Request.{Request}
-use Rattle.vdisk_msg.specs.declared.request.Request.TheVariants.{Flush, Read, Write}
-use Rattle.vdisk_msg.specs.Requests.{AreSound, written}
+use Rattle.lane_laws.specs.Vocabulary.{AreSound, ClientSession, Ends, Flush, Flushes, Gathers, Gives, Progress, Read, Reads, Request, View, Work, Write, Writes, gathers_next, place_of, reads_next}
+use Rattle.lane_laws.specs.Vocabulary.{unit_length, written}
 use Rattle.vio_bytes.specs.Place.{put_at}
 use Rattle.vio_bytes.specs.Range.{range_at}
-use Rattle.disk_model.specs.ClientState.{ClientSession}
-use Rattle.disk_model.specs.ServerState.{Ends, Flushes, Gathers, Gives, Progress, Reads, Work, Writes}
-use Rattle.disk_model.specs.ServerWork.{gathers_next, reads_next, unit_length}
 use Rattle.lane_laws.specs.ImageStep.{front_done}
-use Rattle.lane_laws.specs.LaneView.{View, place_of}
 
 -- how many are published and finished, and that all have their slots
 pub record Placed (blocks : ℕ) (v : View) : Type 0 where

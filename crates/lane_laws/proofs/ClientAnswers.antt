@@ -2,23 +2,16 @@
 use Rattle.std.proofs.Common.{◌≡◌, ℕ, ◌+◌, ◌<◌, ◌≤◌, Bool, true, false, Option, Some, None, List, refl, sym, ap, subst}
 use Rattle.std.specs.Prelude.{◌&&◌, nat_le, nat_lt, ◌==◌, if◌then◌else◌, is_some, Result, Ok, Err, ⊤}
 use Rattle.std.proofs.lemmas.Bool.{and_parts, eqb-true, leb-true, ltb-true}
-use Rattle.ldc_link.specs.LinkState.{LinkState, cleared}
-use Rattle.ldc_link.specs.Taking.{Heard, LinkTake, TakesBytes, Unheard}
+use Rattle.channel_laws.specs.Vocabulary.{Ack, Cause, DringData, Faults, GoesOpen, Handshake, HandshakeTake, IsOfSession, IsOwn, LinkState, LinkTake, Message, Nack, TakesBytes, Unheard, cleared}
+use Rattle.channel_laws.specs.Vocabulary.{fault_or, handshake_hear, handshake_take, is_other, sid_fault}
+use Rattle.ldc_link.specs.Taking.{Heard}
 use Rattle.ldc_packet.specs.declared.packet.Subtype.{Subtype}
-use Rattle.ldc_packet.specs.declared.packet.Subtype.TheVariants.{Ack, Nack}
-use Rattle.vio_tag.specs.declared.cause.Cause.{Cause}
 use Rattle.vio_tag.specs.declared.cause.Cause.TheVariants as the_cause
-use Rattle.vio_tag.specs.declared.message.Message.{Message}
 use Rattle.vio_tag.specs.declared.message.MsgBody.{MsgBody}
-use Rattle.vio_tag.specs.declared.message.MsgBody.TheVariants.{DringData}
 use Rattle.vio_tag.specs.declared.message.TagFault.{TagFault}
 use Rattle.vio_tag.specs.Decoding.{Decodes}
-use Rattle.vio_handshake.specs.declared.handshake.Handshake.{Handshake}
-use Rattle.vio_handshake.specs.Rules.{Faults, Goes, GoesOpen, HandshakeTake, fault_or, handshake_hear, handshake_take, sid_fault}
-use Rattle.channel_laws.specs.EndStep.{IsOfSession, IsOwn}
-use Rattle.channel_model.specs.Ranges.{is_other}
-use Rattle.dring.specs.Slots.{range_length}
-use Rattle.disk_model.specs.ClientState.{ClientSession, ClientState, slot_in}
+use Rattle.vio_handshake.specs.Rules.{Goes}
+use Rattle.lane_laws.specs.Vocabulary.{ClientSession, ClientState, range_length, slot_in}
 use Rattle.disk_model.specs.ClientTaking.{ClientTake, ClientTakes, GoesOn, HearsLink, HearsWhole, Resets, acknowledged, by_handshake, hears_message, in_session, reads, sid_first, takes_ack}
 
 -- a handshake after a message, whether its session opens by it or not

@@ -1,26 +1,16 @@
 -- Each step of a client leaves its session counting what it said and heard.
 use Rattle.std.proofs.Common.{◌≡◌, ℕ, ◌+◌, inl, inr, Option, Some, None, List, [], ◌∷◌, ◌++◌, refl, sym, ap, ◌∙◌, subst, arith}
 use Rattle.std.specs.Prelude.{is_some, ⊤}
-use Rattle.ldc_packet.specs.Spelling.{subtype_code}
-use Rattle.ldc_queue.specs.Transcript.{Heard as Heard_, Turn}
-use Rattle.vio_tag.specs.Spelling.{canonical}
-use Rattle.vio_handshake.specs.declared.handshake.Handshake.{Handshake}
+use Rattle.channel_laws.specs.Vocabulary.{Handshake, Heard as Heard_, Turn, canonical, half_heard, half_said, heard, range_ended, range_in, subtype_code}
 use Rattle.vio_handshake.specs.declared.session.Session.{Session}
-use Rattle.channel_model.specs.Sayings.{half_heard, half_said, heard}
-use Rattle.lane_laws.specs.Agreement.{ClientAgrees}
-use Rattle.channel_model.specs.Messages.{range_ended, range_in}
-use Rattle.lane_laws.specs.WorkLog.{ClientCounts, change_client, length_in}
-use Rattle.disk_model.specs.ClientPutting.{announcement}
-use Rattle.disk_model.specs.ClientState.{ClientSession, ClientState, joined_client}
+use Rattle.lane_laws.specs.Vocabulary.{ClientAgrees, ClientCounted, ClientCounts, ClientSession, ClientState, Shape, acked_of, announced_of, announcement, change_client, infos_of, joined_client}
+use Rattle.lane_laws.specs.Vocabulary.{length_in, range_length, range_sum}
 use Rattle.disk_model.specs.ClientTaking.{acknowledged}
-use Rattle.disk_model.specs.LaneState.{Shape}
-use Rattle.dring.specs.Slots.{range_length}
 use Rattle.lane_laws.proofs.ClientTaken.{ClientAcked, ClientHearsPart, ClientHandshakes, ClientTook}
 use Rattle.channel_laws.proofs.Apart.{some_same}
 use Rattle.channel_laws.proofs.EndStanding.{open_declines}
 use Rattle.lane_laws.proofs.RangeSums.{sum_heard, sum_more}
 use Rattle.lane_laws.proofs.RangesSaid.{IsNoData, heard_no_range, heard_range, no_data}
-use Rattle.lane_laws.specs.Counted.{ClientCounted, acked_of, announced_of, infos_of, range_sum}
 use Rattle.lane_laws.specs.LaneRests.{ClientRests}
 
 -- IT BEGINS

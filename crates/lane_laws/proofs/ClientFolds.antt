@@ -4,28 +4,17 @@ use Rattle.std.specs.Prelude.{is_none, is_some, ◌&&◌, nat_le}
 use Rattle.std.proofs.lemmas.Bool.{ltb-false}
 use Rattle.std.proofs.lemmas.Bool.Decides.{nat_tests}
 use Rattle.std.proofs.lemmas.List.{drop_all, length-append}
-use Rattle.ldc_link.specs.declared.phase.LinkPhase.{LinkPhase}
+use Rattle.channel_laws.specs.Vocabulary.{ComesUp, EndsHandshake, EndsOwn, Goes, Handshake, Initiator, LinkPhase, LinkState, Message, PutKind, Seen, Turn, begun_behind_put, behind_put, canonical}
+use Rattle.channel_laws.specs.Vocabulary.{ending, half_said, handshake_behind, is_established, is_up, kind_in, left_behind_put, offered, owed_in, owes, owes_control, owes_in, part_owed, put_kind}
+use Rattle.channel_laws.specs.Vocabulary.{put_opens, wrapped}
 use Rattle.ldc_link.specs.declared.phase.LinkPhase.TheVariants as phase
-use Rattle.ldc_link.specs.declared.phase.Role.TheVariants.{Initiator}
-use Rattle.ldc_link.specs.LinkState.{LinkState, is_established, is_up, offered}
-use Rattle.ldc_link.specs.Putting.{begun_behind_put, behind_put, left_behind_put, owed_in, owes, owes_control, owes_in, part_owed}
-use Rattle.ldc_queue.specs.Transcript.{Turn}
-use Rattle.vio_tag.specs.declared.message.Message.{Message}
-use Rattle.vio_tag.specs.Spelling.{canonical}
-use Rattle.vio_handshake.specs.declared.handshake.Handshake.{Handshake}
 use Rattle.vio_handshake.specs.State.{handshake_up}
 use Rattle.channel_laws.proofs.MessagesHeld.{owed_held}
 use Rattle.lane_laws.specs.BlockLog.{Blockage, Clear, Stuck, StuckBefore, hearing, is_stuck, stuck}
-use Rattle.disk_model.specs.ClientPutting.{announcement, announced, announcing, client_holds, client_kind, holding, is_announcing, session_behind}
+use Rattle.lane_laws.specs.Vocabulary.{Accepted, Admitted, ClientAdmits, ClientCompletes, ClientHolds, ClientMay, ClientPublishes, ClientSession, ClientState, Full, Refused, announced}
+use Rattle.lane_laws.specs.Vocabulary.{announcement, announcing, client_core, client_holds, client_kind, holding, is_announcing, joined_client, session_behind, slot_in}
 use Rattle.disk_model.specs.ClientRule.{Announces, ClientRule, Completes, Publishes, Puts, Says, client_rule}
-use Rattle.disk_model.specs.ClientState.{ClientSession, ClientState, joined_client, slot_in}
-use Rattle.disk_model.specs.ClientStep.{ClientAdmits, ClientCompletes, ClientPublishes}
-use Rattle.disk_model.specs.DiskEvent.{Accepted, Admitted, Full, Refused}
 use Rattle.lane_laws.specs.EndLog.{is_stuck_with_own}
-use Rattle.channel_model.specs.EndPuts.{ComesUp, EndsOwn, EndsHandshake, Goes, PutKind, ending, handshake_behind, kind_in, put_kind, put_opens}
-use Rattle.channel_model.specs.Ranges.{wrapped}
-use Rattle.channel_model.specs.Sayings.{half_said}
-use Rattle.channel_model.specs.Seeing.{Seen}
 use Rattle.lane_laws.proofs.ClientHolding.{info_long}
 use Rattle.lane_laws.proofs.ClientPutCounting.{own_info, put_as}
 use Rattle.lane_laws.proofs.ClientTaken.{ClientTook}
@@ -36,10 +25,7 @@ use Rattle.lane_laws.proofs.RulesFree.{puts_owe}
 use Rattle.lane_laws.proofs.Ruling.{client_may}
 use Rattle.channel_laws.proofs.Short.{some_bytes}
 use Rattle.channel_laws.specs.Cuts.{CarriesOwed}
-use Rattle.lane_laws.specs.Counted.{ClientHolds}
 use Rattle.lane_laws.specs.LaneRests.{ClientRests, ClientUtters}
-use Rattle.lane_laws.specs.RuleFacts.{ClientMay}
-use Rattle.lane_laws.specs.ChannelEnds.{client_core}
 use Rattle.lane_laws.proofs.ClientSending.{not_announcing, opened_other}
 
 -- AN END AS ITS LOG HAS IT, by its parts: where it is stuck its link owes a packet, and where its link holds a message

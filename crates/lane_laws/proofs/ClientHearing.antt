@@ -1,17 +1,13 @@
 -- A client that takes a packet keeps its requests and what its session counts, but for what is acknowledged by it.
 use Rattle.std.proofs.Common.{◌≡◌, ℕ, ◌+◌, ◌≤◌, Option, Some, List, length, refl, sym, ap, ◌∙◌, subst, arith}
 use Rattle.std.specs.Prelude.{is_some, ⊤}
-use Rattle.ldc_link.specs.LinkState.{LinkState, cleared}
-use Rattle.vio_tag.specs.declared.message.Message.{Message}
-use Rattle.disk_model.specs.ClientPutting.{is_announcing}
-use Rattle.disk_model.specs.ClientState.{ClientSession, ClientState}
+use Rattle.channel_laws.specs.Vocabulary.{LinkState, Message, cleared}
+use Rattle.lane_laws.specs.Vocabulary.{ClientSession, ClientSound, ClientState, CountsInOrder, InOrder, is_announcing, range_length}
 use Rattle.disk_model.specs.ClientTaking.{ClientTake, ClientTakes, GoesOn, Resets}
-use Rattle.dring.specs.Slots.{range_length}
 use Rattle.channel_laws.proofs.EndStanding.{heard_leaves}
 use Rattle.lane_laws.proofs.ClientAnswers.{Answers, comes_to, goes_by}
 use Rattle.lane_laws.proofs.Sharing.{in_order}
 use Rattle.lane_laws.specs.Standing.{SessionStands}
-use Rattle.lane_laws.specs.Sound.{ClientSound, CountsInOrder, InOrder}
 
 pub record TakenBy (s t : ClientState) : Type 0 where
   pub sends : t.link.to_send ≡ s.link.to_send

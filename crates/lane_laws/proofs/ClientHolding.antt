@@ -1,20 +1,13 @@
 -- A client whose link gets a message to put: what always holds of it holds.
 use Rattle.std.proofs.Common.{◌≡◌, ℕ, ◌≤◌, ◌<◌, Bool, true, false, Some, List, [], length, refl, ap, subst, arith}
-use Rattle.ldc_queue.specs.declared.end.ChannelState.TheVariants.{Up}
+use Rattle.channel_laws.specs.Vocabulary.{DringData, Message, Seen, Up, canonical}
 use Rattle.vio_tag.proofs.Canonical.{length_canonical}
-use Rattle.vio_tag.specs.declared.message.Message.{Message}
-use Rattle.vio_tag.specs.declared.message.MsgBody.TheVariants.{DringData}
-use Rattle.vio_tag.specs.Spelling.{canonical}
 use Rattle.vio_handshake.specs.Messages.{info}
-use Rattle.disk_model.specs.ClientPutting.{announcement, announcing, client_holds, holding}
+use Rattle.lane_laws.specs.Vocabulary.{ClientMay, ClientSession, ClientSound, ClientState, InOrder, announcement, announcing, client_holds, holding}
 use Rattle.disk_model.specs.ClientRule.{Announces, ClientRule, Puts, Says}
-use Rattle.disk_model.specs.ClientState.{ClientSession, ClientState}
-use Rattle.channel_model.specs.Seeing.{Seen}
 use Rattle.channel_laws.proofs.Apart.{none_is_some, some_same}
 use Rattle.channel_laws.proofs.Short.{some_bytes}
 use Rattle.lane_laws.proofs.Sharing.{in_order}
-use Rattle.lane_laws.specs.RuleFacts.{ClientMay}
-use Rattle.lane_laws.specs.Sound.{ClientSound, InOrder}
 
 -- an INFO has 56 bytes
 pub info_long : (sid seq ident start end state : ℕ) → length (canonical (info sid (DringData seq ident start end state))) ≡ 56

@@ -3,41 +3,17 @@ use Rattle.std.proofs.Common.{◌≡◌, ℕ, ◌+◌, ◌%◌, ◌^◌, ◌<◌
 use Rattle.std.specs.Prelude.{◌&&◌, is_some, if◌then◌else◌, Ok}
 use Rattle.std.proofs.lemmas.Bool.{and_from, le-leb, lt-ltb}
 use Rattle.std.proofs.lemmas.Nat.{mod_below}
-use Rattle.runs.specs.Lawful.{log_of}
-use Rattle.runs.specs.Run.{Run}
-use Rattle.ldc_link.specs.declared.phase.Role.TheVariants.{Initiator, Responder}
-use Rattle.ldc_link.specs.LinkState.{LinkState, cleared}
-use Rattle.ldc_packet.specs.declared.packet.Subtype.TheVariants.{Ack}
-use Rattle.ldc_queue.specs.declared.end.ChannelState.TheVariants.{Up}
-use Rattle.ldc_queue.specs.declared.end.End.TheVariants.{B}
-use Rattle.ldc_queue.specs.OneStream.{IsFront}
-use Rattle.ldc_queue.specs.Transcript.{Turn}
-use Rattle.vio_tag.specs.declared.cause.Cause.{Cause}
+use Rattle.channel_laws.specs.Vocabulary.{Ack, B, Cause, Handshake, Initiator, IsFront, LinkState, Message, Responder, Run, SpellsMessage, TranscriptLog, Turn, Up, WireLog, cleared, heard}
+use Rattle.channel_laws.specs.Vocabulary.{is_other, log_of, range_in, said, sid_fault, sides_of}
 use Rattle.vio_tag.specs.declared.cause.Cause.TheVariants as the_cause
-use Rattle.vio_tag.specs.declared.message.Message.{Message}
-use Rattle.vio_tag.specs.Spelling.{SpellsMessage}
 use Rattle.vio_handshake.proofs.Agreeable.{same_number}
 use Rattle.vio_handshake.proofs.Places.{AllSaid, Deal, Place, handshake_at}
-use Rattle.vio_handshake.specs.declared.handshake.Handshake.{Handshake}
-use Rattle.vio_handshake.specs.Rules.{sid_fault}
-use Rattle.channel_model.specs.Sayings.{heard, said}
-use Rattle.channel_model.specs.TranscriptLog.{TranscriptLog}
-use Rattle.channel_model.specs.WireLog.{WireLog}
-use Rattle.lane_laws.specs.DiskLog.{after, nothing_yet}
-use Rattle.channel_model.specs.Messages.{range_in}
-use Rattle.lane_laws.specs.WorkLog.{ServerCounts, length_in}
-use Rattle.disk_model.specs.ClientState.{ClientSession, ClientState, slot_in}
+use Rattle.lane_laws.specs.Vocabulary.{ClientSession, ClientState, DiskEvent, IsShape, LaneState, LaneStep, ServerCounts, ServerOrder, ServerSession, Shape, acked_of, after, announced_of}
+use Rattle.lane_laws.specs.Vocabulary.{client_core, core_of, fresh, length_in, nothing_yet, range_count, range_length, range_sum, slot_in}
 use Rattle.disk_model.specs.ClientTaking.{ClientTake, GoesOn, HearsWhole, Resets, acknowledged, hears_message, reads, sid_first, takes_ack}
-use Rattle.disk_model.specs.DiskEvent.{DiskEvent}
-use Rattle.disk_model.specs.LaneState.{IsShape, LaneState, Shape, fresh}
-use Rattle.disk_model.specs.LaneStep.{LaneStep}
-use Rattle.channel_model.specs.Ranges.{is_other}
-use Rattle.dring.specs.Slots.{range_length}
-use Rattle.disk_model.specs.ServerState.{ServerSession}
 use Rattle.channel_laws.proofs.Apart.{some_same}
 use Rattle.channel_laws.proofs.EndStanding.{open_up}
 use Rattle.channel_laws.proofs.HandshakePlaces.{AtPlace, deal, open_place}
-use Rattle.channel_laws.specs.Sides.{sides_of}
 use Rattle.lane_laws.proofs.Agreeing.{front_sum, range_answered}
 use Rattle.lane_laws.proofs.LaneCores.{shape_of, transcript_is}
 use Rattle.lane_laws.proofs.DataHeard.{data_spells, decodes_to, read_data}
@@ -47,9 +23,7 @@ use Rattle.lane_laws.proofs.RangeSums.{sum_more}
 use Rattle.lane_laws.proofs.LaneChannel.{answers_of, asks_of, lane_meets}
 use Rattle.lane_laws.proofs.RangesSaid.{said_range}
 use Rattle.lane_laws.proofs.RangesTold.{EachSaid, IsData, next_data, they_tell}
-use Rattle.lane_laws.specs.Counted.{ServerOrder, acked_of, announced_of, range_count, range_sum}
 use Rattle.lane_laws.specs.LaneTranscripts.{transcript_behind}
-use Rattle.lane_laws.specs.ChannelEnds.{client_core, core_of}
 
 -- IT TAKES an acknowledgement that names its ring, begins after those that it took, and ends where it announced
 pub same_is : (one other : ℕ) → one ≡ other → is_other one other ≡ false

@@ -2,34 +2,23 @@
 use Rattle.std.proofs.Common.{◌≡◌, ℕ, ◌+◌, ◌-◌, ◌≤◌, ◌<◌, inl, inr, Bool, true, false, Option, Some, None, List, [], ◌∷◌, length, drop, refl, sym, ap, ◌∙◌, subst, arith, length-drop}
 use Rattle.std.specs.Prelude.{◌&&◌, ◌||◌, is_some, is_none, not, nat_le, Ok, Err}
 use Rattle.std.proofs.lemmas.Bool.{leb-true}
-use Rattle.ldc_link.specs.declared.phase.LinkPhase.{LinkPhase}
+use Rattle.channel_laws.specs.Vocabulary.{Cause, ComesUp, EndBegins, EndCore, EndFails, EndHears, EndSays, EndStays, EndWaits, EndsHandshake, EndsOwn, Goes, Handshake, HandshakeTake}
+use Rattle.channel_laws.specs.Vocabulary.{HandshakeTakes, HearsWhole, Holding, Holds, HoldsOn, HoldsOwed, HoldsOwn, Initiator, IsOfSession, KeepsOwn, LinkFails, LinkPhase, LinkState, LinkTake}
+use Rattle.channel_laws.specs.Vocabulary.{MayTake, Message, PutKind, Seen, Unheard, WholeFails, behind_put, canonical, cleared, ending, handshake_take, holds, is_established, is_up, kind_in}
+use Rattle.channel_laws.specs.Vocabulary.{left_behind_put, offered, owes, owes_control, put_opens}
 use Rattle.ldc_link.specs.declared.phase.LinkPhase.TheVariants as phase
-use Rattle.ldc_link.specs.declared.phase.Role.TheVariants.{Initiator}
-use Rattle.ldc_link.specs.LinkState.{LinkState, cleared, is_established, is_up, offered}
-use Rattle.ldc_link.specs.Putting.{behind_put, left_behind_put, owes, owes_control}
-use Rattle.ldc_link.specs.Taking.{Heard, LinkTake, Unheard}
+use Rattle.ldc_link.specs.Taking.{Heard}
 use Rattle.ldc_queue.specs.Messages.{is_empty}
 use Rattle.vio_tag.proofs.Canonical.{length_canonical}
-use Rattle.vio_tag.specs.declared.cause.Cause.{Cause}
 use Rattle.vio_tag.specs.declared.cause.Cause.TheVariants as the_cause
-use Rattle.vio_tag.specs.declared.message.Message.{Message}
 use Rattle.vio_tag.specs.Decoding.{Decodes}
-use Rattle.vio_tag.specs.Spelling.{canonical}
-use Rattle.vio_handshake.specs.declared.handshake.Handshake.{Handshake}
-use Rattle.vio_handshake.specs.Rules.{HandshakeTake, handshake_take}
-use Rattle.disk_model.specs.ClientPutting.{announced, announcement, announcing, client_holds, client_kind, client_opens, client_put, holding, is_announcing, opened_if, session_behind}
+use Rattle.lane_laws.specs.Vocabulary.{Accepted, Admitted, ClientAdmits, ClientCompletes, ClientFails, ClientMay, ClientPublishes, ClientSends, ClientSession, ClientSound, ClientState}
+use Rattle.lane_laws.specs.Vocabulary.{CountsInOrder, Full, InOrder, Refused, announced, announcement, announcing, client_core, client_holds, client_kind, client_opens, client_put, holding}
+use Rattle.lane_laws.specs.Vocabulary.{is_announcing, joined_client, opened_if, range_length, session_behind}
 use Rattle.disk_model.specs.ClientRule.{Announces, ClientRule, Completes, Publishes, Puts, Says, Takes, client_rule}
-use Rattle.disk_model.specs.ClientState.{ClientSession, ClientState, joined_client}
-use Rattle.disk_model.specs.ClientStep.{ClientAdmits, ClientCompletes, ClientFails, ClientPublishes, ClientSends}
 use Rattle.disk_model.specs.ClientTaking.{ClientTake, ClientTakes, GoesOn, HearsLink, Resets, acknowledged}
-use Rattle.disk_model.specs.DiskEvent.{Accepted, Admitted, Full, Refused}
-use Rattle.channel_model.specs.EndPuts.{ComesUp, EndsHandshake, EndsOwn, Goes, PutKind, ending, kind_in, put_opens}
 use Rattle.disk_model.specs.Offering.{client_offer}
-use Rattle.dring.specs.Slots.{range_length}
-use Rattle.channel_model.specs.Seeing.{Seen}
 use Rattle.channel_laws.proofs.Apart.{none_is_some, some_same, true_is_false}
-use Rattle.channel_laws.specs.EndCore.{EndCore, holds}
-use Rattle.channel_laws.specs.EndStep.{EndBegins, EndFails, EndHears, EndSays, EndStays, EndWaits, HandshakeTakes, HearsWhole, Holding, Holds, HoldsOn, HoldsOwed, HoldsOwn, IsOfSession, KeepsOwn, LinkFails, MayTake, WholeFails}
 use Rattle.lane_laws.proofs.ClientAnswers.{Answers, HandshakesTo, comes_to, goes_by}
 use Rattle.lane_laws.proofs.ClientHolding.{client_held, not_own}
 use Rattle.channel_laws.proofs.EndStanding.{SameSending, heard_leaves, up_empty}
@@ -37,9 +26,6 @@ use Rattle.lane_laws.proofs.RulesFree.{nothing_owed, takes_calm}
 use Rattle.lane_laws.proofs.Ruling.{client_may}
 use Rattle.lane_laws.proofs.Sharing.{in_order, infos_few}
 use Rattle.lane_laws.specs.Budget.{infos_left, one_if}
-use Rattle.lane_laws.specs.ChannelEnds.{client_core}
-use Rattle.lane_laws.specs.RuleFacts.{ClientMay}
-use Rattle.lane_laws.specs.Sound.{ClientSound, CountsInOrder, InOrder}
 
 -- IT BEGINS
 pub client_begins : (s t : ClientState) → t ≡ joined_client s → EndBegins (client_core s) (client_core t)

@@ -2,23 +2,11 @@
 use Rattle.std.proofs.Common.{◌≡◌, ℕ, ◌+◌, ◌-◌, ◌<◌, ◌≤◌, Bool, true, false, Option, Some, None, List, ◌∷◌, ◌++◌, length, refl, sym, ap, ◌∙◌, subst, arith}
 use Rattle.std.specs.Prelude.{is_some, ⊤}
 use Rattle.std.proofs.lemmas.Nat.{mod_below}
-use Rattle.ldc_link.specs.declared.phase.Role.TheVariants.{Initiator}
-use Rattle.ldc_link.specs.LinkState.{is_up}
-use Rattle.ldc_link.specs.Putting.{behind_put}
-use Rattle.ldc_packet.specs.declared.packet.Subtype.TheVariants.{Info}
-use Rattle.ldc_queue.specs.Transcript.{Said, Turn}
-use Rattle.vio_tag.specs.Spelling.{canonical}
-use Rattle.vio_handshake.specs.declared.handshake.Handshake.{Handshake}
-use Rattle.channel_model.specs.Sayings.{half_said, said}
-use Rattle.lane_laws.specs.Agreement.{ClientAgrees}
-use Rattle.channel_model.specs.Messages.{range_ended, range_in}
-use Rattle.lane_laws.specs.WorkLog.{ClientCounts, change_client, length_in, one_in, opened_client}
-use Rattle.disk_model.specs.ClientPutting.{announcement, announced, is_announcing, session_behind}
-use Rattle.disk_model.specs.ClientState.{ClientSession, ClientState, slot_in}
-use Rattle.channel_model.specs.EndPuts.{ComesUp, EndsOwn, Goes, PutKind, handshake_behind}
-use Rattle.disk_model.specs.LaneState.{Shape}
-use Rattle.channel_model.specs.Ranges.{wrapped}
-use Rattle.dring.specs.Slots.{range_length}
+use Rattle.channel_laws.specs.Vocabulary.{ComesUp, EndsOwn, Goes, Handshake, Info, Initiator, PutKind, Said, Turn, behind_put, canonical, half_said, handshake_behind, is_up, range_ended, range_in}
+use Rattle.channel_laws.specs.Vocabulary.{said, wrapped}
+use Rattle.lane_laws.specs.Vocabulary.{ClientAgrees, ClientCounted, ClientCounts, ClientHolds, ClientSession, ClientSound, ClientState, InOrder, Shape, acked_of, announced, announced_of}
+use Rattle.lane_laws.specs.Vocabulary.{announcement, change_client, client_core, infos_of, is_announcing, length_in, one_in, opened_client, range_count, range_length, range_sum, session_behind}
+use Rattle.lane_laws.specs.Vocabulary.{slot_in}
 use Rattle.channel_laws.proofs.Apart.{false_is_true, some_same}
 use Rattle.channel_laws.proofs.PutSayings.{SaysWhole, SaysOn}
 use Rattle.channel_laws.proofs.EndStanding.{open_up}
@@ -26,10 +14,7 @@ use Rattle.lane_laws.proofs.RangeSums.{count_more, count_said, sum_more, sum_sai
 use Rattle.lane_laws.proofs.RangeTurns.{range_turns}
 use Rattle.lane_laws.proofs.RangesSaid.{said_one, said_range}
 use Rattle.lane_laws.proofs.Sharing.{in_order}
-use Rattle.lane_laws.specs.Counted.{ClientCounted, ClientHolds, acked_of, announced_of, infos_of, range_count, range_sum}
 use Rattle.lane_laws.specs.LaneRests.{ClientRests, ClientUtters}
-use Rattle.lane_laws.specs.Sound.{ClientSound, InOrder}
-use Rattle.lane_laws.specs.ChannelEnds.{client_core}
 
 -- THE LOG counts what is said
 abbrev pub SameButSaid : Option ClientSession → Option ClientSession → Type 0

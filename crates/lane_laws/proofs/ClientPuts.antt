@@ -1,22 +1,15 @@
 -- The client as it puts a packet: what it holds then, and what it has said after it.
 use Rattle.std.proofs.Common.{ℕ, Bool, List}
-use Rattle.ldc_queue.specs.declared.end.End.TheVariants.{A}
-use Rattle.lane_laws.specs.DiskLog.{DiskLog}
-use Rattle.disk_model.specs.ClientPutting.{client_kind, is_announcing}
+use Rattle.channel_laws.specs.Vocabulary.{A, seen}
+use Rattle.lane_laws.specs.Vocabulary.{ClientCounted, ClientSends, ClientSound, ClientState, DiskLog, LaneState, client_kind, is_announcing}
 use Rattle.disk_model.specs.ClientRule as client_rules
-use Rattle.disk_model.specs.ClientState.{ClientState}
-use Rattle.disk_model.specs.ClientStep.{ClientSends}
-use Rattle.channel_model.specs.Seeing.{seen}
-use Rattle.disk_model.specs.LaneState.{LaneState}
 use Rattle.lane_laws.proofs.LaneCounting.{Knows}
 use Rattle.lane_laws.proofs.ClientHolding.{client_held}
 use Rattle.lane_laws.proofs.ClientWorkCounting.{client_holds_counting}
 use Rattle.channel_laws.proofs.PutSayings.{PutSays, put_says}
 use Rattle.lane_laws.proofs.Ruling.{client_may}
 use Rattle.lane_laws.proofs.Speaking.{client_blocked_rests}
-use Rattle.lane_laws.specs.Counted.{ClientCounted}
 use Rattle.lane_laws.specs.LaneRests.{ClientRests}
-use Rattle.lane_laws.specs.Sound.{ClientSound}
 
 pub record Putting (s : LaneState) (l : DiskLog) (packet : List ℕ) (held : ClientState) : Type 0 where
   pub sound : ClientSound held

@@ -2,13 +2,9 @@
 use Rattle.std.proofs.Common.{◌≡◌, ℕ, ◌≤◌, Bool, true, false, Option, Some, None, List, length, drop, refl, arith, length-drop}
 use Rattle.std.specs.Prelude.{nat_le}
 use Rattle.std.proofs.lemmas.Bool.{leb-false}
-use Rattle.ldc_link.specs.declared.phase.LinkPhase.{LinkPhase}
+use Rattle.channel_laws.specs.Vocabulary.{ComesUp, EndsHandshake, EndsOwn, Goes, LinkPhase, PutKind, ending, kind_in, left_behind_put, put_opens}
 use Rattle.ldc_link.specs.declared.phase.LinkPhase.TheVariants as phase
-use Rattle.ldc_link.specs.Putting.{left_behind_put}
-use Rattle.disk_model.specs.ClientPutting.{announced, client_kind, client_put, is_announcing, opened_if, session_behind}
-use Rattle.disk_model.specs.ClientState.{ClientSession, ClientState}
-use Rattle.channel_model.specs.EndPuts.{ComesUp, EndsOwn, EndsHandshake, Goes, PutKind, ending, kind_in, put_opens}
-use Rattle.lane_laws.specs.Sound.{ClientSound, CountsInOrder}
+use Rattle.lane_laws.specs.Vocabulary.{ClientSession, ClientSound, ClientState, CountsInOrder, announced, client_kind, client_put, is_announcing, opened_if, session_behind}
 
 announced_counts : (pending : ℕ) (open_one : Option ClientSession) → CountsInOrder pending open_one → CountsInOrder pending (announced open_one)
 announced_counts pending None counts = tt

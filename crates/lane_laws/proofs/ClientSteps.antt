@@ -1,19 +1,14 @@
 -- What each step of a client is to what always holds of it.
 use Rattle.std.proofs.Common.{◌≡◌, ℕ, ◌+◌, ◌-◌, ◌≤◌, ◌<◌, Bool, Option, Some, None, List, [], ◌∷◌, length, sym, ap, ◌∙◌, subst, arith, length-drop, length-append, ◌++◌}
 use Rattle.std.specs.Prelude.{slice_get}
-use Rattle.vdisk_msg.specs.declared.request.Request.{Request}
-use Rattle.disk_model.specs.ClientPutting.{client_holds, is_announcing}
+use Rattle.lane_laws.specs.Vocabulary.{Accepted, Admitted, ClientAdmits, ClientCompletes, ClientMay, ClientPublishes, ClientSends, ClientSession, ClientSound, ClientState, CountsInOrder, Full}
+use Rattle.lane_laws.specs.Vocabulary.{InOrder, Refused, Request, client_holds, is_announcing, joined_client}
 use Rattle.disk_model.specs.ClientRule.{Completes, Publishes, client_rule}
-use Rattle.disk_model.specs.ClientState.{ClientSession, ClientState, joined_client}
-use Rattle.disk_model.specs.ClientStep.{ClientAdmits, ClientCompletes, ClientPublishes, ClientSends}
-use Rattle.disk_model.specs.DiskEvent.{Accepted, Admitted, Full, Refused}
 use Rattle.channel_model.specs.Seeing.{Seen}
 use Rattle.lane_laws.proofs.ClientHolding.{client_held}
 use Rattle.lane_laws.proofs.ClientSending.{client_put_sound}
 use Rattle.lane_laws.proofs.Ruling.{client_may}
 use Rattle.lane_laws.proofs.Sharing.{in_order}
-use Rattle.lane_laws.specs.RuleFacts.{ClientMay}
-use Rattle.lane_laws.specs.Sound.{ClientSound, CountsInOrder, InOrder}
 use Rattle.lane_laws.proofs.Requesting.{got_below}
 
 -- it begins

@@ -3,17 +3,10 @@
 use Rattle.std.proofs.Common.{◌≡◌, ℕ, Bool, true, false, Some, None, List, [], ◌∷◌, ◌++◌, refl, sym, ap, ◌∙◌, Option, ◌⊎◌, inl, inr}
 use Rattle.std.specs.Prelude.{⊤}
 use Rattle.ldc_link.specs.Following.{Follows}
-use Rattle.ldc_link.specs.LinkState.{LinkState, cleared, is_up}
-use Rattle.ldc_queue.specs.Transcript.{Heard as Heard_, Turn}
-use Rattle.vio_tag.specs.declared.message.Message.{Message}
+use Rattle.channel_laws.specs.Vocabulary.{Handshake, Heard as Heard_, LinkState, Message, SpellsMessage, Turn, cleared, handshake_take, heard, is_up}
 use Rattle.vio_tag.specs.Form.{IsWellFormed}
-use Rattle.vio_tag.specs.Spelling.{SpellsMessage}
-use Rattle.vio_handshake.specs.declared.handshake.Handshake.{Handshake}
-use Rattle.vio_handshake.specs.Rules.{handshake_take}
-use Rattle.disk_model.specs.ClientState.{ClientState}
+use Rattle.lane_laws.specs.Vocabulary.{ClientState, range_length}
 use Rattle.disk_model.specs.ClientTaking.{ClientTake, ClientTakes, GoesOn, Resets, acknowledged}
-use Rattle.dring.specs.Slots.{range_length}
-use Rattle.channel_model.specs.Sayings.{heard}
 use Rattle.lane_laws.proofs.ClientAnswers.{Acks, Answers, GoesBy, HandshakesTo, comes_to, goes_by}
 use Rattle.channel_laws.proofs.Apart.{none_is_some}
 use Rattle.channel_laws.proofs.EndStanding.{heard_leaves}

@@ -2,28 +2,15 @@
 -- heard.
 use Rattle.std.proofs.Common.{◌≡◌, ℕ, ◌+◌, inl, Bool, true, false, Option, Some, None, List, [], ◌∷◌, ◌++◌, length, refl, sym, ap, ◌∙◌, subst, arith}
 use Rattle.std.specs.Prelude.{is_some}
-use Rattle.ldc_link.specs.declared.phase.Role.{Role}
-use Rattle.ldc_link.specs.declared.phase.Role.TheVariants.{Initiator, Responder}
-use Rattle.ldc_link.specs.LinkState.{is_up}
-use Rattle.ldc_link.specs.Putting.{behind_put, owes}
-use Rattle.ldc_queue.specs.Transcript.{Said, Turn}
-use Rattle.vio_tag.specs.declared.message.Message.{Message}
-use Rattle.vio_tag.specs.Spelling.{canonical}
+use Rattle.channel_laws.specs.Vocabulary.{EndsHandshake, Initiator, Message, Responder, Role, Said, Seen, Turn, behind_put, canonical, half_said, handshake_sent, is_up, opens_by_put, owes}
+use Rattle.channel_laws.specs.Vocabulary.{put_opens, range_in, said}
 use Rattle.vio_handshake.specs.declared.handshake.Phase.{Phase}
 use Rattle.vio_handshake.specs.declared.handshake.Phase.TheVariants.{Open, PeerReadyTaken}
-use Rattle.vio_handshake.specs.Rules.{opens_by_put, handshake_sent}
-use Rattle.channel_model.specs.Sayings.{half_said, said}
 use Rattle.channel_laws.proofs.MessagesHeld.{owed_held}
-use Rattle.lane_laws.specs.Agreement.{ClientAgrees, ClientCountsAgree}
-use Rattle.channel_model.specs.Messages.{range_in}
-use Rattle.lane_laws.specs.WorkLog.{ClientCounts, change_client, length_in, one_in}
-use Rattle.disk_model.specs.ClientPutting.{announcement, announcing, client_holds, holding, is_announcing, opened_if}
+use Rattle.lane_laws.specs.Vocabulary.{Accepted, Admitted, ClientAdmits, ClientAgrees, ClientCompletes, ClientCounted, ClientCounts, ClientCountsAgree, ClientMay, ClientPublishes, ClientSession}
+use Rattle.lane_laws.specs.Vocabulary.{ClientSound, ClientState, Full, Refused, Shape, acked_of, announced_of, announcement, announcing, change_client, client_core, client_holds, first_id, holding}
+use Rattle.lane_laws.specs.Vocabulary.{infos_of, is_announcing, length_in, one_in, opened_if, opened_session, range_count, range_sum}
 use Rattle.disk_model.specs.ClientRule.{Announces, ClientRule, Completes, Publishes, Puts, Says}
-use Rattle.disk_model.specs.ClientState.{ClientSession, ClientState, first_id, opened_session}
-use Rattle.disk_model.specs.ClientStep.{ClientAdmits, ClientCompletes, ClientPublishes}
-use Rattle.disk_model.specs.DiskEvent.{Accepted, Admitted, Full, Refused}
-use Rattle.disk_model.specs.LaneState.{Shape}
-use Rattle.channel_model.specs.Seeing.{Seen}
 use Rattle.lane_laws.proofs.ClientPutCounting.{counts_as, none_left, put_as, same_said, says_agrees}
 use Rattle.channel_laws.proofs.Apart.{false_is_true, none_is_some, some_same}
 use Rattle.channel_laws.proofs.PutSayings.{SaysWhole}
@@ -32,13 +19,8 @@ use Rattle.lane_laws.proofs.RangeSums.{count_more, sum_more}
 use Rattle.lane_laws.proofs.RangesSaid.{owed_no_range}
 use Rattle.lane_laws.proofs.RulesFree.{publishes_free}
 use Rattle.lane_laws.proofs.Ruling.{client_may}
-use Rattle.lane_laws.specs.Counted.{ClientCounted, acked_of, announced_of, infos_of, range_count, range_sum}
 use Rattle.lane_laws.specs.LaneRests.{ClientRests, ClientUtters}
-use Rattle.lane_laws.specs.RuleFacts.{ClientMay}
 use Rattle.channel_laws.specs.HandshakeFits.{MayOwe, OwedFits}
-use Rattle.lane_laws.specs.Sound.{ClientSound}
-use Rattle.lane_laws.specs.ChannelEnds.{client_core}
-use Rattle.channel_model.specs.EndPuts.{EndsHandshake, put_opens}
 
 -- A MESSAGE OF THE HANDSHAKE is put whole: by the agreement to RDX the session opens
 pub opens_phase : (role : Role) (phase : Phase) → opens_by_put role phase ≡ true → phase ≡ PeerReadyTaken

@@ -1,21 +1,12 @@
 -- A completion shows the content; and later writes that it may show were disturbed.
 use Rattle.std.proofs.Common.{◌≡◌, ℕ, ◌+◌, ◌*◌, ◌%◌, ◌≤◌, false, Some, None, List, ◌∷◌, drop, sym, ap, ◌∙◌, subst, arith}
 use Rattle.std.proofs.lemmas.Nat.{mod_below}
-use Rattle.runs.specs.Run.{Run}
-use Rattle.ldc_queue.specs.declared.end.End.TheVariants.{A}
-use Rattle.vdisk_msg.specs.declared.request.Request.{Request}
-use Rattle.vdisk_msg.specs.declared.request.Request.TheVariants.{Flush, Read, Write}
-use Rattle.vdisk_msg.specs.Requests.{defect, given_count}
+use Rattle.channel_laws.specs.Vocabulary.{A, Run, seen}
+use Rattle.lane_laws.specs.Vocabulary.{ClientMay, DiskEvent, Done, Flush, IsShape, LaneState, LaneStep, Read, Request, Shape, Works, Write, completed_slot, defect, fresh, given_count, place_of}
+use Rattle.lane_laws.specs.Vocabulary.{view_of}
 use Rattle.disk_model.specs.ClientRule as client_rules
-use Rattle.disk_model.specs.ClientStep.{completed_slot}
-use Rattle.disk_model.specs.DiskEvent.{DiskEvent, Done, Works}
-use Rattle.disk_model.specs.LaneState.{IsShape, LaneState, Shape, fresh}
-use Rattle.disk_model.specs.LaneStep.{LaneStep}
-use Rattle.channel_model.specs.Seeing.{seen}
 use Rattle.lane_laws.proofs.MemorySteps.{got_sound}
 use Rattle.lane_laws.proofs.Ruling.{client_may}
-use Rattle.lane_laws.specs.RuleFacts.{ClientMay}
-use Rattle.lane_laws.specs.LaneView.{place_of, view_of}
 use Rattle.lane_laws.specs.Near.{FrontShows, IsNear}
 use Rattle.lane_laws.specs.ReadsNear.{BlocksShow}
 use Rattle.lane_laws.proofs.BlockWrites.{admitted_blocks}

@@ -6,15 +6,10 @@ use Rattle.std.proofs.lemmas.Nat.{mod_below}
 use Rattle.std.proofs.lemmas.Option.{slice_get_within}
 use Rattle.vdisk_msg.proofs.Repeated.{length-repeated}
 use Rattle.vdisk_msg.proofs.Written.{is_admitted}
-use Rattle.vdisk_msg.specs.declared.request.Request.{Request}
-use Rattle.vdisk_msg.specs.declared.request.Request.TheVariants.{Flush, Read, Write}
-use Rattle.vdisk_msg.specs.Requested.{size_of}
-use Rattle.vdisk_msg.specs.Requests.{written}
+use Rattle.lane_laws.specs.Vocabulary.{ClientSession, Flush, Read, Request, View, Write, place_of, size_of, written}
 use Rattle.vio_bytes.proofs.Ranges.{range_at-put_at_same}
-use Rattle.disk_model.specs.ClientState.{ClientSession}
 use Rattle.lane_laws.proofs.MemorySteps.{got_sound}
 use Rattle.lane_laws.specs.Contents.{ContentsStand, HoldsWritten, WritesStand}
-use Rattle.lane_laws.specs.LaneView.{View, place_of}
 use Rattle.lane_laws.proofs.Buffers.{other_buffer, other_slot}
 use Rattle.lane_laws.proofs.Changes.{Accepts, Completes, Disturbs, Keeps, Opens, Placed, Publishes, Unchanged, filled}
 use Rattle.lane_laws.proofs.NearSteps.{get_within}

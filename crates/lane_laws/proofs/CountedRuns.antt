@@ -1,12 +1,8 @@
 -- Along every run the completions have the numbers 0, 1, 2 and so on.
 use Rattle.std.proofs.Common.{ℕ, List, [], ◌∷◌, subst}
-use Rattle.runs.specs.Lawful.{Lawful}
-use Rattle.runs.specs.Run.{Run}
-use Rattle.lane_laws.specs.DiskLog.{DiskLog, after, nothing_yet}
+use Rattle.channel_laws.specs.Vocabulary.{Lawful, Run}
+use Rattle.lane_laws.specs.Vocabulary.{Accepted, Asks, DiskEvent, DiskLog, Done, IsShape, LaneState, LaneStep, OnWire, Shape, Stopped, Switches, Works, after, fresh, nothing_yet}
 use Rattle.lane_laws.specs.RequestLaws.{OnceAt}
-use Rattle.disk_model.specs.DiskEvent.{Accepted, Asks, DiskEvent, Done, OnWire, Stopped, Switches, Works}
-use Rattle.disk_model.specs.LaneState.{IsShape, LaneState, Shape, fresh}
-use Rattle.disk_model.specs.LaneStep.{LaneStep}
 use Rattle.lane_laws.proofs.StandingRuns.{once_lawful}
 use Rattle.lane_laws.proofs.StandingSteps.{wired_keeps}
 use Rattle.lane_laws.specs.CompletedIds.{CountsFrom, done_ids, id_in, with_id}

@@ -1,11 +1,8 @@
 -- What the log counts of an open session, and what its slots are: those of its numbers modulo the ring.
 use Rattle.std.proofs.Common.{◌≡◌, ℕ, zero, suc, ◌^◌, ◌%◌, ◌≤◌, ◌⊎◌, Option, Some, None, refl, ap, ◌∙◌, subst, arith, inl, inr}
-use Rattle.lane_laws.specs.Agreement.{ClientAgrees, ClientCountsAgree, ServerAgrees, ServerCountsAgree, WorkAgrees}
-use Rattle.lane_laws.specs.WorkLog.{ClientCounts, ServerCounts}
-use Rattle.disk_model.specs.ClientState.{ClientSession}
+use Rattle.lane_laws.specs.Vocabulary.{ClientAgrees, ClientCounts, ClientCountsAgree, ClientSession, ServerAgrees, ServerCounts, ServerCountsAgree, ServerSession, Work, WorkAgrees}
 use Rattle.channel_model.specs.OwnMemory.{IsPowerOfTwo}
 use Rattle.channel_model.specs.Ranges.{wrapped}
-use Rattle.disk_model.specs.ServerState.{ServerSession, Work}
 use Rattle.channel_laws.proofs.Apart.{none_is_some, some_same}
 
 -- a client's session is open in the log too, with its counts

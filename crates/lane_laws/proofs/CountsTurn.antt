@@ -1,21 +1,13 @@
 -- On a lane that nobody forged the counts of two open sessions stand in their order.
 use Rattle.std.proofs.Common.{◌≡◌, false, Some, List, length, sym, ap, ◌∙◌, arith}
-use Rattle.runs.specs.Lawful.{log_of}
-use Rattle.runs.specs.Run.{Run}
-use Rattle.ldc_queue.specs.declared.end.ChannelState.TheVariants.{Up}
-use Rattle.disk_model.specs.DiskEvent.{DiskEvent}
+use Rattle.channel_laws.specs.Vocabulary.{Run, Up, WireLog, log_of}
+use Rattle.lane_laws.specs.Vocabulary.{ClientCounts, DiskEvent, DiskLog, IsShape, LaneState, LaneStep, OneRing, ServerCounts, Shape, after, fresh, nothing_yet}
 use Rattle.channel_laws.proofs.Apart.{some_same}
-use Rattle.lane_laws.specs.DiskLog.{DiskLog, after, nothing_yet}
-use Rattle.disk_model.specs.LaneState.{IsShape, LaneState, Shape, fresh}
-use Rattle.disk_model.specs.LaneStep.{LaneStep}
-use Rattle.channel_model.specs.WireLog.{WireLog}
-use Rattle.lane_laws.specs.WorkLog.{ClientCounts, ServerCounts}
 use Rattle.lane_laws.proofs.Agreeing.{always_agree, client_some, server_open}
 use Rattle.lane_laws.proofs.LaneCounting.{Knows, run_knows}
 use Rattle.lane_laws.proofs.SlotsAlong.{announced_in}
 use Rattle.lane_laws.proofs.SlotsStepping.{if_server, work_first}
 use Rattle.lane_laws.specs.CountsInTurn.{CountsInTurn}
-use Rattle.lane_laws.specs.RingAgreed.{OneRing}
 use Rattle.lane_laws.proofs.HeardFront.{both_up}
 
 pub counts_in_turn : (shape : Shape) (events : List DiskEvent) (s : LaneState) (k : ClientCounts) (d : ServerCounts) → IsShape shape

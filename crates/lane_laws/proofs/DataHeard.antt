@@ -2,16 +2,14 @@
 use Rattle.std.proofs.Common.{◌≡◌, ℕ, ◌^◌, ◌<◌, List, length, refl, sym, ap, ◌∙◌, subst, arith}
 use Rattle.std.specs.Prelude.{Result, Ok, Err}
 use Rattle.ldc_packet.specs.declared.packet.Subtype.{Subtype}
-use Rattle.vio_bytes.specs.Place.{number_at}
+use Rattle.channel_laws.specs.Vocabulary.{DringData, Message, SpellsMessage, canonical, envelope_at, number_at, sid_at, subtype_at}
 use Rattle.vio_tag.proofs.Canonical.{canonical_spells}
 use Rattle.vio_tag.proofs.NoFault.{spelled_no_fault}
 use Rattle.vio_tag.proofs.Same.{spelled_once}
-use Rattle.vio_tag.specs.declared.message.Message.{Message}
-use Rattle.vio_tag.specs.declared.message.MsgBody.TheVariants.{DringData}
 use Rattle.vio_tag.specs.declared.message.TagFault.{TagFault}
 use Rattle.vio_tag.specs.Decoding.{Decodes}
 use Rattle.vio_tag.specs.Form.{IsWellFormed}
-use Rattle.vio_tag.specs.Spelling.{SpellsMessage, canonical, envelope_at, sid_at, subtype_at, type_at}
+use Rattle.vio_tag.specs.Spelling.{type_at}
 use Rattle.channel_laws.proofs.Apart.{some_is_none}
 
 -- bytes that spell a message decode to it

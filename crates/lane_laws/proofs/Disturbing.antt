@@ -1,15 +1,9 @@
 -- Each event leaves the requests that were published in an earlier session below those that were disturbed.
 use Rattle.std.proofs.Common.{◌≡◌, ℕ, zero, suc, ◌+◌, ◌-◌, ◌≤◌, ◌⊎◌, false, List, [], ◌∷◌, length, inl, inr, refl, sym, ap, ◌∙◌, arith, length-append}
 use Rattle.std.specs.Prelude.{⊤}
-use Rattle.runs.specs.Lawful.{log_of, run_lawful}
-use Rattle.runs.specs.Run.{Run}
-use Rattle.ldc_queue.specs.declared.end.End.TheVariants.{A, B}
-use Rattle.channel_model.specs.WireEvent.{Joined, Reset, Sent, Took}
-use Rattle.channel_model.specs.WireLog.{WireLog}
-use Rattle.lane_laws.specs.DiskLog.{DiskLog, after, nothing_yet}
-use Rattle.disk_model.specs.DiskEvent.{Accepted, Asks, DiskEvent, Done, Finished, OnWire, Stopped, Stored, Switches, Works}
-use Rattle.disk_model.specs.LaneState.{IsShape, LaneState, NearCounts, Shape, fresh, near_disturbed}
-use Rattle.disk_model.specs.LaneStep.{LaneStep}
+use Rattle.channel_laws.specs.Vocabulary.{A, B, Joined, Reset, Run, Sent, Took, WireLog, log_of, run_lawful}
+use Rattle.lane_laws.specs.Vocabulary.{Accepted, Asks, DiskEvent, DiskLog, Done, Finished, IsShape, LaneState, LaneStep, NearCounts, OnWire, Shape, Stopped, Stored, Switches, Works, after, fresh}
+use Rattle.lane_laws.specs.Vocabulary.{near_disturbed, nothing_yet}
 use Rattle.lane_laws.proofs.RingRuns.{before as clean_before}
 use Rattle.lane_laws.specs.LaterDisturbed.{LaterDisturbed}
 use Rattle.lane_laws.proofs.LaneRuns.{AlongContents, at_step, contents_step, run_contents}

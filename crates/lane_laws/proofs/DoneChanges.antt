@@ -2,30 +2,18 @@
 use Rattle.std.proofs.Common.{◌≡◌, ℕ, ◌+◌, ◌-◌, ◌*◌, ◌%◌, ◌^◌, ◌<◌, ◌≤◌, Some, None, List, [], ◌∷◌, drop, length, refl, sym, ap, ◌∙◌, subst, arith}
 use Rattle.std.specs.Prelude.{slice_get}
 use Rattle.std.proofs.lemmas.Nat.{mod_below}
-use Rattle.ldc_queue.specs.declared.end.End.TheVariants.{A, B}
+use Rattle.channel_laws.specs.Vocabulary.{A, B, seen}
 use Rattle.vdisk_msg.proofs.Written.{is_admitted}
-use Rattle.vdisk_msg.specs.declared.request.Request.{Request}
+use Rattle.lane_laws.specs.Vocabulary.{ClientMay, ClientState, DiskLog, Done, Finished, HoldsIssued, LaneState, NearCounts, Published as PublishedEvent, Request, ServerMay, ServerState, WorkStep}
+use Rattle.lane_laws.specs.Vocabulary.{Works, completed_slot, pages_of, reach, ring_in, risen, view_of, with_done, work_while}
 use Rattle.channel_laws.proofs.Apart.{some_same}
-use Rattle.lane_laws.specs.DiskLog.{DiskLog}
 use Rattle.disk_model.specs.ClientRule as client_rules
-use Rattle.disk_model.specs.ClientState.{ClientState}
-use Rattle.disk_model.specs.ClientStep.{completed_slot}
-use Rattle.disk_model.specs.DiskEvent.{Done, Finished, Published as PublishedEvent, Works}
-use Rattle.disk_model.specs.LaneState.{LaneState, NearCounts, pages_of, risen}
-use Rattle.disk_model.specs.LaneStep.{WorkStep, reach}
-use Rattle.channel_model.specs.Seeing.{seen}
 use Rattle.disk_model.specs.ServerRule as server_rules
-use Rattle.disk_model.specs.ServerState.{ServerState}
-use Rattle.disk_model.specs.ServerWork.{with_done}
 use Rattle.lane_laws.proofs.MemorySteps.{got_sound}
 use Rattle.lane_laws.proofs.RingEnds.{work_below}
 use Rattle.lane_laws.proofs.RingWork.{at_work, numbered}
 use Rattle.lane_laws.proofs.StandingRuns.{slots_is as slots_are}
 use Rattle.lane_laws.proofs.Ruling.{client_may, server_may}
-use Rattle.lane_laws.specs.RingAgreed.{ring_in}
-use Rattle.lane_laws.specs.RingSlots.{HoldsIssued}
-use Rattle.lane_laws.specs.RuleFacts.{ClientMay, ServerMay}
-use Rattle.lane_laws.specs.LaneView.{view_of, work_while}
 use Rattle.lane_laws.proofs.BehindRing.{ended_behind, freed_behind, published_behind, ring_end}
 use Rattle.lane_laws.proofs.Changes.{Completed, Ended, Published, filled}
 use Rattle.lane_laws.proofs.PlacedViews.{placed}

@@ -1,24 +1,12 @@
 -- Each step of a lane is a move of its client and a move of its server, as ends on a channel.
 use Rattle.std.proofs.Common.{◌≡◌, ℕ, Bool, List, refl, sym, subst}
-use Rattle.ldc_link.specs.declared.phase.Role.TheVariants.{Initiator, Responder}
-use Rattle.ldc_queue.specs.declared.end.End.{End}
-use Rattle.ldc_queue.specs.declared.end.End.TheVariants.{A, B}
-use Rattle.channel_model.specs.TranscriptLog.{TranscriptLog}
-use Rattle.channel_model.specs.WireEvent.{Blocked, Giver, Idle, Joined, Reset, Sent, Took, giver}
-use Rattle.disk_model.specs.DiskEvent.{Desc, DiskEvent, Done, Finished, Moved, OnWire, Published, Stopped, Stored, Switches, Works}
-use Rattle.lane_laws.specs.DiskLog.{after_transcript}
-use Rattle.disk_model.specs.LaneState.{LaneState}
-use Rattle.disk_model.specs.LaneStep.{LaneStep}
-use Rattle.channel_laws.specs.EndStep.{EndHears, EndStep}
-use Rattle.channel_laws.specs.LaneCore.{at_end, move_of, reset_move, transcript_after}
+use Rattle.channel_laws.specs.Vocabulary.{A, B, Begins, Blocked, End, EndHears, EndMove, EndStep, Giver, Hears, Idle, Initiator, Joined, Reset, Responder, Says, Sent, Stays, Took, TranscriptLog}
+use Rattle.channel_laws.specs.Vocabulary.{Waits, at_end, giver, move_of, reset_move, transcript_after}
+use Rattle.lane_laws.specs.Vocabulary.{ClientSound, ClientStep, Desc, DiskEvent, Done, Finished, LaneState, LaneStep, Moved, OnWire, Published, ServerStep, Stopped, Stored, Switches, Works}
+use Rattle.lane_laws.specs.Vocabulary.{after_transcript, client_core, core_event, server_core}
 use Rattle.lane_laws.proofs.ClientMoves.{client_asked, client_begins, client_completed, client_fails, client_hears, client_published, client_same, client_says, client_waits}
 use Rattle.lane_laws.proofs.ServerMoves.{server_begins, server_fails, server_fetched, server_finished, server_hears, server_moved, server_renews, server_same, server_says, server_stored, server_waits}
-use Rattle.lane_laws.specs.ChannelEnds.{client_core, core_event, server_core}
-use Rattle.lane_laws.specs.Sound.{ClientSound}
 use Rattle.lane_laws.proofs.LaneViews.{Beside, ClientActs, ClientAsked, ClientCalled, ClientStays, ClientView, IsApart, IsOwnStep, ServerActs, ServerCalled, ServerRenewed, ServerStays, ServerStopped, ServerView, at_client, at_server, lane_view, reach_of}
-use Rattle.channel_laws.specs.EndCore.{Begins, EndMove, Hears, Says, Stays, Waits}
-use Rattle.disk_model.specs.ClientStep.{ClientStep}
-use Rattle.disk_model.specs.ServerStep.{ServerStep}
 
 -- what always holds of its client, before the event and after it
 pub record Sound (s t : LaneState) : Type 0 where

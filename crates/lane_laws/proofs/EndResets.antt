@@ -4,27 +4,18 @@ use Rattle.std.specs.Prelude.{Ok, ⊤}
 use Rattle.dring.specs.declared.peer.RingFault.{RingFault}
 use Rattle.dring.specs.declared.peer.RingFault.TheVariants as refused
 use Rattle.ldc_link.specs.Following.{Follows}
-use Rattle.ldc_link.specs.LinkState.{cleared, LinkState}
-use Rattle.ldc_link.specs.Taking.{Heard, LinkTake, TakesBytes, Unheard}
+use Rattle.channel_laws.specs.Vocabulary.{Cause, GapOf, LinkState, LinkTake, Message, TakesBytes, Turn, Unheard, cleared}
+use Rattle.ldc_link.specs.Taking.{Heard}
 use Rattle.ldc_packet.specs.Fault.{first_fault}
-use Rattle.ldc_queue.specs.Transcript.{Turn}
-use Rattle.vio_tag.specs.declared.cause.Cause.{Cause}
 use Rattle.vio_tag.specs.declared.cause.Cause.TheVariants as the_cause
-use Rattle.vio_tag.specs.declared.message.Message.{Message}
 use Rattle.vio_tag.specs.Decoding.{Decodes}
 use Rattle.vio_tag.proofs.NoFault.{spelled_no_fault}
 use Rattle.channel_model.specs.ResetSays.{ResetSays}
-use Rattle.channel_model.specs.WireAt.{GapOf}
 use Rattle.disk_model.specs.ClientRule as client_rule
-use Rattle.disk_model.specs.ClientState.{ClientState}
-use Rattle.disk_model.specs.ClientStep.{ClientFails}
+use Rattle.lane_laws.specs.Vocabulary.{ClientFails, ClientState, EndFails, Ends, FetchFails, Progress, Reach, ServerFails, ServerSession, ServerState, Work, WorkFails, cause_of, slot_at}
 use Rattle.disk_model.specs.ClientTaking as client
 use Rattle.disk_model.specs.ServerRule as server_rule
-use Rattle.disk_model.specs.ServerState.{Ends, Progress, ServerSession, ServerState, Work}
-use Rattle.disk_model.specs.ServerStep.{ServerFails, WorkFails}
 use Rattle.disk_model.specs.ServerTaking as server
-use Rattle.cookie_copy.specs.Reach.{Reach}
-use Rattle.disk_model.specs.ServerWork.{EndFails, FetchFails, cause_of, slot_at}
 use Rattle.channel_laws.proofs.Numbering.{heard_so}
 use Rattle.lane_laws.proofs.ClientAnswers as client_answers
 use Rattle.lane_laws.proofs.MessageResets.{client_says_why, server_says_why}

@@ -1,37 +1,20 @@
 -- Along every run both ends are as the lane's log counts them.
 use Rattle.std.proofs.Common.{◌≡◌, ℕ, ◌+◌, ◌≤◌, Bool, true, false, Option, Some, None, List, [], ◌∷◌, ◌++◌, drop, length, refl, sym, ap, ◌∙◌, subst, arith}
 use Rattle.std.specs.Prelude.{◌%◌, is_none, is_some, not, ◌&&◌, ◌||◌, ⊤}
-use Rattle.runs.specs.Lawful.{log_of, run_lawful}
-use Rattle.runs.specs.Run.{Run}
-use Rattle.ldc_link.specs.declared.phase.Role.TheVariants.{Initiator, Responder}
-use Rattle.ldc_link.specs.LinkState.{LinkState, is_up}
-use Rattle.ldc_link.specs.Putting.{owes, owes_control}
-use Rattle.ldc_queue.specs.declared.end.End.TheVariants.{A, B}
+use Rattle.channel_laws.specs.Vocabulary.{A, B, Blocked, Heard as Heard_, Idle, Initiator, Joined, LinkState, Message, Reset, Responder, Run, Said, Sent, Took, Turn, canonical, half_said, heard}
+use Rattle.channel_laws.specs.Vocabulary.{is_up, log_of, owes, owes_control, run_lawful, wrapped}
 use Rattle.ldc_queue.specs.Messages.{is_empty}
-use Rattle.ldc_queue.specs.Transcript.{Heard as Heard_, Said, Turn}
-use Rattle.vio_tag.specs.declared.message.Message.{Message}
-use Rattle.vio_tag.specs.Spelling.{canonical}
 use Rattle.lane_laws.proofs.ServerSpeaking.{server_holds_link}
-use Rattle.lane_laws.specs.Agreement.{ClientEndAgrees, RangeAgrees, ServerEndAgrees}
+use Rattle.lane_laws.specs.Vocabulary.{ClientEndAgrees, ClientSession, ClientState, ClientStep, Desc, DiskEvent, DiskLog, Done, Finished, HoldsAnswer, IsShape, LaneState, LaneStep, Moved, OnWire}
+use Rattle.lane_laws.specs.Vocabulary.{Published, RangeAgrees, ServerCounts, ServerEndAgrees, ServerOrder, ServerSends, ServerSession, ServerState, ServerStep, Shape, SlotRange, Stored, Works}
+use Rattle.lane_laws.specs.Vocabulary.{after, announcement, client_core, client_kind, fresh, is_announcing, nothing_yet, range_count, server_core}
 use Rattle.lane_laws.specs.BlockLog.{Blockage, Clear, is_stuck}
-use Rattle.disk_model.specs.ClientPutting.{announcement, client_kind, is_announcing}
 use Rattle.disk_model.specs.ClientRule as client_rules
-use Rattle.disk_model.specs.ClientState.{ClientSession, ClientState}
-use Rattle.disk_model.specs.DiskEvent.{Desc, DiskEvent, Done, Finished, Moved, OnWire, Published, Stored, Works}
-use Rattle.lane_laws.specs.DiskLog.{DiskLog, after, nothing_yet}
 use Rattle.lane_laws.specs.EndLog.{announced_or_owed, answer_left, client_left, has_begun, infos_heard, left_if, left_of, owed_left, range_in_work, range_left, server_left}
-use Rattle.disk_model.specs.LaneState.{IsShape, LaneState, Shape, fresh}
-use Rattle.disk_model.specs.LaneStep.{LaneStep}
 use Rattle.disk_model.specs.Offering.{client_offer, server_offer}
-use Rattle.channel_model.specs.Ranges.{wrapped}
-use Rattle.channel_model.specs.Sayings.{half_said, heard}
 use Rattle.disk_model.specs.ServerPutting.{server_holds, server_kind}
 use Rattle.disk_model.specs.ServerRule as server_rules
 use Rattle.disk_model.specs.ServerRule.{answer}
-use Rattle.disk_model.specs.ServerState.{ServerSession, ServerState, SlotRange}
-use Rattle.disk_model.specs.ServerStep.{ServerSends, ServerStep}
-use Rattle.channel_model.specs.WireEvent.{Blocked, Idle, Joined, Reset, Sent, Took}
-use Rattle.lane_laws.specs.WorkLog.{ServerCounts}
 use Rattle.lane_laws.proofs.ClientFolds.{ClientIs, client_admits_so, client_begins, client_blocks_so, client_completes_so, client_publishes_so, client_puts_so, client_takes_so, sends_some}
 use Rattle.channel_laws.proofs.MessagesHeld.{owed_held}
 use Rattle.lane_laws.proofs.Speaking.{client_blocked_rests, client_blocked_utters, server_blocked_rests, server_blocked_utters, server_holds_owed}
@@ -40,7 +23,6 @@ use Rattle.channel_laws.proofs.Apart.{false_is_true, none_is_some, some_is_none}
 use Rattle.channel_laws.proofs.PutSayings.{put_says}
 use Rattle.channel_laws.proofs.EndStanding.{hears_sending, open_up}
 use Rattle.lane_laws.proofs.LaneViews.{ClientSide, ServerSide, at_client, at_server, client_keeps, reach_of, server_keeps}
-use Rattle.disk_model.specs.ClientStep.{ClientStep}
 use Rattle.lane_laws.proofs.LaneCounting.{Knows, knows_step, run_knows}
 use Rattle.lane_laws.proofs.ClientMoves.{client_sending}
 use Rattle.lane_laws.proofs.ServerMoves.{server_hears}
@@ -53,8 +35,6 @@ use Rattle.lane_laws.proofs.ServerFolds.{ServerIs, ranged, server_begins, server
 use Rattle.lane_laws.proofs.ServerPutCounting.{server_holds_counting}
 use Rattle.lane_laws.proofs.ServerTaken.{server_took_what}
 use Rattle.channel_laws.specs.Cuts.{CarriesOwed, Cuts}
-use Rattle.lane_laws.specs.Counted.{HoldsAnswer, ServerOrder, range_count}
-use Rattle.lane_laws.specs.ChannelEnds.{client_core, server_core}
 use Rattle.channel_laws.proofs.EndFolding.{FoldsSo}
 use Rattle.channel_laws.specs.EndFold.{handshake_of}
 

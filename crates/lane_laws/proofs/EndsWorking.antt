@@ -1,18 +1,9 @@
 -- Along every run each end works only where it is up.
 use Rattle.std.proofs.Common.{List, subst}
-use Rattle.runs.specs.Lawful.{Lawful}
-use Rattle.runs.specs.Run.{Run}
-use Rattle.ldc_queue.specs.declared.end.End.{End}
-use Rattle.ldc_queue.specs.declared.end.End.TheVariants.{A, B}
+use Rattle.channel_laws.specs.Vocabulary.{A, B, End, IsUp, Lawful, Run, WireLog}
 use Rattle.disk_model.specs.ClientRule as client_rules
-use Rattle.disk_model.specs.DiskEvent.{Desc, DiskEvent, Done, Misplaced, Published, Works}
-use Rattle.lane_laws.specs.DiskLog.{DiskLog, after, nothing_yet}
-use Rattle.disk_model.specs.LaneState.{IsShape, LaneState, Shape, fresh}
-use Rattle.disk_model.specs.LaneStep.{LaneStep}
+use Rattle.lane_laws.specs.Vocabulary.{Desc, DiskEvent, DiskLog, Done, IsShape, LaneState, LaneStep, Misplaced, Published, Shape, Works, WorksAt, after, fresh, nothing_yet}
 use Rattle.disk_model.specs.ServerRule as server_rules
-use Rattle.channel_model.specs.WireAt.{IsUp}
-use Rattle.channel_model.specs.WireLog.{WireLog}
-use Rattle.lane_laws.specs.WorkLaws.{WorksAt}
 use Rattle.lane_laws.proofs.WorkNumbers.{Grounded}
 use Rattle.lane_laws.proofs.WorkRuns.{grounded_lawful}
 use Rattle.lane_laws.proofs.TableRuns.{client_known, server_known}

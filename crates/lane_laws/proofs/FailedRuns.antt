@@ -1,12 +1,8 @@
 -- Whether a call of the store failed: a lane has it by each event as its log has it, and so along every run.
 use Rattle.std.proofs.Common.{◌≡◌, ℕ, Bool, true, false, List, refl, sym, ap, ◌∙◌}
 use Rattle.std.specs.Prelude.{◌||◌, ⊤}
-use Rattle.runs.specs.Lawful.{log_of, run_lawful}
-use Rattle.runs.specs.Run.{Run}
-use Rattle.disk_model.specs.DiskEvent.{DiskEvent, Stored, Works}
-use Rattle.disk_model.specs.LaneState.{LaneState, Shape, fresh}
-use Rattle.disk_model.specs.LaneStep.{LaneStep, ServerWorks}
-use Rattle.lane_laws.specs.DiskLog.{DiskLog, after, after_failed, nothing_yet}
+use Rattle.channel_laws.specs.Vocabulary.{Run, log_of, run_lawful}
+use Rattle.lane_laws.specs.Vocabulary.{DiskEvent, DiskLog, LaneState, LaneStep, ServerWorks, Shape, Stored, Works, after, after_failed, fresh, nothing_yet}
 use Rattle.lane_laws.proofs.LaneViews.{lane_view}
 
 -- ONE EVENT

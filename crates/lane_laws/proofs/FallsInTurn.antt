@@ -1,36 +1,19 @@
 -- A packet that an end takes lowers what remains, after every run of a lane that nobody forged.
 use Rattle.std.proofs.Common.{◌≡◌, ℕ, ◌+◌, ◌-◌, ◌%◌, ◌^◌, ◌<◌, ◌≤◌, inl, inr, Bool, false, Option, Some, List, [], ◌∷◌, ◌++◌, length, map, refl, sym, ap, ◌∙◌, subst, arith}
 use Rattle.std.proofs.lemmas.Nat.{mod_below}
-use Rattle.runs.specs.Lawful.{log_append, log_of}
-use Rattle.runs.specs.Run.{Run, run_push}
-use Rattle.ldc_queue.specs.declared.end.ChannelState.{ChannelState}
-use Rattle.ldc_queue.specs.declared.end.ChannelState.TheVariants.{Up}
-use Rattle.ldc_queue.specs.declared.end.End.{End}
-use Rattle.ldc_queue.specs.declared.end.End.TheVariants.{A, B}
-use Rattle.ldc_queue.specs.Transcript.{Heard as Heard_, Turn}
-use Rattle.channel_model.specs.Ranges.{wrapped}
-use Rattle.dring.specs.Slots.{range_length}
-use Rattle.channel_model.specs.Sayings.{heard}
-use Rattle.channel_model.specs.Seeing.{seen}
-use Rattle.channel_model.specs.WireAt.{IsUp}
-use Rattle.channel_model.specs.WireEvent.{Injected, Joined, Poked, Sent, Took}
-use Rattle.disk_model.specs.ClientState.{ClientState}
+use Rattle.channel_laws.specs.Vocabulary.{A, B, ChannelState, End, Heard as Heard_, Injected, IsUp, Joined, Poked, Run, Sent, Took, Turn, Up, WireLog, end_of, heard, log_append, log_of, run_push}
+use Rattle.channel_laws.specs.Vocabulary.{seen, wrapped}
+use Rattle.lane_laws.specs.Vocabulary.{ClientState, DiskEvent, DiskLog, IsShape, LaneState, LaneStep, OnWire, ServerMay, ServerSession, ServerState, Shape, Stopped, Switches, Works, after}
+use Rattle.lane_laws.specs.Vocabulary.{after_wire, asked_in, core_event, core_of, fresh, nothing_yet, range_length, range_sum, remaining, total}
 use Rattle.disk_model.specs.ClientTaking.{acknowledged}
-use Rattle.disk_model.specs.DiskEvent.{DiskEvent, OnWire, Stopped, Switches, Works}
-use Rattle.disk_model.specs.LaneState.{IsShape, LaneState, Shape, fresh}
-use Rattle.disk_model.specs.LaneStep.{LaneStep}
 use Rattle.disk_model.specs.ServerRule as server_rules
-use Rattle.disk_model.specs.ServerState.{ServerSession, ServerState}
 use Rattle.channel_laws.proofs.PacketsTaken.{unforged_took}
-use Rattle.channel_laws.specs.LaneCore.{end_of}
 use Rattle.channel_laws.specs.PacketsLeft.{packets_left}
 use Rattle.lane_laws.proofs.Agreeing.{AskedWithin, asked_within}
 use Rattle.lane_laws.proofs.ClientTaken.{ClientTook, client_took_what}
 use Rattle.lane_laws.proofs.LaneChannel.{answers_of, asks_of, lane_matches}
 use Rattle.lane_laws.proofs.LaneCores.{lane_cores, lane_fits, lane_steps}
 use Rattle.lane_laws.proofs.LaneViews.{lane_view}
-use Rattle.lane_laws.specs.DiskLog.{DiskLog, after, after_wire, nothing_yet}
-use Rattle.channel_model.specs.WireLog.{WireLog}
 use Rattle.lane_laws.proofs.LaneCounting.{Knows, run_knows}
 use Rattle.lane_laws.proofs.OfferedRing.{four_cookies}
 use Rattle.lane_laws.proofs.RangeSums.{sum_front}
@@ -43,11 +26,7 @@ use Rattle.lane_laws.proofs.RuleTests.{TakesFree}
 use Rattle.lane_laws.proofs.Ruling.{server_may}
 use Rattle.lane_laws.proofs.ServerCounting.{no_work, opens_new}
 use Rattle.lane_laws.proofs.ServerTaken.{ServerAsked, ServerTook, server_took_what}
-use Rattle.lane_laws.specs.ChannelEnds.{core_event, core_of}
-use Rattle.lane_laws.specs.Counted.{range_sum}
-use Rattle.lane_laws.specs.Remaining.{asked_in, remaining, total}
 use Rattle.lane_laws.specs.RemainingSteps.{AllDo, DoesSomething, ServerTurn, total_at}
-use Rattle.lane_laws.specs.RuleFacts.{ServerMay}
 
 -- WHAT ITS END HAS STILL TO PUT doesn't grow
 took_packets : (shape : Shape) (events : List DiskEvent) (s : LaneState) (e : End) (packet : List ℕ) (opens : Bool) (t : LaneState) → IsShape shape → Run LaneStep (fresh shape) events s → s.wire.forged ≡ false

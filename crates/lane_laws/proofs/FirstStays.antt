@@ -1,23 +1,14 @@
 -- A server's region begins at its disk's first block, along every run.
 use Rattle.std.proofs.Common.{◌≡◌, ℕ, Bool, Some, List, [], inl, inr, refl, ap, ◌∙◌}
 use Rattle.std.specs.Prelude.{⊤}
-use Rattle.runs.specs.Lawful.{log_of, run_lawful}
-use Rattle.runs.specs.Run.{Run}
-use Rattle.ldc_queue.specs.declared.end.End.TheVariants.{B}
-use Rattle.ldc_queue.specs.Transcript.{Turn}
-use Rattle.channel_model.specs.WireEvent.{Blocked, Idle, Joined, Reset, Sent, Took}
+use Rattle.channel_laws.specs.Vocabulary.{B, Blocked, Idle, Joined, Reset, Run, Sent, Took, Turn, log_of, run_lawful}
 use Rattle.lane_laws.proofs.ServerSpeaking.{server_holds_link}
-use Rattle.lane_laws.specs.DiskLog.{DiskLog, after, nothing_yet}
-use Rattle.disk_model.specs.DiskEvent.{Desc, DiskEvent, Finished, Moved, OnWire, Stored, Works}
-use Rattle.disk_model.specs.LaneState.{IsShape, LaneState, Shape, fresh}
-use Rattle.disk_model.specs.LaneStep.{LaneStep}
+use Rattle.lane_laws.specs.Vocabulary.{Desc, DiskEvent, DiskLog, Finished, IsShape, LaneState, LaneStep, Moved, OnWire, ServerState, ServerStep, Shape, Stored, Works, after, fresh, nothing_yet}
 use Rattle.disk_model.specs.ServerPutting.{server_holds}
 use Rattle.disk_model.specs.ServerRule as server
-use Rattle.disk_model.specs.ServerState.{ServerState}
 use Rattle.lane_laws.proofs.Agreeing.{always_agree}
 use Rattle.lane_laws.proofs.LaneCounting.{Knows, run_knows}
 use Rattle.lane_laws.proofs.LaneViews.{ServerSide, at_server, reach_of, server_keeps}
-use Rattle.disk_model.specs.ServerStep.{ServerStep}
 use Rattle.lane_laws.proofs.RingAlong.{Along, along_run, along_step}
 use Rattle.lane_laws.proofs.ServerTaken.{ServerTook, server_took_what}
 -- the log keeps its disk

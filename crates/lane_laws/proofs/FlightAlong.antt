@@ -1,21 +1,11 @@
 -- Along every run of a lane that nobody forged few packets wait and are still to be put, against those that were answered.
 use Rattle.std.proofs.Common.{◌≡◌, ℕ, true, false, Option, List, [], ◌∷◌, ◌++◌, drop, length, refl, sym, ap, ◌∙◌, subst, arith}
 use Rattle.std.specs.Prelude.{⊤}
-use Rattle.runs.specs.Lawful.{log_append, run_lawful}
-use Rattle.runs.specs.Run.{Run, run_push}
-use Rattle.ldc_queue.specs.declared.end.End.{End}
-use Rattle.ldc_queue.specs.declared.end.End.TheVariants.{A, B}
-use Rattle.ldc_queue.specs.Transcript.{Turn}
-use Rattle.vio_tag.specs.declared.cause.Cause.{Cause}
-use Rattle.channel_model.specs.Sayings.{heard}
-use Rattle.channel_model.specs.WireEvent.{Blocked, ByRestart, ByScript, ByStep, ByTick, Declines, Giver, Idle, Injected, Joined, Lost, Poked, Reset, Sent, Took, WireEvent, giver}
-use Rattle.channel_model.specs.WireLog.{WireLog, server_closed, wire_moved}
-use Rattle.lane_laws.specs.DiskLog.{DiskLog, after, nothing_yet}
-use Rattle.disk_model.specs.ClientState.{joined_client}
-use Rattle.disk_model.specs.DiskEvent.{Asks, Desc, DiskEvent, Done, Finished, Misplaced, Moved, Off, OnWire, Published, Calms, Started, Stopped, Stored, Switched, Switches, Worked, Works}
-use Rattle.disk_model.specs.LaneState.{IsShape, LaneState, Shape, fresh}
-use Rattle.disk_model.specs.LaneStep.{CallsReset, LaneStep, ResetBy, TurnStep, WireStep, WorkStep}
-use Rattle.disk_model.specs.ServerState.{ServerState, joined_server, restarted_server}
+use Rattle.channel_laws.specs.Vocabulary.{A, B, Blocked, ByRestart, ByScript, ByStep, ByTick, Cause, Declines, End, Giver, Idle, Injected, Joined, Lost, Poked, Reset, Run, Sent, Took, Turn}
+use Rattle.channel_laws.specs.Vocabulary.{WireEvent, WireLog, giver, heard, log_append, run_lawful, run_push, server_closed, wire_moved}
+use Rattle.lane_laws.specs.Vocabulary.{Asks, CallsReset, Calms, ClientSound, Desc, DiskEvent, DiskLog, Done, Finished, IsShape, LaneState, LaneStep, Misplaced, Moved, Off, OnWire, Published}
+use Rattle.lane_laws.specs.Vocabulary.{ResetBy, ServerState, Shape, Started, Stopped, Stored, Switched, Switches, TurnStep, WireStep, WorkStep, Worked, Works, after, client_packets, fresh}
+use Rattle.lane_laws.specs.Vocabulary.{joined_client, joined_server, nothing_yet, range_count, restarted_server, server_packets}
 use Rattle.lane_laws.proofs.FlightClient.{client_admits_flies, falls_fly}
 use Rattle.lane_laws.proofs.FlightRuns.{InFlight, StepKnown, began, client_anew, client_on, client_wire, end_wire, flight_is, knows_at, log_at, server_anew, server_on, server_wire}
 use Rattle.lane_laws.proofs.LaneViews.{at_client, at_server, calm_same}
@@ -26,9 +16,6 @@ use Rattle.lane_laws.proofs.RemainingClientPuts.{completes_falls, publishes_fall
 use Rattle.lane_laws.proofs.RingRuns.{before}
 use Rattle.lane_laws.proofs.RemainingTakes.{first_gone}
 use Rattle.lane_laws.specs.Budget.{infos_begun}
-use Rattle.lane_laws.specs.Counted.{range_count}
-use Rattle.lane_laws.specs.Remaining.{client_packets, server_packets}
-use Rattle.lane_laws.specs.Sound.{ClientSound}
 use Rattle.channel_laws.proofs.Apart.{true_is_false}
 
 -- RESETS that no step gave

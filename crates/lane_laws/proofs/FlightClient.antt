@@ -1,11 +1,8 @@
 -- What a client has still to put, against the INFO that it began: each packet that it puts lowers the one or is the other.
 use Rattle.std.proofs.Common.{◌≡◌, ℕ, ◌+◌, ◌≤◌, sym, subst, arith}
-use Rattle.disk_model.specs.ClientState.{ClientState}
-use Rattle.disk_model.specs.ClientStep.{ClientAdmits}
-use Rattle.disk_model.specs.DiskEvent.{Accepted, Admitted, Full, Refused}
+use Rattle.lane_laws.specs.Vocabulary.{Accepted, Admitted, ClientAdmits, ClientState, Full, Refused, client_packets}
 use Rattle.lane_laws.proofs.RemainingClientPuts.{ClientFalls}
 use Rattle.lane_laws.specs.Budget.{infos_begun}
-use Rattle.lane_laws.specs.Remaining.{client_packets}
 
 -- the client put so many packets: as many fewer are left to put, or as many more INFO were begun
 abbrev pub ClientFlies : ℕ → ClientState → ClientState → Type 0

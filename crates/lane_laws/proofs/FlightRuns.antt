@@ -1,25 +1,11 @@
 -- A step of an end on the wire of a lane that nobody forged leaves few packets that wait and are still to be put, against those that were answered.
 use Rattle.std.proofs.Common.{◌≡◌, ℕ, ◌+◌, ◌≤◌, Bool, false, Option, Some, None, List, [], ◌∷◌, ◌++◌, drop, length, sym, ap, ◌∙◌, subst, arith}
-use Rattle.runs.specs.Lawful.{log_of}
-use Rattle.runs.specs.Run.{Run}
-use Rattle.ldc_link.specs.declared.phase.Role.TheVariants.{Initiator, Responder}
-use Rattle.ldc_queue.specs.declared.end.End.{End}
-use Rattle.ldc_queue.specs.declared.end.End.TheVariants.{A, B}
-use Rattle.ldc_queue.specs.Transcript.{Heard as Heard_, Said as Said_, Turn}
-use Rattle.channel_model.specs.Sayings.{half_heard, heard}
-use Rattle.channel_model.specs.WireEvent.{Blocked, Idle, Joined, Reset, Sent, Took, WireEvent}
-use Rattle.channel_model.specs.WireLog.{WireLog, wire_moved}
-use Rattle.lane_laws.specs.DiskLog.{DiskLog, after, nothing_yet}
-use Rattle.channel_model.specs.Messages.{range_ended}
-use Rattle.lane_laws.specs.WorkLog.{one_in}
+use Rattle.channel_laws.specs.Vocabulary.{A, B, Blocked, End, EndStands, Heard as Heard_, Idle, Initiator, Joined, Reset, Responder, Run, Said as Said_, Sent, Took, Turn, WireEvent, WireLog}
+use Rattle.channel_laws.specs.Vocabulary.{half_heard, heard, log_of, range_ended, wire_moved}
+use Rattle.lane_laws.specs.Vocabulary.{ClientMay, ClientState, DiskEvent, DiskLog, EndOnWire, IsShape, LaneState, LaneStep, OnWire, ServerMay, ServerState, Shape, after, client_core}
+use Rattle.lane_laws.specs.Vocabulary.{client_packets, fresh, joined_client, joined_server, nothing_yet, one_in, range_count, server_core, server_packets}
 use Rattle.disk_model.specs.ClientRule as client_rules
-use Rattle.disk_model.specs.ClientState.{ClientState, joined_client}
-use Rattle.disk_model.specs.DiskEvent.{DiskEvent, OnWire}
-use Rattle.disk_model.specs.LaneState.{IsShape, LaneState, Shape, fresh}
-use Rattle.disk_model.specs.LaneStep.{EndOnWire, LaneStep}
 use Rattle.disk_model.specs.ServerRule as server_rules
-use Rattle.disk_model.specs.ServerState.{ServerState, joined_server}
-use Rattle.channel_laws.specs.Standing.{EndStands}
 use Rattle.lane_laws.proofs.ClientHolding.{holds_up}
 use Rattle.lane_laws.proofs.FallsInTurn.{client_takes, server_takes}
 use Rattle.lane_laws.proofs.FlightClient.{ClientFlies, falls_fly}
@@ -37,11 +23,7 @@ use Rattle.lane_laws.proofs.ServerSpeaking.{server_holds_up}
 use Rattle.lane_laws.proofs.ServerTaken.{server_took_what}
 use Rattle.lane_laws.proofs.RemainingTakes.{first_gone}
 use Rattle.lane_laws.specs.Budget.{infos_begun}
-use Rattle.lane_laws.specs.ChannelEnds.{client_core, server_core}
-use Rattle.lane_laws.specs.Counted.{range_count}
-use Rattle.lane_laws.specs.Remaining.{client_packets, server_packets}
 use Rattle.lane_laws.specs.RemainingSteps.{ServerTurn, total_at}
-use Rattle.lane_laws.specs.RuleFacts.{ClientMay, ServerMay}
 use Rattle.lane_laws.proofs.LaneViews.{at_client, at_server}
 
 -- a lane and what its client said and heard

@@ -3,26 +3,19 @@
 use Rattle.std.proofs.Common.{◌≡◌, ℕ, ◌+◌, ◌≤◌, inl, inr, Bool, Option, Some, None, List, refl, sym, ap, subst, arith}
 use Rattle.std.specs.Prelude.{◌&&◌, is_none, ⊤}
 use Rattle.cookie_copy.specs.declared.fault.CopyFault.{CopyFault}
-use Rattle.ldc_queue.specs.Transcript.{Turn}
-use Rattle.channel_laws.specs.EndCore.{holds}
+use Rattle.channel_laws.specs.Vocabulary.{Seen, Turn, holds}
 use Rattle.channel_laws.specs.PacketsLeft.{packets_left}
 use Rattle.vdisk_msg.specs.Descriptor as slot_says
 use Rattle.vdisk_msg.specs.Pieces.{unit_count}
-use Rattle.channel_model.specs.Seeing.{Seen}
 use Rattle.disk_model.specs.ServerRule.{Fetches, Serves}
-use Rattle.disk_model.specs.ServerState.{Progress, ServerSession, ServerState, Work}
-use Rattle.disk_model.specs.ServerStep.{ServerFetches, ServerFinishes, ServerMoves, ServerStores}
-use Rattle.cookie_copy.specs.Reach.{Reach}
-use Rattle.disk_model.specs.ServerWork.{desc_of}
+use Rattle.lane_laws.specs.Vocabulary.{Progress, Reach, ServerFetches, ServerFinishes, ServerMay, ServerMoves, ServerSession, ServerState, ServerStores, Work, answers_to_begin, desc_of}
+use Rattle.lane_laws.specs.Vocabulary.{pieces_left, server_core, server_packets}
 use Rattle.lane_laws.proofs.RemainingServerPuts.{ServerFalls}
 use Rattle.lane_laws.proofs.RemainingServerSteps.{Less, few_pieces, moves_less, stores_less}
 use Rattle.lane_laws.proofs.Ruling.{server_may}
 use Rattle.lane_laws.proofs.ServerTaken.{ServerTook}
 use Rattle.lane_laws.specs.Budget.{range_left}
-use Rattle.lane_laws.specs.ChannelEnds.{answers_to_begin, server_core}
-use Rattle.lane_laws.specs.Remaining.{pieces_left, server_packets}
 use Rattle.lane_laws.specs.RemainingSteps.{ServerTurn}
-use Rattle.lane_laws.specs.RuleFacts.{ServerMay}
 
 abbrev pub FewPieces : Option Work → Type 0
 FewPieces None = ⊤

@@ -1,18 +1,10 @@
 -- How many packets wait and are still to be put on a lane that nobody forged, against those that were answered: the two ends begin with 17
 -- packets of their own, and each INFO brings two more, its own and its answer. What happens to a channel keeps it so.
 use Rattle.std.proofs.Common.{◌≡◌, ℕ, ◌+◌, ◌≤◌, Bool, true, false, List, [], ◌∷◌, ◌++◌, length, refl, arith, length-append}
-use Rattle.ldc_queue.specs.declared.end.ChannelState.{ChannelState}
-use Rattle.ldc_queue.specs.declared.end.ChannelState.TheVariants.{Down, Resetting, Up}
-use Rattle.ldc_queue.specs.Transcript.{Turn}
-use Rattle.ldc_queue.specs.Wire.{peer_behind, queue_behind, upset}
-use Rattle.channel_model.specs.Sayings.{heard}
-use Rattle.channel_model.specs.WireLog.{WireLog, lossy_behind}
-use Rattle.disk_model.specs.ClientState.{ClientState}
-use Rattle.disk_model.specs.ServerState.{ServerState}
+use Rattle.channel_laws.specs.Vocabulary.{ChannelState, Down, Resetting, Turn, Up, WireLog, heard, lossy_behind, peer_behind, queue_behind, upset}
+use Rattle.lane_laws.specs.Vocabulary.{ClientState, ServerState, client_packets, one_where, range_count, server_packets}
 use Rattle.lane_laws.proofs.FlightServer.{FewPieces}
 use Rattle.lane_laws.specs.Budget.{infos_begun}
-use Rattle.lane_laws.specs.Counted.{one_where, range_count}
-use Rattle.lane_laws.specs.Remaining.{client_packets, server_packets}
 
 -- an end that isn't up counts as one that begins
 abbrev pub live_count : ChannelState → ℕ → ℕ → ℕ

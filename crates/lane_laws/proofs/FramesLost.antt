@@ -1,17 +1,8 @@
 -- Along every run no frames are lost as an end is configured, by its own step or by a reset.
 use Rattle.std.proofs.Common.{ℕ, List, Option}
 use Rattle.std.specs.Prelude.{⊤}
-use Rattle.runs.specs.Lawful.{Lawful, run_lawful}
-use Rattle.runs.specs.Run.{Run}
-use Rattle.ldc_queue.specs.declared.end.End.{End}
-use Rattle.ldc_queue.specs.declared.end.End.TheVariants.{A, B}
-use Rattle.vio_tag.specs.declared.cause.Cause.{Cause}
-use Rattle.disk_model.specs.DiskEvent.{DiskEvent, OnWire}
-use Rattle.lane_laws.specs.DiskLog.{DiskLog, after, nothing_yet}
-use Rattle.disk_model.specs.LaneState.{IsShape, LaneState, Shape, fresh}
-use Rattle.disk_model.specs.LaneStep.{EndOnWire, LaneStep, ResetBy}
-use Rattle.channel_model.specs.WireAt.{WireLostAt}
-use Rattle.channel_model.specs.WireEvent.{ByRestart, ByScript, ByStep, ByTick, Giver, Joined, Reset, WireEvent, giver}
+use Rattle.channel_laws.specs.Vocabulary.{A, B, ByRestart, ByScript, ByStep, ByTick, Cause, End, Giver, Joined, Lawful, Reset, Run, WireEvent, WireLostAt, giver, run_lawful}
+use Rattle.lane_laws.specs.Vocabulary.{DiskEvent, DiskLog, EndOnWire, IsShape, LaneState, LaneStep, OnWire, ResetBy, Shape, after, fresh, nothing_yet}
 use Rattle.lane_laws.specs.Laws.{LostAt}
 
 -- BY A STEP of the end

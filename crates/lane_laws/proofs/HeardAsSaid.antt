@@ -1,18 +1,9 @@
 -- On a lane that nobody forged each message that an end heard is as the other's handshake has it.
 use Rattle.std.proofs.Common.{◌≡◌, ℕ, false, List, [], ◌∷◌, ◌++◌, subst}
-use Rattle.runs.specs.Run.{Run}
-use Rattle.ldc_link.specs.declared.phase.Role.{Role}
-use Rattle.ldc_link.specs.declared.phase.Role.TheVariants.{Initiator, Responder}
-use Rattle.ldc_queue.specs.declared.end.End.TheVariants.{A, B}
-use Rattle.ldc_queue.specs.OneStream.{IsFront}
+use Rattle.channel_laws.specs.Vocabulary.{A, B, Initiator, IsFront, IsUp, Offer, Responder, Role, Run, heard, said}
 use Rattle.vio_handshake.specs.declared.handshake.Phase.{Phase}
-use Rattle.vio_handshake.specs.declared.session.Offer.{Offer}
 use Rattle.vio_handshake.specs.declared.session.Session.{Session}
-use Rattle.channel_model.specs.Sayings.{heard, said}
-use Rattle.channel_model.specs.WireAt.{IsUp}
-use Rattle.disk_model.specs.DiskEvent.{DiskEvent}
-use Rattle.disk_model.specs.LaneState.{IsShape, LaneState, Shape, fresh}
-use Rattle.disk_model.specs.LaneStep.{LaneStep}
+use Rattle.lane_laws.specs.Vocabulary.{DiskEvent, IsShape, LaneState, LaneStep, Shape, fresh}
 use Rattle.lane_laws.proofs.HeardFront.{heard_messages}
 use Rattle.lane_laws.proofs.Speaking.{client_said, server_said}
 use Rattle.lane_laws.specs.LaneTranscripts.{transcript_behind}

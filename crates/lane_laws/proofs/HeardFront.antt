@@ -1,28 +1,14 @@
 -- What an end heard is a front of what the other said, on a lane that nobody forged.
 use Rattle.std.proofs.Common.{◌≡◌, false, List, [], map, subst}
-use Rattle.runs.specs.Run.{Run}
-use Rattle.ldc_link.specs.declared.phase.Role.TheVariants.{Initiator, Responder}
-use Rattle.ldc_queue.specs.declared.end.ChannelState.TheVariants.{Up}
-use Rattle.ldc_queue.specs.declared.end.End.{End}
-use Rattle.ldc_queue.specs.declared.end.End.TheVariants.{A, B}
-use Rattle.ldc_queue.specs.OneStream.{IsFront}
-use Rattle.ldc_queue.specs.Transcript.{numbered_heard, numbered_said}
-use Rattle.ldc_queue.specs.Wire.{peer_of}
-use Rattle.channel_model.specs.Sayings.{heard, said}
-use Rattle.channel_model.specs.TranscriptLog.{TranscriptLog, transcript_of}
-use Rattle.channel_model.specs.WireAt.{IsUp}
-use Rattle.disk_model.specs.DiskEvent.{DiskEvent}
-use Rattle.disk_model.specs.LaneState.{IsShape, LaneState, Shape, fresh}
-use Rattle.disk_model.specs.LaneStep.{LaneStep}
+use Rattle.channel_laws.specs.Vocabulary.{A, B, End, Initiator, IsFront, IsUp, Responder, Run, TranscriptLog, Up, heard, numbered_heard, numbered_said, peer_of, said, sides_of, swapped, transcript_of}
+use Rattle.lane_laws.specs.Vocabulary.{DiskEvent, IsShape, LaneState, LaneStep, Shape, core_event, core_of, fresh}
 use Rattle.channel_laws.proofs.Conversations.{swap_converse}
 use Rattle.channel_laws.proofs.ConversingRuns as core
 use Rattle.channel_laws.proofs.CoreLaws.{conversing}
 use Rattle.channel_laws.proofs.Sessions.{open_sessions_up}
 use Rattle.channel_laws.specs.Conversing.{Converse}
-use Rattle.channel_laws.specs.Sides.{sides_of, swapped}
 use Rattle.lane_laws.proofs.LaneChannel.{answers_of, asks_of}
 use Rattle.lane_laws.proofs.LaneCores.{lane_cores, lane_fits, said_same}
-use Rattle.lane_laws.specs.ChannelEnds.{core_event, core_of}
 use Rattle.lane_laws.specs.LaneTranscripts.{transcript_behind}
 use Rattle.std.specs.Prelude.{is_some, true}
 

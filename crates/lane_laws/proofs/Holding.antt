@@ -4,17 +4,10 @@ use Rattle.std.proofs.Common.{◌≡◌, ℕ, zero, suc, ◌+◌, ◌-◌, ◌*�
 use Rattle.std.specs.Prelude.{slice_get}
 use Rattle.std.proofs.lemmas.List.{take_all}
 use Rattle.std.proofs.Math.Seq.{take-add}
-use Rattle.runs.specs.Lawful.{log_of}
-use Rattle.runs.specs.Run.{Run}
-use Rattle.vdisk_msg.specs.declared.request.Request.{Request}
-use Rattle.channel_model.specs.WireLog.{WireLog}
-use Rattle.lane_laws.specs.DiskLog.{DiskLog, after, nothing_yet}
-use Rattle.disk_model.specs.DiskEvent.{DiskEvent}
-use Rattle.disk_model.specs.LaneState.{IsShape, LaneState, Shape, fresh}
-use Rattle.disk_model.specs.LaneStep.{LaneStep}
+use Rattle.channel_laws.specs.Vocabulary.{Run, WireLog, log_of}
+use Rattle.lane_laws.specs.Vocabulary.{DiskEvent, DiskLog, IsShape, LaneState, LaneStep, Request, Shape, after, fresh, nothing_yet, view_of}
 use Rattle.lane_laws.specs.Blocks.{block_at}
 use Rattle.lane_laws.specs.Contents.{ContentsStand}
-use Rattle.lane_laws.specs.LaneView.{view_of}
 use Rattle.lane_laws.specs.Near.{ImageHolds, IsNear}
 use Rattle.lane_laws.specs.NearContent.{PendingPuts}
 use Rattle.lane_laws.proofs.LaneRuns.{before_of, run_contents}

@@ -2,27 +2,13 @@
 use Rattle.std.proofs.Common.{◌≡◌, ℕ, zero, suc, ◌-◌, ◌≤◌, false, Option, Some, None, List, [], ◌∷◌, length, refl, sym, ap, ◌∙◌, subst, arith, length-drop}
 use Rattle.std.specs.Prelude.{nat_lt, slice_get}
 use Rattle.std.proofs.lemmas.Bool.Decides.{nat_tests}
-use Rattle.ldc_queue.specs.declared.end.End.{End}
-use Rattle.ldc_queue.specs.declared.end.End.TheVariants.{A, B}
-use Rattle.ldc_queue.specs.Wire.{waiting_for}
-use Rattle.vdisk_msg.specs.declared.request.Request.{Request}
-use Rattle.channel_model.specs.WireEvent.{Idle}
-use Rattle.channel_model.specs.WireLog.{WireLog}
+use Rattle.channel_laws.specs.Vocabulary.{A, B, End, Idle, WireLog, waiting_for}
+use Rattle.lane_laws.specs.Vocabulary.{ClientAgrees, ClientCounts, ClientSession, DiskEvent, DiskLog, EndOnWire, IfClient, IfServer, InOrder, InServerOrder, LaneState, LaneStep, OnWire}
+use Rattle.lane_laws.specs.Vocabulary.{RangeStands, Request, ServerAgrees, ServerCounts, ServerSession, Work, WorkAgrees}
 use Rattle.channel_laws.proofs.Apart.{some_same}
 use Rattle.channel_laws.proofs.EndsAtRest.{none_waits}
-use Rattle.lane_laws.specs.Agreement.{ClientAgrees, ServerAgrees, WorkAgrees}
-use Rattle.lane_laws.specs.DiskLog.{DiskLog}
 use Rattle.lane_laws.specs.QuietLaws.{ClientIsIdle, EndIsIdle, IdleAt, ServerIsIdle}
-use Rattle.lane_laws.specs.WorkLaws.{IfClient, IfServer}
-use Rattle.lane_laws.specs.WorkLog.{ClientCounts, ServerCounts}
-use Rattle.disk_model.specs.ClientState.{ClientSession}
-use Rattle.disk_model.specs.DiskEvent.{DiskEvent, OnWire}
-use Rattle.disk_model.specs.LaneState.{LaneState}
-use Rattle.disk_model.specs.LaneStep.{EndOnWire, LaneStep}
-use Rattle.disk_model.specs.ServerState.{ServerSession, Work}
 use Rattle.lane_laws.proofs.Sharing.{in_order}
-use Rattle.lane_laws.specs.Counted.{InServerOrder, RangeStands}
-use Rattle.lane_laws.specs.Sound.{InOrder}
 use Rattle.lane_laws.proofs.Counting.{OfServer, of_client, of_server}
 use Rattle.lane_laws.proofs.IdleRules.{ServerIdles, client_idles, server_idles}
 use Rattle.lane_laws.proofs.RuleTests.{ClientIdles}

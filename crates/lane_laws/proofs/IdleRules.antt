@@ -1,12 +1,10 @@
 -- What is known where an end's next step is to rest: nothing waits for it, and its session has nothing to do. And where a client's is to
 -- announce: it has published all that is pending.
 use Rattle.std.proofs.Common.{◌≡◌, false, Some, None, subst}
-use Rattle.ldc_link.specs.Putting.{owes}
+use Rattle.channel_laws.specs.Vocabulary.{Seen, owes}
 use Rattle.disk_model.specs.ClientRule as client
-use Rattle.disk_model.specs.ClientState.{ClientSession, ClientState}
-use Rattle.channel_model.specs.Seeing.{Seen}
+use Rattle.lane_laws.specs.Vocabulary.{ClientSession, ClientState, ServerSession, ServerState}
 use Rattle.disk_model.specs.ServerRule as server
-use Rattle.disk_model.specs.ServerState.{ServerSession, ServerState}
 use Rattle.lane_laws.proofs.RuleTests.{ClientIdles, PublishedAll, ServerTested, client_test, server_tested}
 
 pub client_idles : (s : ClientState) (at : Seen) → client.client_rule s at ≡ client.Idles → ClientIdles s at

@@ -1,18 +1,8 @@
 -- Along every run: where the last event was an idle step of an end, resting is still that end's next step.
 use Rattle.std.proofs.Common.{◌≡◌, ℕ, List, sym, ap, ◌∙◌, subst, Some}
 use Rattle.std.specs.Prelude.{⊤}
-use Rattle.runs.specs.Lawful.{log_of, run_lawful}
-use Rattle.runs.specs.Run.{Run}
-use Rattle.ldc_queue.specs.declared.end.End.{End}
-use Rattle.ldc_queue.specs.declared.end.End.TheVariants.{A, B}
-use Rattle.channel_model.specs.WireEvent.{Idle}
-use Rattle.lane_laws.specs.Agreement.{IdleAgrees}
-use Rattle.lane_laws.specs.DiskLog.{DiskLog, after, nothing_yet}
-use Rattle.disk_model.specs.ClientState.{ClientState}
-use Rattle.disk_model.specs.DiskEvent.{DiskEvent, OnWire}
-use Rattle.disk_model.specs.LaneState.{IsShape, LaneState, Shape, fresh}
-use Rattle.disk_model.specs.LaneStep.{EndOnWire, LaneStep}
-use Rattle.disk_model.specs.ServerState.{ServerState}
+use Rattle.channel_laws.specs.Vocabulary.{A, B, End, Idle, Run, log_of, run_lawful}
+use Rattle.lane_laws.specs.Vocabulary.{ClientState, DiskEvent, DiskLog, EndOnWire, IdleAgrees, IsShape, LaneState, LaneStep, OnWire, ServerState, Shape, after, fresh, nothing_yet}
 
 with_client : LaneState → ClientState → List ℕ → LaneState
 with_client s c memory = record s { client = c; memory = memory }

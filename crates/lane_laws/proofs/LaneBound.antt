@@ -1,31 +1,19 @@
 -- What remains on a lane that nobody forged is at most 36 and 16 for each pending request, and where a packet was lost at most 69 and 32.
 use Rattle.std.proofs.Common.{◌≡◌, ℕ, ◌+◌, ◌-◌, ◌*◌, ◌≤◌, Bool, true, false, Option, Some, None, List, [], ◌∷◌, length, refl, ap, arith}
 use Rattle.std.specs.Prelude.{is_some}
-use Rattle.runs.specs.Lawful.{log_of}
-use Rattle.runs.specs.Run.{Run}
-use Rattle.ldc_queue.specs.declared.end.ChannelState.{ChannelState}
-use Rattle.ldc_queue.specs.declared.end.ChannelState.TheVariants.{Down, Resetting, Up}
-use Rattle.vio_tag.specs.declared.message.MsgBody.TheVariants.{Ver}
+use Rattle.channel_laws.specs.Vocabulary.{ChannelState, Down, Message, Resetting, Run, Up, Ver, heard, log_of}
 use Rattle.vio_handshake.specs.Messages.{ack, info}
-use Rattle.channel_model.specs.Sayings.{heard}
-use Rattle.lane_laws.specs.DiskLog.{after, nothing_yet}
-use Rattle.disk_model.specs.ClientState.{ClientState}
-use Rattle.disk_model.specs.DiskEvent.{DiskEvent}
-use Rattle.disk_model.specs.LaneState.{IsShape, LaneState, Shape, fresh}
-use Rattle.disk_model.specs.LaneStep.{LaneStep}
-use Rattle.disk_model.specs.ServerState.{ServerState}
+use Rattle.lane_laws.specs.Vocabulary.{ClientState, DiskEvent, IsShape, LaneState, LaneStep, ServerState, Shape, absent, after, asked_by, asked_in, client_left, client_packets, fresh, life}
+use Rattle.lane_laws.specs.Vocabulary.{nothing_yet, one_where, range_count, remaining, requests_left, second_life, server_left, server_packets, serving_left, total}
 use Rattle.lane_laws.proofs.FlightAlong.{run_flight}
 use Rattle.lane_laws.proofs.FlightRuns.{InFlight}
 use Rattle.lane_laws.proofs.FlightSums.{FewFly}
 use Rattle.lane_laws.proofs.Speaking.{client_open_rests, server_open_rests}
 use Rattle.lane_laws.proofs.LifeBound.{RequestsLeft, by_sessions}
 use Rattle.lane_laws.specs.Budget.{infos_begun}
-use Rattle.lane_laws.specs.Counted.{one_where, range_count}
 use Rattle.lane_laws.specs.LaneTranscripts.{transcript_behind}
-use Rattle.lane_laws.specs.Remaining.{absent, asked_by, asked_in, client_left, client_packets, life, remaining, requests_left, second_life, server_left, server_packets, serving_left, total}
 use Rattle.lane_laws.proofs.HeardFront.{unheard_client, unheard_server}
 use Rattle.channel_laws.specs.Grounds.{Among}
-use Rattle.vio_tag.specs.declared.message.Message.{Message}
 
 not_among : (message : Message) (messages : List (List ℕ)) → messages ≡ [] → Among message messages → ⊥
 not_among message [] is among = among

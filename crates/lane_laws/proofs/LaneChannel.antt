@@ -1,23 +1,12 @@
 -- What holds of two ends on a channel holds of a disk's lane: what is said and heard, its links, its sids.
 use Rattle.std.proofs.Common.{◌≡◌, ℕ, ◌%◌, false, List, [], ◌∷◌, ◌++◌, refl, sym, ap, ◌∙◌, subst, map, arith}
-use Rattle.runs.specs.Lawful.{Lawful, log_append, log_of}
-use Rattle.runs.specs.Run.{Run, run_push}
-use Rattle.ldc_link.specs.declared.phase.Role.{Role}
-use Rattle.ldc_link.specs.declared.phase.Role.TheVariants.{Initiator, Responder}
-use Rattle.ldc_queue.specs.declared.end.End.TheVariants.{A}
-use Rattle.ldc_queue.specs.Transcript.{Turn}
-use Rattle.vio_handshake.specs.declared.session.Offer.{Offer}
+use Rattle.channel_laws.specs.Vocabulary.{A, CoreEvent, EndCore, EndStands, Initiator, Joined, Lawful, Offer, Reset, Responder, Role, Run, Sent, Sides, Took, TranscriptLog, Turn, WireEvent}
+use Rattle.channel_laws.specs.Vocabulary.{WireHeardAt, WireSaidAt, counts_next, log_append, log_of, run_push, sides_of, swapped}
 use Rattle.vio_handshake.specs.Offers.{Match}
 use Rattle.lane_laws.proofs.EndMoves.{transcript_same}
 use Rattle.channel_model.proofs.SameSayings.{half_heard_is}
-use Rattle.lane_laws.specs.Agreement.{LinkAgrees}
-use Rattle.channel_model.specs.TranscriptLog.{TranscriptLog}
-use Rattle.channel_model.specs.WireAt.{WireHeardAt, WireSaidAt, counts_next}
-use Rattle.channel_model.specs.WireEvent.{Joined, Reset, Sent, Took, WireEvent}
-use Rattle.disk_model.specs.DiskEvent.{DiskEvent, OnWire, Stopped, Switches}
-use Rattle.lane_laws.specs.DiskLog.{DiskLog, after, after_transcript, nothing_yet}
-use Rattle.disk_model.specs.LaneState.{IsShape, LaneState, Shape, fresh}
-use Rattle.disk_model.specs.LaneStep.{LaneStep}
+use Rattle.lane_laws.specs.Vocabulary.{DiskEvent, DiskLog, IsShape, LaneState, LaneStep, LinkAgrees, OnWire, Shape, Stopped, Switches, after, after_transcript, client_core, core_event, core_of}
+use Rattle.lane_laws.specs.Vocabulary.{fresh, nothing_yet, server_core}
 use Rattle.lane_laws.specs.May.{OfWire}
 use Rattle.disk_model.specs.Offering.{client_offer, server_offer}
 use Rattle.channel_laws.proofs.EndFolding.{FoldsSo, folds_run}
@@ -33,14 +22,9 @@ use Rattle.channel_laws.proofs.Sessions as sessions
 use Rattle.channel_laws.proofs.Sids.{last_sid_counts, last_sid_none}
 use Rattle.channel_laws.specs.CoreLog.{CoreLog, OfChannel, comings_after}
 use Rattle.channel_laws.specs.CoreLog as core_log
-use Rattle.channel_laws.specs.EndCore.{EndCore}
-use Rattle.channel_laws.specs.LaneCore.{CoreEvent}
 use Rattle.channel_laws.specs.LinkPlaces.{LinksAt}
-use Rattle.channel_laws.specs.Sides.{Sides, sides_of, swapped}
-use Rattle.channel_laws.specs.Standing.{EndStands}
 use Rattle.lane_laws.proofs.LaneCores.{lane_cores, lane_fits, said_in_log}
 use Rattle.lane_laws.proofs.OpeningDeal.{offers_match}
-use Rattle.lane_laws.specs.ChannelEnds.{client_core, core_event, core_of, server_core}
 use Rattle.lane_laws.specs.HeardStands.{HeardAt}
 use Rattle.lane_laws.specs.Laws.{SaidAt}
 

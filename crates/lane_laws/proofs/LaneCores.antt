@@ -1,18 +1,10 @@
 -- A disk's lane is two ends on a channel: each of its steps is one of theirs, and each run.
 use Rattle.std.proofs.Common.{◌≡◌, List, [], ◌∷◌, refl, sym, ap, ◌∙◌, subst, arith, map}
-use Rattle.runs.specs.Lawful.{log_of, run_lawful}
-use Rattle.runs.specs.Run.{Run}
-use Rattle.channel_model.specs.TranscriptLog.{TranscriptLog, nothing_said}
-use Rattle.channel_model.specs.WireLog.{WireLog}
-use Rattle.disk_model.specs.DiskEvent.{DiskEvent}
-use Rattle.lane_laws.specs.DiskLog.{DiskLog, after, after_transcript, after_wire, nothing_yet}
-use Rattle.disk_model.specs.LaneState.{IsShape, LaneState, Shape, fresh}
-use Rattle.disk_model.specs.LaneStep.{LaneStep}
+use Rattle.channel_laws.specs.Vocabulary.{CoreFits, CoreStands, CoreStep, Run, TranscriptLog, WireLog, fresh_core, log_of, nothing_said, run_lawful, transcript_after, transcript_behind}
+use Rattle.lane_laws.specs.Vocabulary.{DiskEvent, DiskLog, IsShape, LaneState, LaneStep, Shape, after, after_transcript, after_wire, core_event, core_of, fresh, nothing_yet}
 use Rattle.disk_model.specs.Offering.{client_offer, server_offer}
-use Rattle.channel_laws.specs.LaneCore.{CoreFits, CoreStands, CoreStep, fresh_core, transcript_after, transcript_behind}
 use Rattle.lane_laws.proofs.OpeningDeal.{client_fits, server_fits}
 use Rattle.lane_laws.proofs.TableRuns.{QueuesStand, core_stands, fresh_queues, queues_step, wire_same}
-use Rattle.lane_laws.specs.ChannelEnds.{core_event, core_of}
 use Rattle.lane_laws.specs.LaneTranscripts as lane
 use Rattle.lane_laws.specs.TableStands.{MayOfTable}
 use Rattle.lane_laws.proofs.EndMoves.{step_a, step_b, transcript_same}

@@ -1,30 +1,14 @@
 -- Each event of a lane leaves the sessions of both ends counting what they said and heard, as its log does.
 use Rattle.std.proofs.Common.{◌≡◌, ℕ, ◌-◌, ◌≤◌, length, Bool, Option, None, List, [], ◌∷◌, refl, sym, ap, ◌∙◌, subst, arith}
 use Rattle.std.specs.Prelude.{⊤}
-use Rattle.runs.specs.Lawful.{log_of, run_lawful}
-use Rattle.runs.specs.Run.{Run}
-use Rattle.ldc_queue.specs.declared.end.End.TheVariants.{A, B}
-use Rattle.ldc_queue.specs.Transcript.{Heard as Heard_, Said, Turn}
-use Rattle.vdisk_msg.specs.declared.request.Request.{Request}
-use Rattle.channel_model.specs.TranscriptLog.{nothing_said}
-use Rattle.channel_model.specs.Sayings.{half_heard, half_said}
-use Rattle.channel_model.specs.WireEvent.{Blocked, Idle, Joined, Reset, Sent, Took}
-use Rattle.lane_laws.specs.DiskLog.{DiskLog, after, nothing_yet}
-use Rattle.channel_model.specs.Messages.{opening_sid}
-use Rattle.lane_laws.specs.WorkLog.{ClientCounts, opened_client, opened_counts}
-use Rattle.disk_model.specs.ClientPutting.{client_kind, client_opens, is_announcing}
+use Rattle.channel_laws.specs.Vocabulary.{A, B, Blocked, ComesUp, EndsHandshake, EndsOwn, Goes, Heard as Heard_, Idle, Joined, PutKind, Reset, Run, Said, Sent, Took, Turn, half_heard, half_said}
+use Rattle.channel_laws.specs.Vocabulary.{log_of, nothing_said, opening_sid, put_opens, run_lawful, seen}
+use Rattle.lane_laws.specs.Vocabulary.{ClientCounted, ClientCounts, ClientSends, ClientSound, ClientState, ClientStep, Desc, DiskEvent, DiskLog, Done, Finished, IsShape, LaneCounted, LaneState}
+use Rattle.lane_laws.specs.Vocabulary.{LaneStep, Moved, OnWire, Published, Request, ServerCounted, ServerState, ServerStep, Shape, Stored, Works, after, client_kind, client_opens, first_id, fresh}
+use Rattle.lane_laws.specs.Vocabulary.{is_announcing, joined_client, joined_server, nothing_yet, opened_client, opened_counts}
 use Rattle.disk_model.specs.ClientRule as client_rules
-use Rattle.disk_model.specs.ClientState.{ClientState, first_id, joined_client}
-use Rattle.disk_model.specs.ClientStep.{ClientSends, ClientStep}
-use Rattle.disk_model.specs.DiskEvent.{Desc, DiskEvent, Done, Finished, Moved, OnWire, Published, Stored, Works}
-use Rattle.channel_model.specs.EndPuts.{ComesUp, EndsOwn, EndsHandshake, Goes, PutKind, put_opens}
-use Rattle.disk_model.specs.LaneState.{IsShape, LaneState, Shape, fresh}
-use Rattle.disk_model.specs.LaneStep.{LaneStep}
-use Rattle.channel_model.specs.Seeing.{seen}
 use Rattle.disk_model.specs.ServerRule as server_rules
-use Rattle.disk_model.specs.ServerState.{ServerState, joined_server}
 use Rattle.lane_laws.proofs.LaneViews.{ClientSide, ServerSide, at_client, at_server, client_keeps, client_side, reach_of, server_keeps, server_side}
-use Rattle.disk_model.specs.ServerStep.{ServerStep}
 use Rattle.lane_laws.proofs.CarriedRuns.{AllStand, all_step, fresh_all}
 use Rattle.lane_laws.proofs.ClientCounting.{acks_more, client_begins_counting, client_takes_counting}
 use Rattle.lane_laws.proofs.ClientHolding.{client_held}
@@ -42,9 +26,7 @@ use Rattle.lane_laws.proofs.ServerEndCounting.{server_fetches_counting, server_f
 use Rattle.lane_laws.proofs.ServerPutCounting.{answers_more, server_holds_counting}
 use Rattle.lane_laws.proofs.ServerTaken.{server_took_what}
 use Rattle.lane_laws.proofs.ServerWorkCounting.{server_moves_counting, server_stores_counting}
-use Rattle.lane_laws.specs.Counted.{ClientCounted, LaneCounted, ServerCounted}
 use Rattle.lane_laws.specs.LaneRests.{ClientRests, ClientUtters, LaneRests, LaneUtters}
-use Rattle.lane_laws.specs.Sound.{ClientSound}
 
 -- what is known of a lane before an event
 pub record Knows (s : LaneState) (l : DiskLog) : Type 0 where

@@ -1,29 +1,16 @@
 -- Along every run, what resets an end says why.
 use Rattle.std.proofs.Common.{◌≡◌, ℕ, Option, None, List, sym, subst}
-use Rattle.runs.specs.Lawful.{Lawful, run_lawful}
-use Rattle.runs.specs.Run.{Run}
-use Rattle.ldc_queue.specs.declared.end.End.{End}
-use Rattle.ldc_queue.specs.declared.end.End.TheVariants.{A, B}
-use Rattle.ldc_queue.specs.Transcript.{Turn}
-use Rattle.vio_tag.specs.declared.cause.Cause.{Cause}
+use Rattle.channel_laws.specs.Vocabulary.{A, B, Cause, End, Lawful, Reset, Run, TranscriptLog, Turn, WireEvent, WireGapAt, run_lawful, seen, transcript_of}
 use Rattle.vio_tag.specs.declared.cause.Cause.TheVariants as the_cause
 use Rattle.channel_model.specs.ResetSays.{WireResetAt}
-use Rattle.channel_model.specs.TranscriptLog.{TranscriptLog, transcript_of}
-use Rattle.channel_model.specs.WireAt.{WireGapAt}
-use Rattle.channel_model.specs.WireEvent.{Reset, WireEvent}
-use Rattle.lane_laws.specs.DiskLog.{DiskLog, after, after_transcript, nothing_yet}
+use Rattle.lane_laws.specs.Vocabulary.{ClientSound, DiskEvent, DiskLog, EndOnWire, IsShape, LaneState, LaneStep, OnWire, Shape, WireStep, after, after_transcript, fresh, nothing_yet, reach}
 use Rattle.disk_model.specs.ClientRule.{client_rule}
-use Rattle.disk_model.specs.DiskEvent.{DiskEvent, OnWire}
-use Rattle.disk_model.specs.LaneState.{IsShape, LaneState, Shape, fresh}
-use Rattle.disk_model.specs.LaneStep.{EndOnWire, LaneStep, WireStep, reach}
-use Rattle.channel_model.specs.Seeing.{seen}
 use Rattle.disk_model.specs.ServerRule.{server_rule}
 use Rattle.lane_laws.proofs.Speaking.{fresh_rests, rests_step}
 use Rattle.lane_laws.proofs.LaneStepping.{fresh_sound, sound_step}
 use Rattle.lane_laws.specs.LaneRests.{LaneRests}
 use Rattle.lane_laws.proofs.EndResets.{WhyReset, client_fails, server_fails}
 use Rattle.lane_laws.specs.Laws.{GapAt, ResetAt}
-use Rattle.lane_laws.specs.Sound.{ClientSound}
 use Rattle.lane_laws.proofs.StandingRuns.{lawful_by}
 
 abbrev pub Stands : LaneState → TranscriptLog → Type 0

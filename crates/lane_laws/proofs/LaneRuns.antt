@@ -2,14 +2,9 @@
 -- what was asked.
 use Rattle.std.proofs.Common.{◌≡◌, ℕ, Bool, false, List, [], refl, sym, ap, ◌∙◌, subst, arith}
 use Rattle.std.specs.Prelude.{⊤}
-use Rattle.runs.specs.Lawful.{log_of, run_lawful}
-use Rattle.runs.specs.Run.{Run}
-use Rattle.ldc_queue.specs.declared.end.ChannelState.TheVariants.{Up}
-use Rattle.channel_model.specs.WireLog.{WireLog}
-use Rattle.lane_laws.specs.DiskLog.{DiskLog, after, nothing_yet}
-use Rattle.disk_model.specs.DiskEvent.{Asks, Desc, DiskEvent, Done, Finished, Misplaced, Moved, OnWire, Published, Calms, Stored, Switches, Works}
-use Rattle.disk_model.specs.LaneState.{IsShape, LaneState, Shape, fresh}
-use Rattle.disk_model.specs.LaneStep.{LaneStep, ServerWorks}
+use Rattle.channel_laws.specs.Vocabulary.{Run, Up, WireLog, log_of, run_lawful}
+use Rattle.lane_laws.specs.Vocabulary.{Asks, Calms, Desc, DiskEvent, DiskLog, Done, Finished, IsShape, LaneState, LaneStep, Misplaced, Moved, OnWire, Published, ServerWorks, Shape, Stored}
+use Rattle.lane_laws.specs.Vocabulary.{Switches, Works, after, fresh, nothing_yet, view_of}
 use Rattle.lane_laws.proofs.Agreeing.{always_agree, server_alive}
 use Rattle.lane_laws.proofs.CarriedRuns.{all_step}
 use Rattle.lane_laws.proofs.LaneCounting.{run_knows}
@@ -19,7 +14,6 @@ use Rattle.lane_laws.proofs.SlotsAlong.{facts_at, run_slots}
 use Rattle.lane_laws.proofs.SlotsStepping.{StepFacts}
 use Rattle.lane_laws.specs.Standing.{LaneInvariant}
 use Rattle.lane_laws.specs.Contents.{ContentsStand}
-use Rattle.lane_laws.specs.LaneView.{view_of}
 use Rattle.lane_laws.proofs.CallChanges.{asks_changes, calm_changes, turn_changes, wire_changes}
 use Rattle.lane_laws.proofs.FailedRuns.{failed_before, stored_well}
 use Rattle.lane_laws.proofs.DoneChanges.{done_changes, finished_changes, published_changes}

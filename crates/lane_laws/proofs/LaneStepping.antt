@@ -1,17 +1,10 @@
 -- Each event of a lane keeps what always holds of its client's session and requests.
 use Rattle.std.proofs.Common.{ℕ, List, sym, subst, arith}
-use Rattle.runs.specs.Run.{Run, run_keeps}
-use Rattle.ldc_queue.specs.declared.end.End.TheVariants.{A}
-use Rattle.channel_model.specs.WireEvent.{Blocked, Idle, Joined, Reset, Sent, Took}
-use Rattle.disk_model.specs.DiskEvent.{DiskEvent, Done, OnWire, Published, Works}
-use Rattle.disk_model.specs.LaneState.{IsShape, LaneState, Shape, fresh}
-use Rattle.disk_model.specs.LaneStep.{LaneStep}
+use Rattle.channel_laws.specs.Vocabulary.{A, Blocked, Idle, Joined, Reset, Run, Sent, Took, run_keeps}
+use Rattle.lane_laws.specs.Vocabulary.{ClientSound, ClientState, ClientStep, DiskEvent, Done, IsShape, LaneState, LaneStep, OnWire, Published, Shape, Works, fresh}
 use Rattle.lane_laws.proofs.ClientHearing.{client_takes}
 use Rattle.lane_laws.proofs.LaneViews.{ClientActs, ClientAsked, ClientCalled, ClientStays, ClientView, at_client, lane_view}
-use Rattle.disk_model.specs.ClientState.{ClientState}
-use Rattle.disk_model.specs.ClientStep.{ClientStep}
 use Rattle.lane_laws.proofs.ClientSteps.{client_admits, client_blocked, client_completes, client_joined, client_publishes, client_sends}
-use Rattle.lane_laws.specs.Sound.{ClientSound}
 
 steps_sound : (s : LaneState) → ClientSound s.client → (event : DiskEvent) (t : ClientState) (new : List ℕ) → ClientStep s.client (at_client s) s.memory event t new → ClientSound t
 steps_sound s sound (OnWire (Joined A lost)) t new step = subst ClientSound (sym step.2) (client_joined s.client sound)

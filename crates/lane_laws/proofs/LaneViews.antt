@@ -2,27 +2,13 @@
 -- goes by these ways, and by the events of an end only where that end acts.
 use Rattle.std.proofs.Common.{◌≡◌, ℕ, ◌+◌, ◌≤◌, Bool, true, false, Option, None, List, [], length, refl, sym, ap, ◌∙◌, subst}
 use Rattle.std.specs.Prelude.{◌||◌, ⊤}
-use Rattle.ldc_queue.specs.declared.end.End.{End}
-use Rattle.ldc_queue.specs.declared.end.End.TheVariants.{A, B}
-use Rattle.ldc_queue.specs.Transcript.{Turn}
-use Rattle.ldc_queue.specs.Wire.{peer_of}
-use Rattle.vio_bytes.specs.Place.{put_at}
-use Rattle.vio_tag.specs.declared.cause.Cause.{Cause}
-use Rattle.channel_laws.specs.EndCore.{Begins, EndMove, Renews}
-use Rattle.channel_laws.specs.LaneCore.{reset_move}
-use Rattle.channel_model.specs.Seeing.{Seen, seen}
-use Rattle.channel_model.specs.WireEvent.{Blocked, ByRestart, ByScript, ByStep, ByTick, Declines, Giver, Idle, Injected, Joined, Lost, Poked, Reset, Sent, Took, WireEvent, giver}
-use Rattle.cookie_copy.specs.Reach.{Reach}
-use Rattle.disk_model.specs.ClientState.{ClientState, joined_client}
-use Rattle.disk_model.specs.ClientStep.{ClientAdmits, ClientStep}
-use Rattle.disk_model.specs.DiskEvent.{Accepted, Admitted, Asks, Calm, CalmReset, Calms, DiskEvent, Done, Misplaced, OnWire, Published, Started, Stopped, Stored, Switched, Switches, Worked, Works}
-use Rattle.disk_model.specs.LaneState.{LaneState, NearCounts, near_disturbed}
-use Rattle.disk_model.specs.LaneStep.{EndOnWire, LaneStep, ResetBy, RestStep, ServerWorks, TurnStep, WireStep, WorkStep, failed_worked, near_on_wire, near_worked, reach}
-use Rattle.disk_model.specs.ServerState.{ServerState, joined_server, restarted_server}
-use Rattle.disk_model.specs.ServerStep.{ServerStep}
+use Rattle.channel_laws.specs.Vocabulary.{A, B, Begins, Blocked, ByRestart, ByScript, ByStep, ByTick, Cause, Declines, End, EndMove, Giver, Idle, Injected, Joined, Lost, Poked, Renews, Reset, Seen}
+use Rattle.channel_laws.specs.Vocabulary.{Sent, Took, Turn, WireEvent, giver, peer_of, put_at, reset_move, seen}
+use Rattle.lane_laws.specs.Vocabulary.{Accepted, Admitted, Asks, Calm, CalmReset, Calms, ClientAdmits, ClientCounts, ClientState, ClientStep, DiskEvent, DiskLog, Done, EndOnWire, LaneState}
+use Rattle.lane_laws.specs.Vocabulary.{LaneStep, Misplaced, NearCounts, OnWire, Published, Reach, ResetBy, RestStep, ServerCounts, ServerState, ServerStep, ServerWorks, Started, Stopped, Stored}
+use Rattle.lane_laws.specs.Vocabulary.{Switched, Switches, TurnStep, WireStep, WorkStep, Worked, Works, after, after_failed, after_wire, failed_worked, joined_client, joined_server, near_disturbed}
+use Rattle.lane_laws.specs.Vocabulary.{near_on_wire, near_worked, reach, restarted_server}
 use Rattle.lane_laws.specs.BlockLog.{Blockage, Clear}
-use Rattle.lane_laws.specs.DiskLog.{DiskLog, after, after_failed, after_wire}
-use Rattle.lane_laws.specs.WorkLog.{ClientCounts, ServerCounts}
 
 -- what an end sees of its wire, and what its server reaches
 abbrev pub at_client : LaneState → Seen

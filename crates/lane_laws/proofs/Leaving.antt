@@ -1,25 +1,19 @@
 -- What the packets of a client leave of its session's places, and what those of a server leave of its descriptor in work.
 use Rattle.std.proofs.Common.{◌≡◌, ℕ, ◌+◌, Bool, true, false, Option, Some, None, List, inl, inr, refl, sym, ap, ◌∙◌, subst}
 use Rattle.ldc_link.specs.Following.{Follows}
-use Rattle.ldc_queue.specs.Transcript.{Turn}
-use Rattle.disk_model.specs.ClientPutting.{announced, client_holds, client_kind, opened_if, session_behind}
+use Rattle.channel_laws.specs.Vocabulary.{ComesUp, EndsHandshake, EndsOwn, Goes, PutKind, Seen, Turn, put_opens}
+use Rattle.lane_laws.specs.Vocabulary.{ClientMay, ClientSends, ClientSession, ClientState, ServerSends, ServerState, announced, client_holds, client_kind, first_id, opened_if, opened_session}
+use Rattle.lane_laws.specs.Vocabulary.{session_behind}
 use Rattle.disk_model.specs.ClientRule as client
-use Rattle.disk_model.specs.ClientState.{ClientSession, ClientState, first_id, opened_session}
-use Rattle.disk_model.specs.ClientStep.{ClientSends}
 use Rattle.disk_model.specs.ClientTaking.{ClientTakes, GoesOn}
-use Rattle.channel_model.specs.EndPuts.{ComesUp, EndsOwn, EndsHandshake, Goes, PutKind, put_opens}
-use Rattle.channel_model.specs.Seeing.{Seen}
 use Rattle.disk_model.specs.ServerPutting.{server_holds}
 use Rattle.disk_model.specs.ServerRule as server
-use Rattle.disk_model.specs.ServerState.{ServerState}
-use Rattle.disk_model.specs.ServerStep.{ServerSends}
 use Rattle.disk_model.specs.ServerTaking.{ServerTakes, GoesOn as ServerGoesOn}
 use Rattle.channel_laws.proofs.Apart.{none_is_some, some_same}
 use Rattle.lane_laws.proofs.ServerSpeaking.{server_holds_link}
 use Rattle.lane_laws.proofs.ClientTaken.{ClientTook, client_took_what}
 use Rattle.lane_laws.proofs.Ruling.{client_may}
 use Rattle.lane_laws.proofs.ServerTaken.{ServerTook, server_took_what}
-use Rattle.lane_laws.specs.RuleFacts.{ClientMay}
 use Rattle.lane_laws.proofs.Changes.{Keeps}
 
 -- A SESSION'S PLACES that stay

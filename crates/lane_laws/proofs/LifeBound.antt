@@ -1,22 +1,10 @@
 -- What remains on a lane that nobody forged is at most 36, and 16 for each pending request; where a packet was lost, at most 69 and 32.
 use Rattle.std.proofs.Common.{◌≡◌, ◌≢◌, ℕ, ◌^◌, ◌+◌, ◌-◌, ◌*◌, ◌%◌, ◌≤◌, ◌<◌, Bool, true, false, Option, Some, None, List, length, refl, sym, ap, ◌∙◌, subst, arith}
 use Rattle.std.specs.Prelude.{is_some}
-use Rattle.runs.specs.Lawful.{log_of}
-use Rattle.runs.specs.Run.{Run}
-use Rattle.ldc_queue.specs.declared.end.ChannelState.TheVariants.{Up}
-use Rattle.ldc_queue.specs.declared.end.End.TheVariants.{A, B}
-use Rattle.ldc_queue.specs.OneStream.{IsFront}
-use Rattle.channel_model.specs.Sayings.{heard, said}
-use Rattle.channel_model.specs.TranscriptLog.{TranscriptLog}
-use Rattle.lane_laws.specs.Agreement.{ServerAgrees, ServerCountsAgree, WorkAgrees}
-use Rattle.lane_laws.specs.DiskLog.{DiskLog, after, nothing_yet}
-use Rattle.lane_laws.specs.WorkLog.{ServerCounts}
-use Rattle.disk_model.specs.ClientState.{ClientSession}
-use Rattle.disk_model.specs.DiskEvent.{DiskEvent}
-use Rattle.disk_model.specs.LaneState.{IsShape, LaneState, Shape, fresh}
-use Rattle.disk_model.specs.LaneStep.{LaneStep}
-use Rattle.channel_model.specs.Ranges.{wrapped}
-use Rattle.disk_model.specs.ServerState.{ServerSession, SlotRange, Work}
+use Rattle.channel_laws.specs.Vocabulary.{A, B, IsFront, Run, TranscriptLog, Up, heard, log_of, said, wrapped}
+use Rattle.lane_laws.specs.Vocabulary.{ClientSession, DiskEvent, DiskLog, InOrder, InServerOrder, IsShape, LaneState, LaneStep, NothingAsked, RangeStands, ServerAgrees, ServerCounts}
+use Rattle.lane_laws.specs.Vocabulary.{ServerCountsAgree, ServerOrder, ServerSession, Shape, SlotRange, Work, WorkAgrees, acked_of, after, announced_of, asked_in, fresh, infos_of, nothing_yet}
+use Rattle.lane_laws.specs.Vocabulary.{range_count, range_sum, requests_left, serving_left, total, unfinished, work_left}
 use Rattle.lane_laws.proofs.Agreeing.{asked_within, client_some, front_sum, one_ring}
 use Rattle.lane_laws.proofs.LaneCores.{transcript_is}
 use Rattle.lane_laws.proofs.FlightServer.{FewPieces}
@@ -25,10 +13,7 @@ use Rattle.lane_laws.proofs.LaneCounting.{Knows, run_knows}
 use Rattle.lane_laws.proofs.RangeSums.{counts_fewer, counts_front}
 use Rattle.lane_laws.proofs.Sharing.{in_order}
 use Rattle.lane_laws.specs.Budget.{infos_begun, one_if, one_range}
-use Rattle.lane_laws.specs.Counted.{InServerOrder, NothingAsked, RangeStands, ServerOrder, acked_of, announced_of, infos_of, range_count, range_sum}
 use Rattle.lane_laws.specs.LaneTranscripts.{transcript_behind}
-use Rattle.lane_laws.specs.Remaining.{asked_in, requests_left, serving_left, total, unfinished, work_left}
-use Rattle.lane_laws.specs.Sound.{InOrder}
 use Rattle.channel_laws.proofs.Apart.{true_is_false}
 use Rattle.lane_laws.proofs.ServerPutCounting.{work_most}
 

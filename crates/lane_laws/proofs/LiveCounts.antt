@@ -1,8 +1,6 @@
 -- How many of the pending requests the server finished in its session: those between the first that isn't done and its count.
 use Rattle.std.proofs.Common.{◌≡◌, ◌≢◌, ℕ, ◌+◌, Option, Some, None, refl, arith}
-use Rattle.ldc_queue.specs.declared.end.ChannelState.{ChannelState}
-use Rattle.ldc_queue.specs.declared.end.ChannelState.TheVariants.{Down, Resetting, Up}
-use Rattle.ldc_queue.specs.Wire.{peer_behind}
+use Rattle.channel_laws.specs.Vocabulary.{ChannelState, Down, Resetting, Up, peer_behind}
 use Rattle.lane_laws.specs.WorkLog.{ClientCounts, ServerCounts, change_client, change_server}
 use Rattle.lane_laws.proofs.SlotsStepping.{upset_not}
 

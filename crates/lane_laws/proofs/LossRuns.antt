@@ -1,15 +1,9 @@
 -- A lane is lossy exactly where a packet was lost behind the last event that emptied its queues.
 use Rattle.std.proofs.Common.{List, map, ap, subst}
-use Rattle.runs.specs.Lawful.{log_of}
-use Rattle.runs.specs.Run.{Run}
-use Rattle.channel_model.specs.WireLog.{WireLog}
+use Rattle.channel_laws.specs.Vocabulary.{Run, WireLog, log_of}
 use Rattle.channel_laws.proofs.LossesTold.{loss_kept, loss_told}
-use Rattle.disk_model.specs.DiskEvent.{DiskEvent}
-use Rattle.disk_model.specs.LaneState.{IsShape, LaneState, Shape, fresh}
-use Rattle.disk_model.specs.LaneStep.{LaneStep}
+use Rattle.lane_laws.specs.Vocabulary.{DiskEvent, IsShape, LaneState, LaneStep, Shape, after, core_event, core_of, fresh, nothing_yet}
 use Rattle.disk_model.specs.Offering.{client_offer, server_offer}
-use Rattle.lane_laws.specs.ChannelEnds.{core_event, core_of}
-use Rattle.lane_laws.specs.DiskLog.{after, nothing_yet}
 use Rattle.lane_laws.specs.LossTold.{TellsLoss}
 use Rattle.lane_laws.proofs.LaneCores.{lane_cores, lane_fits}
 use Rattle.lane_laws.proofs.WorkRuns.{run_grounded}

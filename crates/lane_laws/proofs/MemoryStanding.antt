@@ -3,22 +3,15 @@ use Rattle.std.proofs.Common.{◌≡◌, ℕ, ◌+◌, ◌*◌, ◌≤◌, ◌<�
 use Rattle.std.specs.Prelude.{zero, suc}
 use Rattle.cookie_copy.proofs.Steps.{length-write_spots}
 use Rattle.cookie_copy.specs.Moved.{moved_out, moved_spots, place_of}
-use Rattle.dring.specs.Slots.{free_slots, free_state}
+use Rattle.lane_laws.specs.Vocabulary.{Flush, Reach, Read, Request, ServerState, Write, buffer_cookies, buffer_place, defect, descriptor_of, filled_buffer, free_slots, free_state, given_count}
+use Rattle.lane_laws.specs.Vocabulary.{published_memory, size_of, slots_cookies, with_word, written}
 use Rattle.map_table.specs.declared.cookie.Cookie.{Cookie}
 use Rattle.map_table.specs.declared.table.Entry.{Entry}
 use Rattle.vdisk_msg.proofs.Repeated.{length-repeated}
 use Rattle.vdisk_msg.proofs.Written.{is_admitted}
-use Rattle.vdisk_msg.specs.declared.request.Request.{Request}
-use Rattle.vdisk_msg.specs.declared.request.Request.TheVariants.{Flush, Read, Write}
 use Rattle.vdisk_msg.specs.Descriptor as slot_says
-use Rattle.vdisk_msg.specs.Requested.{buffer_cookies, buffer_place, descriptor_of, size_of}
-use Rattle.vdisk_msg.specs.Requests.{defect, given_count, written}
 use Rattle.vio_bytes.proofs.Putting.{length-put_at}
 use Rattle.vio_bytes.specs.Place.{put_at}
-use Rattle.disk_model.specs.ClientStep.{filled_buffer, published_memory}
-use Rattle.disk_model.specs.ServerState.{ServerState}
-use Rattle.cookie_copy.specs.Reach.{Reach}
-use Rattle.disk_model.specs.ServerWork.{slots_cookies, with_word}
 use Rattle.lane_laws.specs.MemoryStands.{memory_long}
 
 -- WRITES THROUGH COOKIES keep the length

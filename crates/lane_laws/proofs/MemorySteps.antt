@@ -3,32 +3,18 @@ use Rattle.std.proofs.Common.{◌≡◌, ℕ, ◌-◌, ◌*◌, ◌<◌, Bool, t
 use Rattle.std.specs.Prelude.{slice_get, zero, suc, if◌then◌else◌, ◌==◌}
 use Rattle.std.proofs.lemmas.Nat.{mod_below}
 use Rattle.cookie_copy.specs.declared.fault.CopyFault.{CopyFault}
-use Rattle.dring.specs.Slots.{free_slots}
-use Rattle.ldc_queue.specs.declared.end.End.TheVariants.{A, B}
-use Rattle.vdisk_msg.specs.declared.request.Request.{Request}
+use Rattle.lane_laws.specs.Vocabulary.{Accepted, Admitted, AreSound, ClientAdmits, ClientCompletes, ClientMay, ClientPublishes, ClientSends, ClientState, ClientStep, Desc, DiskEvent, Done}
+use Rattle.lane_laws.specs.Vocabulary.{EndFails, Ends, Finished, Full, Gathers, Gives, LaneState, LaneStep, Moved, MovesIn, OnWire, Progress, Published, Reach, Refused, Request, ServerFails}
+use Rattle.lane_laws.specs.Vocabulary.{ServerSession, ServerState, ServerStep, Stored, Work, WorkFails, Works, buffer_of, buffer_place, client_opens, completed_slot, data_cookies, defect}
+use Rattle.lane_laws.specs.Vocabulary.{free_slots, given_count, given_memory, header_of, slot_at, slot_in, with_done, with_status}
+use Rattle.channel_laws.specs.Vocabulary.{A, B, Blocked, Cause, Idle, Joined, Reset, Sent, Took, put_at, seen}
 use Rattle.vdisk_msg.specs.Fills.{IsRequest}
-use Rattle.vdisk_msg.specs.Requested.{buffer_of, buffer_place}
-use Rattle.vdisk_msg.specs.Requests.{AreSound, defect, given_count}
 use Rattle.vio_bytes.proofs.Ranges.{length-range_at}
 use Rattle.vio_bytes.proofs.Putting.{length-put_at}
-use Rattle.vio_bytes.specs.Place.{put_at}
-use Rattle.vio_tag.specs.declared.cause.Cause.{Cause}
-use Rattle.channel_model.specs.WireEvent.{Blocked, Idle, Joined, Reset, Sent, Took}
 use Rattle.channel_laws.proofs.Apart.{some_same}
 use Rattle.lane_laws.specs.RequestLaws.{carried_count}
-use Rattle.disk_model.specs.ClientPutting.{client_opens}
 use Rattle.disk_model.specs.ClientRule.{Publishes, client_rule}
-use Rattle.disk_model.specs.ClientState.{ClientState, slot_in}
-use Rattle.disk_model.specs.ClientStep.{ClientAdmits, ClientCompletes, ClientPublishes, ClientSends, ClientStep, completed_slot}
-use Rattle.disk_model.specs.DiskEvent.{Accepted, Admitted, Desc, DiskEvent, Done, Finished, Full, Moved, OnWire, Published, Refused, Stored, Works}
-use Rattle.disk_model.specs.LaneState.{LaneState}
-use Rattle.disk_model.specs.LaneStep.{LaneStep}
-use Rattle.channel_model.specs.Seeing.{seen}
 use Rattle.disk_model.specs.ServerRule as server_rules
-use Rattle.disk_model.specs.ServerState.{Ends, Gathers, Gives, Progress, ServerSession, ServerState, Work}
-use Rattle.disk_model.specs.ServerStep.{ServerStep, ServerFails, WorkFails}
-use Rattle.cookie_copy.specs.Reach.{Reach}
-use Rattle.disk_model.specs.ServerWork.{EndFails, MovesIn, data_cookies, given_memory, header_of, slot_at, with_done, with_status}
 use Rattle.vdisk_msg.specs.Requested as asks_for
 use Rattle.lane_laws.proofs.MemoryStanding.{cleared_long, freed_long, given_within, moved_long, published_long, word_long}
 use Rattle.lane_laws.proofs.Requesting.{KeepsRequests, held_kept, published_kept}
@@ -36,7 +22,6 @@ use Rattle.lane_laws.proofs.LaneViews.{ClientActs, ClientAsked, ClientCalled, Cl
 use Rattle.lane_laws.proofs.StandingSteps.{client_kept, joined_client_kept, same_client}
 use Rattle.lane_laws.proofs.Ruling.{client_may}
 use Rattle.lane_laws.specs.MemoryStands.{MemoryStands, memory_long}
-use Rattle.lane_laws.specs.RuleFacts.{ClientMay}
 
 -- THE CLIENT clears the ring as its session opens, and writes a slot as it publishes or completes
 cleared_if : (b : Bool) (slots : ℕ) (memory : List ℕ) → length memory ≡ memory_long slots → length (if b then put_at 0 (free_slots 128 slots) memory else memory) ≡ length memory

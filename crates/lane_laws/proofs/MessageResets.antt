@@ -1,16 +1,10 @@
 -- A message of its session for which an end of a disk resets itself says why.
 use Rattle.std.proofs.Common.{◌≡◌, ℕ, Bool, true, false, None, List, refl, ap, ◌∙◌, subst}
 use Rattle.std.specs.Prelude.{◌==◌, if◌then◌else◌}
-use Rattle.vio_bytes.specs.Place.{number_at}
-use Rattle.vio_tag.specs.declared.cause.Cause.{Cause}
+use Rattle.channel_laws.specs.Vocabulary.{Cause, DringData, Message, SpellsBody, envelope_at, envelope_code, is_other, number_at}
 use Rattle.vio_tag.specs.declared.cause.Cause.TheVariants as the_cause
-use Rattle.vio_tag.specs.declared.message.Message.{Message}
-use Rattle.vio_tag.specs.declared.message.MsgBody.TheVariants.{DringData}
 use Rattle.vio_tag.specs.Fault.{first_fault}
-use Rattle.vio_tag.specs.Spelling.{SpellsBody, envelope_at, envelope_code}
-use Rattle.disk_model.specs.ClientState.{ClientState}
-use Rattle.channel_model.specs.Ranges.{is_other}
-use Rattle.disk_model.specs.ServerState.{ServerState, SlotRange}
+use Rattle.lane_laws.specs.Vocabulary.{ClientState, ServerState, SlotRange}
 use Rattle.channel_model.specs.ResetSays.{IsOther, MessageSays}
 use Rattle.channel_laws.proofs.LinkResets.{other_number}
 use Rattle.channel_laws.proofs.HandshakeResets.{Spelled}

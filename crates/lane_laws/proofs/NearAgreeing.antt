@@ -2,29 +2,16 @@
 use Rattle.std.proofs.Common.{◌≡◌, ℕ, ◌+◌, ◌-◌, ◌≤◌, Bool, true, false, Option, None, List, [], length, refl, sym, ap, ◌∙◌, arith}
 use Rattle.std.specs.Prelude.{max, ◌==◌, if◌then◌else◌, ⊤}
 use Rattle.std.proofs.lemmas.Bool.{eqb-true}
-use Rattle.runs.specs.Lawful.{log_of, run_lawful}
-use Rattle.runs.specs.Run.{Run}
-use Rattle.ldc_queue.specs.declared.end.End.{End}
-use Rattle.ldc_queue.specs.declared.end.End.TheVariants.{A, B}
-use Rattle.ldc_queue.specs.Wire.{peer_behind}
-use Rattle.vio_tag.specs.declared.cause.Cause.{Cause}
-use Rattle.channel_model.specs.WireEvent.{Joined, Reset, Sent, Took, WireEvent}
-use Rattle.channel_model.specs.WireLog.{WireLog, wire_moved}
+use Rattle.channel_laws.specs.Vocabulary.{A, B, Cause, End, Joined, Reset, Run, Sent, Took, WireEvent, WireLog, log_of, peer_behind, run_lawful, seen, wire_moved}
 use Rattle.channel_laws.proofs.Apart.{ends_differ}
-use Rattle.lane_laws.specs.Agreement.{NearAgrees}
-use Rattle.lane_laws.specs.DiskLog.{DiskLog, after, nothing_yet}
+use Rattle.lane_laws.specs.Vocabulary.{Accepted, Admitted, Asks, Calms, ClientState, Desc, DiskEvent, DiskLog, Done, Finished, Full, IsShape, LaneState, LaneStep, Misplaced, Moved, NearAgrees}
+use Rattle.lane_laws.specs.Vocabulary.{NearCounts, Off, OnWire, Published, Refused, ServerState, Shape, Started, Stopped, Stored, Switches, WireStep, WorkStep, Worked, Works, after}
+use Rattle.lane_laws.specs.Vocabulary.{ever_published_count, fresh, near_disturbed, nothing_yet, risen, stored_blocks, work_while}
 use Rattle.lane_laws.specs.NearLog.{NearLog, stored_more}
-use Rattle.disk_model.specs.ClientState.{ClientState, ever_published_count}
-use Rattle.disk_model.specs.DiskEvent.{Accepted, Admitted, Asks, Desc, DiskEvent, Done, Finished, Full, Misplaced, Moved, Off, OnWire, Published, Refused, Calms, Started, Stopped, Stored, Switches, Worked, Works}
-use Rattle.disk_model.specs.LaneState.{IsShape, LaneState, NearCounts, Shape, fresh, near_disturbed, risen}
-use Rattle.disk_model.specs.LaneStep.{LaneStep, WireStep, WorkStep, stored_blocks}
-use Rattle.channel_model.specs.Seeing.{seen}
-use Rattle.disk_model.specs.ServerState.{ServerState}
 use Rattle.lane_laws.proofs.RingLeaves.{OpensNot}
 use Rattle.lane_laws.proofs.RingRuns.{before as clean_before}
 use Rattle.lane_laws.proofs.SlotsStepping.{StepFacts}
 use Rattle.lane_laws.proofs.StandingSteps.{wire_only}
-use Rattle.lane_laws.specs.LaneView.{work_while}
 use Rattle.lane_laws.proofs.DoneChanges.{risen_one}
 use Rattle.lane_laws.proofs.LaneRuns.{AlongContents, at_step, contents_step, run_contents}
 use Rattle.lane_laws.proofs.Leaving.{client_opened}

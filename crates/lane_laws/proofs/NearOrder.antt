@@ -1,13 +1,8 @@
 -- On a lane that nobody forged what is finished, and what was published in an earlier session, was published; and what completes is finished.
 use Rattle.std.proofs.Common.{◌≡◌, ◌⊎◌, ℕ, ◌-◌, ◌≤◌, false, None, List, inl, inr, sym, ap, ◌∙◌, arith}
-use Rattle.runs.specs.Lawful.{Lawful, log_of}
-use Rattle.runs.specs.Run.{Run}
-use Rattle.disk_model.specs.DiskEvent.{DiskEvent, Done, Works}
-use Rattle.lane_laws.specs.DiskLog.{DiskLog, after, nothing_yet}
-use Rattle.disk_model.specs.LaneState.{IsShape, LaneState, Shape, fresh}
-use Rattle.disk_model.specs.LaneStep.{LaneStep}
+use Rattle.channel_laws.specs.Vocabulary.{Lawful, Run, WireLog, log_of}
+use Rattle.lane_laws.specs.Vocabulary.{DiskEvent, DiskLog, Done, IsShape, LaneState, LaneStep, Shape, Works, after, fresh, nothing_yet}
 use Rattle.lane_laws.specs.NearLaws.{NearAt, NearInOrder}
-use Rattle.channel_model.specs.WireLog.{WireLog}
 use Rattle.lane_laws.proofs.AlongRuns.{reached_lawful}
 use Rattle.lane_laws.proofs.LaneRuns.{before_of, run_contents}
 use Rattle.lane_laws.proofs.LiveCounts.{counts_while, zero_where}

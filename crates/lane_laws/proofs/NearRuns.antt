@@ -1,21 +1,12 @@
 -- Along every run of a lane that nobody forged and whose store didn't fail the image stays near, and a completion shows its content.
 use Rattle.std.proofs.Common.{◌≡◌, ℕ, zero, suc, ◌+◌, ◌-◌, ◌*◌, ◌<◌, ◌≤◌, ◌⊎◌, Bool, false, Some, List, ◌∷◌, drop, length, inl, inr, refl, sym, ap, ◌∙◌, subst, arith}
 use Rattle.std.specs.Prelude.{slice_get}
-use Rattle.vdisk_msg.specs.declared.request.Request.{Request}
-use Rattle.vdisk_msg.specs.declared.request.Request.TheVariants.{Flush, Read, Write}
-use Rattle.vdisk_msg.specs.Requested.{buffer_of, buffer_place}
-use Rattle.vdisk_msg.specs.Requests.{given_count}
+use Rattle.lane_laws.specs.Vocabulary.{DiskEvent, DiskLog, Flush, IsShape, LaneState, LaneStep, Misplaced, Read, Request, ServerWorks, Shape, Stored, Works, Write, after, buffer_of, buffer_place}
+use Rattle.lane_laws.specs.Vocabulary.{fresh, given_bytes, given_count, nothing_yet, view_of}
 use Rattle.vio_bytes.proofs.Ranges.{length-range_at, range_at-range_at}
 use Rattle.vio_bytes.specs.Range.{range_at}
-use Rattle.runs.specs.Lawful.{log_of}
-use Rattle.runs.specs.Run.{Run}
+use Rattle.channel_laws.specs.Vocabulary.{Run, WireLog, log_of}
 use Rattle.channel_laws.proofs.Apart.{some_same}
-use Rattle.lane_laws.specs.DiskLog.{DiskLog, after, nothing_yet}
-use Rattle.disk_model.specs.ClientStep.{given_bytes}
-use Rattle.disk_model.specs.DiskEvent.{DiskEvent, Misplaced, Stored, Works}
-use Rattle.disk_model.specs.LaneState.{IsShape, LaneState, Shape, fresh}
-use Rattle.disk_model.specs.LaneStep.{LaneStep, ServerWorks}
-use Rattle.channel_model.specs.WireLog.{WireLog}
 use Rattle.lane_laws.proofs.CarriedRuns.{all_step}
 use Rattle.lane_laws.proofs.RingRuns.{before as clean_before}
 use Rattle.lane_laws.proofs.SlotsStepping.{StepFacts}
@@ -23,7 +14,6 @@ use Rattle.lane_laws.specs.MemoryStands.{memory_long}
 use Rattle.lane_laws.specs.Blocks.{WritesBlock, block_at}
 use Rattle.lane_laws.specs.Contents.{ContentsStand}
 use Rattle.lane_laws.specs.ImageStep.{ImageStep, StoreDoes, StoresOn, content_after}
-use Rattle.lane_laws.specs.LaneView.{view_of}
 use Rattle.lane_laws.specs.Near.{FrontShows, IsNear, NearView}
 use Rattle.lane_laws.specs.NearContent.{PendingPuts, Shows}
 use Rattle.lane_laws.specs.ReadsNear.{BlocksShow}

@@ -1,17 +1,12 @@
 -- EACH KIND OF CHANGE leaves the image near, and what was read.
 use Rattle.std.proofs.Common.{◌≡◌, ℕ, suc, ◌+◌, ◌-◌, ◌*◌, ◌/◌, ◌<◌, ◌⊎◌, List, ◌∷◌, length, Option, Some, None, inl, inr, refl, sym, ap, ◌∙◌, subst, arith}
-use Rattle.vdisk_msg.specs.declared.request.Request.{Request}
-use Rattle.vdisk_msg.specs.declared.request.Request.TheVariants.{Write}
-use Rattle.vdisk_msg.specs.Requests.{AreSound, after_request, written}
+use Rattle.lane_laws.specs.Vocabulary.{AreSound, Ends, Progress, Request, View, Work, Write, Writes, after_request, unit_length, written}
 use Rattle.vio_bytes.proofs.Putting.{length-put_at}
 use Rattle.vio_bytes.specs.Place.{put_at}
 use Rattle.vio_bytes.specs.Range.{range_at}
-use Rattle.disk_model.specs.ServerState.{Ends, Progress, Work, Writes}
-use Rattle.disk_model.specs.ServerWork.{unit_length}
 use Rattle.lane_laws.proofs.MemorySteps.{got_sound}
 use Rattle.lane_laws.specs.Contents.{ContentsStand, ProgressIs}
 use Rattle.lane_laws.specs.ImageStep.{front_done}
-use Rattle.lane_laws.specs.LaneView.{View}
 use Rattle.lane_laws.specs.Near.{NearView}
 use Rattle.lane_laws.specs.NearContent.{NearContent}
 use Rattle.lane_laws.proofs.BlockWrites.{admitted_blocks, after_long}

@@ -3,28 +3,16 @@
 use Rattle.std.proofs.Common.{◌≡◌, ℕ, ◌⊎◌, inl, inr, Bool, true, false, Option, Some, None, List, refl, sym, ap, ◌∙◌}
 use Rattle.std.specs.Prelude.{◌&&◌, ◌||◌, is_none, is_some}
 use Rattle.ldc_link.specs.declared.phase.LinkPhase.TheVariants as phase
-use Rattle.ldc_link.specs.declared.phase.Role.TheVariants.{Initiator}
-use Rattle.ldc_link.specs.LinkState.{LinkState}
-use Rattle.ldc_link.specs.Putting.{owes, owes_control, owes_in}
-use Rattle.ldc_queue.specs.Transcript.{Turn}
-use Rattle.vio_tag.specs.declared.message.Message.{Message}
-use Rattle.lane_laws.specs.WorkLog.{ServerCounts}
-use Rattle.disk_model.specs.ClientPutting.{client_holds, is_announcing}
+use Rattle.channel_laws.specs.Vocabulary.{EndStands, Initiator, LinkState, Message, Seen, Turn, owes, owes_control, owes_in}
+use Rattle.lane_laws.specs.Vocabulary.{ClientSession, ClientState, ServerCounted, ServerCounts, ServerState, Shape, client_core, client_holds, is_announcing}
 use Rattle.disk_model.specs.ClientRule as client
-use Rattle.disk_model.specs.ClientState.{ClientSession, ClientState}
-use Rattle.disk_model.specs.LaneState.{Shape}
-use Rattle.channel_model.specs.Seeing.{Seen}
 use Rattle.disk_model.specs.ServerPutting.{server_holds}
 use Rattle.disk_model.specs.ServerRule as server
-use Rattle.disk_model.specs.ServerState.{ServerState}
 use Rattle.channel_laws.proofs.ManyWait.{owes_some}
 use Rattle.lane_laws.proofs.RulesFree.{ServerFree, server_free, urgent_or_none}
 use Rattle.lane_laws.proofs.RuleTests.{client_tested}
 use Rattle.channel_laws.proofs.Apart.{none_is_some}
-use Rattle.channel_laws.specs.Standing.{EndStands}
 use Rattle.channel_laws.proofs.MessagesHeld.{owed_held}
-use Rattle.lane_laws.specs.ChannelEnds.{client_core}
-use Rattle.lane_laws.specs.Counted.{ServerCounted}
 
 -- A CLIENT for which a packet waits holds a message only where that goes before taking
 pub holds_urgent : (s : ClientState) (at : Seen) (packet : List ℕ) (t : ClientState) → at.first ≡ Some packet → client_holds (client.client_rule s at) s ≡ Some t → client.is_urgent s ≡ true

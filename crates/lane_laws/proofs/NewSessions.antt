@@ -1,16 +1,10 @@
 -- Behind what ends sessions an end works only in one that opened since: until then it has none while it is up.
 use Rattle.std.proofs.Common.{◌≡◌, true, false, Option, Some, None, List, [], ◌∷◌, ◌++◌, inl, inr, ◌⊎◌, refl, subst}
-use Rattle.runs.specs.Lawful.{Lawful, lawful_split, log_of}
-use Rattle.ldc_queue.specs.declared.end.End.{End}
-use Rattle.ldc_queue.specs.declared.end.End.TheVariants.{A, B}
-use Rattle.disk_model.specs.DiskEvent.{Accepted, Asks, Desc, DiskEvent, Done, Finished, Moved, OnWire, Published, Stopped, Stored, Switches, Worked, Works}
-use Rattle.lane_laws.specs.DiskLog.{DiskLog, after, nothing_yet}
-use Rattle.disk_model.specs.LaneState.{Shape}
+use Rattle.channel_laws.specs.Vocabulary.{A, B, End, Injected, IsUp, Joined, Lawful, Lost, Reset, Sent, Took, lawful_split, log_of}
+use Rattle.lane_laws.specs.Vocabulary.{Accepted, Asks, ClientCounts, Desc, DiskEvent, DiskLog, Done, Finished, FinishesPiece, InClient, InServer, MayComplete, MayFetch, MayPublish, Moved}
+use Rattle.lane_laws.specs.Vocabulary.{MovesPiece, OnWire, Published, ServerCounts, Shape, Stopped, Stored, StoresPiece, Switches, WorkLog, Worked, Works, after, change_client, change_server}
+use Rattle.lane_laws.specs.Vocabulary.{nothing_yet}
 use Rattle.lane_laws.specs.May.{IsLawful, May}
-use Rattle.channel_model.specs.WireAt.{IsUp}
-use Rattle.channel_model.specs.WireEvent.{Injected, Joined, Lost, Reset, Sent, Took}
-use Rattle.lane_laws.specs.WorkLaws.{FinishesPiece, InClient, InServer, MayComplete, MayFetch, MayPublish, MovesPiece, StoresPiece}
-use Rattle.lane_laws.specs.WorkLog.{ClientCounts, ServerCounts, WorkLog, change_client, change_server}
 use Rattle.lane_laws.proofs.SlotsStepping.{behind_up, upset_not}
 use Rattle.lane_laws.specs.NewSessions.{EndsSessions, OpensAmong, OpensAt, WorkOf}
 

@@ -5,8 +5,7 @@ use Rattle.std.specs.Prelude.{◌==◌, slice_index}
 use Rattle.std.proofs.lemmas.Bool.Decides.{nat_tests}
 use Rattle.std.proofs.lemmas.Nat.{mod_below}
 use Rattle.std.specs.List.{list_all}
-use Rattle.runs.specs.Lawful.{log_of}
-use Rattle.runs.specs.Run.{Run}
+use Rattle.channel_laws.specs.Vocabulary.{A, B, Cause, Run, Up, WireLog, log_of, seen, wrapped}
 use Rattle.cookie_copy.proofs.OwnPages.{no_fault_range}
 use Rattle.cookie_copy.specs.declared.fault.Access.TheVariants as access
 use Rattle.cookie_copy.specs.declared.fault.CopyFault.{CopyFault}
@@ -15,30 +14,14 @@ use Rattle.dring.proofs.Turning.{slot_fits}
 use Rattle.dring.specs.declared.peer.RingFault.{RingFault}
 use Rattle.dring.specs.declared.peer.RingFault.TheVariants as refused
 use Rattle.dring.specs.Reaching.{RefusesFetch}
-use Rattle.dring.specs.Slots.{done_state, slot_bytes}
-use Rattle.ldc_queue.specs.declared.end.ChannelState.TheVariants.{Up}
-use Rattle.ldc_queue.specs.declared.end.End.TheVariants.{A, B}
+use Rattle.lane_laws.specs.Vocabulary.{ClientMay, ClientSession, DiskEvent, DiskLog, EndFails, FetchFails, HoldsIssued, IfServer, IsShape, LaneState, LaneStep, Reach, ServerCounts, ServerMay}
+use Rattle.lane_laws.specs.Vocabulary.{ServerSession, ServerState, Shape, Work, WorkAgrees, after, completed_descriptor, done_state, fetch_fault, fresh, nothing_yet, pages_of, reach, ring_in}
+use Rattle.lane_laws.specs.Vocabulary.{slot_at, slot_bytes, slot_fetched, slots_cookies, word_fault}
 use Rattle.map_table.specs.declared.cookie.Cookie.{Cookie}
 use Rattle.vdisk_msg.specs.declared.desc.DiskDesc.{DiskDesc}
-use Rattle.vio_tag.specs.declared.cause.Cause.{Cause}
-use Rattle.channel_model.specs.WireLog.{WireLog}
-use Rattle.lane_laws.specs.Agreement.{WorkAgrees}
-use Rattle.lane_laws.specs.DiskLog.{DiskLog, after, nothing_yet}
-use Rattle.lane_laws.specs.WorkLaws.{IfServer}
-use Rattle.lane_laws.specs.WorkLog.{ServerCounts}
 use Rattle.disk_model.specs.ClientRule as client_rules
-use Rattle.disk_model.specs.ClientState.{ClientSession}
-use Rattle.disk_model.specs.ClientStep.{completed_descriptor}
-use Rattle.disk_model.specs.DiskEvent.{DiskEvent}
-use Rattle.disk_model.specs.LaneState.{IsShape, LaneState, Shape, fresh, pages_of}
-use Rattle.disk_model.specs.LaneStep.{LaneStep, reach}
 use Rattle.disk_model.specs.Offering.{own_cookies}
-use Rattle.channel_model.specs.Ranges.{wrapped}
-use Rattle.channel_model.specs.Seeing.{seen}
 use Rattle.disk_model.specs.ServerRule as server_rules
-use Rattle.disk_model.specs.ServerState.{ServerSession, ServerState, Work}
-use Rattle.cookie_copy.specs.Reach.{Reach}
-use Rattle.disk_model.specs.ServerWork.{EndFails, FetchFails, fetch_fault, slot_at, slot_fetched, slots_cookies, word_fault}
 use Rattle.lane_laws.proofs.Agreeing.{always_agree, server_alive}
 use Rattle.lane_laws.proofs.LaneCounting.{run_knows}
 use Rattle.lane_laws.proofs.RingAlong.{run_ring}
@@ -53,9 +36,6 @@ use Rattle.lane_laws.proofs.RulesFree.{ServerFree, server_free}
 use Rattle.lane_laws.proofs.Ruling.{client_may, server_may}
 use Rattle.lane_laws.proofs.SlotBytes.{reads_back, ready_byte}
 use Rattle.lane_laws.proofs.SlotsAlong.{run_order}
-use Rattle.lane_laws.specs.RingAgreed.{ring_in}
-use Rattle.lane_laws.specs.RingSlots.{HoldsIssued}
-use Rattle.lane_laws.specs.RuleFacts.{ClientMay, ServerMay}
 use Rattle.lane_laws.specs.SlotsInOrder.{RingInOrder}
 use Rattle.channel_laws.proofs.Apart.{none_is_some}
 use Rattle.lane_laws.proofs.WorkUnits.{both_are}

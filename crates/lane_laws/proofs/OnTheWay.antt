@@ -3,30 +3,12 @@
 use Rattle.std.proofs.Common.{◌≡◌, ℕ, ◌+◌, ◌%◌, ◌≤◌, Bool, true, false, Option, Some, None, List, [], ◌∷◌, ◌++◌, cond, drop, drop_at, filter, length, inl, inr, refl, sym, ap, ◌∙◌, subst, arith}
 use Rattle.std.specs.Prelude.{is_some}
 use Rattle.std.proofs.lemmas.Nat.{mod_below}
-use Rattle.runs.specs.Lawful.{log_of}
-use Rattle.runs.specs.Run.{Run}
-use Rattle.ldc_link.specs.declared.phase.Role.{Role}
-use Rattle.ldc_link.specs.declared.phase.Role.TheVariants.{Initiator, Responder}
-use Rattle.ldc_packet.specs.declared.packet.Subtype.TheVariants.{Ack, Info}
-use Rattle.ldc_queue.specs.declared.end.ChannelState.{ChannelState}
-use Rattle.ldc_queue.specs.declared.end.ChannelState.TheVariants.{Up}
-use Rattle.ldc_queue.specs.declared.end.End.TheVariants.{A, B}
+use Rattle.channel_laws.specs.Vocabulary.{A, Ack, B, ChannelState, Info, Initiator, IsFront, OneWay, Responder, Role, Run, TranscriptLog, Turn, Up, WireLog, heard, is_range, live, log_of}
+use Rattle.channel_laws.specs.Vocabulary.{numbered_heard, numbered_said, range_if, said, seq_of, start_of, wrapped}
 use Rattle.ldc_queue.specs.Numbered.{numbered}
-use Rattle.ldc_queue.specs.OneStream.{IsFront, OneWay, live}
-use Rattle.ldc_queue.specs.Transcript.{Turn, numbered_heard, numbered_said}
-use Rattle.lane_laws.specs.Agreement.{ServerAgrees}
-use Rattle.disk_model.specs.DiskEvent.{DiskEvent}
-use Rattle.lane_laws.specs.DiskLog.{DiskLog, after, nothing_yet}
-use Rattle.disk_model.specs.LaneState.{IsShape, LaneState, Shape, fresh}
-use Rattle.disk_model.specs.LaneStep.{LaneStep}
-use Rattle.channel_model.specs.Messages.{end_of, is_range, range_if, seq_of, start_of}
-use Rattle.channel_model.specs.Ranges.{wrapped}
-use Rattle.dring.specs.Slots.{range_length}
-use Rattle.channel_model.specs.Sayings.{heard, said}
-use Rattle.disk_model.specs.ServerState.{ServerSession, Work}
-use Rattle.channel_model.specs.TranscriptLog.{TranscriptLog}
-use Rattle.channel_model.specs.WireLog.{WireLog}
-use Rattle.lane_laws.specs.WorkLog.{ClientCounts, ServerCounts, length_in, one_in}
+use Rattle.lane_laws.specs.Vocabulary.{ClientCounts, DiskEvent, DiskLog, IsShape, LaneState, LaneStep, ServerAgrees, ServerCounts, ServerOrder, ServerSession, Shape, Work, after, client_core}
+use Rattle.lane_laws.specs.Vocabulary.{fresh, length_in, nothing_yet, one_in, range_count, range_length, range_sum}
+use Rattle.channel_model.specs.Messages.{end_of}
 use Rattle.channel_laws.proofs.HandshakesPlaced.{up_or}
 use Rattle.channel_laws.proofs.Sessions.{open_heard}
 use Rattle.lane_laws.proofs.AckedFinished.{same_ranges}
@@ -37,10 +19,8 @@ use Rattle.lane_laws.proofs.LaneCounting.{Knows, counted_client, counted_server,
 use Rattle.lane_laws.proofs.RangesSaid.{end_is, is_data, other_envelope, seq_is, start_is}
 use Rattle.lane_laws.proofs.RangesTold.{EachSaid, IsApart, IsData, IsEither, code_of, subtype_of, they_tell}
 use Rattle.lane_laws.proofs.ServerCounting.{wraps_more}
-use Rattle.lane_laws.specs.Counted.{ServerOrder, range_count, range_sum}
 use Rattle.lane_laws.specs.LaneTranscripts.{transcript_behind}
 use Rattle.lane_laws.specs.OnTheWay.{NameAll, OnTheWay, SeqsFrom, WaitsOrLost, answered_by, asked_by, expected_by, ranges_behind}
-use Rattle.lane_laws.specs.ChannelEnds.{client_core}
 
 same_names : (slots from other to goal : ℕ) (messages : List (List ℕ)) → from ≡ other → to ≡ goal → NameAll slots from to messages → NameAll slots other goal messages
 same_names slots from other to goal messages begins ends names =

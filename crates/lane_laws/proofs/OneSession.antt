@@ -1,16 +1,11 @@
 -- The open sessions of both ends of a lane that nobody forged are one.
 use Rattle.std.proofs.Common.{◌≡◌, false, true, List, map, sym, ◌∙◌}
 use Rattle.std.specs.Prelude.{is_some}
-use Rattle.ldc_queue.specs.declared.end.End.TheVariants.{B}
-use Rattle.channel_model.specs.WireAt.{IsUp}
-use Rattle.runs.specs.Run.{Run}
-use Rattle.disk_model.specs.DiskEvent.{DiskEvent}
-use Rattle.disk_model.specs.LaneState.{IsShape, LaneState, Shape, fresh}
-use Rattle.disk_model.specs.LaneStep.{LaneStep}
+use Rattle.channel_laws.specs.Vocabulary.{B, IsUp, Run}
+use Rattle.lane_laws.specs.Vocabulary.{DiskEvent, IsShape, LaneState, LaneStep, Shape, core_event, core_of, fresh}
 use Rattle.channel_laws.proofs.Sessions.{PeerIsOpen, open_sessions_begin, open_sessions_one}
 use Rattle.lane_laws.proofs.LaneChannel.{answers_of, asks_of, lane_matches}
 use Rattle.lane_laws.proofs.LaneCores.{lane_cores, lane_fits}
-use Rattle.lane_laws.specs.ChannelEnds.{core_event, core_of}
 use Rattle.lane_laws.specs.OneSession.{AreOneSession}
 
 pub one_session : (shape : Shape) (events : List DiskEvent) (s : LaneState) → IsShape shape → Run LaneStep (fresh shape) events s

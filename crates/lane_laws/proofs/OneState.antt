@@ -1,28 +1,13 @@
 -- Two lanes that agree with one log are the same, but for their memories and what the log has no bytes of.
 use Rattle.std.proofs.Common.{◌≡◌, ℕ, ◌+◌, ◌-◌, ◌%◌, Bool, true, false, Option, Some, None, List, refl, sym, ap, ◌∙◌, subst, arith}
 use Rattle.std.specs.Prelude.{is_some, ◌&&◌}
-use Rattle.ldc_link.specs.declared.phase.LinkPhase.{LinkPhase}
-use Rattle.ldc_link.specs.declared.phase.Role.{Role}
-use Rattle.ldc_link.specs.LinkState.{LinkState}
-use Rattle.ldc_queue.specs.Transcript.{Turn}
-use Rattle.vio_tag.specs.declared.message.Message.{Message}
-use Rattle.vio_tag.specs.declared.message.MsgBody.TheVariants.{DringData}
-use Rattle.vio_tag.specs.Spelling.{canonical}
-use Rattle.vio_handshake.specs.declared.handshake.Handshake.{Handshake}
+use Rattle.channel_laws.specs.Vocabulary.{DringData, Handshake, LinkPhase, LinkState, Message, Role, Turn, WireLog, canonical, half_said, wrapped}
 use Rattle.vio_handshake.specs.Messages.{ack, info}
-use Rattle.lane_laws.specs.Agreement.{AgreesWithLog, ClientAgrees, LinkAgrees, NearAgrees, RangeAgrees, ServerAgrees, WorkAgrees, WorkNextAgrees}
+use Rattle.lane_laws.specs.Vocabulary.{AgreesWithLog, ClientAgrees, ClientCounts, ClientSession, ClientState, DiskLog, LaneState, LinkAgrees, NearAgrees, NearCounts, RangeAgrees, ServerAgrees}
+use Rattle.lane_laws.specs.Vocabulary.{ServerCounts, ServerSession, ServerState, SlotRange, Work, WorkAgrees, WorkNextAgrees, is_announcing}
 use Rattle.lane_laws.specs.BlockLog.{Blockage}
-use Rattle.disk_model.specs.ClientPutting.{is_announcing}
-use Rattle.disk_model.specs.ClientState.{ClientSession, ClientState}
-use Rattle.lane_laws.specs.DiskLog.{DiskLog}
 use Rattle.lane_laws.specs.EndLog.{announced_or_owed, answer_left, client_left, is_stuck_with_own, left_of, owed_left, range_left, server_left}
-use Rattle.disk_model.specs.LaneState.{LaneState, NearCounts}
-use Rattle.channel_model.specs.WireLog.{WireLog}
 use Rattle.lane_laws.specs.NearLog.{NearLog}
-use Rattle.channel_model.specs.Ranges.{wrapped}
-use Rattle.channel_model.specs.Sayings.{half_said}
-use Rattle.disk_model.specs.ServerState.{ServerSession, ServerState, SlotRange, Work}
-use Rattle.lane_laws.specs.WorkLog.{ClientCounts, ServerCounts}
 use Rattle.lane_laws.specs.SameEnds.{SameClient, SameLane, SameServer, SameWork}
 
 -- LINKS are one where their fields are

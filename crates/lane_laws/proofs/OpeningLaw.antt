@@ -1,24 +1,12 @@
 -- Along every run each session opens in the handshake's order.
 use Rattle.std.proofs.Common.{ℕ, Bool, true, false, List, ◌∷◌, map, subst}
-use Rattle.runs.specs.Lawful.{Lawful, log_of}
-use Rattle.runs.specs.Run.{Run}
-use Rattle.ldc_link.specs.declared.phase.Role.TheVariants.{Initiator, Responder}
-use Rattle.ldc_queue.specs.declared.end.End.{End}
-use Rattle.ldc_queue.specs.declared.end.End.TheVariants.{A, B}
-use Rattle.ldc_queue.specs.Transcript.{Heard, Said}
+use Rattle.channel_laws.specs.Vocabulary.{A, B, End, Heard, Initiator, Lawful, Responder, Run, Said, Sent, Took, TranscriptLog, hears, log_of, says}
 use Rattle.channel_model.specs.HandshakeOrder.{HandshakeOrder}
-use Rattle.channel_model.specs.TranscriptLog.{TranscriptLog, hears, says}
-use Rattle.channel_model.specs.WireEvent.{Sent, Took}
-use Rattle.lane_laws.specs.DiskLog.{after, nothing_yet}
-use Rattle.lane_laws.specs.WorkLaws.{OpeningsAt, OpensRightly}
-use Rattle.disk_model.specs.DiskEvent.{DiskEvent, OnWire}
-use Rattle.disk_model.specs.LaneState.{IsShape, LaneState, Shape, fresh}
-use Rattle.disk_model.specs.LaneStep.{LaneStep}
+use Rattle.lane_laws.specs.Vocabulary.{DiskEvent, IsShape, LaneState, LaneStep, OnWire, OpeningsAt, OpensRightly, Shape, after, core_event, core_of, fresh, nothing_yet}
 use Rattle.channel_laws.proofs.OpeningOrder.{opens_hearing, opens_saying}
 use Rattle.lane_laws.proofs.AlongRuns.{reached_lawful}
 use Rattle.lane_laws.proofs.LaneChannel.{answers_of, asks_of}
 use Rattle.lane_laws.proofs.LaneCores.{lane_cores, lane_fits, lane_steps, said_in_log}
-use Rattle.lane_laws.specs.ChannelEnds.{core_event, core_of}
 
 -- a lane that is reached
 record At (shape : Shape) (events : List DiskEvent) (s : LaneState) : Type 0 where

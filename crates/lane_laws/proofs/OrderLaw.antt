@@ -1,36 +1,15 @@
 -- An end does what its session has to do before it takes a packet, and a client takes before it publishes.
 use Rattle.std.proofs.Common.{◌≡◌, ℕ, ◌+◌, ◌-◌, ◌≤◌, Bool, true, false, Option, Some, None, List, refl, sym, ap, ◌∙◌, subst, arith, length, length-drop}
 use Rattle.std.specs.Prelude.{◌&&◌, ◌||◌, is_none, is_some}
-use Rattle.cookie_copy.specs.Reach.{Reach}
-use Rattle.ldc_link.specs.LinkState.{LinkState}
-use Rattle.ldc_link.specs.Putting.{owes, owes_control, owes_in}
-use Rattle.ldc_link.specs.declared.phase.Role.TheVariants.{Initiator}
-use Rattle.ldc_queue.specs.declared.end.End.{End}
-use Rattle.ldc_queue.specs.declared.end.End.TheVariants.{A, B}
-use Rattle.ldc_queue.specs.Wire.{waiting_for}
-use Rattle.vdisk_msg.specs.declared.request.Request.{Request}
-use Rattle.vio_handshake.specs.declared.handshake.Handshake.{Handshake}
-use Rattle.vio_tag.specs.declared.cause.Cause.{Cause}
-use Rattle.channel_model.specs.Seeing.{Seen}
-use Rattle.channel_model.specs.WireEvent.{Blocked, ByRestart, ByScript, ByStep, ByTick, Giver, Idle, Reset, Sent, Took, giver}
-use Rattle.disk_model.specs.ClientPutting.{client_holds, is_announcing}
+use Rattle.lane_laws.specs.Vocabulary.{CallsReset, ClientCounts, ClientFails, ClientMay, ClientSession, ClientState, Desc, DiskEvent, DiskLog, Done, EndOnWire, InOrder, InServerOrder, LaneState}
+use Rattle.lane_laws.specs.Vocabulary.{LaneStep, Misplaced, OnWire, Published, RangeStands, Reach, Request, ResetBy, ServerCounts, ServerFails, ServerSession, ServerState, SlotRange, Work, Works}
+use Rattle.lane_laws.specs.Vocabulary.{client_core, client_holds, is_announcing, joined_client, joined_server, reach, restarted_server}
+use Rattle.channel_laws.specs.Vocabulary.{A, B, Blocked, ByRestart, ByScript, ByStep, ByTick, Cause, End, Giver, Handshake, Idle, Initiator, LinkState, Reset, Seen, Sent, Took, giver, owes}
+use Rattle.channel_laws.specs.Vocabulary.{owes_control, owes_in, waiting_for}
 use Rattle.disk_model.specs.ClientRule as client
-use Rattle.disk_model.specs.ClientState.{ClientSession, ClientState, joined_client}
-use Rattle.disk_model.specs.ClientStep.{ClientFails}
-use Rattle.disk_model.specs.DiskEvent.{Desc, DiskEvent, Done, Misplaced, OnWire, Published, Works}
-use Rattle.disk_model.specs.LaneState.{LaneState}
-use Rattle.disk_model.specs.LaneStep.{CallsReset, EndOnWire, LaneStep, ResetBy, reach}
 use Rattle.disk_model.specs.ServerRule as server
-use Rattle.disk_model.specs.ServerState.{ServerSession, ServerState, SlotRange, Work, joined_server, restarted_server}
-use Rattle.disk_model.specs.ServerStep.{ServerFails}
 use Rattle.lane_laws.specs.BlockLog.{Clear}
-use Rattle.lane_laws.specs.ChannelEnds.{client_core}
-use Rattle.lane_laws.specs.Counted.{InServerOrder, RangeStands}
-use Rattle.lane_laws.specs.DiskLog.{DiskLog}
 use Rattle.lane_laws.specs.OrderLaws.{HasAnswered, HasCompleted, HasPublished, OrderAt, OwesNothing, PublishesAt, PutsAt, ServesAt, TakesAt}
-use Rattle.lane_laws.specs.RuleFacts.{ClientMay}
-use Rattle.lane_laws.specs.Sound.{InOrder}
-use Rattle.lane_laws.specs.WorkLog.{ClientCounts, ServerCounts}
 use Rattle.lane_laws.proofs.BlockedLaw.{Told, client_to_put, server_to_put}
 use Rattle.lane_laws.proofs.ClientFolds.{calm_up, not_stuck, sends_some}
 use Rattle.lane_laws.proofs.Counting.{OfServer, of_client, of_server}

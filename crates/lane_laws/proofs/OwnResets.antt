@@ -1,24 +1,11 @@
 -- Where nobody forged, an end resets itself for a gap alone, and only once a packet was lost.
 use Rattle.std.proofs.Common.{◌≡◌, ℕ, false, Option, List, refl, sym, ap, ◌∙◌, subst, inl, inr}
-use Rattle.runs.specs.Lawful.{Lawful}
-use Rattle.runs.specs.Run.{Run}
-use Rattle.ldc_queue.specs.declared.end.End.{End}
-use Rattle.ldc_queue.specs.declared.end.End.TheVariants.{A, B}
-use Rattle.vio_tag.specs.declared.cause.Cause.{Cause}
-use Rattle.channel_model.specs.WireAt.{IsOwnReset, UnforgedReset}
-use Rattle.channel_model.specs.WireEvent.{ByStep, Giver, Reset, giver}
-use Rattle.channel_model.specs.WireLog.{WireLog}
-use Rattle.lane_laws.specs.DiskLog.{after, nothing_yet}
+use Rattle.channel_laws.specs.Vocabulary.{A, B, ByStep, Cause, End, Giver, IsOwnReset, Lawful, Reset, Run, UnforgedReset, WireLog, giver, seen}
+use Rattle.lane_laws.specs.Vocabulary.{ClientFails, DiskEvent, EndOnWire, Ends, IsShape, LaneState, LaneStep, OnWire, Progress, ResetBy, ServerFails, ServerSession, Shape, Work, WorkFails, after}
+use Rattle.lane_laws.specs.Vocabulary.{fresh, nothing_yet, reach}
 use Rattle.disk_model.specs.ClientRule as client_rules
-use Rattle.disk_model.specs.ClientStep.{ClientFails}
 use Rattle.disk_model.specs.ClientTaking as client
-use Rattle.disk_model.specs.DiskEvent.{DiskEvent, OnWire}
-use Rattle.disk_model.specs.LaneState.{IsShape, LaneState, Shape, fresh}
-use Rattle.disk_model.specs.LaneStep.{EndOnWire, LaneStep, ResetBy, reach}
-use Rattle.channel_model.specs.Seeing.{seen}
 use Rattle.disk_model.specs.ServerRule as server_rules
-use Rattle.disk_model.specs.ServerState.{Ends, Progress, ServerSession, Work}
-use Rattle.disk_model.specs.ServerStep.{ServerFails, WorkFails}
 use Rattle.disk_model.specs.ServerTaking as server
 use Rattle.lane_laws.proofs.ClientInSession.{client_hears_in_session}
 use Rattle.lane_laws.proofs.LaneCounting.{run_knows}

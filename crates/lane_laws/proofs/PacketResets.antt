@@ -1,44 +1,24 @@
 -- Where nobody forged, a packet for which an end resets itself is a gap after a loss, or ends a message that the end hears badly in session.
 use Rattle.std.proofs.Common.{◌≡◌, ℕ, Bool, true, false, Option, Some, None, List, [], ◌∷◌, ◌++◌, refl, sym, ap, ◌∙◌, subst, ◌⊎◌, inl, inr}
 use Rattle.std.specs.Prelude.{is_some}
-use Rattle.runs.specs.Run.{Run}
-use Rattle.ldc_link.specs.declared.phase.Role.TheVariants.{Initiator, Responder}
-use Rattle.ldc_link.specs.LinkState.{LinkState}
-use Rattle.ldc_link.specs.Taking.{Heard, LinkTake, TakesBytes, Unheard}
-use Rattle.ldc_queue.specs.declared.end.ChannelState.{ChannelState}
-use Rattle.ldc_queue.specs.declared.end.ChannelState.TheVariants.{Down, Resetting, Up}
-use Rattle.ldc_queue.specs.declared.end.End.TheVariants.{A, B}
-use Rattle.ldc_queue.specs.OneStream.{IsFront}
-use Rattle.ldc_queue.specs.Transcript.{Heard as Heard_, Turn}
-use Rattle.vio_tag.specs.declared.cause.Cause.{Cause}
-use Rattle.channel_model.specs.EndPuts.{handshake_risen}
-use Rattle.channel_model.specs.Sayings.{heard, said}
-use Rattle.channel_model.specs.TranscriptLog.{TranscriptLog}
-use Rattle.channel_model.specs.WireAt.{IsOwnReset}
-use Rattle.channel_model.specs.WireLog.{WireLog}
+use Rattle.channel_laws.specs.Vocabulary.{A, B, Cause, ChannelState, Down, Heard as Heard_, Initiator, IsFront, IsOwnReset, LinkState, LinkTake, Resetting, Responder, Run, Sides, TakesBytes}
+use Rattle.channel_laws.specs.Vocabulary.{TranscriptLog, Turn, Unheard, Up, WireLog, handshake_risen, heard, said, seen, sides_of, swapped}
+use Rattle.ldc_link.specs.Taking.{Heard}
 use Rattle.disk_model.specs.ClientRule as client_rules
-use Rattle.disk_model.specs.ClientState.{ClientSession}
+use Rattle.lane_laws.specs.Vocabulary.{ClientMay, ClientSession, DiskEvent, IsShape, LaneState, LaneStep, ServerMay, ServerSession, Shape, core_of, fresh}
 use Rattle.disk_model.specs.ClientTaking as client
-use Rattle.disk_model.specs.DiskEvent.{DiskEvent}
-use Rattle.disk_model.specs.LaneState.{IsShape, LaneState, Shape, fresh}
-use Rattle.disk_model.specs.LaneStep.{LaneStep}
-use Rattle.channel_model.specs.Seeing.{seen}
 use Rattle.disk_model.specs.ServerRule as server_rules
-use Rattle.disk_model.specs.ServerState.{ServerSession}
 use Rattle.disk_model.specs.ServerTaking as server
 use Rattle.channel_laws.proofs.ConversingRuns.{HeardFrom, hears_next}
 use Rattle.channel_laws.proofs.LinkRefuses.{link_refuses}
 use Rattle.channel_laws.proofs.UnforgedResets.{side_fails}
 use Rattle.channel_laws.specs.Resetting.{IsGapBehindLoss}
-use Rattle.channel_laws.specs.Sides.{Sides, sides_of, swapped}
 use Rattle.lane_laws.proofs.ClientMoves.{client_refuses}
 use Rattle.lane_laws.proofs.LaneChannel.{OnLane, answers_of, asks_of, lane_matches, lane_meets, lane_meets_other, transcript_in}
 use Rattle.lane_laws.proofs.Ruling.{client_may, server_may}
 use Rattle.lane_laws.proofs.ServerMoves.{server_refuses}
 use Rattle.channel_laws.proofs.EndCases.{link_hears}
 use Rattle.channel_laws.proofs.TurnCases.{with_whole}
-use Rattle.lane_laws.specs.ChannelEnds.{core_of}
-use Rattle.lane_laws.specs.RuleFacts.{ClientMay, ServerMay}
 
 -- THE NEXT MESSAGE: the other end is up, and said it after all that this end heard
 pub record NextHeard (mine theirs : List Turn) (peer : ChannelState) (message : List ℕ) : Type 0 where

@@ -3,8 +3,7 @@
 use Rattle.std.proofs.Common.{◌≡◌, ℕ, zero, suc, ◌-◌, ◌*◌, ◌<◌, ◌≤◌, ◌⊎◌, List, [], ◌∷◌, ◌++◌, length, take, Some, inl, inr, refl, sym, ap, ◌∙◌, subst, arith}
 use Rattle.std.specs.Prelude.{slice_get}
 use Rattle.std.proofs.lemmas.List.{take-append-le}
-use Rattle.vdisk_msg.specs.declared.request.Request.{Request}
-use Rattle.vdisk_msg.specs.Requests.{AreSound, after_request}
+use Rattle.lane_laws.specs.Vocabulary.{AreSound, Request, after_request}
 use Rattle.lane_laws.proofs.SlotBytes.{issued_more}
 use Rattle.lane_laws.specs.Blocks.{WritesBlock, after_requests, block_at}
 use Rattle.lane_laws.specs.NearContent.{PendingPuts, Shows}

@@ -2,7 +2,9 @@
 use Rattle.std.proofs.Common.{◌≡◌, ℕ, ◌^◌, zero, suc, ◌+◌, ◌-◌, ◌*◌, ◌/◌, ◌%◌, ◌<◌, ◌≤◌, min, Bool, true, false, Option, Some, List, [], ◌∷◌, ◌++◌, take, refl, sym, ap, ◌∙◌, subst, arith}
 use Rattle.std.specs.Prelude.{if◌then◌else◌, ◌==◌, slice_index}
 use Rattle.std.proofs.lemmas.Bool.{eqb-true}
-use Rattle.dring.specs.Slots.{ready_state}
+use Rattle.lane_laws.specs.Vocabulary.{Desc, DiskEvent, DiskLog, Finished, FinishesPiece, Flushes, Gathers, Gives, InServer, LaneState, LaneStep, Moved, MovesIn, MovesPiece, Owes, PiecesAt}
+use Rattle.lane_laws.specs.Vocabulary.{Progress, Reads, ServerCounts, ServerFetches, ServerFinishes, ServerMoves, ServerSession, ServerStores, Stored, StoresIn, StoresPiece, UnitFits, UnitIn, Work}
+use Rattle.lane_laws.specs.Vocabulary.{WorkAgrees, Works, Writes, access_of, block_in, count_in, desc_in, desc_of, owed_of, pages_of, reach, ready_state, slot_fetched, unit_fault, unit_length}
 use Rattle.cookie_copy.specs.declared.fault.Access.{Access}
 use Rattle.cookie_copy.specs.declared.fault.Access.TheVariants.{Read, Write}
 use Rattle.cookie_copy.specs.declared.fault.CopyFault.{CopyFault}
@@ -12,20 +14,9 @@ use Rattle.vdisk_msg.specs.declared.desc.DiskDesc.{DiskDesc}
 use Rattle.vdisk_msg.specs.Descriptor as slot_says
 use Rattle.vdisk_msg.specs.Pieces.{Finishes, Moves, Piece, Stores, read_pieces, unit_count, write_pieces}
 use Rattle.channel_model.specs.WireLog.{WireLog}
-use Rattle.lane_laws.specs.Agreement.{WorkAgrees, owed_of}
-use Rattle.lane_laws.specs.DiskLog.{DiskLog}
-use Rattle.lane_laws.specs.WorkLaws.{FinishesPiece, InServer, MovesPiece, Owes, PiecesAt, StoresPiece, access_of, block_in, count_in, desc_in, unit_fault}
-use Rattle.lane_laws.specs.WorkLog.{ServerCounts}
-use Rattle.disk_model.specs.DiskEvent.{Desc, DiskEvent, Finished, Moved, Stored, Works}
 use Rattle.channel_model.specs.OwnMemory.{own_table}
-use Rattle.disk_model.specs.LaneState.{LaneState, pages_of}
-use Rattle.disk_model.specs.LaneStep.{LaneStep, reach}
-use Rattle.disk_model.specs.ServerState.{Flushes, Gathers, Gives, Progress, Reads, ServerSession, Work, Writes}
-use Rattle.disk_model.specs.ServerStep.{ServerFetches, ServerFinishes, ServerMoves, ServerStores}
-use Rattle.disk_model.specs.ServerWork.{MovesIn, StoresIn, desc_of, slot_fetched, unit_length}
 use Rattle.lane_laws.proofs.RulesFree.{ServerFree, server_free}
 use Rattle.lane_laws.proofs.RuleTests.{ServesFree}
-use Rattle.lane_laws.specs.Counted.{UnitFits, UnitIn}
 use Rattle.lane_laws.proofs.Counting.{OfServer, of_server}
 use Rattle.lane_laws.proofs.WorkNumbers.{Grounded, in_server, slot_in_log}
 use Rattle.lane_laws.proofs.LaneViews.{at_server}

@@ -1,26 +1,16 @@
 -- A lane that nobody forges has its requests in their places: those that are finished, the one in work, and those that are published.
 use Rattle.std.proofs.Common.{◌≡◌, ℕ, ◌+◌, ◌*◌, ◌%◌, ◌<◌, ◌≤◌, ◌⊎◌, Option, Some, None, List, drop, length, inl, inr, refl, sym, ap, ◌∙◌, subst, arith, length-drop}
 use Rattle.std.specs.Prelude.{slice_get}
-use Rattle.ldc_queue.specs.declared.end.ChannelState.{ChannelState}
-use Rattle.ldc_queue.specs.declared.end.ChannelState.TheVariants.{Down, Resetting, Up}
-use Rattle.vdisk_msg.specs.declared.request.Request.{Request}
-use Rattle.vdisk_msg.specs.Requested.{ring_pages}
-use Rattle.lane_laws.specs.Agreement.{ClientAgrees, ClientCountsAgree, ServerAgrees}
-use Rattle.lane_laws.specs.DiskLog.{DiskLog}
+use Rattle.channel_laws.specs.Vocabulary.{ChannelState, Down, Resetting, Up}
+use Rattle.lane_laws.specs.Vocabulary.{ClientAgrees, ClientCounts, ClientCountsAgree, ClientSession, DiskLog, HoldsIssued, LaneState, OneRing, Request, ServerAgrees, ServerCounts, ServerSession}
+use Rattle.lane_laws.specs.Vocabulary.{Work, ring_in, ring_pages, view_of, work_while}
 use Rattle.lane_laws.specs.RingLog.{Accepted}
-use Rattle.lane_laws.specs.WorkLog.{ClientCounts, ServerCounts}
-use Rattle.disk_model.specs.ClientState.{ClientSession}
-use Rattle.disk_model.specs.LaneState.{LaneState}
-use Rattle.disk_model.specs.ServerState.{ServerSession, Work}
 use Rattle.lane_laws.proofs.RingClientSteps.{got_at, in_order}
 use Rattle.lane_laws.proofs.RingEnds.{HasWork, has_work}
 use Rattle.lane_laws.proofs.RingSessions.{one_ring}
 use Rattle.lane_laws.proofs.RingTable.{id_is}
 use Rattle.lane_laws.proofs.RingWork.{AtWork, at_work, ids_in, turn_in}
 use Rattle.lane_laws.specs.MemoryStands.{memory_long}
-use Rattle.lane_laws.specs.RingAgreed.{OneRing, ring_in}
-use Rattle.lane_laws.specs.RingSlots.{HoldsIssued}
-use Rattle.lane_laws.specs.LaneView.{view_of, work_while}
 use Rattle.lane_laws.proofs.Changes.{Placed}
 use Rattle.lane_laws.proofs.LiveCounts.{KIs, counts_while, zero_where}
 use Rattle.lane_laws.proofs.Standing.{Before}

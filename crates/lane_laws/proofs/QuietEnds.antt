@@ -1,22 +1,13 @@
 -- Where nobody forged and nothing was lost, two ends that rest have finished: both sessions are open, and nothing is pending.
 use Rattle.std.proofs.Common.{◌≡◌, true, false, Option, Some, None, List, refl, sym, ap, ◌∙◌, subst, arith}
 use Rattle.std.specs.Prelude.{is_some}
-use Rattle.runs.specs.Lawful.{log_of}
-use Rattle.runs.specs.Run.{Run}
-use Rattle.channel_model.specs.Sayings.{heard, said}
-use Rattle.channel_model.specs.TranscriptLog.{TranscriptLog}
-use Rattle.lane_laws.specs.DiskLog.{DiskLog, after, nothing_yet}
+use Rattle.channel_laws.specs.Vocabulary.{Run, TranscriptLog, heard, log_of, said, sides_of}
+use Rattle.lane_laws.specs.Vocabulary.{ClientCounts, ClientMay, DiskEvent, DiskLog, IfClient, IfServer, IsShape, LaneState, LaneStep, ServerCounts, ServerMay, Shape, acked_of, after, announced_of}
+use Rattle.lane_laws.specs.Vocabulary.{core_of, fresh, nothing_yet, range_sum}
 use Rattle.lane_laws.specs.QuietLaws.{ClientIsIdle, IsAtRest, ServerIsIdle}
-use Rattle.lane_laws.specs.WorkLaws.{IfClient, IfServer}
-use Rattle.lane_laws.specs.WorkLog.{ClientCounts, ServerCounts}
 use Rattle.disk_model.specs.ClientRule as client_rules
-use Rattle.disk_model.specs.DiskEvent.{DiskEvent}
-use Rattle.disk_model.specs.LaneState.{IsShape, LaneState, Shape, fresh}
-use Rattle.disk_model.specs.LaneStep.{LaneStep}
 use Rattle.disk_model.specs.ServerRule as server_rules
 use Rattle.lane_laws.proofs.Ruling.{client_may, server_may}
-use Rattle.lane_laws.specs.Counted.{acked_of, announced_of, range_sum}
-use Rattle.lane_laws.specs.RuleFacts.{ClientMay, ServerMay}
 use Rattle.lane_laws.proofs.Counting.{OfClient, OfServer, of_client, of_server}
 use Rattle.channel_laws.proofs.Apart.{none_is_some}
 use Rattle.channel_laws.proofs.EndsAtRest.{none_waits}
@@ -26,8 +17,6 @@ use Rattle.lane_laws.proofs.RuleTests.{ClientIdles}
 use Rattle.lane_laws.proofs.LaneChannel.{answers_of, asks_of, lane_meets}
 use Rattle.channel_laws.proofs.AtRest as core
 use Rattle.channel_laws.proofs.AtRest.{HeardAll, heard_all, rests_open}
-use Rattle.channel_laws.specs.Sides.{sides_of}
-use Rattle.lane_laws.specs.ChannelEnds.{core_of}
 use Rattle.lane_laws.proofs.WorkNumbers.{Grounded, order_of}
 use Rattle.lane_laws.proofs.LaneViews.{at_client, at_server}
 

@@ -1,19 +1,11 @@
 -- What an event of the wire leaves of a lane, but for the packet by which a client's session opens.
 use Rattle.std.proofs.Common.{◌≡◌, ℕ, true, false, Option, None, List, refl, sym, ap, ◌∙◌, subst}
-use Rattle.ldc_queue.specs.declared.end.End.TheVariants.{A, B}
-use Rattle.channel_model.specs.WireEvent.{Blocked, Idle, Joined, Reset, Sent, Took, WireEvent}
-use Rattle.lane_laws.specs.DiskLog.{DiskLog}
+use Rattle.channel_laws.specs.Vocabulary.{A, B, Blocked, Idle, Joined, Reset, Sent, Took, WireEvent}
+use Rattle.lane_laws.specs.Vocabulary.{ClientSession, ClientState, ClientStep, DiskLog, LaneState, OnWire, ServerState, ServerStep, WireStep, Work, joined_client, near_on_wire}
 use Rattle.disk_model.specs.ClientRule as client
-use Rattle.disk_model.specs.ClientState.{ClientSession, ClientState, joined_client}
-use Rattle.disk_model.specs.LaneState.{LaneState}
-use Rattle.disk_model.specs.LaneStep.{WireStep, near_on_wire}
 use Rattle.disk_model.specs.ServerRule as server
-use Rattle.disk_model.specs.ServerState.{ServerState, Work}
 use Rattle.lane_laws.proofs.LaneCounting.{Knows}
 use Rattle.lane_laws.proofs.LaneViews.{ClientActs, ClientCalled, ClientStays, ClientView, ServerActs, ServerCalled, ServerRenewed, ServerStays, ServerView, WireBeside, at_client, at_server, lane_view, reach_of}
-use Rattle.disk_model.specs.ClientStep.{ClientStep}
-use Rattle.disk_model.specs.DiskEvent.{OnWire}
-use Rattle.disk_model.specs.ServerStep.{ServerStep}
 use Rattle.lane_laws.proofs.RingLeaves.{OpensNot}
 use Rattle.lane_laws.proofs.Ruling.{client_may}
 use Rattle.lane_laws.proofs.Changes.{Keeps}

@@ -6,44 +6,23 @@ use Rattle.std.specs.Prelude.{is_none, is_some, ◌&&◌, ◌==◌, if◌then◌
 use Rattle.std.proofs.lemmas.Bool.Decides.{nat_tests}
 use Rattle.std.proofs.lemmas.Nat.{mod_below}
 use Rattle.ldc_packet.specs.declared.packet.Subtype.{Subtype}
-use Rattle.ldc_packet.specs.Spelling.{subtype_code}
-use Rattle.ldc_packet.specs.declared.packet.Subtype.TheVariants.{Ack, Info}
-use Rattle.ldc_link.specs.LinkState.{LinkState}
-use Rattle.ldc_queue.specs.declared.end.End.TheVariants.{A, B}
+use Rattle.channel_laws.specs.Vocabulary.{A, Ack, B, ComesUp, DringData, EndsHandshake, EndsOwn, Goes, Handshake, Info, Initiator, LinkState, Message, PutKind, Seen, Sent, SpellsBody, Took, Turn}
+use Rattle.channel_laws.specs.Vocabulary.{canonical, ended_by, envelope_code, half_heard, half_said, number_at, range_ended, range_in, said, seen, seq_of, sid_fault, sid_of, start_of, subtype_at}
+use Rattle.channel_laws.specs.Vocabulary.{subtype_code, wrapped}
 use Rattle.ldc_queue.specs.Transcript as turn
-use Rattle.ldc_queue.specs.Transcript.{Turn}
-use Rattle.vio_bytes.specs.Place.{number_at}
 use Rattle.vio_tag.specs.declared.cause.Cause.TheVariants as the_cause
-use Rattle.vio_tag.specs.declared.message.Message.{Message}
-use Rattle.vio_tag.specs.declared.message.MsgBody.TheVariants.{DringData}
-use Rattle.vio_tag.specs.Spelling.{SpellsBody, canonical, envelope_code, subtype_at}
-use Rattle.channel_model.specs.Sayings.{half_heard, half_said, said}
-use Rattle.channel_model.specs.WireEvent.{Sent, Took}
 use Rattle.lane_laws.proofs.ServerSpeaking.{server_holds_link}
-use Rattle.lane_laws.specs.DiskLog.{DiskLog}
+use Rattle.lane_laws.specs.Vocabulary.{Acknowledges, AcknowledgesRange, Announces, AsksFor, ClientCounted, ClientCounts, ClientSends, ClientSession, ClientSound, ClientState, DiskEvent, DiskLog}
+use Rattle.lane_laws.specs.Vocabulary.{EndOnWire, HearsNoOther, HoldsAnswer, IfRange, InOrder, InServerOrder, IsShape, LaneState, LaneStep, NamesOwn, NamesRing, OfClientRange, OfServerRange}
+use Rattle.lane_laws.specs.Vocabulary.{OnWire, RangeStands, RangesAt, ServerCounted, ServerCounts, ServerSends, ServerState, SlotRange, announcement, announcing, client_core, client_handshake}
+use Rattle.lane_laws.specs.Vocabulary.{client_holds, client_kind, holding, is_announcing, range_length, server_handshake, slot_in}
 use Rattle.lane_laws.specs.BlockLog.{Blockage, Clear}
 use Rattle.lane_laws.specs.EndLog.{ident_of, is_stuck_with_own, range_in_work, state_of}
-use Rattle.channel_model.specs.Messages.{end_of, ended_by, range_ended, range_in, seq_of, sid_of, start_of}
-use Rattle.lane_laws.specs.WorkLaws.{Acknowledges, AcknowledgesRange, Announces, AsksFor, HearsNoOther, IfRange, NamesOwn, NamesRing, OfClientRange, OfServerRange, RangesAt, client_handshake, server_handshake}
-use Rattle.lane_laws.specs.WorkLog.{ClientCounts, ServerCounts}
-use Rattle.disk_model.specs.ClientPutting.{announcement, announcing, client_holds, client_kind, holding, is_announcing}
+use Rattle.channel_model.specs.Messages.{end_of}
 use Rattle.disk_model.specs.ClientRule as client_rules
-use Rattle.disk_model.specs.ClientState.{ClientSession, ClientState, slot_in}
-use Rattle.disk_model.specs.ClientStep.{ClientSends}
-use Rattle.channel_model.specs.EndPuts.{ComesUp, EndsOwn, EndsHandshake, Goes, PutKind}
-use Rattle.channel_model.specs.Seeing.{Seen, seen}
 use Rattle.disk_model.specs.ServerPutting.{server_holds, server_kind}
 use Rattle.disk_model.specs.ServerRule as server_rules
-use Rattle.vio_handshake.specs.declared.handshake.Handshake.{Handshake}
 use Rattle.vio_handshake.specs.declared.handshake.Phase.{Phase}
-use Rattle.vio_handshake.specs.Rules.{sid_fault}
-use Rattle.disk_model.specs.DiskEvent.{DiskEvent, OnWire}
-use Rattle.disk_model.specs.LaneState.{IsShape, LaneState}
-use Rattle.disk_model.specs.LaneStep.{EndOnWire, LaneStep}
-use Rattle.channel_model.specs.Ranges.{wrapped}
-use Rattle.dring.specs.Slots.{range_length}
-use Rattle.disk_model.specs.ServerState.{ServerState, SlotRange}
-use Rattle.disk_model.specs.ServerStep.{ServerSends}
 use Rattle.channel_laws.proofs.Apart.{none_is_some, some_same, true_is_false}
 use Rattle.channel_laws.proofs.TurnCases.{heard_none, heard_some, said_none, said_some}
 use Rattle.lane_laws.proofs.ClientFolds.{ClientIs}
@@ -66,15 +45,11 @@ use Rattle.lane_laws.proofs.ServerPutCounting.{all_finished, server_holds_counti
 use Rattle.lane_laws.proofs.ServerTaken.{ServerAsked, ServerTook, server_took_what}
 use Rattle.lane_laws.proofs.Sharing.{in_order}
 use Rattle.lane_laws.proofs.WorkNumbers.{in_client, in_server, order_of}
-use Rattle.ldc_link.specs.declared.phase.Role.TheVariants.{Initiator}
-use Rattle.lane_laws.specs.ChannelEnds.{client_core}
 use Rattle.channel_laws.specs.Cuts.{CarriesOwed}
-use Rattle.lane_laws.specs.Counted.{ClientCounted, HoldsAnswer, InServerOrder, RangeStands, ServerCounted}
 use Rattle.channel_laws.specs.HandshakeFits.{MayOwe, OwedFits}
 use Rattle.channel_laws.proofs.MessagesHeld.{owed_held}
 use Rattle.lane_laws.proofs.Speaking.{server_blocked_rests, server_holds_owed}
 use Rattle.lane_laws.specs.LaneRests.{ClientRests, ServerRests}
-use Rattle.lane_laws.specs.Sound.{ClientSound, InOrder}
 use Rattle.lane_laws.proofs.Counting.{OfClient, OfServer, of_client, of_server, slot_of_count}
 
 -- A PACKET that ends a range, and one that ends none

@@ -2,11 +2,8 @@
 use Rattle.std.proofs.Common.{◌≡◌, ℕ, ◌+◌, ◌≤◌, Bool, true, false, Option, Some, None, List, [], ◌∷◌, ◌++◌, refl, arith}
 use Rattle.std.specs.Prelude.{◌&&◌}
 use Rattle.ldc_queue.specs.Fragments.{Fragment, fragment_at, is_part}
-use Rattle.ldc_queue.specs.Transcript.{Heard as Heard_, Said, Turn}
-use Rattle.channel_model.specs.Sayings.{half_heard, half_said, heard, said, whole_by, whole_past}
-use Rattle.channel_model.specs.Messages.{range_ended, range_in, whole_with}
-use Rattle.lane_laws.specs.WorkLog.{length_in, one_in}
-use Rattle.lane_laws.specs.Counted.{range_count, range_sum}
+use Rattle.channel_laws.specs.Vocabulary.{Heard as Heard_, Said, Turn, half_heard, half_said, heard, range_ended, range_in, said, whole_by, whole_past, whole_with}
+use Rattle.lane_laws.specs.Vocabulary.{length_in, one_in, range_count, range_sum}
 
 -- ONE MORE MESSAGE
 pub sum_more : (slots subtype : ℕ) (messages : List (List ℕ)) (message : List ℕ)

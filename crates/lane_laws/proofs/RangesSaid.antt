@@ -5,23 +5,16 @@ use Rattle.std.specs.Prelude.{◌&&◌, ◌==◌, ⊤}
 use Rattle.std.proofs.lemmas.Bool.{eqb-true}
 use Rattle.std.proofs.lemmas.Bool.Decides.{nat_tests}
 use Rattle.ldc_packet.specs.declared.packet.Subtype.{Subtype}
-use Rattle.ldc_packet.specs.declared.packet.Subtype.TheVariants.{Nack}
-use Rattle.ldc_packet.specs.Spelling.{subtype_code}
+use Rattle.channel_laws.specs.Vocabulary.{Attr, DringData, DringReg, DringUnreg, Handshake, IsOfSession, Mcast, Message, Nack, Plain, Rdx, SpellsBody, SpellsMessage, Ver, big_bytes, canonical}
+use Rattle.channel_laws.specs.Vocabulary.{envelope_at, envelope_code, is_range, number_at, range_if, range_in, seq_of, sid_of, start_of, subtype_at, subtype_code}
 use Rattle.vio_tag.proofs.Canonical.{canonical_spells}
-use Rattle.vio_tag.specs.declared.message.Message.{Message}
 use Rattle.vio_tag.specs.declared.message.MsgBody.{MsgBody}
-use Rattle.vio_tag.specs.declared.message.MsgBody.TheVariants.{Attr, DringData, DringReg, DringUnreg, Mcast, Plain, Rdx, Ver}
 use Rattle.vio_tag.specs.Form.{HasForm, IsWellFormed}
-use Rattle.vio_tag.specs.Spelling.{SpellsBody, SpellsMessage, canonical, envelope_at, envelope_code, subtype_at}
 use Rattle.vio_handshake.specs.declared.handshake.Phase.{Phase}
-use Rattle.vio_bytes.specs.Place.{big_bytes, number_at}
-use Rattle.channel_model.specs.Messages.{end_of, is_range, range_if, range_in, seq_of, sid_of, start_of}
+use Rattle.channel_model.specs.Messages.{end_of}
 use Rattle.lane_laws.specs.EndLog.{ident_of, state_of}
-use Rattle.lane_laws.specs.WorkLog.{length_in, one_in}
-use Rattle.dring.specs.Slots.{range_length}
-use Rattle.vio_handshake.specs.declared.handshake.Handshake.{Handshake}
+use Rattle.lane_laws.specs.Vocabulary.{length_in, one_in, range_length}
 use Rattle.channel_laws.proofs.HandshakeCases.{HandshakeTook, row_apart}
-use Rattle.channel_laws.specs.EndStep.{IsOfSession}
 use Rattle.channel_laws.specs.HandshakeFits.{MayOwe}
 
 -- THE ENVELOPE AND THE SUBTYPE of canonical bytes

@@ -3,49 +3,24 @@
 use Rattle.std.proofs.Common.{◌≡◌, ℕ, ◌+◌, ◌-◌, ◌%◌, ◌^◌, ◌<◌, ◌≤◌, ◌⊎◌, inl, inr, true, false, Option, Some, None, List, [], ◌∷◌, ◌++◌, refl, sym, ap, ◌∙◌, subst, arith}
 use Rattle.std.specs.Prelude.{is_none, is_some, ⊤}
 use Rattle.std.proofs.lemmas.Nat.{mod_below}
-use Rattle.runs.specs.Lawful.{Lawful, log_of}
-use Rattle.runs.specs.Run.{Run}
-use Rattle.ldc_link.specs.declared.phase.Role.{Role}
-use Rattle.ldc_link.specs.declared.phase.Role.TheVariants.{Initiator, Responder}
-use Rattle.ldc_link.specs.LinkState.{is_established, is_up}
+use Rattle.channel_laws.specs.Vocabulary.{A, Ack, B, ComesUp, DringData, EndCore, EndStands, EndWaits, EndsHandshake, EndsOwn, Goes, Handshake, Info, Initiator, IsFront, Joined, Lawful, Message}
+use Rattle.channel_laws.specs.Vocabulary.{PutKind, Rdx, Reset, Responder, Role, Run, Said, Sent, Sides, Took, Turn, Up, WireEvent, WireLog, canonical, envelope_at, envelope_code, half_said, heard}
+use Rattle.channel_laws.specs.Vocabulary.{is_established, is_up, log_of, other, range_in, said, seen, sid_at, wrapped}
 use Rattle.ldc_packet.specs.declared.packet.Subtype.{Subtype}
-use Rattle.ldc_packet.specs.declared.packet.Subtype.TheVariants.{Ack, Info}
-use Rattle.ldc_queue.specs.declared.end.ChannelState.TheVariants.{Up}
-use Rattle.ldc_queue.specs.declared.end.End.TheVariants.{A, B}
-use Rattle.ldc_queue.specs.OneStream.{IsFront}
-use Rattle.ldc_queue.specs.Transcript.{Said, Turn}
 use Rattle.vio_handshake.proofs.Places.{AllSaid, Deal, Place, VersionSaid, handshake_at, message_at}
-use Rattle.vio_handshake.specs.declared.handshake.Handshake.{Handshake}
 use Rattle.vio_handshake.specs.declared.session.Session.{Session}
-use Rattle.vio_tag.specs.declared.message.Message.{Message}
-use Rattle.vio_tag.specs.declared.message.MsgBody.TheVariants.{DringData, Rdx}
-use Rattle.vio_tag.specs.Spelling.{canonical, envelope_at, envelope_code, sid_at}
 use Rattle.vio_tag.proofs.Canonical.{canonical_spells}
-use Rattle.channel_model.specs.EndPuts.{ComesUp, EndsOwn, EndsHandshake, Goes, PutKind}
-use Rattle.channel_model.specs.Messages.{range_in}
-use Rattle.channel_model.specs.Ranges.{wrapped}
-use Rattle.channel_model.specs.Sayings.{half_said, heard, said}
-use Rattle.channel_model.specs.Seeing.{seen}
-use Rattle.channel_model.specs.WireEvent.{Joined, Reset, Sent, Took, WireEvent}
-use Rattle.channel_model.specs.WireLog.{WireLog}
-use Rattle.disk_model.specs.ClientPutting.{client_kind, is_announcing}
-use Rattle.disk_model.specs.ClientState.{ClientState, slot_in}
-use Rattle.disk_model.specs.DiskEvent.{DiskEvent, OnWire, Stopped, Switches}
-use Rattle.disk_model.specs.LaneState.{IsShape, LaneState, Shape, fresh}
-use Rattle.disk_model.specs.LaneStep.{LaneStep}
+use Rattle.lane_laws.specs.Vocabulary.{ClientCounted, ClientState, DiskEvent, DiskLog, HoldsAnswer, InServerOrder, IsShape, LaneState, LaneStep, OnWire, RangeStands, ServerCounted, ServerCounts}
+use Rattle.lane_laws.specs.Vocabulary.{ServerOrder, ServerState, Shape, SlotRange, Stopped, Switches, after, announced_of, client_core, client_kind, fresh, infos_of, is_announcing, length_in}
+use Rattle.lane_laws.specs.Vocabulary.{nothing_yet, one_in, range_count, range_sum, server_core, slot_in}
 use Rattle.disk_model.specs.ServerPutting.{server_kind}
 use Rattle.disk_model.specs.ServerRule as server_rules
-use Rattle.disk_model.specs.ServerState.{ServerState, SlotRange}
 use Rattle.channel_laws.proofs.Apart.{some_is_none}
 use Rattle.channel_laws.proofs.Conversations.{held_phase}
 use Rattle.channel_laws.proofs.EndResting.{held_handshake}
 use Rattle.channel_laws.proofs.EndStanding.{held_stands, open_up, owing_up}
 use Rattle.channel_laws.proofs.HandshakePlaces.{AtPlace, IsOwn, deal, open_place, owes_at, owes_none, owes_not, same_at, who}
 use Rattle.channel_laws.proofs.HandshakesPlaced.{next_own, own_envelope}
-use Rattle.channel_laws.specs.EndCore.{EndCore}
-use Rattle.channel_laws.specs.EndStep.{EndWaits}
-use Rattle.channel_laws.specs.Sides.{Sides, other}
-use Rattle.channel_laws.specs.Standing.{EndStands}
 use Rattle.lane_laws.proofs.AlongRuns.{reached_lawful}
 use Rattle.lane_laws.proofs.ClientMoves.{client_waits}
 use Rattle.lane_laws.proofs.ClientPutCounting.{OwnInfo, own_info}
@@ -63,11 +38,7 @@ use Rattle.channel_laws.proofs.MessagesHeld.{owed_held}
 use Rattle.lane_laws.proofs.Speaking.{server_blocked_rests, server_holds_owed}
 use Rattle.lane_laws.proofs.ServerMoves.{server_waits}
 use Rattle.lane_laws.proofs.ServerPutCounting.{server_holds_counting, none_is}
-use Rattle.lane_laws.specs.ChannelEnds.{client_core, server_core}
 use Rattle.channel_laws.specs.Cuts.{CarriesOwed}
-use Rattle.lane_laws.specs.Counted.{ClientCounted, HoldsAnswer, InServerOrder, RangeStands, ServerCounted, ServerOrder, announced_of, infos_of, range_count, range_sum}
-use Rattle.lane_laws.specs.DiskLog.{DiskLog, after, nothing_yet}
-use Rattle.lane_laws.specs.WorkLog.{ServerCounts, length_in, one_in}
 
 -- A RANGE that was said, or the answer to one: of the session, in the client's ring, from the slot on where so many went before; an INFO has
 -- the next number

@@ -1,17 +1,12 @@
 -- What holds of each lane that is reached, also where somebody forges.
 use Rattle.std.proofs.Common.{◌≡◌, ◌*◌, ◌≤◌, List, length, ap, ◌∙◌}
-use Rattle.runs.specs.Lawful.{log_of, run_lawful}
-use Rattle.runs.specs.Run.{Run}
+use Rattle.channel_laws.specs.Vocabulary.{Run, log_of, run_lawful}
 use Rattle.ldc_link.specs.Following.{Follows}
-use Rattle.lane_laws.specs.DiskLog.{after, nothing_yet}
+use Rattle.lane_laws.specs.Vocabulary.{CountsInOrder, DiskEvent, IsShape, LaneState, LaneStep, Shape, after, fresh, nothing_yet, pages_of}
 use Rattle.lane_laws.specs.RequestLaws.{CarriesAt}
-use Rattle.disk_model.specs.DiskEvent.{DiskEvent}
-use Rattle.disk_model.specs.LaneState.{IsShape, LaneState, Shape, fresh, pages_of}
-use Rattle.disk_model.specs.LaneStep.{LaneStep}
 use Rattle.lane_laws.proofs.CarriedRuns.{AllStand, all_step, fresh_all}
 use Rattle.lane_laws.specs.LaneTranscripts.{transcript_behind}
 use Rattle.lane_laws.specs.MemoryStands.{memory_long}
-use Rattle.lane_laws.specs.Sound.{CountsInOrder}
 use Rattle.lane_laws.proofs.LaneStepping.{run_sound}
 use Rattle.lane_laws.proofs.Speaking.{run_rests}
 

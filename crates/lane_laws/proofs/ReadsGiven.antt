@@ -3,20 +3,15 @@ use Rattle.std.proofs.Common.{◌≡◌, ℕ, ◌+◌, ◌*◌, ◌/◌, ◌%◌
 use Rattle.std.specs.Prelude.{slice_get, nat_lt}
 use Rattle.std.proofs.lemmas.Bool.{cases_lt}
 use Rattle.std.proofs.lemmas.Nat.{mod_below}
-use Rattle.vdisk_msg.specs.declared.request.Request.{Request}
-use Rattle.vdisk_msg.specs.declared.request.Request.TheVariants.{Flush, Read, Write}
+use Rattle.lane_laws.specs.Vocabulary.{ClientSession, Ends, Flush, Flushes, Gathers, Gives, Progress, Read, Reads, Request, View, Write, Writes, gathers_next, place_of, reads_next, unit_length}
 use Rattle.vdisk_msg.specs.Pieces.{unit_count}
 use Rattle.vio_bytes.proofs.Ranges.{range_at-range_at}
 use Rattle.vio_bytes.specs.Place.{put_at}
 use Rattle.vio_bytes.specs.Range.{range_at}
-use Rattle.disk_model.specs.ClientState.{ClientSession}
-use Rattle.disk_model.specs.ServerState.{Ends, Flushes, Gathers, Gives, Progress, Reads, Writes}
-use Rattle.disk_model.specs.ServerWork.{gathers_next, reads_next, unit_length}
 use Rattle.channel_laws.proofs.Apart.{some_same}
 use Rattle.lane_laws.proofs.MemorySteps.{got_sound}
 use Rattle.lane_laws.specs.Blocks.{block_at}
 use Rattle.lane_laws.specs.Contents.{ContentsStand, ProgressIs}
-use Rattle.lane_laws.specs.LaneView.{View, place_of}
 use Rattle.lane_laws.specs.NearContent.{IsAmong, NearContent, Shows}
 use Rattle.lane_laws.specs.ReadsNear.{BlocksShow, DoneShow, UnitsShow, WorkShows}
 use Rattle.lane_laws.proofs.BlockWrites.{admitted_blocks}

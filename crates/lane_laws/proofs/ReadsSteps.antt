@@ -1,12 +1,7 @@
 -- Each kind of change leaves what was read showing the content at its place.
 use Rattle.std.proofs.Common.{◌≡◌, ℕ, suc, ◌+◌, ◌-◌, ◌*◌, ◌%◌, ◌<◌, List, [], ◌∷◌, ◌++◌, length, Option, Some, sym, ap, ◌∙◌, subst, arith}
 use Rattle.std.specs.Prelude.{slice_get}
-use Rattle.vdisk_msg.specs.declared.request.Request.{Request}
-use Rattle.vdisk_msg.specs.declared.request.Request.TheVariants.{Read}
-use Rattle.vdisk_msg.specs.Requests.{after_request}
-use Rattle.disk_model.specs.ClientState.{ClientSession}
-use Rattle.disk_model.specs.ServerState.{Ends, Gives, Progress, Reads}
-use Rattle.lane_laws.specs.LaneView.{View, place_of}
+use Rattle.lane_laws.specs.Vocabulary.{ClientSession, Ends, Gives, Progress, Read, Reads, Request, View, after_request, place_of}
 use Rattle.lane_laws.specs.NearContent.{Shows}
 use Rattle.lane_laws.specs.ReadsNear.{BlocksShow, DoneShow, UnitsShow, WorkShows}
 use Rattle.lane_laws.proofs.Changes.{Completes, Keeps, Placed}

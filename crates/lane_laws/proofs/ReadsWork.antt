@@ -6,19 +6,13 @@ use Rattle.std.proofs.lemmas.Nat.{mod_below}
 use Rattle.std.proofs.lemmas.Option.{slice_get_within}
 use Rattle.vdisk_msg.proofs.Repeated.{length-repeated}
 use Rattle.vdisk_msg.proofs.Written.{is_admitted}
-use Rattle.vdisk_msg.specs.declared.request.Request.{Request}
-use Rattle.vdisk_msg.specs.declared.request.Request.TheVariants.{Flush, Read, Write}
-use Rattle.vdisk_msg.specs.Requested.{size_of}
-use Rattle.vdisk_msg.specs.Requests.{written}
+use Rattle.lane_laws.specs.Vocabulary.{ClientSession, Ends, Flush, Gives, Progress, Read, Reads, Request, View, Work, Write, place_of, size_of, written}
 use Rattle.vio_bytes.proofs.Ranges.{range_at-put_at_inside, range_at-put_at_outside}
 use Rattle.vio_bytes.specs.Place.{put_at}
 use Rattle.vio_bytes.specs.Range.{range_at}
-use Rattle.disk_model.specs.ClientState.{ClientSession}
-use Rattle.disk_model.specs.ServerState.{Ends, Gives, Progress, Reads, Work}
 use Rattle.channel_laws.proofs.Apart.{some_same}
 use Rattle.lane_laws.proofs.MemorySteps.{got_sound}
 use Rattle.lane_laws.specs.Contents.{ContentsStand, ProgressIs}
-use Rattle.lane_laws.specs.LaneView.{View, place_of}
 use Rattle.lane_laws.specs.NearContent.{Shows}
 use Rattle.lane_laws.specs.ReadsNear.{BlocksShow, DoneShow, UnitsShow, WorkShows}
 use Rattle.lane_laws.proofs.BlockWrites.{admitted_blocks}

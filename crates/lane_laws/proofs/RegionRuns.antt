@@ -1,11 +1,7 @@
 -- Along every run of a lane that nobody forged and whose store didn't fail a server's step with its store is a step of the disk's image.
 use Rattle.std.proofs.Common.{◌≡◌, ℕ, ◌+◌, ◌*◌, ◌≤◌, Bool, false, Some, List, length, sym, ap, ◌∙◌, subst}
-use Rattle.runs.specs.Lawful.{log_of}
-use Rattle.runs.specs.Run.{Run}
-use Rattle.lane_laws.specs.DiskLog.{after, nothing_yet}
-use Rattle.disk_model.specs.DiskEvent.{Asks, DiskEvent, Done, Finished, Calms, Stored, Works}
-use Rattle.disk_model.specs.LaneState.{IsShape, LaneState, Shape, fresh}
-use Rattle.disk_model.specs.LaneStep.{LaneStep, ServerWorks}
+use Rattle.channel_laws.specs.Vocabulary.{Run, log_of}
+use Rattle.lane_laws.specs.Vocabulary.{Asks, Calms, DiskEvent, Done, Finished, IsShape, LaneState, LaneStep, ServerWorks, Shape, Stored, Works, after, fresh, nothing_yet}
 use Rattle.disk_model.specs.Served as served
 use Rattle.lane_laws.specs.ImageStep.{ImageStep, SameAround, region_of}
 use Rattle.lane_laws.proofs.FirstStays.{run_first}

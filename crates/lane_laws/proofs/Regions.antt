@@ -1,29 +1,18 @@
 -- The image of a disk is a region of a store: a server's step with its store is a step of the image, and leaves what lies around it.
 use Rattle.std.proofs.Common.{◌≡◌, ℕ, ◌+◌, ◌*◌, ◌≤◌, false, Option, Some, List, drop, take, length, refl, sym, ap, ◌∙◌, subst, arith}
 use Rattle.std.specs.Prelude.{⊤}
-use Rattle.vdisk_msg.specs.declared.request.Request.{Request}
-use Rattle.vdisk_msg.specs.declared.request.Request.TheVariants.{Flush, Read, Write}
-use Rattle.vdisk_msg.specs.Requested.{block_of, size_of}
+use Rattle.lane_laws.specs.Vocabulary.{DiskLog, Flush, LaneState, Progress, Read, Reads, Request, ServerMay, ServerState, ServerWorks, Shape, Stored as StoredUnit, StoresIn, Work, Write, Writes}
+use Rattle.lane_laws.specs.Vocabulary.{block_of, size_of, unit_length, view_of}
 use Rattle.vio_bytes.proofs.Putting.{drop-put_at, take-put_at}
 use Rattle.vio_bytes.proofs.Ranges.{range_at-put_at_part, range_at-range_at}
-use Rattle.vio_bytes.specs.Place.{put_at}
+use Rattle.channel_laws.specs.Vocabulary.{B, put_at, seen}
 use Rattle.vio_bytes.specs.Range.{range_at}
-use Rattle.ldc_queue.specs.declared.end.End.TheVariants.{B}
-use Rattle.lane_laws.specs.DiskLog.{DiskLog}
-use Rattle.disk_model.specs.DiskEvent.{Stored as StoredUnit}
-use Rattle.disk_model.specs.LaneState.{LaneState, Shape}
-use Rattle.disk_model.specs.LaneStep.{ServerWorks}
-use Rattle.channel_model.specs.Seeing.{seen}
 use Rattle.disk_model.specs.Served as served
 use Rattle.disk_model.specs.ServerRule as server_rules
-use Rattle.disk_model.specs.ServerState.{Progress, Reads, ServerState, Work, Writes}
-use Rattle.disk_model.specs.ServerWork.{StoresIn, unit_length}
 use Rattle.lane_laws.proofs.MemorySteps.{got_sound}
 use Rattle.lane_laws.proofs.Ruling.{server_may}
-use Rattle.lane_laws.specs.RuleFacts.{ServerMay}
 use Rattle.lane_laws.specs.Contents.{ContentsStand, ProgressIs}
 use Rattle.lane_laws.specs.ImageStep.{SameAround, StoreDoes, UnitDoes, WorkDoes, region_of}
-use Rattle.lane_laws.specs.LaneView.{view_of}
 use Rattle.lane_laws.proofs.BlockWrites.{admitted_blocks}
 use Rattle.lane_laws.proofs.ServerChanges.{ServesNow, serves_now}
 use Rattle.lane_laws.proofs.Standing.{Before}

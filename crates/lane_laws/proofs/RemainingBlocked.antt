@@ -1,20 +1,10 @@
 -- An end that finds no room for its packet leaves what remains: the message that its link holds then was owed before.
 use Rattle.std.proofs.Common.{◌≡◌, ℕ, ◌+◌, ◌≤◌, Bool, List, length, sym, ap, subst, arith}
-use Rattle.runs.specs.Lawful.{log_of}
-use Rattle.runs.specs.Run.{Run}
-use Rattle.ldc_queue.specs.declared.end.ChannelState.TheVariants.{Up}
-use Rattle.ldc_queue.specs.declared.end.End.{End}
-use Rattle.ldc_queue.specs.declared.end.End.TheVariants.{A, B}
-use Rattle.ldc_queue.specs.Wire.{Wire}
-use Rattle.channel_model.specs.WireEvent.{Blocked}
-use Rattle.lane_laws.specs.DiskLog.{after, nothing_yet}
+use Rattle.channel_laws.specs.Vocabulary.{A, B, Blocked, End, Run, Up, Wire, log_of}
+use Rattle.lane_laws.specs.Vocabulary.{ClientState, DiskEvent, IsShape, LaneState, LaneStep, OnWire, ServerState, Shape, absent, after, asked_by, client_left, fresh, nothing_yet, remaining}
+use Rattle.lane_laws.specs.Vocabulary.{second_life, server_left}
 use Rattle.disk_model.specs.ClientRule.{client_rule}
-use Rattle.disk_model.specs.ClientState.{ClientState}
-use Rattle.disk_model.specs.DiskEvent.{DiskEvent, OnWire}
-use Rattle.disk_model.specs.LaneState.{IsShape, LaneState, Shape, fresh}
-use Rattle.disk_model.specs.LaneStep.{LaneStep}
 use Rattle.disk_model.specs.ServerRule.{server_rule}
-use Rattle.disk_model.specs.ServerState.{ServerState}
 use Rattle.lane_laws.proofs.ClientHolding.{holds_up}
 use Rattle.lane_laws.proofs.LaneCounting.{Knows, run_knows}
 use Rattle.lane_laws.proofs.RemainingClientPuts.{ClientLowers, blocked_falls, falls_lower}
@@ -24,7 +14,6 @@ use Rattle.lane_laws.proofs.RemainingServerPuts as server
 use Rattle.lane_laws.proofs.RemainingServerPuts.{ServerLowers}
 use Rattle.lane_laws.proofs.Ruling.{client_may, server_may}
 use Rattle.lane_laws.proofs.ServerSpeaking.{server_holds_up}
-use Rattle.lane_laws.specs.Remaining.{absent, asked_by, client_left, remaining, second_life, server_left}
 
 -- THE CLIENT
 client_waits : (w : Wire) (lossy : Bool) (c t : ClientState) (v : ServerState) → w.end_a ≡ Up → ClientLowers 0 c t → left w lossy t v ≤ left w lossy c v

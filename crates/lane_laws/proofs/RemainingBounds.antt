@@ -1,26 +1,10 @@
 -- What remains on a lane that begins: at most so much, exactly.
 use Rattle.std.proofs.Common.{◌≡◌, ℕ, ◌+◌, ◌-◌, ◌*◌, ◌≤◌, ◌<◌, Bool, true, Option, List, length, refl, sym, ap, ◌∙◌, subst, arith}
-use Rattle.ldc_queue.specs.declared.end.ChannelState.{ChannelState}
-use Rattle.ldc_queue.specs.declared.end.ChannelState.TheVariants.{Down, Up}
-use Rattle.ldc_queue.specs.declared.end.End.{End}
-use Rattle.ldc_queue.specs.declared.end.End.TheVariants.{A, B}
-use Rattle.ldc_queue.specs.Transcript.{Turn}
-use Rattle.ldc_queue.specs.Wire.{Wire, upset}
-use Rattle.ldc_link.specs.declared.phase.Role.TheVariants.{Initiator, Responder}
-use Rattle.channel_model.specs.TranscriptLog.{TranscriptLog}
-use Rattle.channel_laws.specs.Standing.{EndStands}
-use Rattle.vio_tag.specs.declared.cause.Cause.{Cause}
-use Rattle.channel_model.specs.WireAt.{IsUp}
-use Rattle.channel_model.specs.WireEvent.{ByRestart, ByScript, ByStep, ByTick, Giver, Reset, giver}
-use Rattle.channel_model.specs.WireLog.{lossy_behind, wire_moved}
-use Rattle.disk_model.specs.ClientState.{ClientState, joined_client}
-use Rattle.disk_model.specs.DiskEvent.{OnWire}
-use Rattle.disk_model.specs.LaneState.{LaneState, Shape, fresh, near_disturbed}
-use Rattle.disk_model.specs.LaneStep.{CallsReset, EndOnWire, LaneStep, ResetBy}
-use Rattle.disk_model.specs.ServerState.{ServerState, joined_server, restarted_server}
+use Rattle.channel_laws.specs.Vocabulary.{A, B, ByRestart, ByScript, ByStep, ByTick, Cause, ChannelState, Down, End, EndStands, Giver, Initiator, IsUp, Reset, Responder, TranscriptLog, Turn, Up}
+use Rattle.channel_laws.specs.Vocabulary.{Wire, giver, lossy_behind, upset, wire_moved}
+use Rattle.lane_laws.specs.Vocabulary.{CallsReset, ClientState, EndOnWire, LaneState, LaneStep, OnWire, ResetBy, ServerState, Shape, absent, asked_by, asked_in, client_core, client_left, fresh}
+use Rattle.lane_laws.specs.Vocabulary.{joined_client, joined_server, life, near_disturbed, remaining, restarted_server, second_life, server_core, server_left}
 use Rattle.lane_laws.proofs.RemainingLane.{begun_client, begun_server, joined_a, joined_b, left}
-use Rattle.lane_laws.specs.Remaining.{absent, asked_by, asked_in, client_left, life, remaining, second_life, server_left}
-use Rattle.lane_laws.specs.ChannelEnds.{client_core, server_core}
 
 -- both ends stand by their roles
 pub record EndsStand (s : LaneState) (transcript : TranscriptLog) : Type 0 where

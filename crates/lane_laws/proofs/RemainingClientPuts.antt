@@ -2,27 +2,17 @@
 -- still to put, what remains falls.
 use Rattle.std.proofs.Common.{◌≡◌, ℕ, ◌+◌, ◌-◌, ◌*◌, ◌≤◌, ◌<◌, Bool, true, false, Option, Some, None, List, [], length, drop, refl, sym, ap, ◌∙◌, subst, arith, length-drop}
 use Rattle.std.specs.Prelude.{is_some, max, nat_le}
-use Rattle.ldc_link.specs.declared.phase.LinkPhase.{LinkPhase}
+use Rattle.channel_laws.specs.Vocabulary.{ComesUp, EndCore, EndStands, EndsHandshake, EndsOwn, Goes, Holding, Holds, Initiator, LinkPhase, LinkState, PutKind, Seen, Turn, Up, ending, kind_in}
+use Rattle.channel_laws.specs.Vocabulary.{opens_by_put}
 use Rattle.ldc_link.specs.declared.phase.LinkPhase.TheVariants as phase
-use Rattle.ldc_link.specs.declared.phase.Role.TheVariants.{Initiator}
-use Rattle.ldc_link.specs.LinkState.{LinkState}
-use Rattle.ldc_queue.specs.declared.end.ChannelState.TheVariants.{Up}
-use Rattle.ldc_queue.specs.Transcript.{Turn}
-use Rattle.vdisk_msg.specs.declared.request.Request.{Request}
-use Rattle.vio_handshake.specs.Rules.{opens_by_put}
-use Rattle.disk_model.specs.ClientPutting.{announced, announcement, announcing, client_holds, client_kind, client_put, holding, is_announcing, opened_if, session_behind}
+use Rattle.lane_laws.specs.Vocabulary.{ClientCompletes, ClientMay, ClientPublishes, ClientSends, ClientSession, ClientSound, ClientState, CountsInOrder, InOrder, Request, announced, announcement}
+use Rattle.lane_laws.specs.Vocabulary.{announcing, client_core, client_holds, client_kind, client_left, client_packets, client_put, holding, is_announcing, opened_if, requests_left, session_behind}
+use Rattle.lane_laws.specs.Vocabulary.{total}
 use Rattle.disk_model.specs.ClientRule.{Announces, ClientRule, Completes, Publishes, Puts, Says, client_rule}
-use Rattle.disk_model.specs.ClientState.{ClientSession, ClientState}
-use Rattle.disk_model.specs.ClientStep.{ClientCompletes, ClientPublishes, ClientSends}
-use Rattle.channel_model.specs.EndPuts.{ComesUp, EndsOwn, EndsHandshake, Goes, PutKind, ending, kind_in}
-use Rattle.channel_model.specs.Seeing.{Seen}
 use Rattle.channel_laws.proofs.Apart.{none_is_some, some_same}
 use Rattle.channel_laws.proofs.EndStanding.{held_stands, open_up, up_empty}
 use Rattle.channel_laws.proofs.PacketsLeft.{loud_none, opening_shut, owing_none, own_most, says_packets, stays_packets, waits_packets}
-use Rattle.channel_laws.specs.EndCore.{EndCore}
-use Rattle.channel_laws.specs.EndStep.{Holding, Holds}
 use Rattle.channel_laws.specs.PacketsLeft.{own_in}
-use Rattle.channel_laws.specs.Standing.{EndStands}
 use Rattle.lane_laws.proofs.ClientHolding.{client_held, not_own}
 use Rattle.lane_laws.proofs.ClientMoves.{client_completed, client_published, client_says, client_waits}
 use Rattle.lane_laws.proofs.ClientSteps.{client_sends, front_some}
@@ -30,10 +20,6 @@ use Rattle.lane_laws.proofs.RulesFree.{puts_owe}
 use Rattle.lane_laws.proofs.Ruling.{client_may}
 use Rattle.lane_laws.proofs.Sharing.{in_order}
 use Rattle.lane_laws.specs.Budget.{infos_begun, one_if}
-use Rattle.lane_laws.specs.ChannelEnds.{client_core}
-use Rattle.lane_laws.specs.Remaining.{client_left, client_packets, requests_left, total}
-use Rattle.lane_laws.specs.RuleFacts.{ClientMay}
-use Rattle.lane_laws.specs.Sound.{ClientSound, CountsInOrder, InOrder}
 use Rattle.lane_laws.proofs.Requesting.{got_below}
 
 -- WHAT ITS SESSION HAS LEFT, where the server was asked for so many requests

@@ -1,23 +1,14 @@
 -- What remains on a lane falls by each step of an end that takes nothing.
 use Rattle.std.proofs.Common.{◌≡◌, ◌≢◌, ℕ, ◌+◌, ◌≤◌, Bool, true, false, Option, Some, None, List, [], ◌∷◌, ◌++◌, length, refl, sym, ap, ◌∙◌, subst, arith, length-append}
-use Rattle.ldc_link.specs.declared.phase.Role.TheVariants.{Initiator, Responder}
-use Rattle.ldc_queue.specs.declared.end.ChannelState.{ChannelState}
-use Rattle.ldc_queue.specs.declared.end.ChannelState.TheVariants.{Down, Up, Resetting}
-use Rattle.ldc_queue.specs.declared.end.End.TheVariants.{A, B}
-use Rattle.ldc_queue.specs.Transcript.{Turn}
-use Rattle.ldc_queue.specs.Wire.{Wire, configured, peer_behind, put_for, queue_behind}
-use Rattle.channel_model.specs.WireEvent.{Joined, Sent, WireEvent}
-use Rattle.channel_model.specs.WireLog.{lossy_behind, wire_moved}
+use Rattle.channel_laws.specs.Vocabulary.{A, B, ChannelState, Down, EndStands, Initiator, Joined, Resetting, Responder, Sent, Turn, Up, Wire, WireEvent, configured, lossy_behind, peer_behind}
+use Rattle.channel_laws.specs.Vocabulary.{put_for, queue_behind, wire_moved}
 use Rattle.disk_model.specs.ClientRule as client_rules
-use Rattle.disk_model.specs.ClientState.{ClientState, joined_client}
-use Rattle.disk_model.specs.DiskEvent.{Desc, DiskEvent, Done, Finished, Misplaced, Moved, OnWire, Published, Stored, Worked, Works}
-use Rattle.disk_model.specs.LaneState.{LaneState}
-use Rattle.disk_model.specs.LaneStep.{ClientWorks, LaneStep, ServerWorks, WorkStep, near_worked}
+use Rattle.lane_laws.specs.Vocabulary.{ClientMay, ClientState, ClientWorks, Desc, DiskEvent, DiskLog, Done, Finished, LaneState, LaneStep, Misplaced, Moved, OnWire, Published, ServerAgrees}
+use Rattle.lane_laws.specs.Vocabulary.{ServerCounts, ServerMay, ServerSession, ServerState, ServerWorks, Stored, Work, WorkStep, Worked, Works, absent, asked_by, asked_in, client_core, client_left}
+use Rattle.lane_laws.specs.Vocabulary.{client_packets, joined_client, joined_server, life, near_worked, remaining, second_life, server_core, server_left, server_packets}
 use Rattle.disk_model.specs.ServerRule as server_rules
-use Rattle.disk_model.specs.ServerState.{ServerSession, ServerState, Work, joined_server}
 use Rattle.channel_laws.proofs.Lifting.{begins_anew}
 use Rattle.channel_laws.proofs.PacketsLeft.{anew_packets}
-use Rattle.channel_laws.specs.Standing.{EndStands}
 use Rattle.lane_laws.proofs.ClientHolding.{holds_up}
 use Rattle.lane_laws.proofs.ClientMoves.{client_begins}
 use Rattle.lane_laws.proofs.LaneCounting.{Knows}
@@ -28,13 +19,7 @@ use Rattle.lane_laws.proofs.RemainingServerSteps.{fetches_lowers, finishes_lower
 use Rattle.lane_laws.proofs.Ruling.{client_may, server_may}
 use Rattle.lane_laws.proofs.ServerMoves.{server_begins}
 use Rattle.lane_laws.proofs.ServerSpeaking.{server_holds_up}
-use Rattle.lane_laws.specs.Agreement.{ServerAgrees}
-use Rattle.lane_laws.specs.ChannelEnds.{client_core, server_core}
-use Rattle.lane_laws.specs.DiskLog.{DiskLog}
-use Rattle.lane_laws.specs.Remaining.{absent, asked_by, asked_in, client_left, client_packets, life, remaining, second_life, server_left, server_packets}
 use Rattle.lane_laws.specs.RemainingSteps.{CountsFit, IsPutOrJoined, IsWork, TakesNothing}
-use Rattle.lane_laws.specs.RuleFacts.{ClientMay, ServerMay}
-use Rattle.lane_laws.specs.WorkLog.{ServerCounts}
 use Rattle.lane_laws.proofs.LaneViews.{at_client, at_server}
 
 -- by its parts

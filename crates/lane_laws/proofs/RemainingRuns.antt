@@ -1,19 +1,10 @@
 -- Along every run the steps of an end that take nothing lower what remains.
 use Rattle.std.proofs.Common.{◌≡◌, ℕ, ◌+◌, ◌*◌, ◌≤◌, ◌<◌, true, Option, List, length, arith}
-use Rattle.runs.specs.Lawful.{log_of}
-use Rattle.runs.specs.Run.{Run}
-use Rattle.ldc_queue.specs.declared.end.End.{End}
-use Rattle.vio_tag.specs.declared.cause.Cause.{Cause}
-use Rattle.channel_model.specs.WireAt.{IsUp}
-use Rattle.channel_model.specs.WireEvent.{Reset}
-use Rattle.disk_model.specs.DiskEvent.{DiskEvent, OnWire}
-use Rattle.disk_model.specs.LaneState.{IsShape, LaneState, Shape, fresh}
-use Rattle.disk_model.specs.LaneStep.{LaneStep}
+use Rattle.channel_laws.specs.Vocabulary.{Cause, End, IsUp, Reset, Run, log_of}
+use Rattle.lane_laws.specs.Vocabulary.{DiskEvent, DiskLog, IsShape, LaneState, LaneStep, OnWire, Shape, after, fresh, nothing_yet, remaining}
 use Rattle.lane_laws.proofs.LaneCounting.{run_knows}
 use Rattle.lane_laws.proofs.RemainingBounds.{EndsStand, reset_falls, reset_remains}
 use Rattle.lane_laws.proofs.RemainingLane.{step_falls}
-use Rattle.lane_laws.specs.DiskLog.{DiskLog, after, nothing_yet}
-use Rattle.lane_laws.specs.Remaining.{remaining}
 use Rattle.lane_laws.specs.RemainingSteps.{TakesNothing}
 
 abbrev log_behind : Shape → List DiskEvent → DiskLog

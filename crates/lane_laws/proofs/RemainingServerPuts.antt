@@ -1,20 +1,12 @@
 -- A server that holds a message or puts a packet: what remains at it falls.
 use Rattle.std.proofs.Common.{◌≡◌, ℕ, ◌+◌, ◌*◌, ◌≤◌, Bool, Option, Some, None, List, refl, ap, ◌∙◌, arith}
-use Rattle.ldc_link.specs.declared.phase.Role.TheVariants.{Responder}
-use Rattle.ldc_queue.specs.declared.end.ChannelState.TheVariants.{Up}
-use Rattle.ldc_queue.specs.Transcript.{Turn}
-use Rattle.channel_model.specs.EndPuts.{EndsOwn, PutKind}
-use Rattle.channel_model.specs.Seeing.{Seen}
+use Rattle.channel_laws.specs.Vocabulary.{EndStands, EndsOwn, PutKind, Responder, Seen, Turn, Up}
 use Rattle.disk_model.specs.ServerPutting.{server_holds, server_kind, session_behind}
 use Rattle.disk_model.specs.ServerRule.{ServerRule, server_rule}
-use Rattle.disk_model.specs.ServerState.{ServerSession, ServerState, Work}
-use Rattle.disk_model.specs.ServerStep.{ServerSends}
+use Rattle.lane_laws.specs.Vocabulary.{ServerSends, ServerSession, ServerState, Work, asked_in, server_core, server_left, server_packets, serving_left}
 use Rattle.channel_laws.proofs.PacketsLeft.{answering_shut, says_left, waits_left}
-use Rattle.channel_laws.specs.Standing.{EndStands}
 use Rattle.lane_laws.proofs.ServerSpeaking.{server_holds_link}
 use Rattle.lane_laws.proofs.ServerMoves.{server_says, server_waits}
-use Rattle.lane_laws.specs.ChannelEnds.{server_core}
-use Rattle.lane_laws.specs.Remaining.{asked_in, server_left, server_packets, serving_left}
 
 -- what remains at a server that is up falls by so much, and it was asked for what it was
 pub record ServerLowers (by : ℕ) (s t : ServerState) : Type 0 where

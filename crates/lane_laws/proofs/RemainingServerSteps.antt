@@ -9,17 +9,14 @@ use Rattle.vdisk_msg.specs.declared.desc.DescFault.TheVariants as fault
 use Rattle.vdisk_msg.specs.declared.desc.DiskDesc.{DiskDesc}
 use Rattle.vdisk_msg.specs.Descriptor as slot_says
 use Rattle.vdisk_msg.specs.Pieces.{unit_count}
-use Rattle.channel_model.specs.Ranges.{wrapped}
-use Rattle.channel_model.specs.Seeing.{Seen}
+use Rattle.channel_laws.specs.Vocabulary.{Seen, wrapped}
 use Rattle.disk_model.specs.ServerRule.{Fetches, Serves, server_rule}
-use Rattle.disk_model.specs.ServerState.{Ends, Flushes, Gathers, Gives, Progress, Reads, ServerSession, ServerState, SlotRange, Work, Writes}
-use Rattle.disk_model.specs.ServerStep.{ServerFetches, ServerFinishes, ServerMoves, ServerStores}
-use Rattle.cookie_copy.specs.Reach.{Reach}
-use Rattle.disk_model.specs.ServerWork.{MovesIn, StoresIn, checked_progress, desc_of, first_progress, gathered, gathers_next, given, or_ends}
+use Rattle.lane_laws.specs.Vocabulary.{Ends, Flushes, Gathers, Gives, MovesIn, Progress, Reach, Reads, ServerFetches, ServerFinishes, ServerMoves, ServerSession, ServerState, ServerStores}
+use Rattle.lane_laws.specs.Vocabulary.{SlotRange, StoresIn, Work, Writes, asked_in, checked_progress, desc_of, first_progress, gathered, gathers_next, given, or_ends, pieces_left, server_packets}
+use Rattle.lane_laws.specs.Vocabulary.{serving_left, unfinished, work_left}
 use Rattle.lane_laws.proofs.RemainingServerPuts.{ServerLowers}
 use Rattle.lane_laws.proofs.RulesFree.{ServerFree, server_free}
 use Rattle.lane_laws.proofs.RuleTests.{ServesFree}
-use Rattle.lane_laws.specs.Remaining.{asked_in, pieces_left, server_packets, serving_left, unfinished, work_left}
 use Rattle.lane_laws.specs.RemainingSteps.{CountsFit}
 
 -- WHERE A SERVER WORKS: in its session, with some descriptor that it was asked for and didn't finish

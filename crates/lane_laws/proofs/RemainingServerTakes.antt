@@ -1,18 +1,14 @@
 -- A server that takes a packet, where its end has no more to put than before: it asks for nothing, or the server is asked for a range.
 use Rattle.std.proofs.Common.{◌≡◌, ℕ, ◌^◌, ◌+◌, ◌-◌, ◌*◌, ◌%◌, ◌≤◌, ◌<◌, Bool, true, false, Option, Some, None, List, refl, sym, ap, ◌∙◌, arith, inl, inr}
 use Rattle.std.specs.Prelude.{◌&&◌, is_none}
-use Rattle.ldc_queue.specs.Transcript.{Turn}
-use Rattle.channel_model.specs.Ranges.{wrapped}
-use Rattle.dring.specs.Slots.{range_length}
-use Rattle.disk_model.specs.ServerState.{ServerSession, ServerState, SlotRange, Work, opened_server}
-use Rattle.channel_laws.specs.EndCore.{holds}
+use Rattle.channel_laws.specs.Vocabulary.{Turn, holds, wrapped}
+use Rattle.lane_laws.specs.Vocabulary.{ServerSession, ServerState, SlotRange, Work, asked_in, opened_server, pieces_left, range_length, server_core, server_packets, serving_left, unfinished}
+use Rattle.lane_laws.specs.Vocabulary.{work_left}
 use Rattle.channel_laws.specs.PacketsLeft.{packets_left}
 use Rattle.lane_laws.proofs.RuleTests.{TakesFree}
 use Rattle.lane_laws.proofs.ServerAnswers.{opened_or}
 use Rattle.lane_laws.proofs.ServerTaken.{ServerAsked, ServerTook}
 use Rattle.lane_laws.specs.Budget.{one_range, range_left}
-use Rattle.lane_laws.specs.ChannelEnds.{server_core}
-use Rattle.lane_laws.specs.Remaining.{asked_in, pieces_left, server_packets, serving_left, unfinished, work_left}
 use Rattle.lane_laws.specs.RemainingSteps.{ServerIsAsked, ServerTurn}
 use Rattle.lane_laws.proofs.ServerMoves.{answers_less}
 

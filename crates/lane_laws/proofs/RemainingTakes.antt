@@ -2,26 +2,16 @@
 -- its client announced.
 use Rattle.std.proofs.Common.{◌≡◌, ℕ, ◌+◌, ◌-◌, ◌*◌, ◌≤◌, Bool, Some, List, [], ◌∷◌, length, drop, ap, subst, arith, inl, inr, length-drop}
 use Rattle.std.specs.Prelude.{slice_get}
-use Rattle.ldc_queue.specs.declared.end.ChannelState.{ChannelState}
-use Rattle.ldc_queue.specs.declared.end.ChannelState.TheVariants.{Down, Up, Resetting}
-use Rattle.ldc_queue.specs.declared.end.End.TheVariants.{A, B}
-use Rattle.ldc_queue.specs.Wire.{Wire, taken_for}
-use Rattle.channel_model.specs.WireEvent.{Took}
-use Rattle.channel_model.specs.WireLog.{wire_moved}
+use Rattle.channel_laws.specs.Vocabulary.{A, B, ChannelState, Down, Resetting, Took, Up, Wire, taken_for, wire_moved}
 use Rattle.disk_model.specs.ClientRule as client_rules
-use Rattle.disk_model.specs.ClientState.{ClientState}
-use Rattle.disk_model.specs.DiskEvent.{OnWire}
-use Rattle.disk_model.specs.LaneState.{LaneState}
-use Rattle.disk_model.specs.LaneStep.{LaneStep}
+use Rattle.lane_laws.specs.Vocabulary.{ClientMay, ClientState, LaneState, LaneStep, OnWire, ServerMay, ServerState, absent, asked_by, asked_in, client_left, client_packets, remaining}
+use Rattle.lane_laws.specs.Vocabulary.{requests_left, second_life, server_left, server_packets, serving_left, total}
 use Rattle.disk_model.specs.ServerRule as server_rules
-use Rattle.disk_model.specs.ServerState.{ServerState}
 use Rattle.lane_laws.proofs.RemainingClientPuts.{ClientLowers}
 use Rattle.lane_laws.proofs.RemainingLane.{asked_same, client_falls, falls_is, left, second_less}
 use Rattle.lane_laws.proofs.LaneViews.{at_client, at_server}
 use Rattle.lane_laws.proofs.Ruling.{client_may, server_may}
-use Rattle.lane_laws.specs.Remaining.{absent, asked_by, asked_in, client_left, client_packets, remaining, requests_left, second_life, server_left, server_packets, serving_left, total}
 use Rattle.lane_laws.specs.RemainingSteps.{ServerHears, ServerIsAsked, ServerTurn, total_at}
-use Rattle.lane_laws.specs.RuleFacts.{ClientMay, ServerMay}
 
 -- a packet that waits is one more
 pub first_gone : (packet : List ℕ) (packets : List (List ℕ)) → slice_get packets 0 ≡ Some packet → length (drop 1 packets) + 1 ≡ length packets

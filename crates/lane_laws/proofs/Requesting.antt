@@ -2,20 +2,14 @@
 use Rattle.std.proofs.Common.{◌≡◌, ℕ, ◌+◌, ◌<◌, Bool, true, false, Option, Some, None, List, [], ◌∷◌, ◌++◌, length, drop, refl, sym, ap, ◌∙◌, subst, arith, length-drop, length-append}
 use Rattle.std.specs.Prelude.{zero, suc, slice_get}
 use Rattle.std.proofs.lemmas.List.{drop-append-le, drop-drop}
-use Rattle.vdisk_msg.specs.declared.request.Request.{Request}
-use Rattle.vdisk_msg.specs.Requests.{operation_of}
+use Rattle.lane_laws.specs.Vocabulary.{ClientCompletes, ClientMay, ClientPublishes, ClientSends, ClientSession, ClientState, Request, WorkLog, announced, announcement, announcing, client_holds}
+use Rattle.lane_laws.specs.Vocabulary.{client_kind, client_put, first_id, holding, joined_client, opened_if, operation_of, session_behind}
 use Rattle.channel_laws.proofs.Apart.{none_is_some, some_same}
-use Rattle.lane_laws.specs.WorkLog.{WorkLog}
-use Rattle.disk_model.specs.ClientPutting.{announced, announcement, announcing, client_holds, client_kind, client_put, holding, opened_if, session_behind}
 use Rattle.disk_model.specs.ClientRule.{Announces, ClientRule, Completes, Publishes, Puts, Says, client_rule}
-use Rattle.disk_model.specs.ClientState.{ClientSession, ClientState, first_id, joined_client}
-use Rattle.disk_model.specs.ClientStep.{ClientCompletes, ClientPublishes, ClientSends}
 use Rattle.disk_model.specs.ClientTaking.{ClientTakes, GoesOn}
-use Rattle.channel_model.specs.EndPuts.{ComesUp, EndsOwn, EndsHandshake, Goes, PutKind, put_opens}
-use Rattle.channel_model.specs.Seeing.{Seen}
+use Rattle.channel_laws.specs.Vocabulary.{ComesUp, EndsHandshake, EndsOwn, Goes, PutKind, Seen, put_opens}
 use Rattle.lane_laws.proofs.ClientHearing.{took_by}
 use Rattle.lane_laws.proofs.Ruling.{client_may}
-use Rattle.lane_laws.specs.RuleFacts.{ClientMay}
 use Rattle.lane_laws.specs.Standing.{RequestsStand, SessionStands}
 
 -- its requests stay, and so does what its session counts, or it opens at the first that isn't done

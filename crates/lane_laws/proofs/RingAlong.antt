@@ -1,21 +1,15 @@
 -- The ring along every run of a lane whose sessions agree after every run, and the status of a completion.
 use Rattle.std.proofs.Common.{◌≡◌, ℕ, false, List, [], ◌∷◌, ◌++◌, refl, sym, ap, ◌∙◌, subst}
 use Rattle.std.specs.Prelude.{⊤}
-use Rattle.runs.specs.Lawful.{log_append, log_of, run_lawful}
-use Rattle.runs.specs.Run.{Run, run_push}
-use Rattle.lane_laws.specs.DiskLog.{DiskLog, after, nothing_yet}
-use Rattle.lane_laws.specs.WorkLog.{ClientCounts}
-use Rattle.lane_laws.specs.WorkLaws.{Unforged}
-use Rattle.disk_model.specs.DiskEvent.{Desc, DiskEvent, Done, Works}
-use Rattle.disk_model.specs.LaneState.{IsShape, LaneState, Shape, fresh}
-use Rattle.disk_model.specs.LaneStep.{LaneStep}
+use Rattle.channel_laws.specs.Vocabulary.{Run, log_append, log_of, run_lawful, run_push}
+use Rattle.lane_laws.specs.Vocabulary.{AlwaysAgree, ClientCounts, Desc, DiskEvent, DiskLog, Done, IsShape, LaneState, LaneStep, RingStands, SessionsAgree, Shape, Unforged, Works, after, fresh}
+use Rattle.lane_laws.specs.Vocabulary.{nothing_yet}
 use Rattle.lane_laws.proofs.CarriedRuns.{AllStand, all_step, fresh_all}
 use Rattle.lane_laws.proofs.RingClientSteps.{completes_slot}
 use Rattle.lane_laws.proofs.RingRuns.{fresh_ring, known_of, ring_step}
 use Rattle.lane_laws.proofs.Agreeing.{always_agree}
 use Rattle.lane_laws.proofs.RingWork.{fetches_request}
 use Rattle.lane_laws.specs.CompletesSlot.{CompletesSlot}
-use Rattle.lane_laws.specs.RingAgreed.{AlwaysAgree, RingStands, SessionsAgree}
 
 pub record Along (shape : Shape) (s : LaneState) (l : DiskLog) : Type 0 where
   pub events : List DiskEvent

@@ -3,20 +3,15 @@
 use Rattle.std.proofs.Common.{◌≡◌, ℕ, ◌*◌, ◌<◌, ◌≤◌, List, [], ◌∷◌, length, None, inr, refl, ap, ◌∙◌, arith}
 use Rattle.std.specs.Prelude.{drop, slice_index}
 use Rattle.dring.proofs.Turning.{one_slot_front, slot_cleared, slot_front, slot_reads_back}
-use Rattle.dring.specs.Slots.{free_slots, free_state, slot_bytes}
+use Rattle.lane_laws.specs.Vocabulary.{Flush, Read, Request, SameSlots, Write, buffer_place, defect, descriptor_of, filled_buffer, free_slots, free_state, published_memory, size_of, slot_bytes}
+use Rattle.lane_laws.specs.Vocabulary.{written}
 use Rattle.vdisk_msg.proofs.Repeated.{length-repeated}
 use Rattle.vdisk_msg.proofs.Written.{is_admitted}
-use Rattle.vdisk_msg.specs.declared.request.Request.{Request}
-use Rattle.vdisk_msg.specs.declared.request.Request.TheVariants.{Flush, Read, Write}
 use Rattle.vdisk_msg.specs.Descriptor as slot_says
-use Rattle.vdisk_msg.specs.Requested.{buffer_place, descriptor_of, size_of}
-use Rattle.vdisk_msg.specs.Requests.{defect, written}
 use Rattle.vio_bytes.specs.Place.{put_at}
-use Rattle.disk_model.specs.ClientStep.{filled_buffer, published_memory}
 use Rattle.lane_laws.proofs.MemoryStanding.{desc_long}
 use Rattle.lane_laws.proofs.RingWrites.{behind_ring, equal_slots, one_after_same}
 use Rattle.lane_laws.specs.MemoryStands.{memory_long}
-use Rattle.lane_laws.specs.RingSlots.{SameSlots}
 use Rattle.lane_laws.specs.SlotsWritten.{FreesSlot, PublishesSlot, buffered, buffers}
 use Rattle.lane_laws.proofs.BehindRing.{freed_behind, published_behind}
 use Rattle.lane_laws.proofs.Changes.{filled}

@@ -4,23 +4,14 @@ use Rattle.std.specs.Prelude.{slice_get, slice_index, zero, suc}
 use Rattle.std.proofs.lemmas.Bool.{cases_lt}
 use Rattle.std.proofs.lemmas.Nat.{mod_below}
 use Rattle.std.proofs.lemmas.Option.{slice_get_within}
-use Rattle.dring.specs.Slots.{OneSlot, done_state, free_state, slot_bytes}
-use Rattle.ldc_queue.specs.declared.end.End.TheVariants.{A}
+use Rattle.lane_laws.specs.Vocabulary.{ClientCounts, ClientMay, ClientSession, CountsInOrder, DiskLog, Done, HoldsIssued, IdStands, IdsStand, InOrder, InRing, InWork, LaneState, OneSlot, Published}
+use Rattle.lane_laws.specs.Vocabulary.{Request, RingHolds, RingOf, ServerCounts, Shape, SlotStands, WorkStands, WorkStep, Works, after, change_client, defect, done_state, free_state}
+use Rattle.lane_laws.specs.Vocabulary.{published_memory, ring_in, slot_bytes}
+use Rattle.channel_laws.specs.Vocabulary.{A, number_at, put_at, seen}
 use Rattle.vdisk_msg.specs.declared.desc.DiskDesc.{DiskDesc}
-use Rattle.vdisk_msg.specs.declared.request.Request.{Request}
 use Rattle.vdisk_msg.specs.Descriptor.{disk_desc_of}
-use Rattle.vdisk_msg.specs.Requests.{defect}
-use Rattle.vio_bytes.specs.Place.{number_at, put_at}
-use Rattle.lane_laws.specs.DiskLog.{DiskLog, after}
 use Rattle.lane_laws.specs.RingLog.{Accepted, Done as IsDone, Free, Ready, SlotLog, freed_at, published_at}
-use Rattle.lane_laws.specs.WorkLog.{ClientCounts, ServerCounts, change_client}
 use Rattle.disk_model.specs.ClientRule as client_rules
-use Rattle.disk_model.specs.ClientState.{ClientSession}
-use Rattle.disk_model.specs.ClientStep.{published_memory}
-use Rattle.disk_model.specs.DiskEvent.{Done, Published, Works}
-use Rattle.disk_model.specs.LaneState.{LaneState, Shape}
-use Rattle.disk_model.specs.LaneStep.{WorkStep}
-use Rattle.channel_model.specs.Seeing.{seen}
 use Rattle.lane_laws.proofs.MemorySteps.{got_sound}
 use Rattle.lane_laws.proofs.RingClient.{frees_slot, publishes_slot}
 use Rattle.lane_laws.proofs.RingSessions.{OfClient, of_client, sizes_of}
@@ -29,11 +20,7 @@ use Rattle.lane_laws.proofs.RingWork.{Known, ids_in, memory_is, some_slots, turn
 use Rattle.lane_laws.proofs.StandingRuns.{slots_is as slots_are}
 use Rattle.lane_laws.proofs.Ruling.{client_may}
 use Rattle.lane_laws.proofs.SlotBytes.{done_slot, published_is, reads_back}
-use Rattle.lane_laws.specs.RingAgreed.{InRing, ring_in}
 use Rattle.lane_laws.specs.CompletesSlot.{CompletesSlot}
-use Rattle.lane_laws.specs.RingSlots.{HoldsIssued, IdStands, IdsStand, InWork, RingHolds, RingOf, SlotStands, WorkStands}
-use Rattle.lane_laws.specs.RuleFacts.{ClientMay}
-use Rattle.lane_laws.specs.Sound.{CountsInOrder, InOrder}
 
 -- the descriptor in work isn't in a slot that changes
 work_other : (r : RingOf) (ring : List SlotLog) (o : Option ServerCounts) (k : ℕ) (e : SlotLog) → ((d : ServerCounts) → InWork r ring d → d.finished % r.slots ≢ k)

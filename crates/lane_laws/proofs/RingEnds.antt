@@ -4,22 +4,13 @@ use Rattle.std.specs.Prelude.{slice_get}
 use Rattle.std.proofs.lemmas.Nat.{mod_below}
 use Rattle.cookie_copy.specs.declared.fault.CopyFault.{CopyFault}
 use Rattle.cookie_copy.specs.Identity.{IsIdentity}
-use Rattle.dring.specs.Slots.{OneSlot, slot_bytes}
-use Rattle.ldc_queue.specs.declared.end.End.TheVariants.{B}
+use Rattle.lane_laws.specs.Vocabulary.{ClientCounts, DiskLog, Ends, Finished, Gathers, Gives, HoldsIssued, IdStands, IdsStand, InRing, InWork, LaneState, Moved, MovesIn, OneSlot, OwesStatus}
+use Rattle.lane_laws.specs.Vocabulary.{Progress, Reach, RingHolds, RingOf, SameSlots, ServerCounts, ServerMay, ServerSession, SlotStands, StatusStands, Work, WorkAgrees, WorkStands, WorkStep}
+use Rattle.lane_laws.specs.Vocabulary.{Works, after, buffer_place, change_server, owed_of, pages_of, reach, ring_in, size_of, slot_bytes}
+use Rattle.channel_laws.specs.Vocabulary.{B, seen}
 use Rattle.vdisk_msg.specs.Descriptor as slot_says
-use Rattle.vdisk_msg.specs.Requested.{buffer_place, size_of}
-use Rattle.lane_laws.specs.Agreement.{WorkAgrees, owed_of}
-use Rattle.lane_laws.specs.DiskLog.{DiskLog, after}
 use Rattle.lane_laws.specs.RingLog.{Accepted, Done, SlotLog, finished_at, id_at}
-use Rattle.lane_laws.specs.WorkLog.{ClientCounts, ServerCounts, change_server}
-use Rattle.disk_model.specs.DiskEvent.{Finished, Moved, Works}
-use Rattle.disk_model.specs.LaneState.{LaneState, pages_of}
-use Rattle.disk_model.specs.LaneStep.{WorkStep, reach}
-use Rattle.channel_model.specs.Seeing.{seen}
 use Rattle.disk_model.specs.ServerRule as server_rules
-use Rattle.disk_model.specs.ServerState.{Ends, Gathers, Gives, Progress, ServerSession, Work}
-use Rattle.cookie_copy.specs.Reach.{Reach}
-use Rattle.disk_model.specs.ServerWork.{MovesIn}
 use Rattle.lane_laws.proofs.RingLeaves.{event_leaves, leaves_stand}
 use Rattle.lane_laws.proofs.RingServer.{ends_slot}
 use Rattle.lane_laws.proofs.RingSessions.{sizes_of}
@@ -29,9 +20,6 @@ use Rattle.lane_laws.proofs.RingWrites.{equal_slots, given_behind}
 use Rattle.lane_laws.proofs.Ruling.{server_may}
 use Rattle.lane_laws.proofs.SlotBytes.{Sizes, ended_holds, fetched_cookies, request_size}
 use Rattle.lane_laws.specs.MemoryStands.{memory_long}
-use Rattle.lane_laws.specs.RingAgreed.{InRing, ring_in}
-use Rattle.lane_laws.specs.RingSlots.{HoldsIssued, IdStands, IdsStand, InWork, OwesStatus, RingHolds, RingOf, SameSlots, SlotStands, StatusStands, WorkStands}
-use Rattle.lane_laws.specs.RuleFacts.{ServerMay}
 use Rattle.lane_laws.proofs.ServerEndCounting.{finished_log}
 
 -- THE DESCRIPTOR IN WORK

@@ -1,21 +1,13 @@
 -- The log of the ring after an event that leaves its slots as they are: what is known of bytes, numbers and work carries over.
 use Rattle.std.proofs.Common.{◌≡◌, ℕ, ◌+◌, Bool, true, false, List, Option, Some, None, ◌⊎◌, inl, inr, refl, sym, ap, ◌∙◌, subst, arith}
 use Rattle.std.specs.Prelude.{⊤, ◌-◌, ◌%◌, slice_get}
-use Rattle.ldc_queue.specs.declared.end.ChannelState.{ChannelState}
-use Rattle.ldc_queue.specs.declared.end.ChannelState.TheVariants.{Down, Resetting, Up}
-use Rattle.ldc_queue.specs.declared.end.End.TheVariants.{A, B}
-use Rattle.ldc_queue.specs.Wire.{peer_behind}
-use Rattle.channel_model.specs.WireEvent.{Injected, Joined, Lost, Reset, Sent, Took, WireEvent}
-use Rattle.vdisk_msg.specs.declared.request.Request.{Request}
-use Rattle.lane_laws.specs.DiskLog.{DiskLog, after}
+use Rattle.channel_laws.specs.Vocabulary.{A, B, ChannelState, Down, Injected, Joined, Lost, Reset, Resetting, Sent, Took, Up, WireEvent, peer_behind}
+use Rattle.lane_laws.specs.Vocabulary.{Accepted as Accepted_, Asks, ClientCounts, Desc, DiskEvent, DiskLog, Done, Finished, HoldsIssued, IdStands, IdsStand, InRing, InWork, LaneState, Moved}
+use Rattle.lane_laws.specs.Vocabulary.{OnWire, Published, Request, RingHolds, RingOf, SameSlots, ServerCounts, Stopped, Stored, Switches, WorkStands, Works, after, change_client, change_server}
+use Rattle.lane_laws.specs.Vocabulary.{opened_counts, ring_in}
 use Rattle.lane_laws.specs.RingLog.{Accepted, SlotLog}
-use Rattle.lane_laws.specs.WorkLog.{ClientCounts, ServerCounts, change_client, change_server, opened_counts}
-use Rattle.disk_model.specs.LaneState.{LaneState}
 use Rattle.lane_laws.proofs.StandingSteps.{wired_keeps}
-use Rattle.disk_model.specs.DiskEvent.{Accepted as Accepted_, Asks, Desc, DiskEvent, Done, Finished, Moved, OnWire, Published, Stopped, Stored, Switches, Works}
 use Rattle.lane_laws.proofs.RingTable.{map_stands, same_holds}
-use Rattle.lane_laws.specs.RingAgreed.{InRing, ring_in}
-use Rattle.lane_laws.specs.RingSlots.{HoldsIssued, IdStands, IdsStand, InWork, RingHolds, RingOf, SameSlots, WorkStands}
 
 -- the client's ids stay, or its session is gone
 abbrev pub KeepsIds : Option ClientCounts → Option ClientCounts → Type 0

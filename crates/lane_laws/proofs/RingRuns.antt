@@ -7,31 +7,23 @@ use Rattle.std.proofs.lemmas.Option.{slice_get_within}
 use Rattle.cookie_copy.specs.Identity.{IsIdentity}
 use Rattle.cookie_copy.specs.declared.fault.CopyFault.{CopyFault}
 use Rattle.dring.proofs.Turning.{slot_fits}
-use Rattle.dring.specs.Slots.{slot_bytes}
+use Rattle.lane_laws.specs.Vocabulary.{Accepted, Admitted, Asks, Desc, DiskEvent, DiskLog, Finished, Full, IsShape, LaneState, LaneStep, Moved, OnWire, OwesStatus, Published, Refused, RingAgrees}
+use Rattle.lane_laws.specs.Vocabulary.{RingHolds, RingOf, RingStands, ServerCounts, SessionsAgree, Shape, SlotAgrees, SlotHolds, StatusStands, Stopped, Stored, Switches, WorkLog, Works, after}
+use Rattle.lane_laws.specs.Vocabulary.{change_server, fresh, moved_rest, nothing_yet, opened_counts, pages_of, rest_of, ring_in, slot_bytes, stored_rest, work_wired}
 use Rattle.map_table.specs.declared.table.Entry.{Entry}
-use Rattle.ldc_queue.specs.declared.end.End.TheVariants.{B}
+use Rattle.channel_laws.specs.Vocabulary.{B, Injected, Joined, Poked, Reset, Sent, Took, TranscriptLog, WireEvent}
 use Rattle.vdisk_msg.specs.Check.{first_defect}
 use Rattle.vdisk_msg.specs.declared.desc.DescFault.{DescFault}
 use Rattle.vdisk_msg.specs.declared.desc.DescFault.TheVariants.{Operation}
 use Rattle.vdisk_msg.specs.declared.desc.DiskDesc.{DiskDesc}
 use Rattle.vdisk_msg.specs.Pieces.{Finishes, Moves, Piece, Stores, checked_pieces, operation_pieces, pieces, read_pieces, refusal_status, unit_count, write_pieces}
-use Rattle.channel_model.specs.TranscriptLog.{TranscriptLog}
-use Rattle.channel_model.specs.WireEvent.{Injected, Joined, Poked, Reset, Sent, Took, WireEvent}
 use Rattle.channel_laws.proofs.Apart.{some_same}
-use Rattle.lane_laws.specs.Agreement.{RingAgrees, SlotAgrees}
-use Rattle.lane_laws.specs.DiskLog.{DiskLog, after, nothing_yet}
 use Rattle.lane_laws.specs.RingLog.{Free, SlotLog, Zeros, no_ring}
-use Rattle.lane_laws.specs.WorkLog.{ServerCounts, WorkLog, change_server, moved_rest, opened_counts, rest_of, stored_rest, work_wired}
-use Rattle.disk_model.specs.DiskEvent.{Accepted, Admitted, Asks, Desc, DiskEvent, Finished, Full, Moved, OnWire, Published, Refused, Stopped, Stored, Switches, Works}
-use Rattle.disk_model.specs.LaneState.{IsShape, LaneState, Shape, fresh, pages_of}
-use Rattle.disk_model.specs.LaneStep.{LaneStep}
 use Rattle.lane_laws.proofs.CarriedRuns.{AllStand}
 use Rattle.lane_laws.proofs.RingPages.{few_pages, own_is_identity, same_pages}
 use Rattle.lane_laws.proofs.RingSteps.{event_in_ring}
 use Rattle.lane_laws.proofs.RingWork.{Known}
 use Rattle.lane_laws.proofs.StandingSteps.{wired_keeps}
-use Rattle.lane_laws.specs.RingAgreed.{RingStands, SessionsAgree, ring_in}
-use Rattle.lane_laws.specs.RingSlots.{OwesStatus, RingHolds, RingOf, SlotHolds, StatusStands}
 use Rattle.lane_laws.specs.Standing.{LaneInvariant}
 
 -- A STATUS that is owed has 4 bytes

@@ -4,20 +4,15 @@ use Rattle.std.proofs.Common.{◌≡◌, ℕ, ◌+◌, ◌*◌, ◌<◌, ◌≤�
 use Rattle.cookie_copy.specs.Identity.{IsIdentity}
 use Rattle.cookie_copy.specs.declared.fault.Access.TheVariants as access
 use Rattle.dring.proofs.Turning.{one_slot_put, slot_put}
-use Rattle.dring.specs.Slots.{OneSlot, slot_bytes}
+use Rattle.lane_laws.specs.Vocabulary.{EndFails, HoldsIssued, OneSlot, Reach, RingOf, ServerState, Work, descriptor_of, header_of, ring_pages, slot_bytes, slots_cookies, status_word, with_done}
+use Rattle.lane_laws.specs.Vocabulary.{with_status, with_word, word_fault}
 use Rattle.vdisk_msg.specs.Descriptor.{canonical}
 use Rattle.vdisk_msg.specs.declared.desc.DiskDesc.{DiskDesc}
-use Rattle.vdisk_msg.specs.Requested.{descriptor_of, ring_pages, status_word}
-use Rattle.vio_bytes.specs.Place.{put_at}
-use Rattle.vio_tag.specs.declared.cause.Cause.{Cause}
+use Rattle.channel_laws.specs.Vocabulary.{Cause, put_at}
 use Rattle.disk_model.specs.Offering.{own_cookies}
-use Rattle.disk_model.specs.ServerState.{ServerState, Work}
-use Rattle.cookie_copy.specs.Reach.{Reach}
-use Rattle.disk_model.specs.ServerWork.{EndFails, header_of, slots_cookies, with_done, with_status, with_word, word_fault}
 use Rattle.lane_laws.proofs.MemoryStanding.{word_long}
 use Rattle.lane_laws.proofs.RingCookies.{copy_up}
 use Rattle.lane_laws.proofs.RingWrites.{one_after_one, ring_word, ring_word_answered}
-use Rattle.lane_laws.specs.RingSlots.{HoldsIssued, RingOf}
 use Rattle.channel_laws.proofs.Apart.{some_is_none}
 
 -- a server that reaches a ring of so many slots by its own cookies

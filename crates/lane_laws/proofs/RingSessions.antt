@@ -2,16 +2,9 @@
 use Rattle.std.proofs.Common.{◌≡◌, ℕ, ◌+◌, ◌%◌, ◌^◌, ◌<◌, ◌≤◌, Option, Some, None, refl, sym, ap, subst, arith}
 use Rattle.ldc_queue.specs.declared.end.ChannelState.TheVariants.{Up}
 use Rattle.channel_laws.proofs.Apart.{none_is_some, some_same}
-use Rattle.lane_laws.specs.Agreement.{ClientAgrees, ClientCountsAgree, ServerAgrees, ServerCountsAgree, WorkAgrees}
-use Rattle.lane_laws.specs.DiskLog.{DiskLog}
-use Rattle.lane_laws.specs.WorkLaws.{IfServer}
-use Rattle.lane_laws.specs.WorkLog.{ClientCounts, ServerCounts}
-use Rattle.disk_model.specs.ClientState.{ClientSession}
-use Rattle.disk_model.specs.LaneState.{LaneState}
-use Rattle.disk_model.specs.ServerState.{ServerSession, Work}
+use Rattle.lane_laws.specs.Vocabulary.{ClientAgrees, ClientCounts, ClientCountsAgree, ClientSession, CountsInOrder, DiskLog, IfServer, LaneState, OneRing, PagesStand, ServerAgrees, ServerCounts}
+use Rattle.lane_laws.specs.Vocabulary.{ServerCountsAgree, ServerSession, SessionsAgree, Work, WorkAgrees, ring_in}
 use Rattle.lane_laws.proofs.SlotBytes.{Sizes}
-use Rattle.lane_laws.specs.RingAgreed.{OneRing, PagesStand, SessionsAgree, ring_in}
-use Rattle.lane_laws.specs.Sound.{CountsInOrder}
 
 -- THE CLIENT'S
 pub record OfClient (c : ClientSession) (done : ℕ) (q : Option ClientCounts) : Type 0 where

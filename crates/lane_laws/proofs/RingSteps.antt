@@ -1,20 +1,15 @@
 -- Each event keeps the slots of the ring, where the sessions agree before it and after it.
 use Rattle.std.proofs.Common.{◌≡◌, ℕ, ◌^◌, ◌<◌, false, List, length, sym, ap, subst}
-use Rattle.lane_laws.specs.DiskLog.{DiskLog, after}
-use Rattle.disk_model.specs.DiskEvent.{Accepted, Asks, Desc, DiskEvent, Done, Finished, Misplaced, Moved, OnWire, Published, Calms, Stopped, Stored, Switches, Works}
-use Rattle.disk_model.specs.LaneState.{LaneState}
-use Rattle.disk_model.specs.LaneStep.{LaneStep}
+use Rattle.lane_laws.specs.Vocabulary.{Accepted, Asks, Calms, Desc, DiskEvent, DiskLog, Done, Finished, InRing, LaneState, LaneStep, Misplaced, Moved, OnWire, Published, Request, RingHolds}
+use Rattle.lane_laws.specs.Vocabulary.{SessionsAgree, Stopped, Stored, Switches, Works, after, ring_in}
 use Rattle.lane_laws.proofs.RingClientSteps.{completed_in_ring, published_in_ring}
 use Rattle.lane_laws.proofs.RingEnds.{finished_in_ring, moved_in_ring}
 use Rattle.lane_laws.proofs.RingLeaves.{Leaves, event_leaves, leaves_stand}
 use Rattle.lane_laws.proofs.LaneViews.{calm_same}
-use Rattle.vdisk_msg.specs.declared.request.Request.{Request}
 use Rattle.lane_laws.proofs.RingTable.{more_ring, more_work}
 use Rattle.lane_laws.proofs.RingWire.{wire_in_ring}
 use Rattle.lane_laws.proofs.RingWork.{Known, fetched_in_ring}
 use Rattle.lane_laws.proofs.RingWrites.{equal_slots}
-use Rattle.lane_laws.specs.RingAgreed.{InRing, SessionsAgree, ring_in}
-use Rattle.lane_laws.specs.RingSlots.{RingHolds}
 
 -- AN EVENT that touches neither ring nor memory
 rest_in_ring : (s : LaneState) (l : DiskLog) (event : DiskEvent) (t : LaneState) → Known s l → Leaves event → t.memory ≡ s.memory → InRing t (after l event)

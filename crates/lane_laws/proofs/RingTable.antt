@@ -5,13 +5,11 @@ use Rattle.std.proofs.lemmas.Bool.{cases_lt}
 use Rattle.std.proofs.lemmas.List.{length-set}
 use Rattle.std.proofs.lemmas.Option.{slice_get_within}
 use Rattle.dring.proofs.Turning.{one_turn}
-use Rattle.dring.specs.Slots.{OneSlot, free_state, slot_bytes}
-use Rattle.vdisk_msg.specs.declared.request.Request.{Request}
+use Rattle.lane_laws.specs.Vocabulary.{ClientCounts, IdStands, IdsStand, InWork, OneSlot, Request, RingHolds, RingOf, SameSlots, ServerCounts, SlotHolds, SlotStands, WorkStands, free_state}
+use Rattle.lane_laws.specs.Vocabulary.{slot_bytes}
 use Rattle.channel_laws.proofs.Apart.{some_same}
 use Rattle.lane_laws.specs.RingLog.{Accepted, Done, Free, Ready, SlotLog, Zeros}
-use Rattle.lane_laws.specs.WorkLog.{ClientCounts, ServerCounts}
 use Rattle.lane_laws.proofs.SlotBytes.{more_holds}
-use Rattle.lane_laws.specs.RingSlots.{IdStands, IdsStand, InWork, RingHolds, RingOf, SameSlots, SlotHolds, SlotStands, WorkStands}
 
 -- ONE ENTRY of a table
 pub got_same : (ring : List SlotLog) (k : ℕ) (e : SlotLog) → k < length ring → slice_get (set ring k e) k ≡ Some e

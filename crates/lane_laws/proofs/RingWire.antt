@@ -1,28 +1,13 @@
 -- What the wire's events do to the ring: nothing, but that it is cleared as the client's session opens.
 use Rattle.std.proofs.Common.{◌≡◌, ℕ, ◌%◌, Bool, true, false, List, Option, Some, None, refl, sym, ap, ◌∙◌, subst, arith}
 use Rattle.std.specs.Prelude.{if◌then◌else◌, slice_index, replicate}
-use Rattle.dring.specs.Slots.{free_slots, slot_bytes}
-use Rattle.ldc_queue.specs.declared.end.ChannelState.TheVariants.{Up}
-use Rattle.ldc_queue.specs.declared.end.End.{End}
-use Rattle.ldc_queue.specs.declared.end.End.TheVariants.{A, B}
-use Rattle.vio_bytes.specs.Place.{put_at}
-use Rattle.vio_tag.specs.declared.cause.Cause.{Cause}
-use Rattle.channel_model.specs.WireEvent.{Blocked, Idle, Injected, Joined, Reset, Sent, Took, WireEvent}
-use Rattle.lane_laws.specs.DiskLog.{DiskLog, after}
+use Rattle.lane_laws.specs.Vocabulary.{ClientCounts, ClientSends, ClientState, ClientStep, DiskLog, Ends, IfServer, InRing, LaneState, OnWire, OneRing, Progress, ServerCounts, ServerFails}
+use Rattle.lane_laws.specs.Vocabulary.{ServerMay, ServerSession, ServerState, ServerStep, SessionsAgree, WireStep, Work, WorkFails, WorkStands, after, free_slots, pages_of, reach, ring_in, slot_at}
+use Rattle.lane_laws.specs.Vocabulary.{slot_bytes}
+use Rattle.channel_laws.specs.Vocabulary.{A, B, Blocked, Cause, End, Idle, Injected, Joined, Reset, Sent, Took, Up, WireEvent, put_at, seen}
 use Rattle.lane_laws.specs.RingLog.{Free}
-use Rattle.lane_laws.specs.WorkLaws.{IfServer}
-use Rattle.lane_laws.specs.WorkLog.{ClientCounts, ServerCounts}
 use Rattle.disk_model.specs.ClientRule.{client_rule}
-use Rattle.disk_model.specs.ClientState.{ClientState}
-use Rattle.disk_model.specs.ClientStep.{ClientSends, ClientStep}
-use Rattle.disk_model.specs.DiskEvent.{OnWire}
-use Rattle.disk_model.specs.LaneState.{LaneState, pages_of}
-use Rattle.disk_model.specs.LaneStep.{WireStep, reach}
-use Rattle.channel_model.specs.Seeing.{seen}
 use Rattle.disk_model.specs.ServerRule as server_rules
-use Rattle.disk_model.specs.ServerState.{Ends, Progress, ServerSession, ServerState, Work}
-use Rattle.disk_model.specs.ServerStep.{ServerStep, ServerFails, WorkFails}
-use Rattle.disk_model.specs.ServerWork.{slot_at}
 use Rattle.lane_laws.proofs.Requesting.{held_kept}
 use Rattle.lane_laws.proofs.RingClient.{cleared_slot}
 use Rattle.lane_laws.proofs.RingEnds.{has_work, work_below}
@@ -34,9 +19,6 @@ use Rattle.lane_laws.proofs.RingWork.{Known, at_work, numbered}
 use Rattle.lane_laws.proofs.StandingRuns.{slots_is as slots_are}
 use Rattle.lane_laws.proofs.RingWrites.{equal_slots}
 use Rattle.lane_laws.proofs.Ruling.{client_may, server_may}
-use Rattle.lane_laws.specs.RingAgreed.{InRing, OneRing, SessionsAgree, ring_in}
-use Rattle.lane_laws.specs.RingSlots.{WorkStands}
-use Rattle.lane_laws.specs.RuleFacts.{ServerMay}
 
 -- THE CLIENT'S PACKETS
 pub record Clears (s : LaneState) (opens : Bool) (new : List ℕ) : Type 0 where

@@ -4,28 +4,16 @@ use Rattle.std.proofs.Common.{◌≡◌, ℕ, ◌+◌, ◌%◌, ◌^◌, ◌<◌
 use Rattle.std.specs.Prelude.{slice_get, slice_index, ◌==◌}
 use Rattle.std.proofs.lemmas.Bool.Decides.{nat_tests}
 use Rattle.std.proofs.lemmas.Nat.{mod_below}
-use Rattle.dring.specs.Slots.{OneSlot, slot_bytes}
-use Rattle.ldc_queue.specs.declared.end.ChannelState.TheVariants.{Up}
-use Rattle.ldc_queue.specs.declared.end.End.TheVariants.{B}
+use Rattle.lane_laws.specs.Vocabulary.{ClientCounts, ClientSound, Desc, DiskLog, FetchesRequest, HoldsIssued, IdStands, IdsStand, IfServer, InClient, InRing, InServer, InWork, LaneState, OneRing}
+use Rattle.lane_laws.specs.Vocabulary.{OneSlot, PagesStand, Request, RingHolds, ServerCounts, ServerMay, ServerSession, SessionsAgree, SlotStands, StatusStands, Unforged, WorkStands, WorkStep}
+use Rattle.lane_laws.specs.Vocabulary.{Works, after, change_server, descriptor_of, header_of, pages_of, reach, ring_in, slot_bytes, slot_fetched, with_word}
+use Rattle.channel_laws.specs.Vocabulary.{B, Up, WireLog, put_at, seen}
 use Rattle.vdisk_msg.specs.Descriptor as slot_says
-use Rattle.vdisk_msg.specs.declared.request.Request.{Request}
 use Rattle.vdisk_msg.specs.Pieces.{pieces}
-use Rattle.vdisk_msg.specs.Requested.{descriptor_of}
-use Rattle.vio_bytes.specs.Place.{put_at}
-use Rattle.channel_model.specs.WireLog.{WireLog}
 use Rattle.channel_laws.proofs.Apart.{some_same}
-use Rattle.lane_laws.specs.DiskLog.{DiskLog, after}
 use Rattle.lane_laws.specs.RingLog.{Accepted, SlotLog, fetched_at, id_at}
-use Rattle.lane_laws.specs.WorkLaws.{FetchesRequest, IfServer, InClient, InServer, Unforged}
-use Rattle.lane_laws.specs.WorkLog.{ClientCounts, ServerCounts, change_server}
-use Rattle.disk_model.specs.DiskEvent.{Desc, Works}
-use Rattle.disk_model.specs.LaneState.{LaneState, pages_of}
-use Rattle.disk_model.specs.LaneStep.{WorkStep, reach}
 use Rattle.disk_model.specs.Offering.{own_cookies}
-use Rattle.channel_model.specs.Seeing.{seen}
 use Rattle.disk_model.specs.ServerRule as server_rules
-use Rattle.disk_model.specs.ServerState.{ServerSession}
-use Rattle.disk_model.specs.ServerWork.{header_of, slot_fetched, with_word}
 use Rattle.lane_laws.proofs.RingServer.{Reaches, header_long, writes_word}
 use Rattle.lane_laws.proofs.RingSessions.{OfServer, RingTurn, of_server, one_ring, sizes_of, turn_of, unwrapped}
 use Rattle.lane_laws.proofs.RingTable.{each_set, got_same, id_is, set_holds, some_entry}
@@ -33,10 +21,6 @@ use Rattle.lane_laws.proofs.RingWrites.{ring_fetched}
 use Rattle.lane_laws.proofs.Ruling.{server_may}
 use Rattle.lane_laws.proofs.SlotBytes.{marked_holds, reads_back, ready_slot, stated}
 use Rattle.lane_laws.specs.MemoryStands.{MemoryStands, memory_long}
-use Rattle.lane_laws.specs.RingAgreed.{InRing, OneRing, PagesStand, SessionsAgree, ring_in}
-use Rattle.lane_laws.specs.RingSlots.{HoldsIssued, IdStands, IdsStand, InWork, RingHolds, SlotStands, StatusStands, WorkStands}
-use Rattle.lane_laws.specs.RuleFacts.{ServerMay}
-use Rattle.lane_laws.specs.Sound.{ClientSound}
 use Rattle.lane_laws.specs.Standing.{LaneInvariant}
 use Rattle.lane_laws.proofs.ServerPutCounting.{work_most}
 use Rattle.lane_laws.proofs.StandingRuns.{slots_is}

@@ -10,18 +10,14 @@ use Rattle.cookie_copy.specs.Faults.{first_copy_fault, held, is_aligned, is_alig
 use Rattle.cookie_copy.specs.Identity.{IsIdentity, copied_in, copied_out}
 use Rattle.cookie_copy.specs.Moved.{moved_out}
 use Rattle.dring.proofs.Turning.{slot_fits}
-use Rattle.dring.specs.Slots.{OneSlot, slot_bytes}
+use Rattle.lane_laws.specs.Vocabulary.{OneSlot, Reach, SameSlots, ServerState, Work, buffer_cookies, cookie_count, data_cookies, fetch_fault, given_memory, out_fault, ring_pages, slot_bytes}
+use Rattle.lane_laws.specs.Vocabulary.{slot_fetched, slots_cookies, with_word, word_fault}
 use Rattle.map_table.specs.declared.cookie.Cookie.{Cookie}
-use Rattle.vdisk_msg.specs.Requested.{buffer_cookies, cookie_count, ring_pages}
 use Rattle.vio_bytes.proofs.Putting.{length-put_at}
 use Rattle.vio_bytes.proofs.Ranges.{range_at-put_at_outside}
 use Rattle.vio_bytes.specs.Place.{put_at}
 use Rattle.disk_model.specs.Offering.{own_cookies}
-use Rattle.disk_model.specs.ServerState.{ServerState, Work}
-use Rattle.cookie_copy.specs.Reach.{Reach}
-use Rattle.disk_model.specs.ServerWork.{data_cookies, fetch_fault, given_memory, out_fault, slot_fetched, slots_cookies, with_word, word_fault}
 use Rattle.lane_laws.proofs.RingCookies.{buffer_bytes, copy_held, ring_bytes}
-use Rattle.lane_laws.specs.RingSlots.{SameSlots}
 
 -- CHANGES one after another
 pub equal_slots : (slots : ℕ) (memory new : List ℕ) → new ≡ memory → SameSlots slots memory new

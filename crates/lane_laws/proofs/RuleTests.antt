@@ -3,20 +3,12 @@ use Rattle.std.proofs.Common.{◌≡◌, ◌≢◌, ℕ, ◌-◌, ◌<◌, ◌�
 use Rattle.std.specs.Prelude.{◌&&◌, ◌||◌, ◌==◌, if◌then◌else◌, is_none, is_some, nat_lt, slice_get}
 use Rattle.std.proofs.lemmas.Bool.{eqb-true, ltb-true}
 use Rattle.channel_laws.proofs.Apart.{none_is_some, some_same, true_is_false}
-use Rattle.channel_model.specs.Seeing.{Seen}
+use Rattle.channel_laws.specs.Vocabulary.{ChannelState, Down, LinkPhase, LinkState, Message, Resetting, Seen, Up, owed_in, owes, owes_control, owes_in}
 use Rattle.cookie_copy.specs.Faults.{is_up}
 use Rattle.disk_model.specs.ClientRule as client
-use Rattle.disk_model.specs.ClientState.{ClientSession, ClientState}
+use Rattle.lane_laws.specs.Vocabulary.{ClientSession, ClientState, Request, ServerSession, ServerState, SlotRange, Work}
 use Rattle.disk_model.specs.ServerRule as server
-use Rattle.disk_model.specs.ServerState.{ServerSession, ServerState, SlotRange, Work}
-use Rattle.ldc_link.specs.declared.phase.LinkPhase.{LinkPhase}
 use Rattle.ldc_link.specs.declared.phase.LinkPhase.TheVariants as phase
-use Rattle.ldc_link.specs.LinkState.{LinkState}
-use Rattle.ldc_link.specs.Putting.{owed_in, owes, owes_control, owes_in}
-use Rattle.ldc_queue.specs.declared.end.ChannelState.{ChannelState}
-use Rattle.ldc_queue.specs.declared.end.ChannelState.TheVariants.{Down, Resetting, Up}
-use Rattle.vdisk_msg.specs.declared.request.Request.{Request}
-use Rattle.vio_tag.specs.declared.message.Message.{Message}
 
 up_is : (e : ChannelState) → is_up e ≡ true → e ≡ Up
 up_is Up up = refl

@@ -1,15 +1,10 @@
 -- What more is known where a rule is an end's next step: that its link holds nothing, that nothing is owed or urgent, and how its range stands.
 use Rattle.std.proofs.Common.{◌≡◌, ℕ, ◌⊎◌, Bool, true, false, Option, Some, None, List, refl, sym, ◌∙◌, inl, inr}
 use Rattle.std.specs.Prelude.{◌&&◌, ◌||◌, is_none, is_some, ⊤}
-use Rattle.ldc_link.specs.Putting.{owes, owes_control}
-use Rattle.vdisk_msg.specs.declared.request.Request.{Request}
-use Rattle.vio_tag.specs.declared.message.Message.{Message}
-use Rattle.disk_model.specs.ClientPutting.{client_holds}
+use Rattle.channel_laws.specs.Vocabulary.{Message, Seen, owes, owes_control}
+use Rattle.lane_laws.specs.Vocabulary.{ClientSession, ClientState, Request, ServerState, client_holds}
 use Rattle.disk_model.specs.ClientRule as client
-use Rattle.disk_model.specs.ClientState.{ClientSession, ClientState}
-use Rattle.channel_model.specs.Seeing.{Seen}
 use Rattle.disk_model.specs.ServerRule as server
-use Rattle.disk_model.specs.ServerState.{ServerState}
 use Rattle.channel_laws.proofs.Apart.{none_is_some, true_is_false}
 use Rattle.lane_laws.proofs.RuleTests.{AnswersFree, ClientTested, ServerTested, ServesFree, TakesFree, client_test, client_tested, server_tested}
 

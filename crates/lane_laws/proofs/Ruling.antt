@@ -1,12 +1,9 @@
 -- What is known where a rule is an end's next step.
 use Rattle.std.proofs.Common.{◌⊎◌, ◌≡◌, Some, inl, inr}
-use Rattle.vio_tag.specs.declared.message.Message.{Message}
+use Rattle.channel_laws.specs.Vocabulary.{Message, Seen}
 use Rattle.disk_model.specs.ClientRule as client
-use Rattle.disk_model.specs.ClientState.{ClientState}
-use Rattle.channel_model.specs.Seeing.{Seen}
+use Rattle.lane_laws.specs.Vocabulary.{ClientMay, ClientState, ServerMay, ServerSays, ServerState}
 use Rattle.disk_model.specs.ServerRule as server
-use Rattle.disk_model.specs.ServerState.{ServerState}
-use Rattle.lane_laws.specs.RuleFacts.{ClientMay, ServerMay, ServerSays}
 use Rattle.lane_laws.proofs.RuleTests.{AnswersFree, ClientTested, ServerTested, client_tested, server_tested}
 
 client_may_by : (s : ClientState) (at : Seen) (rule : client.ClientRule) → ClientTested s at rule → ClientMay s at rule

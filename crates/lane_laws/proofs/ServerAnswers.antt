@@ -2,22 +2,15 @@
 use Rattle.std.proofs.Common.{◌≡◌, ℕ, ◌<◌, Bool, true, false, Option, Some, None, List, refl, sym, ap, subst, arith}
 use Rattle.std.specs.Prelude.{nat_le, if◌then◌else◌, is_some, Result, Ok, Err}
 use Rattle.std.proofs.lemmas.Bool.{leb-false}
-use Rattle.ldc_link.specs.LinkState.{LinkState, cleared}
-use Rattle.ldc_link.specs.Taking.{Heard, LinkTake, TakesBytes, Unheard}
+use Rattle.channel_laws.specs.Vocabulary.{Cause, DringData, Faults, GoesOpen, Handshake, HandshakeTake, Info, IsOfSession, IsOwn, LinkState, LinkTake, Message, TakesBytes, Unheard, cleared}
+use Rattle.channel_laws.specs.Vocabulary.{fault_or, handshake_hear, handshake_risen, handshake_take, is_other, sid_fault}
+use Rattle.ldc_link.specs.Taking.{Heard}
 use Rattle.ldc_packet.specs.declared.packet.Subtype.{Subtype}
-use Rattle.ldc_packet.specs.declared.packet.Subtype.TheVariants.{Info}
-use Rattle.vio_tag.specs.declared.cause.Cause.{Cause}
 use Rattle.vio_tag.specs.declared.cause.Cause.TheVariants as the_cause
-use Rattle.vio_tag.specs.declared.message.Message.{Message}
 use Rattle.vio_tag.specs.declared.message.MsgBody.{MsgBody}
-use Rattle.vio_tag.specs.declared.message.MsgBody.TheVariants.{DringData}
 use Rattle.vio_tag.specs.declared.message.TagFault.{TagFault}
 use Rattle.vio_tag.specs.Decoding.{Decodes}
-use Rattle.vio_handshake.specs.declared.handshake.Handshake.{Handshake}
-use Rattle.vio_handshake.specs.Rules.{Faults, Goes, GoesOpen, HandshakeTake, fault_or, handshake_hear, handshake_take, sid_fault}
-use Rattle.channel_laws.specs.EndStep.{IsOfSession, IsOwn}
-use Rattle.channel_model.specs.EndPuts.{handshake_risen}
-use Rattle.channel_model.specs.Ranges.{is_other}
+use Rattle.vio_handshake.specs.Rules.{Goes}
 use Rattle.disk_model.specs.ServerState.{ServerSession, ServerState, SlotRange, opened_server}
 use Rattle.disk_model.specs.ServerTaking.{GoesOn, HearsLink, HearsWhole, Resets, ServerTake, ServerTakes, asked, by_handshake, hears_message, in_session, place_of, reads, sid_first, takes_info}
 use Rattle.lane_laws.proofs.ClientAnswers.{HandshakesTo, is_the}

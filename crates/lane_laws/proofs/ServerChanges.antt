@@ -3,29 +3,14 @@ use Rattle.std.proofs.Common.{◌≡◌, ℕ, ◌+◌, ◌*◌, ◌%◌, ◌≤�
 use Rattle.cookie_copy.specs.declared.fault.Access.TheVariants as access
 use Rattle.cookie_copy.specs.declared.fault.CopyFault.{CopyFault}
 use Rattle.cookie_copy.specs.Moved.{moved_in, moved_out}
-use Rattle.ldc_queue.specs.declared.end.ChannelState.{ChannelState}
-use Rattle.ldc_queue.specs.declared.end.ChannelState.TheVariants.{Up}
-use Rattle.ldc_queue.specs.declared.end.End.TheVariants.{B}
-use Rattle.vdisk_msg.specs.declared.request.Request.{Request}
-use Rattle.vdisk_msg.specs.declared.request.Request.TheVariants.{Flush, Read, Write}
-use Rattle.vdisk_msg.specs.Requested.{size_of}
-use Rattle.vio_bytes.specs.Place.{put_at}
+use Rattle.channel_laws.specs.Vocabulary.{B, ChannelState, Up, WireLog, put_at, seen}
+use Rattle.lane_laws.specs.Vocabulary.{ClientState, DiskLog, Flush, Gathers, Gives, LaneState, Moved, MovesIn, NearCounts, Progress, Reach, Read, Request, ServerMay, ServerState, Work, WorkStep}
+use Rattle.lane_laws.specs.Vocabulary.{Works, Write, Writes, data_cookies, desc_of, gathered, given, given_memory, in_fault, length_of, out_fault, place_of, reach, reads_next, size_of, unit_length}
+use Rattle.lane_laws.specs.Vocabulary.{view_of, work_while}
 use Rattle.vio_bytes.specs.Range.{range_at}
-use Rattle.channel_model.specs.WireLog.{WireLog}
-use Rattle.lane_laws.specs.DiskLog.{DiskLog}
-use Rattle.disk_model.specs.ClientState.{ClientState}
-use Rattle.disk_model.specs.DiskEvent.{Moved, Works}
-use Rattle.disk_model.specs.LaneState.{LaneState, NearCounts}
-use Rattle.disk_model.specs.LaneStep.{WorkStep, reach}
-use Rattle.channel_model.specs.Seeing.{seen}
 use Rattle.disk_model.specs.ServerRule as server_rules
-use Rattle.disk_model.specs.ServerState.{Gathers, Gives, Progress, ServerState, Work, Writes}
-use Rattle.cookie_copy.specs.Reach.{Reach}
-use Rattle.disk_model.specs.ServerWork.{MovesIn, data_cookies, desc_of, gathered, given, given_memory, in_fault, length_of, out_fault, reads_next, unit_length}
 use Rattle.lane_laws.proofs.Ruling.{server_may}
-use Rattle.lane_laws.specs.RuleFacts.{ServerMay}
 use Rattle.lane_laws.specs.Contents.{ContentsStand, ProgressIs}
-use Rattle.lane_laws.specs.LaneView.{place_of, view_of, work_while}
 use Rattle.lane_laws.proofs.BehindRing.{ring_end}
 use Rattle.lane_laws.proofs.Changes.{Gathered, Given}
 use Rattle.lane_laws.proofs.PlacedViews.{Working, working}

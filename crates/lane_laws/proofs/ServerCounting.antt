@@ -2,22 +2,12 @@
 use Rattle.std.proofs.Common.{◌%◌, ◌≡◌, ℕ, ◌+◌, ◌<◌, inl, inr, Bool, true, false, Option, Some, None, List, [], ◌∷◌, ◌++◌, length, refl, sym, ap, ◌∙◌, subst, arith}
 use Rattle.std.specs.Prelude.{is_some}
 use Rattle.std.proofs.lemmas.Nat.{mod_below}
-use Rattle.ldc_link.specs.declared.phase.Role.TheVariants.{Responder}
-use Rattle.ldc_link.specs.LinkState.{LinkState, is_up}
-use Rattle.ldc_packet.specs.Spelling.{subtype_code}
-use Rattle.ldc_queue.specs.Transcript.{Heard as Heard_, Turn}
-use Rattle.vio_handshake.specs.declared.handshake.Handshake.{Handshake}
+use Rattle.channel_laws.specs.Vocabulary.{Handshake, Heard as Heard_, LinkState, Message, Responder, Turn, half_heard, half_said, handshake_risen, heard, is_up, range_ended, range_in, said}
+use Rattle.channel_laws.specs.Vocabulary.{subtype_code, wrapped}
 use Rattle.vio_handshake.specs.declared.handshake.Phase.{Phase}
 use Rattle.vio_handshake.specs.declared.handshake.Phase.TheVariants.{Open}
-use Rattle.channel_model.specs.Sayings.{half_heard, half_said, heard, said}
-use Rattle.lane_laws.specs.Agreement.{ServerAgrees, ServerCountsAgree, WorkAgrees}
-use Rattle.channel_model.specs.Messages.{range_ended, range_in}
-use Rattle.lane_laws.specs.WorkLog.{ServerCounts, change_server, length_in, one_in, opened_counts}
-use Rattle.channel_model.specs.EndPuts.{handshake_risen}
-use Rattle.disk_model.specs.LaneState.{Shape}
-use Rattle.channel_model.specs.Ranges.{wrapped}
-use Rattle.dring.specs.Slots.{range_length}
-use Rattle.disk_model.specs.ServerState.{ServerSession, ServerState, SlotRange, Work, joined_server, restarted_server}
+use Rattle.lane_laws.specs.Vocabulary.{NothingAsked, RangeStands, ServerAgrees, ServerCounted, ServerCounts, ServerCountsAgree, ServerHolds, ServerOrder, ServerSession, ServerState, Shape}
+use Rattle.lane_laws.specs.Vocabulary.{SlotRange, Work, WorkAgrees, change_server, joined_server, length_in, one_in, opened_counts, range_count, range_length, range_sum, restarted_server}
 use Rattle.channel_laws.proofs.Apart.{none_is_some, some_same, true_is_false}
 use Rattle.channel_laws.specs.Grounds.{has_named}
 use Rattle.lane_laws.proofs.ClientTaken.{HearsMessage}
@@ -28,8 +18,6 @@ use Rattle.lane_laws.proofs.RangesSaid.{IsNoData, heard_no_range, heard_one, hea
 use Rattle.lane_laws.proofs.RuleTests.{TakesFree}
 use Rattle.lane_laws.proofs.ServerTaken.{ServerAsked, ServerHearsPart, ServerHandshakes, ServerTook, still}
 use Rattle.lane_laws.specs.Budget.{one_range}
-use Rattle.lane_laws.specs.Counted.{NothingAsked, RangeStands, ServerCounted, ServerHolds, ServerOrder, range_count, range_sum}
-use Rattle.vio_tag.specs.declared.message.Message.{Message}
 use Rattle.lane_laws.specs.LaneRests.{ServerRests, ServerUtters}
 
 -- IT BEGINS

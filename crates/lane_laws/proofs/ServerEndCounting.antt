@@ -2,26 +2,14 @@
 use Rattle.std.proofs.Common.{◌≡◌, ◌≢◌, ℕ, ◌+◌, ◌≤◌, Bool, true, false, Option, Some, None, List, ◌∷◌, refl, sym, ap, ◌∙◌, subst, arith}
 use Rattle.std.specs.Prelude.{is_none, is_some, ◌==◌}
 use Rattle.std.proofs.lemmas.Bool.Decides.{nat_tests}
-use Rattle.ldc_link.specs.declared.phase.Role.{Role}
-use Rattle.ldc_link.specs.declared.phase.Role.TheVariants.{Responder}
-use Rattle.ldc_queue.specs.Transcript.{Said, Turn}
+use Rattle.channel_laws.specs.Vocabulary.{ComesUp, EndsHandshake, EndsOwn, Goes, Handshake, PutKind, Responder, Role, Said, Seen, Turn, opens_by_put, put_opens, wrapped}
 use Rattle.vdisk_msg.specs.Descriptor.{disk_desc_of}
 use Rattle.vdisk_msg.specs.Pieces.{pieces}
-use Rattle.vio_handshake.specs.declared.handshake.Handshake.{Handshake}
 use Rattle.vio_handshake.specs.declared.handshake.Phase.{Phase}
-use Rattle.vio_handshake.specs.Rules.{opens_by_put}
-use Rattle.lane_laws.specs.Agreement.{ServerAgrees, ServerCountsAgree, WorkAgrees, owed_of}
-use Rattle.lane_laws.specs.WorkLog.{ServerCounts, change_server, rest_of}
-use Rattle.channel_model.specs.EndPuts.{ComesUp, EndsOwn, EndsHandshake, Goes, PutKind, put_opens}
-use Rattle.disk_model.specs.LaneState.{Shape}
-use Rattle.channel_model.specs.Ranges.{wrapped}
-use Rattle.channel_model.specs.Seeing.{Seen}
+use Rattle.lane_laws.specs.Vocabulary.{Ends, Progress, RangeStands, Reach, ServerAgrees, ServerCounted, ServerCounts, ServerCountsAgree, ServerFetches, ServerFinishes, ServerOrder, ServerSends}
+use Rattle.lane_laws.specs.Vocabulary.{ServerSession, ServerState, Shape, SlotRange, Work, WorkAgrees, change_server, desc_of, first_progress, owed_of, rest_of}
 use Rattle.disk_model.specs.ServerPutting.{server_kind}
 use Rattle.disk_model.specs.ServerRule.{Fetches, Serves, server_rule}
-use Rattle.disk_model.specs.ServerState.{Ends, Progress, ServerSession, ServerState, SlotRange, Work}
-use Rattle.disk_model.specs.ServerStep.{ServerFetches, ServerFinishes, ServerSends}
-use Rattle.cookie_copy.specs.Reach.{Reach}
-use Rattle.disk_model.specs.ServerWork.{desc_of, first_progress}
 use Rattle.channel_laws.proofs.Apart.{none_is_some, some_same}
 use Rattle.channel_laws.proofs.PutSayings.{PutSays, put_says}
 use Rattle.lane_laws.proofs.RulesFree.{ServerFree, server_free}
@@ -29,7 +17,6 @@ use Rattle.lane_laws.proofs.ServerPutCounting.{answers_more, comes_counting, goe
 use Rattle.lane_laws.proofs.Speaking.{server_blocked_rests, server_blocked_utters}
 use Rattle.lane_laws.proofs.ServerWorkCounting.{begins_owing, first_unit, holds_none}
 use Rattle.lane_laws.specs.Budget.{one_range}
-use Rattle.lane_laws.specs.Counted.{RangeStands, ServerCounted, ServerOrder}
 use Rattle.lane_laws.specs.LaneRests.{ServerRests, ServerUtters}
 
 not_same : (a b : ℕ) → (a == b) ≡ false → a ≡ b → ⊥

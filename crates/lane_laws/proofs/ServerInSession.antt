@@ -3,36 +3,16 @@ use Rattle.std.proofs.Common.{◌≡◌, ℕ, ◌+◌, ◌%◌, ◌^◌, ◌<◌
 use Rattle.std.specs.Prelude.{is_some, if◌then◌else◌, Ok}
 use Rattle.std.proofs.lemmas.Bool.{lt-leb}
 use Rattle.std.proofs.lemmas.Nat.{mod_below}
-use Rattle.runs.specs.Lawful.{log_of}
-use Rattle.runs.specs.Run.{Run}
-use Rattle.ldc_link.specs.declared.phase.Role.TheVariants.{Initiator, Responder}
-use Rattle.ldc_link.specs.LinkState.{LinkState, cleared, is_up}
-use Rattle.ldc_packet.specs.declared.packet.Subtype.TheVariants.{Info}
-use Rattle.ldc_queue.specs.declared.end.ChannelState.TheVariants.{Up}
-use Rattle.ldc_queue.specs.OneStream.{IsFront}
-use Rattle.ldc_queue.specs.Transcript.{Turn}
-use Rattle.vio_bytes.specs.Place.{number_at}
-use Rattle.vio_tag.specs.declared.cause.Cause.{Cause}
+use Rattle.channel_laws.specs.Vocabulary.{Cause, Handshake, Info, Initiator, IsFront, LinkState, Message, Responder, Run, SpellsMessage, Turn, Up, WireLog, cleared, handshake_risen, heard}
+use Rattle.channel_laws.specs.Vocabulary.{is_other, is_up, log_of, number_at, said, sides_of, swapped, wrapped}
 use Rattle.vio_tag.specs.declared.cause.Cause.TheVariants as the_cause
-use Rattle.vio_tag.specs.declared.message.Message.{Message}
-use Rattle.vio_tag.specs.Spelling.{SpellsMessage}
 use Rattle.vio_handshake.proofs.Places.{AllSaid, Deal, Place, handshake_at}
-use Rattle.vio_handshake.specs.declared.handshake.Handshake.{Handshake}
-use Rattle.channel_model.specs.Sayings.{heard, said}
-use Rattle.channel_model.specs.WireLog.{WireLog}
-use Rattle.lane_laws.specs.DiskLog.{after, nothing_yet}
-use Rattle.lane_laws.specs.WorkLog.{ServerCounts}
-use Rattle.disk_model.specs.DiskEvent.{DiskEvent}
-use Rattle.channel_model.specs.EndPuts.{handshake_risen}
-use Rattle.disk_model.specs.LaneState.{IsShape, LaneState, Shape, fresh}
-use Rattle.disk_model.specs.LaneStep.{LaneStep}
-use Rattle.channel_model.specs.Ranges.{is_other, wrapped}
-use Rattle.disk_model.specs.ServerState.{ServerSession, ServerState, SlotRange}
+use Rattle.lane_laws.specs.Vocabulary.{DiskEvent, IsShape, LaneState, LaneStep, ServerCounts, ServerOrder, ServerSession, ServerState, Shape, SlotRange, after, core_of, fresh, nothing_yet}
+use Rattle.lane_laws.specs.Vocabulary.{range_count, range_sum, server_core}
 use Rattle.disk_model.specs.ServerTaking.{GoesOn, HearsWhole, Resets, ServerTake, asked, hears_message, place_of, reads, sid_first, takes_info}
 use Rattle.channel_laws.proofs.Apart.{some_same}
 use Rattle.channel_laws.proofs.EndStanding.{open_up}
 use Rattle.channel_laws.proofs.HandshakePlaces.{AtPlace, deal, open_place}
-use Rattle.channel_laws.specs.Sides.{sides_of, swapped}
 use Rattle.lane_laws.proofs.Agreeing.{asked_within}
 use Rattle.lane_laws.proofs.ClientInSession.{no_fault, same_is}
 use Rattle.lane_laws.proofs.DataHeard.{data_spells, decodes_to, read_data, seq_reads}
@@ -41,8 +21,6 @@ use Rattle.lane_laws.proofs.LaneChannel.{answers_of, asks_of, lane_meets_other}
 use Rattle.lane_laws.proofs.LaneCores.{shape_of}
 use Rattle.lane_laws.proofs.RangesTold.{EachSaid, IsData, next_data, they_tell}
 use Rattle.lane_laws.proofs.ServerTaken.{still}
-use Rattle.lane_laws.specs.Counted.{ServerOrder, range_count, range_sum}
-use Rattle.lane_laws.specs.ChannelEnds.{core_of, server_core}
 
 -- IT TAKES an INFO that names the ring of the session, has the next number, and begins where the range before ended
 past : (b : Bool) (x y : ServerTake) → b ≡ false → (if b then x else y) ≡ y

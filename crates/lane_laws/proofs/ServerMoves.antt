@@ -3,38 +3,26 @@ use Rattle.std.proofs.Common.{◌≡◌, ℕ, ◌+◌, ◌≤◌, inl, inr, Bool
 use Rattle.std.specs.Prelude.{◌&&◌, is_some, is_none, not, nat_le, Ok, Err}
 use Rattle.std.proofs.lemmas.Bool.{leb-false, leb-true}
 use Rattle.cookie_copy.specs.declared.fault.CopyFault.{CopyFault}
-use Rattle.ldc_link.specs.declared.phase.LinkPhase.{LinkPhase}
+use Rattle.channel_laws.specs.Vocabulary.{Cause, EndBegins, EndFails, EndHears, EndRenews, EndSays, EndStays, EndWaits, EndsHandshake, EndsOwn, Handshake, HandshakeTake, HandshakeTakes, HearsWhole}
+use Rattle.channel_laws.specs.Vocabulary.{Holding, Holds, HoldsOn, HoldsOwed, HoldsOwn, IsOfSession, KeepsOwn, LinkFails, LinkPhase, LinkState, LinkTake, MayTake, Message, PutKind, Responder, Seen}
+use Rattle.channel_laws.specs.Vocabulary.{Unheard, WholeFails, behind_put, canonical, cleared, ending, handshake_behind, handshake_risen, handshake_take, holds, is_established, is_up, kind_in}
+use Rattle.channel_laws.specs.Vocabulary.{left_behind_put, offered, owed_in, owes, phase_behind_put, put_opens, with_link, wrapped}
 use Rattle.ldc_link.specs.declared.phase.LinkPhase.TheVariants as phase
-use Rattle.ldc_link.specs.declared.phase.Role.TheVariants.{Responder}
-use Rattle.ldc_link.specs.LinkState.{LinkState, cleared, is_established, is_up, offered}
 use Rattle.ldc_link.specs.Calls.{Puts as PutsPacket}
-use Rattle.ldc_link.specs.Putting.{behind_put, left_behind_put, owed_in, owes, phase_behind_put, with_link}
-use Rattle.ldc_link.specs.Taking.{Heard, LinkTake, Unheard}
+use Rattle.ldc_link.specs.Taking.{Heard}
 use Rattle.ldc_packet.specs.declared.packet.Packet.{Packet}
 use Rattle.ldc_queue.specs.Messages.{is_empty}
 use Rattle.vio_tag.proofs.Canonical.{length_canonical}
-use Rattle.vio_tag.specs.declared.cause.Cause.{Cause}
 use Rattle.vio_tag.specs.declared.cause.Cause.TheVariants as the_cause
-use Rattle.vio_tag.specs.declared.message.Message.{Message}
 use Rattle.vio_tag.specs.Decoding.{Decodes}
-use Rattle.vio_tag.specs.Spelling.{canonical}
-use Rattle.vio_handshake.specs.declared.handshake.Handshake.{Handshake}
-use Rattle.vio_handshake.specs.Rules.{HandshakeTake, handshake_take}
-use Rattle.channel_model.specs.EndPuts.{EndsOwn, EndsHandshake, PutKind, ending, kind_in, put_opens, handshake_behind, handshake_risen}
 use Rattle.disk_model.specs.Offering.{server_offer}
-use Rattle.channel_model.specs.Ranges.{wrapped}
-use Rattle.channel_model.specs.Seeing.{Seen}
 use Rattle.disk_model.specs.ServerPutting.{answered, server_holds, server_kind, server_put, session_behind}
 use Rattle.disk_model.specs.ServerRule.{Fetches, Puts, Says, ServerRule, Serves, Takes, answer, server_rule}
-use Rattle.disk_model.specs.ServerState.{ServerSession, ServerState, SlotRange, Work, joined_server, restarted_server}
-use Rattle.disk_model.specs.ServerStep.{ServerFails, ServerFetches, ServerFinishes, ServerMoves, ServerSends, ServerStores}
+use Rattle.lane_laws.specs.Vocabulary.{Reach, ServerFails, ServerFetches, ServerFinishes, ServerMay, ServerMoves, ServerSays, ServerSends, ServerSession, ServerState, ServerStores, SlotRange, Work}
+use Rattle.lane_laws.specs.Vocabulary.{answers_to_begin, first_progress, joined_server, restarted_server, server_core}
 use Rattle.disk_model.specs.ServerTaking.{GoesOn, HearsLink, Resets, ServerTake, ServerTakes, asked}
-use Rattle.cookie_copy.specs.Reach.{Reach}
-use Rattle.disk_model.specs.ServerWork.{first_progress}
 use Rattle.vdisk_msg.specs.Descriptor as slot_says
 use Rattle.channel_laws.proofs.Apart.{none_is_some, some_same, true_is_false}
-use Rattle.channel_laws.specs.EndCore.{holds}
-use Rattle.channel_laws.specs.EndStep.{EndBegins, EndFails, EndHears, EndRenews, EndSays, EndStays, EndWaits, HandshakeTakes, HearsWhole, Holding, Holds, HoldsOn, HoldsOwed, HoldsOwn, IsOfSession, KeepsOwn, LinkFails, MayTake, WholeFails}
 use Rattle.channel_laws.specs.EndStep as core
 use Rattle.lane_laws.proofs.ClientAnswers.{HandshakesTo}
 use Rattle.lane_laws.proofs.ClientMoves.{cleared_is, holds_and, holds_none}
@@ -47,8 +35,6 @@ use Rattle.lane_laws.proofs.ServerSpeaking.{range_few}
 use Rattle.lane_laws.proofs.Sharing.{some_left}
 use Rattle.channel_laws.proofs.Short.{some_bytes}
 use Rattle.lane_laws.specs.Budget.{one_range, range_left}
-use Rattle.lane_laws.specs.ChannelEnds.{answers_to_begin, server_core}
-use Rattle.lane_laws.specs.RuleFacts.{ServerMay, ServerSays}
 
 -- THE ANSWERS that it owes and hasn't begun
 pub answers_less : (b : Bool) (ranges : ℕ) → answers_to_begin b ranges ≤ ranges

@@ -2,25 +2,13 @@
 use Rattle.std.proofs.Common.{◌≡◌, ℕ, ◌+◌, ◌%◌, ◌<◌, ◌≤◌, ◌⊎◌, inl, inr, true, false, Option, Some, None, List, [], ◌∷◌, ◌++◌, length, refl, sym, ap, ◌∙◌, ◌-◌, subst, arith}
 use Rattle.std.specs.Prelude.{is_none, is_some}
 use Rattle.std.proofs.lemmas.Nat.{mod_below}
-use Rattle.ldc_link.specs.declared.phase.Role.TheVariants.{Responder}
-use Rattle.ldc_link.specs.LinkState.{LinkState, is_up, offered}
-use Rattle.ldc_link.specs.Putting.{behind_put}
-use Rattle.ldc_packet.specs.declared.packet.Subtype.TheVariants.{Ack}
-use Rattle.ldc_queue.specs.Transcript.{Said, Turn}
-use Rattle.vio_tag.specs.declared.message.Message.{Message}
-use Rattle.vio_tag.specs.Spelling.{canonical}
-use Rattle.channel_model.specs.Sayings.{half_said, heard, said}
+use Rattle.channel_laws.specs.Vocabulary.{Ack, ComesUp, EndsHandshake, EndsOwn, Goes, LinkState, Message, PutKind, Responder, Said, Turn, behind_put, canonical, half_said, handshake_behind, heard}
+use Rattle.channel_laws.specs.Vocabulary.{is_up, offered, range_ended, range_in, said, wrapped}
 use Rattle.lane_laws.proofs.Speaking.{server_holds_owed}
-use Rattle.lane_laws.specs.Agreement.{ServerAgrees, ServerCountsAgree, WorkAgrees}
-use Rattle.channel_model.specs.Messages.{range_ended, range_in}
-use Rattle.lane_laws.specs.WorkLog.{ServerCounts, change_server, length_in, one_in}
-use Rattle.channel_model.specs.EndPuts.{ComesUp, EndsOwn, EndsHandshake, Goes, PutKind, handshake_behind}
-use Rattle.disk_model.specs.LaneState.{Shape}
-use Rattle.channel_model.specs.Ranges.{wrapped}
-use Rattle.dring.specs.Slots.{range_length}
+use Rattle.lane_laws.specs.Vocabulary.{HoldsAnswer, InServerOrder, RangeStands, ServerAgrees, ServerCounted, ServerCounts, ServerCountsAgree, ServerOrder, ServerSession, ServerState, Shape}
+use Rattle.lane_laws.specs.Vocabulary.{SlotRange, Work, WorkAgrees, change_server, length_in, one_in, range_count, range_length, range_sum, server_core}
 use Rattle.disk_model.specs.ServerPutting.{answered, server_holds, session_behind}
 use Rattle.disk_model.specs.ServerRule.{Puts, Says, ServerRule}
-use Rattle.disk_model.specs.ServerState.{ServerSession, ServerState, SlotRange, Work}
 use Rattle.channel_laws.proofs.Apart.{none_is_some, some_same}
 use Rattle.channel_laws.proofs.PutSayings.{SaysWhole, SaysOn}
 use Rattle.channel_laws.proofs.EndStanding.{open_up, owing_up, up_empty}
@@ -29,10 +17,8 @@ use Rattle.lane_laws.proofs.RangesSaid.{owed_no_range, said_range}
 use Rattle.lane_laws.proofs.RulesFree.{ServerFree}
 use Rattle.lane_laws.proofs.RuleTests.{AnswersFree}
 use Rattle.lane_laws.specs.Budget.{one_range}
-use Rattle.lane_laws.specs.Counted.{HoldsAnswer, InServerOrder, RangeStands, ServerCounted, ServerOrder, range_count, range_sum}
 use Rattle.lane_laws.specs.LaneRests.{ServerRests, ServerUtters}
 use Rattle.channel_laws.specs.HandshakeFits.{MayOwe, OwedFits}
-use Rattle.lane_laws.specs.ChannelEnds.{server_core}
 
 -- the same answer of a server with another link
 answer_with : (v : ServerState) (k : LinkState) (bytes : List ℕ) → HoldsAnswer v bytes → HoldsAnswer (record v { link = k }) bytes

@@ -1,13 +1,11 @@
 -- A server that gets a message to put is up, and owes one answer to a range at most.
 use Rattle.std.proofs.Common.{◌≡◌, refl, subst, ◌≤◌, Option, Some, None, arith}
-use Rattle.ldc_queue.specs.declared.end.ChannelState.TheVariants.{Up}
-use Rattle.channel_model.specs.Seeing.{Seen}
+use Rattle.channel_laws.specs.Vocabulary.{Seen, Up}
 use Rattle.disk_model.specs.ServerPutting.{server_holds}
 use Rattle.disk_model.specs.ServerRule.{Puts, Says, ServerRule}
-use Rattle.disk_model.specs.ServerState.{ServerSession, ServerState, SlotRange}
+use Rattle.lane_laws.specs.Vocabulary.{ServerMay, ServerSession, ServerState, SlotRange}
 use Rattle.channel_laws.proofs.Apart.{none_is_some, some_same}
 use Rattle.lane_laws.specs.Budget.{one_range, range_left}
-use Rattle.lane_laws.specs.RuleFacts.{ServerMay}
 
 range_one : (range : Option SlotRange) → one_range range ≤ 1
 range_one None = omega arith

@@ -3,15 +3,10 @@
 use Rattle.std.proofs.Common.{◌≡◌, ℕ, Bool, true, false, Option, None, List, ◌∷◌, refl, sym, ap, ◌∙◌, subst, ◌⊎◌, inl, inr}
 use Rattle.std.specs.Prelude.{◌&&◌, not, if◌then◌else◌, ⊤}
 use Rattle.ldc_link.specs.Following.{Follows}
-use Rattle.ldc_link.specs.LinkState.{LinkState, cleared, is_up}
-use Rattle.ldc_queue.specs.Transcript.{Heard as Heard_, Turn}
-use Rattle.vio_tag.specs.declared.message.Message.{Message}
-use Rattle.vio_handshake.specs.declared.handshake.Handshake.{Handshake}
+use Rattle.channel_laws.specs.Vocabulary.{Handshake, Heard as Heard_, LinkState, Message, Turn, cleared, handshake_risen, heard, is_up}
 use Rattle.vio_handshake.specs.State.{handshake_up}
-use Rattle.channel_model.specs.EndPuts.{handshake_risen}
 use Rattle.disk_model.specs.ServerState.{ServerState}
 use Rattle.disk_model.specs.ServerTaking.{GoesOn, Resets, ServerTake, ServerTakes, asked}
-use Rattle.channel_model.specs.Sayings.{heard}
 use Rattle.lane_laws.proofs.ClientTaken.{HearsMessage, took_to, was_up}
 use Rattle.lane_laws.proofs.ServerAnswers.{Answers, Asks, GoesBy, comes_to, goes_by, opened_or}
 use Rattle.channel_laws.proofs.EndStanding.{heard_leaves}

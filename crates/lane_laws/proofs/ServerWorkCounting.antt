@@ -3,31 +3,21 @@ use Rattle.std.proofs.Common.{◌≡◌, ℕ, ◌+◌, ◌-◌, ◌/◌, ◌%◌
 use Rattle.std.specs.Prelude.{is_some, nat_lt, nat_le, not, ◌&&◌, ◌||◌, ◌==◌, suc, if◌then◌else◌}
 use Rattle.std.proofs.lemmas.Bool.{ltb-false, ltb-true}
 use Rattle.cookie_copy.specs.declared.fault.CopyFault.{CopyFault}
-use Rattle.ldc_link.specs.declared.phase.Role.TheVariants.{Responder}
-use Rattle.ldc_link.specs.LinkState.{LinkState}
-use Rattle.ldc_link.specs.Putting.{owes}
-use Rattle.ldc_queue.specs.Transcript.{Turn}
+use Rattle.channel_laws.specs.Vocabulary.{LinkState, Responder, Seen, Turn, owes}
 use Rattle.vdisk_msg.specs.Check.{first_defect, has_size, holds_cookies, is_allowed, is_within, moves_data}
 use Rattle.vdisk_msg.specs.declared.desc.DescFault.{DescFault}
 use Rattle.vdisk_msg.specs.declared.desc.DescFault.TheVariants.{Cookies, Operation, Range, Size}
 use Rattle.vdisk_msg.specs.declared.desc.DiskDesc.{DiskDesc}
 use Rattle.vdisk_msg.specs.Pieces.{Finishes, Piece, Stores, checked_pieces, pieces, read_pieces, unit_count, write_pieces}
-use Rattle.lane_laws.specs.Agreement.{ServerAgrees, WorkAgrees, owed_of}
-use Rattle.lane_laws.specs.WorkLog.{ServerCounts, change_server, moved_rest, rest_of, stored_rest}
-use Rattle.disk_model.specs.LaneState.{Shape}
-use Rattle.channel_model.specs.Seeing.{Seen}
+use Rattle.lane_laws.specs.Vocabulary.{Ends, Flushes, Gathers, Gives, MovesIn, Progress, RangeStands, Reach, Reads, ServerAgrees, ServerCounted, ServerCounts, ServerHolds, ServerMoves, ServerOrder}
+use Rattle.lane_laws.specs.Vocabulary.{ServerSession, ServerState, ServerStores, Shape, SlotRange, StoresIn, UnitFits, UnitIn, Work, WorkAgrees, Writes, change_server, desc_of, first_progress}
+use Rattle.lane_laws.specs.Vocabulary.{gathers_next, moved_rest, or_ends, owed_of, rest_of, server_core, stored_rest, with_progress}
 use Rattle.disk_model.specs.ServerRule.{Serves}
-use Rattle.disk_model.specs.ServerState.{Ends, Flushes, Gathers, Gives, Progress, Reads, ServerSession, ServerState, SlotRange, Work, Writes}
-use Rattle.disk_model.specs.ServerStep.{ServerMoves, ServerStores, with_progress}
 use Rattle.disk_model.specs.ServerWork as server_work
-use Rattle.cookie_copy.specs.Reach.{Reach}
-use Rattle.disk_model.specs.ServerWork.{MovesIn, StoresIn, desc_of, first_progress, gathers_next, or_ends}
 use Rattle.channel_laws.proofs.EndStanding.{open_up, up_empty}
 use Rattle.lane_laws.proofs.RulesFree.{ServerFree, server_free}
 use Rattle.lane_laws.proofs.RuleTests.{ServesFree}
-use Rattle.lane_laws.specs.Counted.{RangeStands, ServerCounted, ServerHolds, ServerOrder, UnitFits, UnitIn}
 use Rattle.lane_laws.specs.LaneRests.{ServerRests}
-use Rattle.lane_laws.specs.ChannelEnds.{server_core}
 
 -- WHAT IS OWED of a descriptor: it begins
 units_from : (units : ℕ) → units - 0 ≡ units

@@ -1,11 +1,9 @@
 -- What the proofs of both ends share.
 use Rattle.std.proofs.Common.{◌≡◌, ℕ, ◌≤◌, Option, Some, List, [], ◌∷◌, length, subst, arith, None}
-use Rattle.ldc_link.specs.LinkState.{LinkState}
-use Rattle.ldc_link.specs.Putting.{part_owed, with_link}
+use Rattle.channel_laws.specs.Vocabulary.{LinkState, part_owed, with_link}
 use Rattle.ldc_packet.specs.declared.packet.Packet.{Packet}
-use Rattle.disk_model.specs.ClientState.{ClientSession}
+use Rattle.lane_laws.specs.Vocabulary.{ClientSession, CountsInOrder, InOrder}
 use Rattle.lane_laws.specs.Budget.{infos_left}
-use Rattle.lane_laws.specs.Sound.{CountsInOrder, InOrder}
 
 -- the counts of a session that is open
 pub in_order : (pending : ℕ) (open_one : Option ClientSession) (session : ClientSession) → open_one ≡ Some session → CountsInOrder pending open_one → InOrder pending session

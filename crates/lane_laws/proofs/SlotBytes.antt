@@ -4,13 +4,10 @@ use Rattle.std.specs.Prelude.{slice_get, slice_index, zero, suc}
 use Rattle.vdisk_msg.proofs.Spelling.{canonical_reads_back}
 use Rattle.vdisk_msg.proofs.Written.{is_admitted, requested_has_widths, state_has_widths, status_has_widths}
 use Rattle.vdisk_msg.specs.declared.desc.DiskDesc.{DiskDesc}
-use Rattle.vdisk_msg.specs.declared.request.Request.{Request}
+use Rattle.lane_laws.specs.Vocabulary.{HoldsIssued, Request, RingOf, SlotHolds, buffer_cookies, buffer_place, cookie_count, descriptor_of, header, header_of, size_of, status_word}
 use Rattle.vdisk_msg.specs.Descriptor.{HasWidths, canonical, disk_desc_of}
-use Rattle.vdisk_msg.specs.Requested.{buffer_cookies, buffer_place, cookie_count, descriptor_of, header, size_of, status_word}
 use Rattle.vio_bytes.specs.Place.{put_at}
 use Rattle.lane_laws.specs.RingLog.{Accepted, Done, Free, Ready, SlotLog, Zeros}
-use Rattle.disk_model.specs.ServerWork.{header_of}
-use Rattle.lane_laws.specs.RingSlots.{HoldsIssued, RingOf, SlotHolds}
 
 -- the descriptor of a request with a state and a status
 abbrev pub stated : ℕ → Request → ℕ → ℕ → ℕ → ℕ → DiskDesc

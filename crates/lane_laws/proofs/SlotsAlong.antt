@@ -2,24 +2,10 @@
 use Rattle.std.proofs.Common.{◌≡◌, ℕ, ◌+◌, ◌%◌, ◌≤◌, true, false, Option, Some, None, List, [], ◌∷◌, ◌++◌, length, refl, sym, ap, ◌∙◌, subst, arith}
 use Rattle.std.specs.Prelude.{⊤}
 use Rattle.std.proofs.lemmas.Nat.{mod_below}
-use Rattle.runs.specs.Lawful.{lawful_split, log_append, log_of, run_lawful}
-use Rattle.runs.specs.Run.{Run, run_push}
-use Rattle.dring.specs.Slots.{slot_bytes}
-use Rattle.ldc_queue.specs.declared.end.ChannelState.TheVariants.{Up}
-use Rattle.ldc_queue.specs.declared.end.End.TheVariants.{B}
-use Rattle.channel_model.specs.WireEvent.{Sent, Took}
-use Rattle.channel_model.specs.WireLog.{WireLog}
-use Rattle.lane_laws.specs.Agreement.{ClientAgrees, ServerAgrees}
-use Rattle.disk_model.specs.ClientState.{ClientSession}
-use Rattle.lane_laws.specs.DiskLog.{DiskLog, after, nothing_yet}
+use Rattle.channel_laws.specs.Vocabulary.{B, Run, Sent, Took, Up, WireLog, lawful_split, log_append, log_of, run_lawful, run_push, seen}
+use Rattle.lane_laws.specs.Vocabulary.{ClientAgrees, ClientCounts, ClientSession, CountsInOrder, DiskEvent, DiskLog, HoldsIssued, IfServer, IsShape, LaneState, LaneStep, OnWire, OneRing, RingHolds}
+use Rattle.lane_laws.specs.Vocabulary.{RingOf, ServerAgrees, ServerCounts, ServerSession, SessionsAgree, Shape, SlotHolds, Work, WorkLog, after, fresh, nothing_yet, ring_in, slot_bytes}
 use Rattle.lane_laws.specs.RingLog.{Done, SlotLog}
-use Rattle.lane_laws.specs.WorkLaws.{IfServer}
-use Rattle.lane_laws.specs.WorkLog.{ClientCounts, ServerCounts, WorkLog}
-use Rattle.disk_model.specs.DiskEvent.{DiskEvent, OnWire}
-use Rattle.disk_model.specs.LaneState.{IsShape, LaneState, Shape, fresh}
-use Rattle.disk_model.specs.LaneStep.{LaneStep}
-use Rattle.channel_model.specs.Seeing.{seen}
-use Rattle.disk_model.specs.ServerState.{ServerSession, Work}
 use Rattle.lane_laws.proofs.AckedFinished.{acked_finished}
 use Rattle.lane_laws.proofs.Agreeing.{always_agree, server_alive}
 use Rattle.lane_laws.proofs.LaneCounting.{Knows, few_slots, run_knows}
@@ -33,10 +19,7 @@ use Rattle.lane_laws.proofs.ServerTaken.{server_took_what}
 use Rattle.lane_laws.proofs.SlotsStepping.{StepFacts, event_slots}
 use Rattle.lane_laws.proofs.TableRuns.{table_lawful}
 use Rattle.lane_laws.specs.OnTheWay.{OnTheWay}
-use Rattle.lane_laws.specs.RingAgreed.{OneRing, SessionsAgree, ring_in}
-use Rattle.lane_laws.specs.RingSlots.{HoldsIssued, RingHolds, RingOf, SlotHolds}
 use Rattle.lane_laws.specs.SlotsInOrder.{BytesOf, RingInOrder, ServerAt, SlotOf, SlotsIn, SlotsInOrder}
-use Rattle.lane_laws.specs.Sound.{CountsInOrder}
 use Rattle.lane_laws.specs.TableStands.{TableAt}
 use Rattle.channel_laws.proofs.Apart.{some_same, true_is_false}
 

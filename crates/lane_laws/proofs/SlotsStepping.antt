@@ -1,24 +1,13 @@
 -- Each event of a lane that nobody forged leaves the slots of its ring in their order.
 use Rattle.std.proofs.Common.{◌≡◌, ℕ, ◌+◌, ◌-◌, ◌%◌, ◌<◌, ◌≤◌, Bool, true, false, Option, Some, None, List, [], set, refl, sym, ap, ◌∙◌, subst, arith}
-use Rattle.ldc_queue.specs.declared.end.ChannelState.{ChannelState}
-use Rattle.ldc_queue.specs.declared.end.ChannelState.TheVariants.{Down, Resetting, Up}
-use Rattle.ldc_queue.specs.declared.end.End.TheVariants.{A, B}
-use Rattle.ldc_queue.specs.Wire.{Wire, closed, configured, peer_behind, upset}
-use Rattle.channel_model.specs.WireEvent.{Injected, Joined, Lost, Reset, Sent, Took, WireEvent}
-use Rattle.lane_laws.specs.Agreement.{ServerAgrees, WorkAgrees}
-use Rattle.lane_laws.specs.DiskLog.{DiskLog, after}
-use Rattle.channel_model.specs.Messages.{range_ended}
+use Rattle.channel_laws.specs.Vocabulary.{A, B, ChannelState, Down, Injected, Joined, Lost, Reset, Resetting, Sent, Took, Up, Wire, WireEvent, closed, configured, half_heard, half_said}
+use Rattle.channel_laws.specs.Vocabulary.{peer_behind, range_ended, seen, upset}
+use Rattle.lane_laws.specs.Vocabulary.{Accepted, Asks, ClientCounts, ClientMay, Desc, DiskEvent, DiskLog, Done, Finished, IfServer, LaneState, LaneStep, Misplaced, Moved, OnWire, OneRing}
+use Rattle.lane_laws.specs.Vocabulary.{Published, ServerAgrees, ServerCounts, ServerMay, ServerSession, SessionsAgree, Started, Stopped, Stored, Switches, Work, WorkAgrees, WorkLog, WorkStep}
+use Rattle.lane_laws.specs.Vocabulary.{Worked, Works, after, change_client, change_server, length_in, one_in}
 use Rattle.lane_laws.specs.RingLog.{Accepted as IsAccepted, Done as IsDone, SlotLog, fetched_at, finished_at, freed_at, id_at, published_at}
-use Rattle.lane_laws.specs.WorkLaws.{IfServer}
-use Rattle.lane_laws.specs.WorkLog.{ClientCounts, ServerCounts, WorkLog, change_client, change_server, length_in, one_in}
 use Rattle.disk_model.specs.ClientRule as client_rules
-use Rattle.disk_model.specs.DiskEvent.{Accepted, Asks, Desc, DiskEvent, Done, Finished, Misplaced, Moved, OnWire, Published, Started, Stopped, Stored, Switches, Worked, Works}
-use Rattle.disk_model.specs.LaneState.{LaneState}
-use Rattle.disk_model.specs.LaneStep.{LaneStep, WorkStep}
-use Rattle.channel_model.specs.Sayings.{half_heard, half_said}
-use Rattle.channel_model.specs.Seeing.{seen}
 use Rattle.disk_model.specs.ServerRule as server_rules
-use Rattle.disk_model.specs.ServerState.{ServerSession, Work}
 use Rattle.lane_laws.proofs.RingClientSteps.{completes_slot, publishing}
 use Rattle.lane_laws.proofs.RingEnds.{has_work}
 use Rattle.lane_laws.proofs.RingSessions.{of_client}
@@ -26,8 +15,6 @@ use Rattle.lane_laws.proofs.RingWork.{Known, at_work, fetched_counts, fetched_ne
 use Rattle.lane_laws.proofs.RulesFree.{ServerFree, server_free}
 use Rattle.lane_laws.proofs.Ruling.{client_may, server_may}
 use Rattle.lane_laws.proofs.SlotsOrdered.{announced_slots, cleared_slots, completed_slots, fetched_slots, finished_more, finished_slots, published_slots}
-use Rattle.lane_laws.specs.RingAgreed.{OneRing, SessionsAgree}
-use Rattle.lane_laws.specs.RuleFacts.{ClientMay, ServerMay}
 use Rattle.lane_laws.specs.SlotsInOrder.{ServerAt, SlotsIn, SlotsInOrder, SlotsOf}
 use Rattle.lane_laws.specs.TableStands.{TableAt}
 use Rattle.channel_laws.proofs.Apart.{some_same, true_is_false}

@@ -1,24 +1,16 @@
 -- At each step of a lane that is reached the client writes one slot of its ring, or clears it.
 use Rattle.std.proofs.Common.{◌≡◌, ℕ, ◌-◌, ◌%◌, ◌<◌, true, List, length, refl, sym, ap, ◌∙◌, subst, inr}
 use Rattle.std.proofs.lemmas.Nat.{mod_below}
-use Rattle.runs.specs.Run.{Run}
+use Rattle.channel_laws.specs.Vocabulary.{A, Run, Sent, put_at, seen}
 use Rattle.dring.proofs.Turning.{slot_cleared}
-use Rattle.dring.specs.Slots.{free_slots, slot_bytes}
-use Rattle.ldc_queue.specs.declared.end.End.TheVariants.{A}
-use Rattle.vio_bytes.specs.Place.{put_at}
-use Rattle.channel_model.specs.WireEvent.{Sent}
+use Rattle.lane_laws.specs.Vocabulary.{ClientMay, DiskEvent, Done, IsShape, LaneState, LaneStep, OnWire, Published, Shape, Works, free_slots, fresh, slot_bytes}
 use Rattle.disk_model.specs.ClientRule as client_rules
-use Rattle.disk_model.specs.DiskEvent.{DiskEvent, Done, OnWire, Published, Works}
-use Rattle.disk_model.specs.LaneState.{IsShape, LaneState, Shape, fresh}
-use Rattle.disk_model.specs.LaneStep.{LaneStep}
-use Rattle.channel_model.specs.Seeing.{seen}
 use Rattle.lane_laws.proofs.MemorySteps.{got_sound}
 use Rattle.lane_laws.proofs.ReachedFacts.{all_behind}
 use Rattle.lane_laws.proofs.Requesting.{sent_kept}
 use Rattle.lane_laws.proofs.RingClient.{frees_slot, publishes_slot}
 use Rattle.lane_laws.proofs.RingWire.{sent_clears}
 use Rattle.lane_laws.proofs.Ruling.{client_may}
-use Rattle.lane_laws.specs.RuleFacts.{ClientMay}
 use Rattle.lane_laws.specs.SlotsWritten.{FreesSlot, PublishesSlot, SlotFreed, SlotPublished, SlotsCleared, buffers}
 use Rattle.lane_laws.specs.MemoryStands.{memory_long}
 use Rattle.lane_laws.proofs.BehindRing.{cleared_behind}

@@ -1,44 +1,27 @@
 -- Each event of a lane leaves both ends resting on what they heard, and having said what their handshakes hold, as ends on a channel do.
 use Rattle.std.proofs.Common.{◌≡◌, ◌≤◌, Bool, true, false, refl, ap, ◌++◌, length, Some, List, sym, subst, ◌∙◌}
 use Rattle.std.specs.Prelude.{◌&&◌, is_none, is_some, not, ⊤}
-use Rattle.runs.specs.Lawful.{run_lawful}
-use Rattle.runs.specs.Run.{Run}
-use Rattle.ldc_link.specs.declared.phase.Role.TheVariants.{Initiator, Responder}
-use Rattle.ldc_queue.specs.declared.end.End.TheVariants.{A, B}
+use Rattle.channel_laws.specs.Vocabulary.{A, B, EndStands, Initiator, Responder, Run, Seen, TranscriptLog, Turn, Waits, half_said, heard, move_of, nothing_said, run_lawful, said, transcript_after}
 use Rattle.ldc_queue.specs.Messages.{is_empty}
-use Rattle.ldc_queue.specs.Transcript.{Turn}
-use Rattle.disk_model.specs.ClientPutting.{client_holds}
+use Rattle.lane_laws.specs.Vocabulary.{ClientSound, ClientState, DiskEvent, IsShape, LaneState, LaneStep, ServerState, Shape, after_transcript, client_core, client_holds, core_event, fresh}
+use Rattle.lane_laws.specs.Vocabulary.{server_core}
 use Rattle.disk_model.specs.ClientRule.{client_rule}
-use Rattle.disk_model.specs.ClientState.{ClientState}
-use Rattle.disk_model.specs.DiskEvent.{DiskEvent}
-use Rattle.lane_laws.specs.DiskLog.{after_transcript}
-use Rattle.disk_model.specs.LaneState.{IsShape, LaneState, Shape, fresh}
-use Rattle.disk_model.specs.LaneStep.{LaneStep}
-use Rattle.channel_model.specs.Sayings.{half_said, heard, said}
-use Rattle.channel_model.specs.Seeing.{Seen}
 use Rattle.disk_model.specs.ServerPutting.{server_holds}
 use Rattle.disk_model.specs.ServerRule.{server_rule}
-use Rattle.disk_model.specs.ServerState.{ServerState}
-use Rattle.channel_model.specs.TranscriptLog.{TranscriptLog, nothing_said}
 use Rattle.channel_laws.proofs.EndResting.{open_rests}
 use Rattle.channel_laws.proofs.EndsResting.{fresh_end_rests, rests_move, utters_of}
 use Rattle.channel_laws.proofs.Lifting.{transcript_turns}
 use Rattle.channel_laws.proofs.MessagesHeld.{owed_held}
 use Rattle.channel_laws.specs.Cuts.{CarriesOwed}
-use Rattle.channel_laws.specs.EndCore.{Waits}
 use Rattle.channel_laws.specs.Grounds.{OpenRests}
-use Rattle.channel_laws.specs.LaneCore.{move_of, transcript_after}
-use Rattle.channel_laws.specs.Standing.{EndStands}
 use Rattle.channel_laws.specs.Utterances.{SaysEach}
 use Rattle.lane_laws.proofs.ClientMoves.{client_waits}
 use Rattle.lane_laws.proofs.EndMoves.{step_a, step_b, transcript_same}
 use Rattle.lane_laws.proofs.LaneStepping.{fresh_sound, sound_step}
 use Rattle.lane_laws.proofs.OpeningDeal.{client_fits, server_fits}
 use Rattle.lane_laws.proofs.ServerMoves.{server_waits}
-use Rattle.lane_laws.specs.ChannelEnds.{client_core, core_event, server_core}
 use Rattle.lane_laws.specs.LaneRests.{ClientRests, ClientUtters, LaneRests, LaneUtters, ServerRests, ServerUtters}
 use Rattle.lane_laws.specs.LaneTranscripts.{transcript_behind}
-use Rattle.lane_laws.specs.Sound.{ClientSound}
 
 -- WHAT A SERVER HOLDS, where that isn't of its session, is what its handshake owes
 pub server_holds_owed : (v : ServerState) (turns : List Turn) → EndStands Responder (server_core v) turns → is_none v.handshake.owed ≡ false → 1 ≤ length v.link.to_send

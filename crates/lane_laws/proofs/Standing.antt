@@ -1,10 +1,7 @@
 -- What is known of a lane that nobody forges, before an event and after it, and how its near counts stand to its log.
 use Rattle.std.proofs.Common.{◌≡◌, ℕ, ◌+◌, ◌-◌, ◌≤◌, Some, sym, ap}
 use Rattle.ldc_queue.specs.declared.end.ChannelState.TheVariants.{Up}
-use Rattle.lane_laws.specs.DiskLog.{DiskLog}
-use Rattle.lane_laws.specs.WorkLog.{ServerCounts}
-use Rattle.disk_model.specs.ClientState.{ClientSession, ClientState, ever_published_count}
-use Rattle.disk_model.specs.LaneState.{LaneState}
+use Rattle.lane_laws.specs.Vocabulary.{ClientSession, ClientState, DiskLog, LaneState, ServerCounts, ever_published_count}
 use Rattle.lane_laws.proofs.LaneCounting.{Knows}
 use Rattle.lane_laws.proofs.Requesting.{first_done}
 use Rattle.lane_laws.proofs.RingWork.{Known}

@@ -1,19 +1,9 @@
 -- Along every run the conditions on requests hold of each event.
 use Rattle.std.proofs.Common.{◌≡◌, ℕ, Bool, None, ◌-◌, List, [], ◌∷◌, ◌++◌, length, refl, sym, ap, ◌∙◌, subst, arith, length-drop}
-use Rattle.runs.specs.Lawful.{Lawful, run_lawful}
-use Rattle.runs.specs.Run.{Run}
-use Rattle.ldc_queue.specs.declared.end.End.TheVariants.{A}
-use Rattle.vdisk_msg.specs.Requests.{defect}
-use Rattle.channel_model.specs.WireLog.{WireLog}
-use Rattle.lane_laws.specs.DiskLog.{DiskLog, after, after_wire, nothing_yet}
+use Rattle.channel_laws.specs.Vocabulary.{A, Lawful, Reset, Run, WireLog, run_lawful}
+use Rattle.lane_laws.specs.Vocabulary.{Accepted, Admitted, Asks, CalmReset, CalmTick, Calms, ClientAdmits, ClientState, ClientStep, DiskEvent, DiskLog, Done, Full, IsShape, LaneState, LaneStep}
+use Rattle.lane_laws.specs.Vocabulary.{Misplaced, OnWire, Published, Refused, Shape, Stopped, Switches, WorkLog, Works, after, after_wire, defect, fresh, nothing_yet}
 use Rattle.lane_laws.specs.RequestLaws.{AdmissionAt, Admits, OnceAt, TurnsAt}
-use Rattle.lane_laws.specs.WorkLog.{WorkLog}
-use Rattle.disk_model.specs.ClientState.{ClientState}
-use Rattle.disk_model.specs.ClientStep.{ClientAdmits, ClientStep}
-use Rattle.channel_model.specs.WireEvent.{Reset}
-use Rattle.disk_model.specs.DiskEvent.{Accepted, Admitted, Asks, CalmReset, CalmTick, DiskEvent, Done, Full, Misplaced, OnWire, Published, Refused, Calms, Stopped, Switches, Works}
-use Rattle.disk_model.specs.LaneState.{IsShape, LaneState, Shape, fresh}
-use Rattle.disk_model.specs.LaneStep.{LaneStep}
 use Rattle.lane_laws.proofs.Requesting.{KeepsRequests, accepted_stand, completed_next, kept_stand, published_kept, same_stand}
 use Rattle.lane_laws.proofs.StandingSteps.{client_kept, joined_client_kept, same_client, wire_turn, wired_keeps}
 use Rattle.lane_laws.proofs.LaneViews.{Beside, ClientActs, ClientAsked, ClientCalled, ClientStays, ClientView, after_stopped, at_client, lane_view}

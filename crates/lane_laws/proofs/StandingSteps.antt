@@ -1,19 +1,9 @@
 -- Each event of a lane may stand where the conditions on requests say, and keeps what its requests and its log are to each other.
 use Rattle.std.proofs.Common.{◌≡◌, ℕ, Option, List, refl, sym, ap, ◌∙◌, subst}
-use Rattle.ldc_queue.specs.declared.end.End.{End}
-use Rattle.ldc_queue.specs.declared.end.End.TheVariants.{A, B}
-use Rattle.vio_tag.specs.declared.cause.Cause.{Cause}
-use Rattle.channel_model.specs.TranscriptLog.{TranscriptLog}
-use Rattle.channel_model.specs.WireEvent.{Blocked, ByRestart, ByScript, ByStep, ByTick, Giver, Idle, Joined, Reset, Sent, Took, WireEvent, giver}
-use Rattle.channel_model.specs.WireLog.{wire_moved}
+use Rattle.channel_laws.specs.Vocabulary.{A, B, Blocked, ByRestart, ByScript, ByStep, ByTick, Cause, End, Giver, Idle, Joined, Reset, Sent, Took, TranscriptLog, WireEvent, giver, wire_moved}
 use Rattle.lane_laws.specs.RequestLaws.{TurnOfEnd, TurnOfReset, TurnOfWire}
-use Rattle.lane_laws.specs.WorkLog.{WorkLog, work_wired}
-use Rattle.disk_model.specs.ClientState.{ClientState, joined_client}
-use Rattle.disk_model.specs.DiskEvent.{OnWire}
-use Rattle.disk_model.specs.LaneState.{LaneState}
-use Rattle.disk_model.specs.LaneStep.{EndOnWire, ResetBy, WireStep}
+use Rattle.lane_laws.specs.Vocabulary.{ClientState, ClientStep, EndOnWire, LaneState, OnWire, ResetBy, WireStep, WorkLog, joined_client, work_wired}
 use Rattle.lane_laws.proofs.LaneViews.{ClientActs, ClientCalled, ClientStays, ClientView, at_client, lane_view}
-use Rattle.disk_model.specs.ClientStep.{ClientStep}
 use Rattle.lane_laws.proofs.Requesting.{KeepsRequests, held_kept, joined_kept, sent_kept, stays_kept, took_kept}
 use Rattle.lane_laws.proofs.Ruling.{client_may}
 use Rattle.disk_model.specs.ClientRule.{client_rule}

@@ -2,42 +2,17 @@
 -- server has given no status in it.
 use Rattle.std.proofs.Common.{◌≡◌, ◌≢◌, ℕ, ◌-◌, ◌≤◌, Bool, true, false, Option, Some, None, List, [], ◌∷◌, ◌++◌, length, refl, sym, ap, ◌∙◌, subst, arith}
 use Rattle.std.specs.Prelude.{is_some, slice_get}
-use Rattle.runs.specs.Lawful.{lawful_split, log_append, log_of}
-use Rattle.runs.specs.Run.{Run, run_push}
-use Rattle.ldc_link.specs.declared.phase.Role.{Role}
-use Rattle.ldc_link.specs.declared.phase.Role.TheVariants.{Initiator, Responder}
-use Rattle.ldc_link.specs.LinkState.{is_up}
-use Rattle.ldc_queue.specs.declared.end.ChannelState.TheVariants.{Up}
-use Rattle.ldc_queue.specs.declared.end.End.TheVariants.{A, B}
-use Rattle.ldc_queue.specs.OneStream.{IsFront}
-use Rattle.ldc_queue.specs.Transcript.{Heard as Heard_, Said, Turn}
+use Rattle.channel_laws.specs.Vocabulary.{A, B, EndStands, EndsHandshake, Heard as Heard_, Initiator, IsFront, PutKind, Responder, Role, Run, Said, Sent, Took, TranscriptLog, Turn, Up, WireLog}
+use Rattle.channel_laws.specs.Vocabulary.{half_heard, half_said, heard, is_up, lawful_split, log_append, log_of, opening_sid, opens_by_put, put_opens, run_push, said, seen, sides_of}
 use Rattle.vio_handshake.proofs.Places.{AllSaid, Deal, Place}
 use Rattle.vio_handshake.specs.declared.handshake.Phase.TheVariants.{Open}
-use Rattle.vio_handshake.specs.Rules.{opens_by_put}
-use Rattle.channel_model.specs.Sayings.{half_heard, half_said, heard, said}
-use Rattle.channel_model.specs.TranscriptLog.{TranscriptLog}
-use Rattle.channel_model.specs.WireEvent.{Sent, Took}
-use Rattle.channel_model.specs.WireLog.{WireLog}
-use Rattle.lane_laws.specs.Agreement.{ClientAgrees}
-use Rattle.lane_laws.specs.DiskLog.{DiskLog, after, nothing_yet}
+use Rattle.lane_laws.specs.Vocabulary.{ClientAgrees, ClientCounts, ClientSession, ClientState, DiskEvent, DiskLog, IdStands, IfServer, IsShape, LaneState, LaneStep, OnWire, OneRing, ServerCounts}
+use Rattle.lane_laws.specs.Vocabulary.{ServerState, Shape, after, client_core, client_kind, core_of, fresh, nothing_yet, server_core}
 use Rattle.lane_laws.specs.RingLog.{Done}
-use Rattle.lane_laws.specs.WorkLaws.{IfServer}
-use Rattle.channel_model.specs.Messages.{opening_sid}
-use Rattle.lane_laws.specs.WorkLog.{ClientCounts, ServerCounts}
-use Rattle.disk_model.specs.ClientPutting.{client_kind}
-use Rattle.disk_model.specs.ClientState.{ClientSession, ClientState}
-use Rattle.disk_model.specs.DiskEvent.{DiskEvent, OnWire}
-use Rattle.channel_model.specs.EndPuts.{EndsHandshake, PutKind, put_opens}
-use Rattle.disk_model.specs.LaneState.{IsShape, LaneState, Shape, fresh}
-use Rattle.disk_model.specs.LaneStep.{LaneStep}
-use Rattle.channel_model.specs.Seeing.{seen}
-use Rattle.disk_model.specs.ServerState.{ServerState}
 use Rattle.channel_laws.proofs.Apart.{false_is_true, true_is_false}
 use Rattle.channel_laws.proofs.EndStanding.{open_up}
 use Rattle.channel_laws.proofs.HandshakePlaces.{AtPlace, deal, open_place, place_open}
 use Rattle.channel_laws.proofs.Script.{said_at}
-use Rattle.channel_laws.specs.Sides.{sides_of}
-use Rattle.channel_laws.specs.Standing.{EndStands}
 use Rattle.lane_laws.proofs.LaneChannel.{OnLane, answers_of, asks_of, lane_meets, lane_meets_next}
 use Rattle.lane_laws.proofs.Agreeing.{client_some, server_open}
 use Rattle.lane_laws.proofs.LaneCores.{transcript_is}
@@ -56,13 +31,10 @@ use Rattle.lane_laws.proofs.SlotsOrdered.{finished_more}
 use Rattle.lane_laws.proofs.TableRuns.{table_lawful}
 use Rattle.lane_laws.specs.LaneRests.{ClientRests}
 use Rattle.lane_laws.specs.LaneTranscripts.{transcript_behind}
-use Rattle.lane_laws.specs.RingAgreed.{OneRing}
-use Rattle.lane_laws.specs.RingSlots.{IdStands}
 use Rattle.lane_laws.specs.SlotsInOrder.{SlotsIn, SlotsInOrder, SlotsOf}
 use Rattle.lane_laws.specs.TableStands.{TableAt}
 use Rattle.lane_laws.proofs.StatusSteps.{NoneDone, front_named, hears_fifth, says_fifth}
 use Rattle.lane_laws.specs.Statuses.{IsNamed}
-use Rattle.lane_laws.specs.ChannelEnds.{client_core, core_of, server_core}
 
 -- WHAT IS KNOWN before an event and after it
 pub record Around (shape : Shape) (s : LaneState) (l : DiskLog) (event : DiskEvent) (t : LaneState) : Type 0 where

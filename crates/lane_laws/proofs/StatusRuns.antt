@@ -2,27 +2,16 @@
 -- completion has the status that the server gave it.
 use Rattle.std.proofs.Common.{◌≡◌, ℕ, ◌+◌, ◌-◌, Bool, true, false, Option, Some, None, List, [], ◌∷◌, ◌++◌, set, refl, sym, ap, ◌∙◌, subst}
 use Rattle.std.specs.Prelude.{replicate, slice_get}
-use Rattle.runs.specs.Lawful.{Lawful, log_append, log_of, run_lawful}
-use Rattle.runs.specs.Run.{Run, run_push}
-use Rattle.ldc_queue.specs.declared.end.End.TheVariants.{A, B}
-use Rattle.ldc_queue.specs.Transcript.{Said}
-use Rattle.channel_model.specs.Sayings.{half_heard, said}
-use Rattle.channel_model.specs.WireEvent.{Injected, Joined, Lost, Reset, Sent, Took}
-use Rattle.lane_laws.specs.DiskLog.{DiskLog, after, nothing_yet}
+use Rattle.channel_laws.specs.Vocabulary.{A, B, Injected, Joined, Lawful, Lost, Reset, Run, Said, Sent, Took, half_heard, log_append, log_of, opening_sid, run_lawful, run_push, said, seen}
+use Rattle.lane_laws.specs.Vocabulary.{Accepted, Asks, ClientCounts, Desc, DiskEvent, DiskLog, Done, Finished, IfClient, InClient, IsShape, LaneState, LaneStep, Misplaced, Moved, OnWire, Opened}
+use Rattle.lane_laws.specs.Vocabulary.{Published, ServerCounts, ServerMay, Shape, Stopped, Stored, Switches, Unforged, WorkStep, WorkUnforgedAt, Worked, Works, after, change_server, fresh, last_of}
+use Rattle.lane_laws.specs.Vocabulary.{nothing_yet}
 use Rattle.lane_laws.specs.RingLog.{Done as IsDone, Free, SlotLog, finished_at, id_at}
-use Rattle.lane_laws.specs.WorkLaws.{IfClient, InClient, Unforged, WorkUnforgedAt, last_of}
-use Rattle.channel_model.specs.Messages.{opening_sid}
-use Rattle.lane_laws.specs.WorkLog.{ClientCounts, Opened, ServerCounts, change_server}
-use Rattle.disk_model.specs.DiskEvent.{Accepted, Asks, Desc, DiskEvent, Done, Finished, Misplaced, Moved, OnWire, Published, Stopped, Stored, Switches, Worked, Works}
-use Rattle.disk_model.specs.LaneState.{IsShape, LaneState, Shape, fresh}
-use Rattle.disk_model.specs.LaneStep.{LaneStep, WorkStep}
-use Rattle.channel_model.specs.Seeing.{seen}
 use Rattle.disk_model.specs.ServerRule as server_rules
 use Rattle.lane_laws.proofs.RingAlong.{run_fetches, run_status}
 use Rattle.lane_laws.proofs.RingRuns.{before}
 use Rattle.lane_laws.proofs.RingWork.{Known, at_work}
 use Rattle.lane_laws.proofs.Ruling.{server_may}
-use Rattle.lane_laws.specs.RuleFacts.{ServerMay}
 use Rattle.lane_laws.proofs.StatusFacts.{Around, around, hears_session, names_session, none_given, opens_alone, sends_not}
 use Rattle.lane_laws.proofs.StatusSteps.{cleared_none, fetched_keeps, freed_keeps, gives_status, keeps_changed, last_client, last_gone, last_server, named_changed, named_more, none_keeps, one_name, published_keeps}
 use Rattle.lane_laws.proofs.UnforgedMoves.{moved_answered}

@@ -3,14 +3,10 @@ use Rattle.std.proofs.Common.{◌≡◌, ℕ, zero, suc, ◌+◌, ◌-◌, ◌%�
 use Rattle.std.specs.Prelude.{⊤, ◌&&◌, ◌==◌, if◌then◌else◌, slice_get, replicate}
 use Rattle.std.proofs.lemmas.Bool.{eq-eqb}
 use Rattle.ldc_queue.specs.Fragments.{Fragment, fragment_at, is_part}
-use Rattle.ldc_queue.specs.OneStream.{IsFront}
-use Rattle.ldc_queue.specs.Transcript.{Heard as Heard_, Said, Turn}
-use Rattle.channel_model.specs.Sayings.{half_heard, half_said, heard, said, whole_by, whole_past}
-use Rattle.channel_model.specs.Messages.{sid_of, whole_with, opening_sid, sid_in}
+use Rattle.channel_laws.specs.Vocabulary.{Heard as Heard_, IsFront, Said, Turn, half_heard, half_said, heard, opening_sid, said, sid_in, sid_of, whole_by, whole_past, whole_with}
 use Rattle.channel_laws.proofs.Apart.{some_same}
 use Rattle.lane_laws.specs.RingLog.{Done, Free, Ready, SlotLog, fetched_at, freed_at, published_at}
-use Rattle.lane_laws.specs.WorkLaws.{IfClient, last_of}
-use Rattle.lane_laws.specs.WorkLog.{ClientCounts, Opened, ServerCounts, WorkLog, change_client, change_server, finished_in}
+use Rattle.lane_laws.specs.Vocabulary.{ClientCounts, IfClient, Opened, ServerCounts, WorkLog, change_client, change_server, finished_in, last_of}
 use Rattle.lane_laws.specs.Statuses.{IsLast, IsNamed, KeepsStatus, LastIn}
 
 -- THE CLIENT'S COUNTS change but for the sid and the base

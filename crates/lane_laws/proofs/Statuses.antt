@@ -1,30 +1,18 @@
 -- While no store failed each descriptor that a server ends gets the status 0, and so does each completion.
 use Rattle.std.proofs.Common.{◌≡◌, ℕ, zero, suc, ◌-◌, ◌%◌, Bool, true, false, Option, Some, None, List, [], ◌∷◌, ◌++◌, set, refl, ap, ◌∙◌, subst, arith}
 use Rattle.std.specs.Prelude.{slice_get, replicate, ⊤}
-use Rattle.runs.specs.Lawful.{log_of, run_lawful}
-use Rattle.runs.specs.Run.{Run}
+use Rattle.channel_laws.specs.Vocabulary.{A, B, ChannelState, Joined, Reset, Run, Sent, Took, log_of, run_lawful, seen}
 use Rattle.cookie_copy.specs.declared.fault.CopyFault.{CopyFault}
-use Rattle.ldc_queue.specs.declared.end.End.TheVariants.{A, B}
-use Rattle.ldc_queue.specs.declared.end.ChannelState.{ChannelState}
-use Rattle.channel_model.specs.WireEvent.{Joined, Reset, Sent, Took}
 use Rattle.channel_laws.proofs.Apart.{some_same}
-use Rattle.lane_laws.specs.DiskLog.{DiskLog, after, nothing_yet}
+use Rattle.lane_laws.specs.Vocabulary.{Accepted, Asks, ClientCounts, Desc, DiskEvent, DiskLog, Done, Ends, Finished, Gathers, Gives, IsShape, LaneState, LaneStep, Moved, MovesIn, OnWire, Opened}
+use Rattle.lane_laws.specs.Vocabulary.{Progress, Published, Reach, ServerCounts, ServerMay, ServerState, Shape, Stopped, Switches, Work, WorkLog, WorkStep, Works, after, finished_in, fresh}
+use Rattle.lane_laws.specs.Vocabulary.{nothing_yet, opened_more, reach, view_of, work_while}
 use Rattle.lane_laws.specs.RingLog.{Done as IsDone, Free, Ready, SlotLog, Zeros, cleared_if, fetched_at, finished_at, freed_at, published_at}
-use Rattle.lane_laws.specs.WorkLog.{ClientCounts, Opened, ServerCounts, WorkLog, finished_in, opened_more}
-use Rattle.disk_model.specs.DiskEvent.{Accepted, Asks, Desc, DiskEvent, Done, Finished, Moved, OnWire, Published, Stopped, Switches, Works}
-use Rattle.disk_model.specs.LaneState.{IsShape, LaneState, Shape, fresh}
-use Rattle.disk_model.specs.LaneStep.{LaneStep, WorkStep, reach}
-use Rattle.channel_model.specs.Seeing.{seen}
 use Rattle.disk_model.specs.ServerRule as server_rules
-use Rattle.disk_model.specs.ServerState.{Ends, Gathers, Gives, Progress, ServerState, Work}
-use Rattle.cookie_copy.specs.Reach.{Reach}
-use Rattle.disk_model.specs.ServerWork.{MovesIn}
 use Rattle.lane_laws.proofs.RingClientSteps.{completes_slot}
 use Rattle.lane_laws.proofs.RingRuns.{before as clean_before}
 use Rattle.lane_laws.proofs.Ruling.{server_may}
-use Rattle.lane_laws.specs.RuleFacts.{ServerMay}
 use Rattle.lane_laws.specs.Contents.{ContentsStand, ProgressIs}
-use Rattle.lane_laws.specs.LaneView.{view_of, work_while}
 use Rattle.lane_laws.specs.ZeroStatuses.{AllZero, IsZero, OpenedZero, RingZero, StatusesZero}
 use Rattle.lane_laws.proofs.FailedRuns.{failed_before}
 use Rattle.lane_laws.proofs.LaneRuns.{AlongContents, at_step, contents_step, run_contents}

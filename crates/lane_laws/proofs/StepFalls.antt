@@ -1,26 +1,15 @@
 -- Each step of an end of a lane that nobody forged lowers what remains, or is calm and leaves it.
 use Rattle.std.proofs.Common.{◌≡◌, ℕ, ◌≤◌, ◌<◌, ◌⊎◌, inl, inr, false, Option, List, ap, subst, arith}
-use Rattle.runs.specs.Run.{Run}
-use Rattle.ldc_queue.specs.declared.end.End.{End}
-use Rattle.ldc_queue.specs.declared.end.End.TheVariants.{A, B}
-use Rattle.vio_tag.specs.declared.cause.Cause.{Cause}
-use Rattle.channel_model.specs.WireAt.{IsUp}
-use Rattle.channel_model.specs.WireEvent.{Blocked, ByStep, Giver, Idle, Joined, Reset, Sent, Took, WireEvent, giver}
+use Rattle.channel_laws.specs.Vocabulary.{A, B, Blocked, ByStep, Cause, End, Giver, Idle, IsUp, Joined, Reset, Run, Sent, Took, WireEvent, giver}
 use Rattle.disk_model.specs.ClientRule as client_rules
-use Rattle.disk_model.specs.ClientState.{ClientState}
-use Rattle.disk_model.specs.ClientStep.{ClientFails}
-use Rattle.disk_model.specs.DiskEvent.{DiskEvent, Misplaced, Off, OnWire, Switches, Works}
-use Rattle.disk_model.specs.LaneState.{IsShape, LaneState, Shape, fresh}
-use Rattle.disk_model.specs.LaneStep.{EndOnWire, LaneStep, ResetBy, reach}
+use Rattle.lane_laws.specs.Vocabulary.{ClientFails, ClientMay, ClientState, DiskEvent, EndOnWire, IsShape, LaneState, LaneStep, Misplaced, Off, OnWire, ResetBy, ServerFails, ServerMay, Shape}
+use Rattle.lane_laws.specs.Vocabulary.{Switches, Works, fresh, reach, remaining}
 use Rattle.disk_model.specs.ServerRule as server_rules
-use Rattle.disk_model.specs.ServerStep.{ServerFails}
 use Rattle.lane_laws.proofs.FallsInTurn.{took_falls}
 use Rattle.lane_laws.proofs.IdleRuns.{client_same, server_same}
 use Rattle.lane_laws.proofs.RemainingBlocked.{blocked_stays}
 use Rattle.lane_laws.proofs.RemainingRuns.{resets_fall, steps_fall}
 use Rattle.lane_laws.proofs.Ruling.{client_may, server_may}
-use Rattle.lane_laws.specs.Remaining.{remaining}
-use Rattle.lane_laws.specs.RuleFacts.{ClientMay, ServerMay}
 use Rattle.lane_laws.proofs.OwnResets.{own_reset}
 use Rattle.lane_laws.proofs.LaneViews.{at_client, at_server}
 use Rattle.lane_laws.specs.CalmEnds.{IsCalm, IsStep, IsWireStep}

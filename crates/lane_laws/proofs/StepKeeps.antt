@@ -1,16 +1,7 @@
 -- A step of an end neither forges nor loses a packet, and neither stops nor starts the server.
 use Rattle.std.proofs.Common.{◌≡◌, Bool, false, refl, ap, ◌∙◌}
-use Rattle.ldc_queue.specs.declared.end.ChannelState.{ChannelState}
-use Rattle.ldc_queue.specs.declared.end.ChannelState.TheVariants.{Down, Resetting, Up}
-use Rattle.ldc_queue.specs.declared.end.End.{End}
-use Rattle.ldc_queue.specs.declared.end.End.TheVariants.{A, B}
-use Rattle.ldc_queue.specs.Wire.{state_of}
-use Rattle.channel_model.specs.WireEvent.{Injected, Joined, Lost, Poked, Reset}
-use Rattle.channel_model.specs.WireLog.{WireLog, lossy_behind, wire_moved}
-use Rattle.disk_model.specs.DiskEvent.{DiskEvent, OnWire, Started, Stopped, Switches}
-use Rattle.disk_model.specs.LaneState.{LaneState}
-use Rattle.disk_model.specs.LaneStep.{LaneStep}
-use Rattle.lane_laws.specs.DiskLog.{after_wire}
+use Rattle.channel_laws.specs.Vocabulary.{A, B, ChannelState, Down, End, Injected, Joined, Lost, Poked, Reset, Resetting, Up, WireLog, lossy_behind, state_of, wire_moved}
+use Rattle.lane_laws.specs.Vocabulary.{DiskEvent, LaneState, LaneStep, OnWire, Started, Stopped, Switches, after_wire}
 use Rattle.lane_laws.proofs.LaneViews.{after_stopped, lane_view}
 use Rattle.lane_laws.specs.CalmEnds.{IsStep, StepKeeps}
 

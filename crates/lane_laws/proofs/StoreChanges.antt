@@ -1,31 +1,19 @@
 -- What a unit that is read or stored, a fetched descriptor, and the end of one are to a lane's view.
 use Rattle.std.proofs.Common.{◌≡◌, ℕ, ◌+◌, ◌*◌, ◌/◌, ◌^◌, ◌<◌, ◌≤◌, Bool, false, Option, Some, None, List, drop, length, refl, sym, ap, ◌∙◌, subst, arith}
 use Rattle.std.specs.Prelude.{slice_get, ◌==◌, if◌then◌else◌}
-use Rattle.ldc_queue.specs.declared.end.ChannelState.{ChannelState}
-use Rattle.ldc_queue.specs.declared.end.ChannelState.TheVariants.{Up}
-use Rattle.ldc_queue.specs.declared.end.End.TheVariants.{B}
+use Rattle.channel_laws.specs.Vocabulary.{B, ChannelState, Up, put_at, seen}
 use Rattle.vdisk_msg.proofs.Written.{requested_is_sound}
 use Rattle.vdisk_msg.specs.Check.{first_defect}
 use Rattle.vdisk_msg.specs.declared.desc.DescFault.{DescFault}
 use Rattle.vdisk_msg.specs.declared.desc.DiskDesc.{DiskDesc}
-use Rattle.vdisk_msg.specs.declared.request.Request.{Request}
-use Rattle.vdisk_msg.specs.declared.request.Request.TheVariants.{Flush, Read, Write}
+use Rattle.lane_laws.specs.Vocabulary.{ClientCounts, Desc, DiskLog, Ends, Flush, Flushes, Gives, LaneState, NearCounts, Progress, Read, Reads, Request, ServerMay, ServerState, ServerWorks}
+use Rattle.lane_laws.specs.Vocabulary.{Stored as StoredUnit, StoresIn, Work, WorkAgrees, WorkStep, Works, Write, Writes, block_of, checked_progress, descriptor_of, first_progress}
+use Rattle.lane_laws.specs.Vocabulary.{first_progress_of, gathers_next, header_of, operation_of, pages_of, reach, ring_in, risen, size_of, stored_blocks, unit_length, view_of, with_word}
+use Rattle.lane_laws.specs.Vocabulary.{work_while}
 use Rattle.vdisk_msg.specs.Descriptor as slot_says
-use Rattle.vdisk_msg.specs.Requested.{block_of, descriptor_of, size_of}
-use Rattle.vdisk_msg.specs.Requests.{operation_of}
-use Rattle.vio_bytes.specs.Place.{put_at}
 use Rattle.vio_bytes.specs.Range.{range_at}
 use Rattle.channel_laws.proofs.Apart.{some_same}
-use Rattle.lane_laws.specs.Agreement.{WorkAgrees}
-use Rattle.lane_laws.specs.DiskLog.{DiskLog}
-use Rattle.lane_laws.specs.WorkLog.{ClientCounts}
-use Rattle.disk_model.specs.DiskEvent.{Desc, Stored as StoredUnit, Works}
-use Rattle.disk_model.specs.LaneState.{LaneState, NearCounts, pages_of, risen}
-use Rattle.disk_model.specs.LaneStep.{ServerWorks, WorkStep, reach, stored_blocks}
-use Rattle.channel_model.specs.Seeing.{seen}
 use Rattle.disk_model.specs.ServerRule as server_rules
-use Rattle.disk_model.specs.ServerState.{Ends, Flushes, Gives, Progress, Reads, ServerState, Work, Writes}
-use Rattle.disk_model.specs.ServerWork.{StoresIn, checked_progress, first_progress, first_progress_of, gathers_next, header_of, unit_length, with_word}
 use Rattle.lane_laws.proofs.RingServer.{header_long}
 use Rattle.lane_laws.proofs.RingWork.{fetched_next}
 use Rattle.lane_laws.proofs.StandingRuns.{slots_is as slots_are}
@@ -35,11 +23,8 @@ use Rattle.lane_laws.proofs.SlotBytes.{reads_back, stated}
 use Rattle.lane_laws.proofs.RingSessions.{sizes_of}
 use Rattle.lane_laws.proofs.RingClientSteps.{got_at}
 use Rattle.lane_laws.proofs.SlotsStepping.{StepFacts}
-use Rattle.lane_laws.specs.RingAgreed.{ring_in}
-use Rattle.lane_laws.specs.RuleFacts.{ServerMay}
 use Rattle.lane_laws.specs.Contents.{ContentsStand, ProgressIs}
 use Rattle.lane_laws.specs.ImageStep.{StoreDoes, UnitDoes, WorkDoes}
-use Rattle.lane_laws.specs.LaneView.{view_of, work_while}
 use Rattle.lane_laws.proofs.BehindRing.{ring_end, word_behind}
 use Rattle.lane_laws.proofs.Changes.{Fetched, Flushed, ImageChange, IsChange, Kind, Looked, Stored, content_behind, first_of}
 use Rattle.lane_laws.proofs.PlacedViews.{live}

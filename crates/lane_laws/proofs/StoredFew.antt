@@ -6,29 +6,18 @@ use Rattle.cookie_copy.specs.declared.fault.CopyFault.{CopyFault}
 use Rattle.cookie_copy.specs.Moved.{bytes_of, moved_in}
 use Rattle.map_table.specs.declared.cookie.Cookie.{Cookie}
 use Rattle.map_table.specs.declared.table.Entry.{Entry}
-use Rattle.ldc_queue.specs.declared.end.ChannelState.{ChannelState}
-use Rattle.ldc_queue.specs.declared.end.ChannelState.TheVariants.{Up}
-use Rattle.ldc_queue.specs.declared.end.End.TheVariants.{B}
+use Rattle.channel_laws.specs.Vocabulary.{B, ChannelState, Up, WireLog, seen}
 use Rattle.vdisk_msg.specs.Check.{first_defect}
 use Rattle.vdisk_msg.specs.declared.desc.DescFault.{DescFault}
 use Rattle.vdisk_msg.specs.declared.desc.DiskDesc.{DiskDesc}
 use Rattle.vdisk_msg.specs.Descriptor as slot_says
 use Rattle.vdisk_msg.specs.Pieces.{unit_count}
-use Rattle.channel_model.specs.WireLog.{WireLog}
-use Rattle.lane_laws.specs.DiskLog.{DiskLog}
-use Rattle.disk_model.specs.DiskEvent.{Desc, Done, Finished, Misplaced, Moved, Published, Stored, Worked}
-use Rattle.disk_model.specs.LaneState.{LaneState, risen}
-use Rattle.disk_model.specs.LaneStep.{WorkStep, reach, stored_blocks}
-use Rattle.channel_model.specs.Seeing.{seen}
+use Rattle.lane_laws.specs.Vocabulary.{Desc, DiskLog, Done, Ends, Finished, Flushes, Gathers, Gives, LaneState, Misplaced, Moved, MovesIn, Progress, Published, Reach, Reads, ServerMay, ServerState}
+use Rattle.lane_laws.specs.Vocabulary.{Stored, StoresIn, UnitFits, UnitIn, Work, WorkStep, Worked, Writes, checked_progress, data_cookies, desc_of, first_progress, gathered, gathers_next, given}
+use Rattle.lane_laws.specs.Vocabulary.{length_of, or_ends, reach, risen, stored_blocks, work_while}
 use Rattle.disk_model.specs.ServerRule as server_rules
-use Rattle.disk_model.specs.ServerState.{Ends, Flushes, Gathers, Gives, Progress, Reads, ServerState, Work, Writes}
-use Rattle.cookie_copy.specs.Reach.{Reach}
-use Rattle.disk_model.specs.ServerWork.{MovesIn, StoresIn, checked_progress, data_cookies, desc_of, first_progress, gathered, gathers_next, given, length_of, or_ends}
 use Rattle.lane_laws.proofs.RulesFree.{ServerFree, server_free}
 use Rattle.lane_laws.proofs.Ruling.{server_may}
-use Rattle.lane_laws.specs.Counted.{UnitFits, UnitIn}
-use Rattle.lane_laws.specs.RuleFacts.{ServerMay}
-use Rattle.lane_laws.specs.LaneView.{work_while}
 use Rattle.lane_laws.proofs.ServerChanges.{ServesNow, serves_now}
 use Rattle.lane_laws.proofs.Standing.{Before}
 

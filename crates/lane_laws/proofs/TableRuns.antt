@@ -3,42 +3,26 @@
 use Rattle.std.proofs.Common.{◌≡◌, ℕ, ◌+◌, ◌*◌, ◌≤◌, false, Option, Some, None, List, [], length, refl, sym, ap, ◌∙◌, subst, arith}
 use Rattle.std.specs.Prelude.{nat_lt}
 use Rattle.std.proofs.lemmas.Bool.{ltb-false, ltb-true}
-use Rattle.runs.specs.Lawful.{Lawful, run_lawful}
-use Rattle.runs.specs.Run.{Run}
-use Rattle.ldc_queue.specs.declared.end.End.{End}
-use Rattle.ldc_queue.specs.declared.end.End.TheVariants.{A, B}
-use Rattle.ldc_queue.specs.Wire.{waiting_for}
-use Rattle.vio_tag.specs.declared.cause.Cause.{Cause}
-use Rattle.channel_model.specs.WireAt.{DeclinesAt, IsUp, MayCarry, MayReset, Sizes, WireAnswersAt, WireTableAt}
-use Rattle.channel_model.specs.WireEvent.{Blocked, ByRestart, ByScript, ByStep, ByTick, Declined, Declines, Giver, Idle, Injected, Joined, Lost, PokeRefused, Poked, Reset, Sent, Took, WireEvent, giver}
-use Rattle.channel_model.specs.WireLog.{WireLog}
-use Rattle.lane_laws.specs.DiskLog.{DiskLog, after, after_wire, nothing_yet}
+use Rattle.channel_laws.specs.Vocabulary.{A, AnswerStands, B, Blocked, ByRestart, ByScript, ByStep, ByTick, Cause, CoreStands, Declined, Declines, DeclinesAt, End, Giver, Idle, Injected, IsUp}
+use Rattle.channel_laws.specs.Vocabulary.{Joined, Lawful, Lost, MayCarry, MayReset, PokeRefused, Poked, Reset, Run, Sent, Sizes, Took, WireAnswersAt, WireEvent, WireLog, WireStands, WireTableAt}
+use Rattle.channel_laws.specs.Vocabulary.{giver, run_lawful, waiting_for, wire_after}
+use Rattle.lane_laws.specs.Vocabulary.{ClientFails, ClientMay, ClientState, ClientStep, DiskEvent, DiskLog, EndOnWire, IsShape, LaneState, LaneStep, OnWire, Reach, ResetBy, ServerFails, ServerMay}
+use Rattle.lane_laws.specs.Vocabulary.{ServerState, ServerStep, Shape, Stopped, Switches, WireStep, after, after_wire, core_event, fresh, nothing_yet, pages_of, sizes_of}
 use Rattle.lane_laws.specs.May.{sizes_in}
 use Rattle.disk_model.specs.ClientRule as client_rules
-use Rattle.disk_model.specs.ClientStep.{ClientFails, ClientStep}
-use Rattle.disk_model.specs.DiskEvent.{DiskEvent, OnWire, Stopped, Switches}
-use Rattle.disk_model.specs.LaneState.{IsShape, LaneState, Shape, fresh, pages_of}
-use Rattle.disk_model.specs.LaneStep.{EndOnWire, LaneStep, ResetBy, WireStep, sizes_of}
 use Rattle.disk_model.specs.ServerRule as server_rules
-use Rattle.disk_model.specs.ServerStep.{ServerFails, ServerStep}
-use Rattle.cookie_copy.specs.Reach.{Reach}
 use Rattle.lane_laws.proofs.CarriedRuns.{AllStand, all_step, fresh_all}
 use Rattle.lane_laws.proofs.ClientHolding.{holds_up}
 use Rattle.lane_laws.proofs.LaneViews.{IsOwnStep, at_client, at_server, reach_of}
-use Rattle.disk_model.specs.ClientState.{ClientState}
-use Rattle.disk_model.specs.ServerState.{ServerState}
 use Rattle.lane_laws.proofs.IdleRules.{client_idles, server_idles}
 use Rattle.lane_laws.proofs.Ruling.{client_may, server_may}
 use Rattle.lane_laws.proofs.ServerSpeaking.{server_holds_up}
 use Rattle.lane_laws.proofs.StandingRuns.{lawful_by}
 use Rattle.lane_laws.specs.MemoryStands.{MemoryStands, memory_long}
-use Rattle.lane_laws.specs.RuleFacts.{ClientMay, ServerMay}
 use Rattle.lane_laws.specs.Standing.{LaneInvariant}
 use Rattle.lane_laws.specs.TableStands.{AnswersAt, IdleNone, MayOfTable, TableAt}
-use Rattle.lane_laws.specs.ChannelEnds.{core_event}
 use Rattle.channel_laws.proofs.CoreRuns.{Room, room_after}
 use Rattle.channel_laws.proofs.EndsAtRest.{none_waits}
-use Rattle.channel_laws.specs.LaneCore.{AnswerStands, CoreStands, WireStands, wire_after}
 
 abbrev make_sizes : ℕ → ℕ → Sizes
 make_sizes entries memory = record { entries = entries; memory = memory }

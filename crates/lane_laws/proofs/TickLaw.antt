@@ -2,21 +2,10 @@
 use Rattle.std.proofs.Common.{◌≡◌, ◌≢◌, ℕ, true, Option, Some, None, List, [], ◌∷◌, length, refl, sym, ◌∙◌, arith}
 use Rattle.std.specs.Prelude.{is_some}
 use Rattle.std.proofs.lemmas.Bool.{and_from, and_parts}
-use Rattle.runs.specs.Lawful.{Lawful}
-use Rattle.runs.specs.Run.{Run}
-use Rattle.ldc_queue.specs.declared.end.End.{End}
-use Rattle.ldc_queue.specs.declared.end.End.TheVariants.{A, B}
-use Rattle.vdisk_msg.specs.declared.request.Request.{Request}
-use Rattle.vio_tag.specs.declared.cause.Cause.{Cause}
-use Rattle.channel_model.specs.WireEvent.{ByTick, Giver, Reset, giver}
-use Rattle.lane_laws.specs.Agreement.{ClientAgrees}
-use Rattle.lane_laws.specs.DiskLog.{DiskLog, after, nothing_yet}
+use Rattle.channel_laws.specs.Vocabulary.{A, B, ByTick, Cause, End, Giver, Lawful, Reset, Run, giver}
+use Rattle.lane_laws.specs.Vocabulary.{CalmTick, Calms, ClientAgrees, ClientCounts, ClientSession, DiskEvent, DiskLog, IsShape, LaneState, LaneStep, OnWire, Request, ResetBy, Shape, after, fresh}
+use Rattle.lane_laws.specs.Vocabulary.{is_finished, is_nothing, nothing_yet}
 use Rattle.lane_laws.specs.QuietLaws.{IsFinished, TickAt, TickOf}
-use Rattle.lane_laws.specs.WorkLog.{ClientCounts}
-use Rattle.disk_model.specs.ClientState.{ClientSession, is_finished, is_nothing}
-use Rattle.disk_model.specs.DiskEvent.{CalmTick, DiskEvent, OnWire, Calms}
-use Rattle.disk_model.specs.LaneState.{IsShape, LaneState, Shape, fresh}
-use Rattle.disk_model.specs.LaneStep.{LaneStep, ResetBy}
 use Rattle.lane_laws.proofs.StandingRuns.{pending_is}
 use Rattle.lane_laws.proofs.WorkNumbers.{Grounded}
 use Rattle.lane_laws.proofs.WorkRuns.{grounded_lawful}

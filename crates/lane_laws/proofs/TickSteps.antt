@@ -1,16 +1,7 @@
 -- A tick that resets the client begins its lane anew.
 use Rattle.std.proofs.Common.{◌≡◌, ℕ, Option, List, ap, ◌∙◌, subst}
-use Rattle.runs.specs.Run.{Run}
-use Rattle.ldc_queue.specs.declared.end.ChannelState.{ChannelState}
-use Rattle.ldc_queue.specs.declared.end.End.{End}
-use Rattle.ldc_queue.specs.declared.end.End.TheVariants.{A, B}
-use Rattle.vio_tag.specs.declared.cause.Cause.{Cause}
-use Rattle.channel_model.specs.WireEvent.{ByTick, Giver, Reset, giver}
-use Rattle.channel_model.specs.WireLog.{lossy_behind}
-use Rattle.disk_model.specs.ClientState.{is_finished}
-use Rattle.disk_model.specs.DiskEvent.{DiskEvent, OnWire}
-use Rattle.disk_model.specs.LaneState.{IsShape, LaneState, Shape, fresh}
-use Rattle.disk_model.specs.LaneStep.{LaneStep, ResetBy}
+use Rattle.channel_laws.specs.Vocabulary.{A, B, ByTick, Cause, ChannelState, End, Giver, Reset, Run, giver, lossy_behind}
+use Rattle.lane_laws.specs.Vocabulary.{DiskEvent, IsShape, LaneState, LaneStep, OnWire, ResetBy, Shape, fresh, is_finished}
 use Rattle.lane_laws.proofs.RemainingRuns.{resets_fall, resets_remain}
 use Rattle.lane_laws.specs.TickBegins.{TickBegins}
 

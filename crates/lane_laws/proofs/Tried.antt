@@ -2,9 +2,7 @@
 use Rattle.std.proofs.Common.{◌≡◌, ℕ, zero, suc, ◌+◌, ◌<◌, ◌⊎◌, List, [], ◌∷◌, ◌++◌, replicate, Some, inl, inr, refl, ap, arith}
 use Rattle.std.specs.Prelude.{slice_index}
 use Rattle.vdisk_msg.specs.declared.request.Fill.{Fill}
-use Rattle.vdisk_msg.specs.declared.request.Request.{Request}
-use Rattle.vdisk_msg.specs.declared.request.Request.TheVariants.{Read, Write}
-use Rattle.vdisk_msg.specs.Requests.{repeated}
+use Rattle.lane_laws.specs.Vocabulary.{Read, Request, Write, repeated}
 use Rattle.lane_laws.specs.Blocks.{WritesBlock, after_requests, block_at}
 use Rattle.lane_laws.specs.Near.{FrontShows}
 use Rattle.lane_laws.specs.NearContent.{IsAmong, NearContent, PendingPuts, Shows}

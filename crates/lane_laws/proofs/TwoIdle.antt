@@ -1,18 +1,8 @@
 -- Where an end is idle directly after the other, where nobody forged and nothing was lost, nothing is pending and both sessions are open.
 use Rattle.std.proofs.Common.{Some, List, ap, ◌∙◌, subst}
-use Rattle.runs.specs.Lawful.{Lawful, log_of}
-use Rattle.runs.specs.Run.{Run}
-use Rattle.ldc_queue.specs.declared.end.End.{End}
-use Rattle.ldc_queue.specs.declared.end.End.TheVariants.{A, B}
-use Rattle.ldc_queue.specs.Wire.{peer_of}
-use Rattle.channel_model.specs.WireEvent.{Idle}
-use Rattle.channel_model.specs.WireLog.{WireLog}
-use Rattle.lane_laws.specs.Agreement.{IdleAgrees}
-use Rattle.lane_laws.specs.DiskLog.{after, nothing_yet}
+use Rattle.channel_laws.specs.Vocabulary.{A, B, End, Idle, Lawful, Run, WireLog, log_of, peer_of}
+use Rattle.lane_laws.specs.Vocabulary.{DiskEvent, EndOnWire, IdleAgrees, IsShape, LaneState, LaneStep, OnWire, Shape, after, fresh, nothing_yet}
 use Rattle.lane_laws.specs.QuietLaws.{TwoIdleAt}
-use Rattle.disk_model.specs.DiskEvent.{DiskEvent, OnWire}
-use Rattle.disk_model.specs.LaneState.{IsShape, LaneState, Shape, fresh}
-use Rattle.disk_model.specs.LaneStep.{EndOnWire, LaneStep}
 use Rattle.lane_laws.proofs.IdleRuns.{idle_agrees}
 use Rattle.lane_laws.proofs.AlongRuns.{reached_lawful}
 use Rattle.lane_laws.proofs.QuietEnds.{BothRest, quiet_ends}

@@ -1,27 +1,17 @@
 -- On a lane that nobody forged no copy of a unit is refused.
 use Rattle.std.proofs.Common.{◌≡◌, ℕ, ◌+◌, ◌*◌, ◌%◌, ◌<◌, ◌≤◌, Bool, true, false, Option, None, List, length, refl, ap, ◌∙◌, subst, arith}
-use Rattle.runs.specs.Lawful.{log_of}
-use Rattle.runs.specs.Run.{Run}
+use Rattle.channel_laws.specs.Vocabulary.{B, Run, log_of, seen}
 use Rattle.cookie_copy.specs.declared.fault.Access.{Access}
 use Rattle.cookie_copy.specs.declared.fault.Access.TheVariants.{Read, Write}
 use Rattle.cookie_copy.specs.declared.fault.CopyFault.{CopyFault}
 use Rattle.cookie_copy.specs.Faults.{first_copy_fault}
 use Rattle.cookie_copy.specs.Identity.{IsIdentity}
-use Rattle.ldc_queue.specs.declared.end.End.TheVariants.{B}
 use Rattle.vdisk_msg.specs.declared.desc.DiskDesc.{DiskDesc}
-use Rattle.vdisk_msg.specs.declared.request.Request.{Request}
+use Rattle.lane_laws.specs.Vocabulary.{DiskEvent, Gathers, Gives, HoldsIssued, IsShape, LaneState, LaneStep, Moved, MovesIn, Progress, Reach, Request, RingOf, ServerMay, Shape, UnitFits, UnitIn}
+use Rattle.lane_laws.specs.Vocabulary.{Work, Works, after, buffer_place, data_cookies, desc_of, descriptor_of, fresh, nothing_yet, pages_of, reach, ring_in, size_of, unit_length}
 use Rattle.vdisk_msg.specs.declared.request.Request.TheVariants as asks
 use Rattle.vdisk_msg.specs.Pieces.{unit_count}
-use Rattle.vdisk_msg.specs.Requested.{buffer_place, descriptor_of, size_of}
-use Rattle.lane_laws.specs.DiskLog.{after, nothing_yet}
-use Rattle.disk_model.specs.DiskEvent.{DiskEvent, Moved, Works}
-use Rattle.disk_model.specs.LaneState.{IsShape, LaneState, Shape, fresh, pages_of}
-use Rattle.disk_model.specs.LaneStep.{LaneStep, reach}
-use Rattle.channel_model.specs.Seeing.{seen}
 use Rattle.disk_model.specs.ServerRule as server_rules
-use Rattle.disk_model.specs.ServerState.{Gathers, Gives, Progress, Work}
-use Rattle.cookie_copy.specs.Reach.{Reach}
-use Rattle.disk_model.specs.ServerWork.{MovesIn, data_cookies, desc_of, unit_length}
 use Rattle.lane_laws.proofs.LaneCounting.{run_knows}
 use Rattle.lane_laws.proofs.NoOwnReset.{Working, working}
 use Rattle.lane_laws.proofs.RingEnds.{has_work, work_below}
@@ -29,10 +19,6 @@ use Rattle.lane_laws.proofs.RingSessions.{sizes_of}
 use Rattle.lane_laws.proofs.Ruling.{server_may}
 use Rattle.lane_laws.proofs.SlotBytes.{Sizes, fetched_cookies, reads_back, request_size, stated}
 use Rattle.lane_laws.proofs.UnitCopies.{unit_answered}
-use Rattle.lane_laws.specs.Counted.{UnitFits, UnitIn}
-use Rattle.lane_laws.specs.RingAgreed.{ring_in}
-use Rattle.lane_laws.specs.RingSlots.{HoldsIssued, RingOf}
-use Rattle.lane_laws.specs.RuleFacts.{ServerMay}
 use Rattle.lane_laws.specs.Units.{UnitIs, WorkIs}
 
 -- THE DESCRIPTOR in work names its slot's buffer

@@ -10,19 +10,13 @@ use Rattle.cookie_copy.specs.Moved.{moved_in, moved_out}
 use Rattle.map_table.specs.declared.cookie.Cookie.{Cookie}
 use Rattle.map_table.specs.declared.table.Entry.{Entry}
 use Rattle.vdisk_msg.specs.declared.desc.DiskDesc.{DiskDesc}
-use Rattle.vdisk_msg.specs.declared.request.Request.{Request}
-use Rattle.vdisk_msg.specs.Requested.{block_of, buffer_cookies, buffer_place, cookie_count, descriptor_of, size_of}
-use Rattle.vdisk_msg.specs.Requests.{operation_of}
+use Rattle.lane_laws.specs.Vocabulary.{HoldsIssued, Reach, Request, RingOf, Work, block_of, buffer_cookies, buffer_place, cookie_count, desc_of, descriptor_of, operation_of, size_of}
 use Rattle.vio_bytes.specs.Place.{put_at}
 use Rattle.vio_bytes.specs.Range.{range_at}
-use Rattle.disk_model.specs.ServerState.{Work}
-use Rattle.cookie_copy.specs.Reach.{Reach}
-use Rattle.disk_model.specs.ServerWork.{desc_of}
 use Rattle.lane_laws.proofs.RingCookies.{buffer_bytes, even_word}
 use Rattle.lane_laws.proofs.RingWrites.{into_buffer}
 use Rattle.lane_laws.proofs.SlotBytes.{Sizes, reads_back, stated}
 use Rattle.lane_laws.specs.MemoryStands.{memory_long}
-use Rattle.lane_laws.specs.RingSlots.{HoldsIssued, RingOf}
 use Rattle.lane_laws.proofs.BehindRing.{drop_put, range_behind, ring_end}
 
 -- THE DESCRIPTOR as it was fetched

@@ -1,26 +1,13 @@
 -- What an event of a lane is to its view: the wire's, requests, turns, and what changes nothing.
 use Rattle.std.proofs.Common.{◌≡◌, ◌≢◌, ℕ, ◌-◌, ◌<◌, ◌≤◌, ◌⊎◌, false, Option, Some, None, List, drop, inl, inr, refl, sym, ap, ◌∙◌, subst, arith}
-use Rattle.ldc_queue.specs.declared.end.ChannelState.{ChannelState}
-use Rattle.ldc_queue.specs.declared.end.ChannelState.TheVariants.{Down, Resetting, Up}
-use Rattle.ldc_queue.specs.declared.end.End.{End}
-use Rattle.ldc_queue.specs.declared.end.End.TheVariants.{A, B}
-use Rattle.ldc_queue.specs.Wire.{Wire, peer_behind, upset}
-use Rattle.vdisk_msg.specs.declared.request.Request.{Request}
-use Rattle.channel_model.specs.WireEvent.{Injected, Joined, Lost, Reset, Sent, Took, WireEvent}
-use Rattle.channel_model.specs.WireLog.{WireLog, wire_moved}
-use Rattle.lane_laws.specs.DiskLog.{DiskLog, after}
-use Rattle.disk_model.specs.ClientState.{ClientSession, ever_published_count}
-use Rattle.disk_model.specs.DiskEvent.{DiskEvent, OnWire}
-use Rattle.disk_model.specs.LaneState.{LaneState, NearCounts}
-use Rattle.disk_model.specs.LaneStep.{WireStep, near_on_wire}
-use Rattle.disk_model.specs.ServerState.{Work}
+use Rattle.channel_laws.specs.Vocabulary.{A, B, ChannelState, Down, End, Injected, Joined, Lost, Reset, Resetting, Sent, Took, Up, Wire, WireEvent, WireLog, peer_behind, upset, wire_moved}
+use Rattle.lane_laws.specs.Vocabulary.{ClientSession, DiskEvent, DiskLog, LaneState, NearCounts, OnWire, Request, View, WireStep, Work, after, ever_published_count, near_on_wire, view_of, work_while}
 use Rattle.lane_laws.proofs.RingLeaves.{OpensNot}
 use Rattle.lane_laws.proofs.RingWire.{wire_same}
 use Rattle.lane_laws.proofs.SlotsStepping.{StepFacts, upset_not}
 use Rattle.lane_laws.proofs.StandingSteps.{wire_only}
 use Rattle.lane_laws.specs.Contents.{ContentsStand}
 use Rattle.lane_laws.specs.ImageStep.{content_after}
-use Rattle.lane_laws.specs.LaneView.{View, view_of, work_while}
 use Rattle.lane_laws.proofs.BehindRing.{ring_end}
 use Rattle.lane_laws.proofs.Changes.{Disturbed, ImageChange, IsChange, Keeps, Kind, Rested, content_behind}
 use Rattle.lane_laws.proofs.LiveCounts.{counts_while, zero_where}

@@ -1,26 +1,13 @@
 -- Each event of the wire leaves the near counts standing to the log.
 use Rattle.std.proofs.Common.{◌≡◌, ℕ, ◌+◌, ◌-◌, ◌≤◌, true, false, Option, Some, None, List, refl, sym, ap, ◌∙◌, subst, arith}
-use Rattle.ldc_queue.specs.declared.end.ChannelState.{ChannelState}
-use Rattle.ldc_queue.specs.declared.end.ChannelState.TheVariants.{Down, Resetting, Up}
-use Rattle.ldc_queue.specs.declared.end.End.TheVariants.{A, B}
-use Rattle.ldc_queue.specs.Wire.{peer_behind}
-use Rattle.channel_model.specs.WireEvent.{Injected, Joined, Lost, Reset, Sent, Took, WireEvent}
+use Rattle.channel_laws.specs.Vocabulary.{A, B, ChannelState, Down, Injected, Joined, Lost, Reset, Resetting, Sent, Took, Up, WireEvent, peer_behind, seen}
 use Rattle.channel_laws.proofs.Apart.{some_same}
-use Rattle.lane_laws.specs.Agreement.{ServerAgrees}
-use Rattle.lane_laws.specs.DiskLog.{DiskLog, after}
-use Rattle.lane_laws.specs.WorkLaws.{IfServer}
-use Rattle.lane_laws.specs.WorkLog.{ClientCounts, ServerCounts}
-use Rattle.disk_model.specs.ClientState.{ClientSession, opened_session}
-use Rattle.disk_model.specs.DiskEvent.{OnWire}
-use Rattle.disk_model.specs.LaneState.{LaneState, NearCounts}
-use Rattle.disk_model.specs.LaneStep.{WireStep, near_on_wire}
-use Rattle.channel_model.specs.Seeing.{seen}
-use Rattle.disk_model.specs.ServerState.{ServerSession, Work}
+use Rattle.lane_laws.specs.Vocabulary.{ClientCounts, ClientSession, DiskLog, IfServer, LaneState, NearCounts, OnWire, OneRing, ServerAgrees, ServerCounts, ServerSession, WireStep, Work, after}
+use Rattle.lane_laws.specs.Vocabulary.{near_on_wire, opened_session}
 use Rattle.lane_laws.proofs.RingLeaves.{OpensNot}
 use Rattle.lane_laws.proofs.RingWork.{turn_in}
 use Rattle.lane_laws.proofs.SlotsStepping.{StepFacts}
 use Rattle.lane_laws.proofs.StandingSteps.{wire_only, wired_keeps}
-use Rattle.lane_laws.specs.RingAgreed.{OneRing}
 use Rattle.lane_laws.specs.Standing.{LaneInvariant, SessionStands}
 use Rattle.lane_laws.proofs.EverStanding.{ever_left}
 use Rattle.lane_laws.proofs.Leaving.{client_opened}

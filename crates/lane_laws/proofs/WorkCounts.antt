@@ -2,29 +2,19 @@
 use Rattle.std.proofs.Common.{◌≡◌, ℕ, ◌+◌, ◌-◌, ◌<◌, ◌≤◌, ◌⊎◌, Option, Some, None, List, inl, inr, refl, sym, ap, ◌∙◌, subst, arith}
 use Rattle.std.specs.Prelude.{max}
 use Rattle.std.proofs.lemmas.Option.{slice_get_within}
-use Rattle.ldc_queue.specs.declared.end.ChannelState.{ChannelState}
-use Rattle.ldc_queue.specs.declared.end.ChannelState.TheVariants.{Down, Resetting, Up}
-use Rattle.ldc_queue.specs.declared.end.End.TheVariants.{A, B}
-use Rattle.ldc_queue.specs.Wire.{Wire}
-use Rattle.channel_model.specs.WireLog.{WireLog}
+use Rattle.channel_laws.specs.Vocabulary.{A, B, ChannelState, Down, Resetting, Up, Wire, WireLog, seen}
 use Rattle.channel_laws.proofs.Apart.{some_same}
-use Rattle.lane_laws.specs.DiskLog.{DiskLog, after}
+use Rattle.lane_laws.specs.Vocabulary.{Accepted, Admitted, Asks, Calm, Calms, ClientCounts, ClientMay, ClientSession, ClientState, Desc, DiskEvent, DiskLog, Done, Finished, Full, IfServer}
+use Rattle.lane_laws.specs.Vocabulary.{LaneState, LaneStep, Misplaced, Moved, NearCounts, Off, Published, Refused, RestStep, ServerCounts, ServerMay, Started, Stopped, Stored, Switched, Switches}
+use Rattle.lane_laws.specs.Vocabulary.{TurnStep, WorkStep, Worked, Works, after, change_server, risen}
 use Rattle.lane_laws.specs.RingLog.{Done as IsDone}
-use Rattle.lane_laws.specs.WorkLaws.{IfServer}
-use Rattle.lane_laws.specs.WorkLog.{ClientCounts, ServerCounts, change_server}
 use Rattle.disk_model.specs.ClientRule as client_rules
-use Rattle.disk_model.specs.ClientState.{ClientSession, ClientState}
-use Rattle.disk_model.specs.DiskEvent.{Accepted, Admitted, Asks, Calm, Desc, DiskEvent, Done, Finished, Full, Misplaced, Moved, Off, Published, Refused, Calms, Started, Stopped, Stored, Switched, Switches, Worked, Works}
-use Rattle.disk_model.specs.LaneState.{LaneState, NearCounts, risen}
-use Rattle.disk_model.specs.LaneStep.{LaneStep, RestStep, TurnStep, WorkStep}
-use Rattle.channel_model.specs.Seeing.{seen}
 use Rattle.disk_model.specs.ServerRule as server_rules
 use Rattle.lane_laws.proofs.RingClientSteps.{completes_slot, in_order, publishing, since_base}
 use Rattle.lane_laws.proofs.RingSessions.{of_client}
 use Rattle.lane_laws.proofs.RingWork.{at_work, some_slots, turn_in}
 use Rattle.lane_laws.proofs.Ruling.{client_may, server_may}
 use Rattle.lane_laws.proofs.SlotsOrdered.{finished_more}
-use Rattle.lane_laws.specs.RuleFacts.{ClientMay, ServerMay}
 use Rattle.lane_laws.specs.SlotsInOrder.{ServerAt, SlotsIn}
 use Rattle.lane_laws.proofs.LiveCounts.{KIs, counts_while, kis_client, kis_server}
 use Rattle.lane_laws.proofs.PlacedViews.{IsLive, live, live_or_not, placed}

@@ -1,18 +1,12 @@
 -- Each event of a lane keeps a condition on its server's work that each piece of the work keeps: so the work is what its progress says.
 use Rattle.std.proofs.Common.{◌≡◌, ℕ, Bool, Option, Some, None, List, refl, sym, ap, ◌∙◌, subst}
 use Rattle.std.specs.Prelude.{⊤}
-use Rattle.ldc_queue.specs.declared.end.End.TheVariants.{B}
-use Rattle.channel_model.specs.WireEvent.{Blocked, Idle, Joined, Reset, Sent, Took}
-use Rattle.disk_model.specs.DiskEvent.{Desc, DiskEvent, Finished, Moved, OnWire, Stored, Worked, Works}
-use Rattle.disk_model.specs.LaneState.{LaneState}
-use Rattle.disk_model.specs.LaneStep.{LaneStep, reach}
-use Rattle.channel_model.specs.Seeing.{Seen}
+use Rattle.channel_laws.specs.Vocabulary.{B, Blocked, Idle, Joined, Reset, Seen, Sent, Took}
+use Rattle.lane_laws.specs.Vocabulary.{Desc, DiskEvent, Finished, LaneState, LaneStep, Moved, OnWire, Reach, ServerSends, ServerState, ServerStep, Stored, Work, Worked, Works, joined_server, reach}
+use Rattle.lane_laws.specs.Vocabulary.{restarted_server}
 use Rattle.disk_model.specs.ServerPutting.{server_holds}
 use Rattle.disk_model.specs.ServerRule as server
-use Rattle.disk_model.specs.ServerState.{ServerState, joined_server, restarted_server, Work}
-use Rattle.disk_model.specs.ServerStep.{ServerSends, ServerStep}
 use Rattle.disk_model.specs.ServerTaking.{GoesOn, Resets, ServerTake, ServerTakes}
-use Rattle.cookie_copy.specs.Reach.{Reach}
 use Rattle.lane_laws.proofs.ServerSpeaking.{server_holds_link}
 use Rattle.lane_laws.proofs.LaneViews.{ServerActs, ServerCalled, ServerRenewed, ServerStays, ServerStopped, ServerView, at_server, lane_view, reach_of}
 use Rattle.lane_laws.proofs.RulesFree.{ServerFree, server_free}

@@ -3,12 +3,8 @@ use Rattle.std.proofs.Common.{◌≡◌, ℕ, zero, suc, ◌-◌, ◌<◌, Optio
 use Rattle.vdisk_msg.specs.declared.desc.DiskDesc.{DiskDesc}
 use Rattle.vdisk_msg.specs.Descriptor.{disk_desc_of}
 use Rattle.vdisk_msg.specs.Pieces.{Finishes, read_pieces, unit_count, write_pieces}
-use Rattle.disk_model.specs.ServerState.{Ends, Flushes, Gathers, Gives, Progress, Reads, ServerSession, Work, Writes}
-use Rattle.disk_model.specs.ServerWork.{desc_of}
-use Rattle.lane_laws.specs.Agreement.{ServerAgrees, WorkNextAgrees, owed_of}
-use Rattle.lane_laws.specs.Counted.{UnitFits, UnitIn}
+use Rattle.lane_laws.specs.Vocabulary.{Ends, Flushes, Gathers, Gives, Progress, Reads, ServerAgrees, ServerCounts, ServerSession, UnitFits, UnitIn, Work, WorkNextAgrees, Writes, desc_of, owed_of}
 use Rattle.lane_laws.specs.Units.{UnitIs, WorkIs}
-use Rattle.lane_laws.specs.WorkLog.{ServerCounts}
 use Rattle.lane_laws.specs.WorkNext.{bytes_held, count_held, moves_next, next_by, stores_next, without_bytes}
 
 reads_first : (operation unit units n : ℕ) → units - unit ≡ n → unit < units → operation ≡ 1 → next_by operation (read_pieces unit (units - unit) ++ Finishes 0 ∷ []) ≡ Reads unit

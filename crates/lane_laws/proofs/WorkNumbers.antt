@@ -2,31 +2,17 @@
 use Rattle.std.proofs.Common.{◌≡◌, ◌≢◌, ℕ, ◌-◌, ◌%◌, ◌<◌, ◌≤◌, Option, Some, None, List, length, sym, ap, ◌∙◌, subst, arith, length-drop}
 use Rattle.std.specs.Prelude.{is_some}
 use Rattle.std.proofs.lemmas.Bool.Decides.{nat_tests}
-use Rattle.ldc_queue.specs.Transcript.{Turn}
-use Rattle.lane_laws.specs.DiskLog.{DiskLog}
-use Rattle.lane_laws.specs.WorkLaws.{InClient, InServer, MayComplete, MayFetch, MayPublish, WorkNumbersAt}
-use Rattle.lane_laws.specs.WorkLog.{ClientCounts, ServerCounts}
-use Rattle.disk_model.specs.ClientStep.{ClientCompletes, ClientPublishes}
-use Rattle.disk_model.specs.DiskEvent.{Desc, DiskEvent, Done, Misplaced, Published, Works}
-use Rattle.disk_model.specs.LaneState.{IsShape, LaneState}
-use Rattle.disk_model.specs.LaneStep.{LaneStep, reach}
-use Rattle.channel_model.specs.Seeing.{Seen}
-use Rattle.lane_laws.specs.Agreement.{WorkAgrees}
-use Rattle.channel_model.specs.Ranges.{wrapped}
+use Rattle.channel_laws.specs.Vocabulary.{Seen, Turn, wrapped}
+use Rattle.lane_laws.specs.Vocabulary.{ClientCompletes, ClientCounts, ClientMay, ClientPublishes, Desc, DiskEvent, DiskLog, Done, InClient, InOrder, InServer, InServerOrder, IsShape, LaneState}
+use Rattle.lane_laws.specs.Vocabulary.{LaneStep, MayComplete, MayFetch, MayPublish, Misplaced, Published, Reach, ServerCounts, ServerFetches, ServerOrder, ServerSession, Work, WorkAgrees}
+use Rattle.lane_laws.specs.Vocabulary.{WorkNumbersAt, Works, reach, slot_at}
 use Rattle.disk_model.specs.ServerRule as server
-use Rattle.disk_model.specs.ServerState.{ServerSession, Work}
-use Rattle.disk_model.specs.ServerStep.{ServerFetches}
-use Rattle.disk_model.specs.ServerWork.{slot_at}
-use Rattle.cookie_copy.specs.Reach.{Reach}
 use Rattle.lane_laws.proofs.LaneCounting.{Knows}
 use Rattle.lane_laws.proofs.ServerCounting.{own_slots}
-use Rattle.lane_laws.specs.Counted.{InServerOrder, ServerOrder}
 use Rattle.lane_laws.proofs.Ruling.{client_may}
 use Rattle.lane_laws.proofs.RulesFree.{ServerFree, server_free}
 use Rattle.lane_laws.proofs.RuleTests.{ServesFree}
 use Rattle.lane_laws.proofs.Sharing.{in_order}
-use Rattle.lane_laws.specs.RuleFacts.{ClientMay}
-use Rattle.lane_laws.specs.Sound.{InOrder}
 use Rattle.channel_laws.proofs.LinkResets.{other_number}
 use Rattle.lane_laws.proofs.Counting.{OfClient, OfServer, of_client, of_server, slot_of_count}
 pub use Rattle.lane_laws.proofs.LaneViews.{at_client, at_server}

@@ -7,28 +7,16 @@ use Rattle.cookie_copy.specs.declared.fault.CopyFault.TheVariants as copy
 use Rattle.dring.specs.declared.peer.RingFault.{RingFault}
 use Rattle.dring.specs.declared.peer.RingFault.TheVariants as refused
 use Rattle.dring.specs.Reaching.{RefusesFetch}
-use Rattle.ldc_queue.specs.declared.end.End.{End}
-use Rattle.ldc_queue.specs.declared.end.End.TheVariants.{A, B}
-use Rattle.vio_tag.specs.declared.cause.Cause.{Cause}
+use Rattle.channel_laws.specs.Vocabulary.{A, B, Cause, End, Reset}
 use Rattle.vio_tag.specs.declared.cause.Cause.TheVariants as the_cause
-use Rattle.channel_model.specs.WireEvent.{Reset}
-use Rattle.lane_laws.specs.DiskLog.{DiskLog}
-use Rattle.lane_laws.specs.WorkLaws.{ClientFailed, FetchFailed, InRange, InServer, MayFetch, OwnReset, ResetOf, WorkResetAt}
-use Rattle.lane_laws.specs.WorkLog.{ServerCounts}
+use Rattle.lane_laws.specs.Vocabulary.{ClientFailed, ClientFails, ClientMay, DiskEvent, DiskLog, EndFails, EndOnWire, Ends, FetchFailed, FetchFails, InRange, InServer, LaneState, LaneStep}
+use Rattle.lane_laws.specs.Vocabulary.{MayFetch, OnWire, OwnReset, Progress, Reach, ResetOf, ServerCounts, ServerFails, ServerSession, WireStep, Work, WorkFails, WorkResetAt, cause_of, copy_number}
+use Rattle.lane_laws.specs.Vocabulary.{fetch_fault, reach, slot_at, slot_fetched}
 use Rattle.disk_model.specs.ClientRule as client
-use Rattle.disk_model.specs.ClientStep.{ClientFails}
-use Rattle.disk_model.specs.DiskEvent.{DiskEvent, OnWire}
-use Rattle.disk_model.specs.LaneState.{LaneState}
-use Rattle.disk_model.specs.LaneStep.{EndOnWire, LaneStep, WireStep, reach}
 use Rattle.disk_model.specs.ServerRule as server
-use Rattle.disk_model.specs.ServerState.{Ends, Progress, ServerSession, Work}
-use Rattle.disk_model.specs.ServerStep.{ServerFails, WorkFails}
-use Rattle.cookie_copy.specs.Reach.{Reach, copy_number}
-use Rattle.disk_model.specs.ServerWork.{EndFails, FetchFails, cause_of, fetch_fault, slot_at, slot_fetched}
 use Rattle.lane_laws.proofs.Ruling.{client_may}
 use Rattle.lane_laws.proofs.RulesFree.{ServerFree, server_free}
 use Rattle.lane_laws.proofs.RuleTests.{ServesFree}
-use Rattle.lane_laws.specs.RuleFacts.{ClientMay}
 use Rattle.lane_laws.proofs.Counting.{OfClient, of_client}
 use Rattle.lane_laws.proofs.EndResets.{LiesIn}
 use Rattle.lane_laws.proofs.LaneResets.{by_giver}

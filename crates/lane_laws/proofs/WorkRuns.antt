@@ -1,16 +1,10 @@
 -- Along every run the events of the work have their numbers, resets their grounds, and an idle end nothing to do.
 use Rattle.std.proofs.Common.{List, refl, ◌∙◌}
 use Rattle.std.specs.Prelude.{⊤}
-use Rattle.runs.specs.Lawful.{Lawful, log_of, run_lawful}
-use Rattle.runs.specs.Run.{Run}
-use Rattle.channel_model.specs.TranscriptLog.{nothing_said}
-use Rattle.lane_laws.specs.DiskLog.{DiskLog, after, nothing_yet}
+use Rattle.channel_laws.specs.Vocabulary.{Lawful, Run, log_of, nothing_said, run_lawful}
+use Rattle.lane_laws.specs.Vocabulary.{DiskEvent, DiskLog, IsShape, LaneState, LaneStep, PiecesAt, RangesAt, Shape, WorkNumbersAt, WorkResetAt, after, fresh, nothing_yet}
 use Rattle.lane_laws.specs.OrderLaws.{OrderAt}
 use Rattle.lane_laws.specs.QuietLaws.{IdleAt}
-use Rattle.lane_laws.specs.WorkLaws.{PiecesAt, RangesAt, WorkNumbersAt, WorkResetAt}
-use Rattle.disk_model.specs.DiskEvent.{DiskEvent}
-use Rattle.disk_model.specs.LaneState.{IsShape, LaneState, Shape, fresh}
-use Rattle.disk_model.specs.LaneStep.{LaneStep}
 use Rattle.lane_laws.proofs.AlongRuns.{reached_lawful}
 use Rattle.lane_laws.proofs.CarriedRuns.{fresh_all}
 use Rattle.lane_laws.proofs.EndsFold.{client_told, run_both, server_told}

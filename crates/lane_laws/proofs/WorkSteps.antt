@@ -8,21 +8,15 @@ use Rattle.std.proofs.lemmas.Option.{slice_get_within}
 use Rattle.vdisk_msg.proofs.Repeated.{length-repeated}
 use Rattle.vdisk_msg.proofs.Written.{is_admitted}
 use Rattle.vdisk_msg.specs.declared.request.Fill.{Fill}
-use Rattle.vdisk_msg.specs.declared.request.Request.{Request}
-use Rattle.vdisk_msg.specs.declared.request.Request.TheVariants.{Flush, Read, Write}
+use Rattle.lane_laws.specs.Vocabulary.{ClientSession, Ends, Flush, Flushes, Gathers, Gives, Progress, Read, Reads, Request, View, Work, Write, Writes, defect, gathers_next, place_of, reads_next}
+use Rattle.lane_laws.specs.Vocabulary.{size_of, unit_length, written}
 use Rattle.vdisk_msg.specs.Pieces.{unit_count}
-use Rattle.vdisk_msg.specs.Requested.{size_of}
-use Rattle.vdisk_msg.specs.Requests.{defect, written}
 use Rattle.vio_bytes.proofs.Ranges.{length-range_at, range_at-range_at}
 use Rattle.vio_bytes.specs.Place.{put_at}
 use Rattle.vio_bytes.specs.Range.{range_at}
-use Rattle.disk_model.specs.ClientState.{ClientSession}
-use Rattle.disk_model.specs.ServerState.{Ends, Flushes, Gathers, Gives, Progress, Reads, Work, Writes}
-use Rattle.disk_model.specs.ServerWork.{gathers_next, reads_next, unit_length}
 use Rattle.channel_laws.proofs.Apart.{some_same}
 use Rattle.lane_laws.proofs.MemorySteps.{got_sound}
 use Rattle.lane_laws.specs.Contents.{ContentsStand, HoldsWritten, ProgressIs, WritesStand}
-use Rattle.lane_laws.specs.LaneView.{View, place_of}
 use Rattle.lane_laws.proofs.BlockWrites.{admitted_blocks}
 use Rattle.lane_laws.proofs.Buffers.{other_buffer, other_slot}
 use Rattle.lane_laws.proofs.Changes.{Asked, Completed, Disturbed, Ended, Fetched, Fetches, Finishes, Flushed, Flushing, Gathered, Gathering, Given, Giving, IsChange, Kind, Looked, Opened, Placed, Published, Reading, Rested, Serves, Stored, Storing, first_of}

@@ -5,28 +5,15 @@ use Rattle.cookie_copy.specs.declared.fault.Access.{Access}
 use Rattle.cookie_copy.specs.declared.fault.Access.TheVariants as access
 use Rattle.cookie_copy.specs.Faults.{first_copy_fault, is_up}
 use Rattle.cookie_copy.specs.Moved.{moved_in, moved_out}
-use Rattle.ldc_queue.specs.declared.end.ChannelState.{ChannelState}
-use Rattle.ldc_queue.specs.declared.end.ChannelState.TheVariants.{Up}
-use Rattle.ldc_queue.specs.declared.end.End.TheVariants.{B}
-use Rattle.vdisk_msg.specs.declared.request.Request.{Request}
-use Rattle.vdisk_msg.specs.Requested.{buffer_cookies, buffer_place, cookie_count, size_of}
-use Rattle.vio_bytes.specs.Place.{put_at}
+use Rattle.channel_laws.specs.Vocabulary.{B, ChannelState, Up, WireLog, put_at, seen}
+use Rattle.lane_laws.specs.Vocabulary.{DiskLog, LaneState, Request, Work, buffer_cookies, buffer_place, cookie_count, data_cookies, pages_of, place_of, reach, ring_in, size_of, view_of}
 use Rattle.vio_bytes.specs.Range.{range_at}
-use Rattle.channel_model.specs.WireLog.{WireLog}
-use Rattle.lane_laws.specs.DiskLog.{DiskLog}
-use Rattle.disk_model.specs.LaneState.{LaneState, pages_of}
-use Rattle.disk_model.specs.LaneStep.{reach}
-use Rattle.channel_model.specs.Seeing.{seen}
-use Rattle.disk_model.specs.ServerState.{Work}
-use Rattle.disk_model.specs.ServerWork.{data_cookies}
 use Rattle.lane_laws.proofs.RingEnds.{work_below}
 use Rattle.lane_laws.proofs.RingSessions.{sizes_of}
 use Rattle.lane_laws.proofs.RingWork.{memory_is}
 use Rattle.lane_laws.proofs.StandingRuns.{slots_is as slots_are}
 use Rattle.lane_laws.proofs.SlotBytes.{fetched_cookies, request_size}
 use Rattle.lane_laws.specs.MemoryStands.{memory_long}
-use Rattle.lane_laws.specs.RingAgreed.{ring_in}
-use Rattle.lane_laws.specs.LaneView.{place_of, view_of}
 use Rattle.lane_laws.proofs.BehindRing.{ring_end}
 use Rattle.lane_laws.proofs.PlacedViews.{Working}
 use Rattle.lane_laws.proofs.Standing.{Before}

@@ -1,20 +1,10 @@
 -- The bound on what remains is reached: the first packet of a lane is lost.
 use Rattle.std.proofs.Common.{◌≡◌, ℕ, ◌+◌, ◌*◌, ◌≤◌, true, false, List, [], ◌∷◌, length, refl, arith, nat_lt}
 use Rattle.std.proofs.lemmas.Bool.Decides.{nat_tests}
-use Rattle.runs.specs.Run.{Run}
-use Rattle.ldc_link.specs.Putting.{control}
+use Rattle.channel_laws.specs.Vocabulary.{A, B, Info, Joined, Lost, Run, Sent, control, wire_moved}
 use Rattle.ldc_packet.specs.declared.packet.Body.TheVariants.{Vers}
-use Rattle.ldc_packet.specs.declared.packet.Subtype.TheVariants.{Info}
 use Rattle.ldc_packet.specs.Spelling.{canonical}
-use Rattle.ldc_queue.specs.declared.end.End.TheVariants.{A, B}
-use Rattle.channel_model.specs.WireEvent.{Joined, Lost, Sent}
-use Rattle.channel_model.specs.WireLog.{wire_moved}
-use Rattle.disk_model.specs.ClientPutting.{client_put}
-use Rattle.disk_model.specs.ClientState.{joined_client}
-use Rattle.disk_model.specs.DiskEvent.{DiskEvent, OnWire}
-use Rattle.disk_model.specs.LaneState.{IsShape, LaneState, Shape, fresh}
-use Rattle.disk_model.specs.LaneStep.{LaneStep}
-use Rattle.lane_laws.specs.Remaining.{remaining}
+use Rattle.lane_laws.specs.Vocabulary.{DiskEvent, IsShape, LaneState, LaneStep, OnWire, Shape, client_put, fresh, joined_client, remaining}
 
 -- its end is configured, it puts the packet, and the packet is lost
 abbrev begun : Shape → LaneState

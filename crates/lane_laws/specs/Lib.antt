@@ -54,3 +54,4 @@ pub use Rattle.vio_handshake.specs.Rules
 pub mod ChannelEnds
 pub mod SameEnds
 pub mod LossTold
+pub mod Vocabulary
