@@ -1,11 +1,7 @@
 -- An end whose session is open resets itself for the first cause that a packet has, and takes the packet where it has none.
 use Rattle.std.proofs.Common.{◌≡◌, ℕ, Bool, true, false, Option, Some, None, Ok, Err, List, ◌++◌, refl, sym, ap, ◌∙◌, subst, inr}
 use Rattle.std.specs.Prelude.{◌&&◌, ◌||◌, not, Result, if◌then◌else◌, nat_eq, ⊤}
-use Rattle.channel_laws.specs.Vocabulary.{A, Attr, B, Cause, CoreEvent, CoreFits, CoreStep, DringData, DringReg, DringUnreg, End, EndCore, Faults, Handshake, HandshakeTake, Initiator, LaneCore}
-use Rattle.channel_laws.specs.Vocabulary.{LinkPhase, LinkState, LinkTake, Mcast, Message, Offer, Plain, Rdx as Ready, Responder, Role, Run, TakesBytes, Turn, Unheard, Ver, count, count_heard}
-use Rattle.channel_laws.specs.Vocabulary.{counts_next, ctrl_at, end_of, ended_by, env_at, fault_or, fresh_core, goes_to, half_heard, handshake_hear, handshake_take, is_declined, is_established}
-use Rattle.channel_laws.specs.Vocabulary.{is_up, may_come, phase_behind_rdx, phase_behind_rtr, phase_behind_rts, phase_behind_vers, role_of, row, seqid_at, sid_fault, takes_body, takes_decoded}
-use Rattle.channel_laws.specs.Vocabulary.{takes_part, transcript_behind, transcript_of, type_at, type_code, whole_of, whole_with, with_part}
+use Rattle.channel_laws.specs.Vocabulary.{A, B, Cause, CoreEvent, CoreFits, CoreStep, DringData, End, EndCore, Faults, Handshake, HandshakeTake, Initiator, LaneCore, LinkPhase, LinkState, LinkTake, Mcast, Message, Offer, Responder, Role, Run, TakesBytes, Turn, Unheard, Ver, count, count_heard, counts_next, ctrl_at, end_of, ended_by, env_at, fault_or, fresh_core, goes_to, half_heard, handshake_hear, handshake_take, is_declined, is_up, may_come, phase_behind_rdx, phase_behind_rtr, phase_behind_rts, phase_behind_vers, role_of, row, seqid_at, sid_fault, takes_body, takes_decoded, takes_part, transcript_behind, transcript_of, type_at, type_code, whole_of, whole_with, with_part}
 use Rattle.ldc_link.specs.declared.phase.LinkPhase.TheVariants as phase
 use Rattle.ldc_link.specs.Conversing.{IsData, fragment_of}
 use Rattle.ldc_link.specs.Following.{Follows}
@@ -38,6 +34,7 @@ use Rattle.channel_laws.proofs.EndUttering.{speaks_run}
 use Rattle.channel_laws.proofs.Numbering.{count_heard_is}
 use Rattle.channel_laws.specs.EndFold.{decoded_of}
 use Rattle.channel_laws.specs.PacketCauses.{Judges, LinkJudged, WholeJudged, body_cause, decoded_cause, fault_cause, fault_first, judged, judged_body, message_cause, mode_cause, names_mode, number_cause, packet_cause, part_cause, refused_by}
+use Rattle.channel_laws.proofs.LinkCases.{established}
 
 -- THE MESSAGE: an open handshake declines what it takes, and all else is out of order
 open_row : (role : Role) (h : Handshake) (subtype : Subtype) (sid : ℕ) (body : MsgBody) → row role Open h subtype sid body ≡ Faults the_cause.Order
@@ -201,10 +198,6 @@ ends_message k turns packet part half is same =
     same_whole part.stop (k.half_heard ++ part.bytes) ∙ ap (λ (xs : List ℕ). whole_with part.stop (xs ++ part.bytes)) half
     ∙ ap (λ (f : Fragment). whole_with f.stop (half_heard turns ++ f.bytes)) (sym same)
     ∙ sym (ap (λ (b : Bool). whole_with (b && (fragment_at packet).stop) (half_heard turns ++ (fragment_at packet).bytes)) is)
-
-established : (p : LinkPhase) → is_established p ≡ true → p ≡ phase.Established
-established phase.Established is = refl
-established _ is = absurd (cc is)
 
 module _ (own : Message → Option Cause) (sid : ℕ) (turns : List Turn) (packet : List ℕ) (k : LinkState) (follows : Follows k turns) (up : is_up k ≡ true) where
   abbrev Holds : LinkTake → Type 0

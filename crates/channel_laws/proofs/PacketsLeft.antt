@@ -2,9 +2,7 @@
 -- its session. Where the messages that it may begin count too, it doesn't rise.
 use Rattle.std.proofs.Common.{◌≡◌, ℕ, ◌+◌, ◌≤◌, ◌⊎◌, inl, inr, Bool, true, false, Option, Some, List, [], ◌∷◌, length, drop, refl, sym, ap, ◌∙◌, subst, arith, length-drop}
 use Rattle.std.proofs.lemmas.Bool.{leb-false}
-use Rattle.channel_laws.specs.Vocabulary.{ComesUp, EndAnew, EndCore, EndSays, EndStands, EndStays, EndWaits, EndsHandshake, EndsOwn, Goes, Handshake, HandshakeStands, Holding, Holds, HoldsOn}
-use Rattle.channel_laws.specs.Vocabulary.{HoldsOwed, HoldsOwn, Initiator, LinkPhase, LinkState, Message, Offer, PutKind, Rdx, Responder, Role, Turn, Ver, canonical, first_phase, handshake_sent}
-use Rattle.channel_laws.specs.Vocabulary.{holds, is_established, is_open_in, kind_of, offered, opens_by_put, owes, put_opens}
+use Rattle.channel_laws.specs.Vocabulary.{EndAnew, EndCore, EndSays, EndStands, EndStays, EndWaits, EndsHandshake, Handshake, HandshakeStands, Holding, Holds, HoldsOn, HoldsOwed, HoldsOwn, Initiator, LinkPhase, LinkState, Message, Offer, PutKind, Rdx, Responder, Role, Turn, Ver, canonical, first_phase, handshake_sent, holds, is_established, is_open_in, kind_of, offered, opens_by_put, owes, put_opens}
 use Rattle.ldc_link.specs.declared.phase.LinkPhase.TheVariants as phase
 use Rattle.vio_handshake.specs.declared.handshake.Phase.{Phase}
 use Rattle.vio_handshake.specs.declared.handshake.Phase.TheVariants.{Open, OwnReady, OwnRing, PeerReadyTaken, PeerRingTaken, Version}
@@ -318,7 +316,7 @@ opening_shut Initiator PeerReadyTaken opens = (refl, refl)
 opening_shut Responder at opens = absurd (cc opens)
 opening_shut Initiator at opens = absurd (cc opens)
 
-shut_in : (kind : PutKind) (h : Handshake) → h.role ≡ Responder → put_opens kind h ≡ false
+pub shut_in : (kind : PutKind) (h : Handshake) → h.role ≡ Responder → put_opens kind h ≡ false
 shut_in EndsHandshake h role_is = ap (λ (r : Role). opens_by_put r h.phase) role_is
 shut_in _ h role_is = refl
 

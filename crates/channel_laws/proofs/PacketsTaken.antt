@@ -2,9 +2,7 @@
 use Rattle.std.proofs.Common.{◌≡◌, ℕ, ◌+◌, ◌≤◌, Bool, true, false, Option, Some, List, [], ◌∷◌, ◌++◌, length, refl, sym, ap, ◌∙◌, subst, inl, inr, arith}
 use Rattle.std.specs.Prelude.{if◌then◌else◌, nat_eq, slice_get, take}
 use Rattle.std.proofs.lemmas.List.{length-take}
-use Rattle.channel_laws.specs.Vocabulary.{A, B, ChannelState, CoreEvent, CoreFits, CoreStep, DringReg, End, EndCore, EndHears, Handshake, Initiator, IsFront, LaneCore, LinkPhase, LinkState}
-use Rattle.channel_laws.specs.Vocabulary.{Message, Offer, OnChannel, Responder, Role, Run, Sides, Took, TranscriptLog, Turn, Up, answer_to, canonical, end_of, first_phase, fresh_core}
-use Rattle.channel_laws.specs.Vocabulary.{handshake_take, heard, holds, is_established, is_up, log_of, other, said, sides_of, swapped, took}
+use Rattle.channel_laws.specs.Vocabulary.{A, B, ChannelState, CoreEvent, CoreFits, CoreStep, DringReg, End, EndCore, EndHears, Handshake, Initiator, IsFront, LaneCore, LinkPhase, LinkState, Message, Offer, OnChannel, Responder, Role, Run, Sides, Took, TranscriptLog, Turn, Up, answer_to, canonical, end_of, first_phase, fresh_core, handshake_take, heard, holds, is_established, is_up, log_of, other, said, sides_of, swapped, took}
 use Rattle.ldc_link.specs.declared.phase.LinkPhase.TheVariants as phase
 use Rattle.ldc_queue.specs.Transcript as turn
 use Rattle.map_table.proofs.Putting.{length-cookies_bytes}
@@ -18,7 +16,7 @@ use Rattle.vio_handshake.specs.Attributes.{said_attributes}
 use Rattle.vio_handshake.proofs.PlaceRows.{take_at}
 use Rattle.vio_handshake.proofs.Places.{AllSaid, AttributesAnswered, AttributesSaid, Deal, IsPlace, PeerReadyAnswered, PeerReadySaid, PeerRingAnswered, PeerRingSaid, Place, ReadyAnswered, ReadySaid, RingAnswered, RingSaid, VersionAnswered, VersionSaid, handshake_at, message_at, minor_of, next, offer_at, owner, phase_at}
 use Rattle.vio_tag.proofs.Canonical.{length_canonical}
-use Rattle.channel_laws.proofs.Apart.{false_is_true, none_is_some, not_turn, true_is_false}
+use Rattle.channel_laws.proofs.Apart.{none_is_some, not_turn, true_is_false}
 use Rattle.channel_laws.proofs.ConversingRuns.{HeardFrom, hears_next}
 use Rattle.channel_laws.proofs.CoreRuns.{Knows}
 use Rattle.channel_laws.proofs.EndCases.{EndTook, NoMessage, Rises, TookHandshake, TookMessage, TookOwn, TookWhat, end_took, taken_down}
@@ -27,7 +25,7 @@ use Rattle.channel_laws.proofs.HandshakeCases.{HandshakeTook}
 use Rattle.channel_laws.proofs.HandshakePlaces.{AtPlace, IsOwn, Matches, deal, deal_fits, goes_alike, message_is, open_place, own_heard, owes_at, peer_said, place_bytes, who}
 use Rattle.channel_laws.proofs.HandshakesPlaced.{Meets, meets_keep, never_declined, peer_place}
 use Rattle.channel_laws.proofs.Lifting.{BothStand}
-use Rattle.channel_laws.proofs.LinkCases.{ControlHeard, ControlTaken, LinkHeard, ModeAgreed, ModeAsked, PartHeard, ReadyHeard, VersionAgreed, VersionAsked}
+use Rattle.channel_laws.proofs.LinkCases.{ControlHeard, ControlTaken, LinkHeard, ModeAgreed, ModeAsked, PartHeard, ReadyHeard, VersionAgreed, VersionAsked, established}
 use Rattle.channel_laws.proofs.PacketsLeft.{held_empty, up_left}
 use Rattle.channel_laws.proofs.Script.{not_last}
 use Rattle.channel_laws.proofs.Sessions.{meets_knows}
@@ -110,10 +108,6 @@ place_fewer both d role n few rings here turn =
     )
 
 -- THE LINK
-up_phase : (p : LinkPhase) → is_established p ≡ true → p ≡ phase.Established
-up_phase phase.Established is = refl
-up_phase _ is = false_is_true is
-
 -- no link refuses a version
 abbrev refuses : LinkPhase → Bool
 refuses (phase.OwesVersNack major) = true
@@ -238,7 +232,7 @@ took_packets asks answers role s t packet opens fits few_asks few_answers stands
     fine = ap refuses (sym now_phase ∙ placed) ∙ never_refuses role meets_now.links.place
 
     up_so : is_up c.link ≡ true → is_up took_so.now ≡ true → t.handshake ≡ c.handshake → packets_left t ≤ packets_left c
-    up_so was stays handshake = same_fewer c t (up_phase c.link.phase was) (now_phase ∙ up_phase took_so.now.phase stays) left handshake hears.own
+    up_so was stays handshake = same_fewer c t (established c.link.phase was) (now_phase ∙ established took_so.now.phase stays) left handshake hears.own
 
     by_how : is_up took_so.now ≡ is_up c.link → t.handshake ≡ c.handshake → LinkHeard c.link packet took_so.now → packets_left t ≤ packets_left c
     by_how same handshake (ControlHeard next taken is) =
@@ -275,7 +269,7 @@ took_packets asks answers role s t packet opens fits few_asks few_answers stands
         (ap (λ (h : Handshake). handshake_take h message) there.is ∙ ap (handshake_take (handshake_at both d role there.place)) named) handshake.takes
         (take_at both d role there.place (deal_fits asks answers meets.handshakes.sid fits.matched) there.here is) in
         let empty : c.link.to_send ≡ [] = up_empty c.link took_message.up (hears.may.quiet (shut there is c.is_open refl)) in
-        up_fewer c t (up_phase c.link.phase took_message.up) (now_phase ∙ up_phase took_so.now.phase took_message.stays)
+        up_fewer c t (established c.link.phase took_message.up) (now_phase ∙ established took_so.now.phase took_message.stays)
         (turn_sums _ _ _ _ _ _ _ _ (place_fewer both d role there.place (record { asks = few_asks; answers = few_answers }) (rings role) there.here is)
         (held_empty t.own t.link.to_send t.handshake.owed (left ∙ empty)) (ap (λ (h : Handshake). later_in h) goes) (ap (λ (h : Handshake). parts_owed h.owed) goes)
         (ap (λ (h : Handshake). later_in h) there.is))
@@ -312,7 +306,7 @@ took_packets asks answers role s t packet opens fits few_asks few_answers stands
     rising down handshake now_up (ReadyHeard at ready number is) =
         let below = stands.mine.below down in
         rising_sums _ _ _ _ _ _ _ _ (up_left c.handshake) (ap (λ (p : LinkPhase). left_in p (all_in c.handshake) (messages_in c)) at)
-        (ap (λ (p : LinkPhase). left_in p (all_in t.handshake) (messages_in t)) (now_phase ∙ up_phase took_so.now.phase now_up))
+        (ap (λ (p : LinkPhase). left_in p (all_in t.handshake) (messages_in t)) (now_phase ∙ established took_so.now.phase now_up))
         (held_empty t.own t.link.to_send t.handshake.owed (left ∙ below.left)) (ap (λ (h : Handshake). parts_owed h.owed) handshake) (ap later_in handshake)
 
     by_what : TookWhat role c s.mine.turns packet opens t took_so.now → packets_left t ≤ packets_left c

@@ -3,9 +3,7 @@
 use Rattle.std.proofs.Common.{◌≡◌, ℕ, ◌+◌, ◌*◌, ◌≤◌, Bool, true, false, List, [], ◌∷◌, ◌++◌, length, refl, sym, ap, ◌∙◌, subst, arith, length-append}
 use Rattle.std.specs.Prelude.{⊤}
 use Rattle.std.proofs.lemmas.List.{append-nil}
-use Rattle.channel_laws.specs.Vocabulary.{Begins, ChannelState, CoreEvent, CoreFits, CoreStep, EndCore, EndMove, EndStands, EndStep, Fails, Hears, Initiator, IsSaid, IsSaidPart, LaneCore, Offer}
-use Rattle.channel_laws.specs.Vocabulary.{OneWay, Renews, Responder, Role, Run, Said, Says, Sides, Stays, Turn, Up, Waits, fresh_core, half_said, heard, live, numbered_heard, numbered_said, said}
-use Rattle.channel_laws.specs.Vocabulary.{transcript_behind, turns_after}
+use Rattle.channel_laws.specs.Vocabulary.{CoreEvent, CoreFits, CoreStep, EndCore, EndMove, EndStands, EndStep, Hears, Initiator, IsSaid, IsSaidPart, LaneCore, Offer, OneWay, Responder, Role, Run, Said, Says, Sides, Stays, Turn, Up, Waits, fresh_core, half_said, heard, live, numbered_heard, numbered_said, said, transcript_behind, turns_after}
 use Rattle.ldc_link.proofs.Following.{parts_more, quiet}
 use Rattle.ldc_queue.proofs.Messages.{fragments_in-append, half_in-append, whole_in-append}
 use Rattle.ldc_queue.specs.Fragments.{Fragment, fragment_at, fragments_in, is_part, joins}
@@ -20,6 +18,8 @@ use Rattle.channel_laws.proofs.PartsSaid.{PartsSaid}
 use Rattle.channel_laws.specs.Conversing.{Converse}
 use Rattle.channel_laws.specs.LinkPlaces.{AllNumbered, BothUp, EachPart, LinkPlace, LinksAt, ReadyFirst, SaidAt, HeardAt}
 use Rattle.channel_laws.specs.LinkPlaces as link
+use Rattle.channel_laws.proofs.LinkPlaced.{up_live}
+use Rattle.channel_laws.proofs.NextPacket.{none_of}
 
 -- A PART that isn't the last of its message has 56 bytes
 abbrev pub IsLong : Fragment → Type 0
@@ -117,13 +117,6 @@ all_numbered : (packets : List (List ℕ)) → AllNumbered packets → numbered 
 all_numbered [] all = refl
 all_numbered (packet ∷ packets) all = ap (λ (b : Bool). kept b packet (numbered packets)) all.0 ∙ ap (λ (xs : List (List ℕ)). packet ∷ xs) (all_numbered packets all.1)
 
-no_packets : (xs : List (List ℕ)) → length xs ≤ 0 → xs ≡ []
-no_packets [] few = refl
-no_packets (x ∷ xs) few = absurd (omega (arith, few))
-
-live_up : (state : ChannelState) (packets : List (List ℕ)) → state ≡ Up → live state packets ≡ packets
-live_up state packets is = ap (λ (x : ChannelState). live x packets) is
-
 -- THE MESSAGES that the responder hasn't heard, and how many packets that makes
 pub record Unheard (s : Sides) : Type 0 where
   pub messages : List (List ℕ)
@@ -155,27 +148,27 @@ unheard s converse at both whole up other_up parts long = record {
     way = converse.stream.to_b
 
     gone : way.gone ≡ []
-    gone = no_packets way.gone (omega (arith, way.few, (converse.whole whole).1))
+    gone = none_of way.gone (omega (arith, way.few, (converse.whole whole).1))
 
     numbers : AllNumbered waits
     numbers = subst (λ (p : LinkPlace). link.Waits Responder s.lossy p waits) both at.to_theirs
 
     put : numbered_said s.mine.turns ≡ took ++ waits
     put =
-        sym (live_up s.mine.state (numbered_said s.mine.turns) up) ∙ way.is ∙ ap (λ (xs : List (List ℕ)). live s.theirs.state took ++ (xs ++ numbered waits)) gone
-        ∙ ap (λ (xs : List (List ℕ)). live s.theirs.state took ++ xs) (all_numbered waits numbers) ∙ ap (λ (xs : List (List ℕ)). xs ++ waits) (live_up s.theirs.state took other_up)
+        sym (up_live s.mine.state (numbered_said s.mine.turns) up) ∙ way.is ∙ ap (λ (xs : List (List ℕ)). live s.theirs.state took ++ (xs ++ numbered waits)) gone
+        ∙ ap (λ (xs : List (List ℕ)). live s.theirs.state took ++ xs) (all_numbered waits numbers) ∙ ap (λ (xs : List (List ℕ)). xs ++ waits) (up_live s.theirs.state took other_up)
 
     split : fragments_in (numbered_said s.mine.turns) ≡ first ++ fragments_in waits
     split = ap fragments_in put ∙ fragments_in-append took waits
 
     ready : ReadyFirst (took ++ waits)
     ready =
-        subst ReadyFirst (live_up s.mine.state (numbered_said s.mine.turns) up ∙ put)
+        subst ReadyFirst (up_live s.mine.state (numbered_said s.mine.turns) up ∙ put)
         (subst (λ (p : LinkPlace). SaidAt Initiator p (live s.mine.state (numbered_said s.mine.turns))) both at.said_mine)
 
     some : 1 ≤ length took
     some =
-        subst (λ (xs : List (List ℕ)). 1 ≤ length xs) (live_up s.theirs.state took other_up)
+        subst (λ (xs : List (List ℕ)). 1 ≤ length xs) (up_live s.theirs.state took other_up)
         (subst (λ (p : LinkPlace). HeardAt Responder p (live s.theirs.state took)) both at.heard_theirs)
 
     many : length (fragments_in waits) ≡ length waits

@@ -3,11 +3,9 @@
 use Rattle.std.proofs.Common.{◌≡◌, ℕ, ◌+◌, ◌%◌, ◌≤◌, Bool, true, false, Option, Some, None, List, [], ◌∷◌, ◌++◌, cond, drop, drop_at, filter, length, inl, inr, refl, sym, ap, ◌∙◌, subst, arith}
 use Rattle.std.specs.Prelude.{is_some}
 use Rattle.std.proofs.lemmas.Nat.{mod_below}
-use Rattle.channel_laws.specs.Vocabulary.{A, Ack, B, ChannelState, Info, Initiator, IsFront, OneWay, Responder, Role, Run, TranscriptLog, Turn, Up, WireLog, heard, is_range, live, log_of}
-use Rattle.channel_laws.specs.Vocabulary.{numbered_heard, numbered_said, range_if, said, seq_of, start_of, wrapped}
+use Rattle.channel_laws.specs.Vocabulary.{A, Ack, B, ChannelState, Info, Initiator, IsFront, OneWay, Responder, Role, Run, TranscriptLog, Turn, Up, WireLog, heard, is_range, live, log_of, numbered_heard, numbered_said, range_if, said, seq_of, start_of, wrapped}
 use Rattle.ldc_queue.specs.Numbered.{numbered}
-use Rattle.lane_laws.specs.Vocabulary.{ClientCounts, DiskEvent, DiskLog, IsShape, LaneState, LaneStep, ServerAgrees, ServerCounts, ServerOrder, ServerSession, Shape, Work, after, client_core}
-use Rattle.lane_laws.specs.Vocabulary.{fresh, length_in, nothing_yet, one_in, range_count, range_length, range_sum}
+use Rattle.lane_laws.specs.Vocabulary.{ClientCounts, DiskEvent, DiskLog, IsShape, LaneState, LaneStep, ServerAgrees, ServerCounts, ServerOrder, ServerSession, Shape, Work, after, client_core, fresh, length_in, nothing_yet, one_in, range_count, range_length, range_sum}
 use Rattle.channel_model.specs.Messages.{end_of}
 use Rattle.channel_laws.proofs.HandshakesPlaced.{up_or}
 use Rattle.channel_laws.proofs.Sessions.{open_heard}
@@ -21,6 +19,7 @@ use Rattle.lane_laws.proofs.RangesTold.{EachSaid, IsApart, IsData, IsEither, cod
 use Rattle.lane_laws.proofs.ServerCounting.{wraps_more}
 use Rattle.lane_laws.specs.LaneTranscripts.{transcript_behind}
 use Rattle.lane_laws.specs.OnTheWay.{NameAll, OnTheWay, SeqsFrom, WaitsOrLost, answered_by, asked_by, expected_by, ranges_behind}
+use Rattle.channel_laws.proofs.NextPacket.{none_of}
 
 same_names : (slots from other to goal : ℕ) (messages : List (List ℕ)) → from ≡ other → to ≡ goal → NameAll slots from to messages → NameAll slots other goal messages
 same_names slots from other to goal messages begins ends names =
@@ -169,16 +168,12 @@ place_is slots (Some v) w None turns order agrees = absurd order
 place_is slots (Some v) w (Some d) turns order agrees = record { asked = sym order.asked; answered = sym order.answered; seq = sym order.seq }
 
 -- ONE DIRECTION between two ends that are up
-nothing : (packets : List (List ℕ)) → length packets ≤ 0 → packets ≡ []
-nothing [] none = refl
-nothing (packet ∷ packets) none = absurd (omega (arith, none))
-
 direction : (e f : ChannelState) (put taken waiting : List (List ℕ)) (lost : ℕ) (lossy : Bool) → e ≡ Up → f ≡ Up → OneWay (live e put) (live f taken) waiting lost → (lossy ≡ false → lost ≡ 0)
     → WaitsOrLost put taken waiting lossy
 direction e f put taken waiting lost lossy up_e up_f way whole =
     let there : OneWay put taken waiting lost =
     subst (λ (x : ChannelState). OneWay (live x put) taken waiting lost) up_e (subst (λ (x : ChannelState). OneWay (live e put) (live x taken) waiting lost) up_f way) in
-    record { gone = there.gone; is = there.is; whole = λ calm. nothing there.gone (omega (arith, there.few, whole calm)) }
+    record { gone = there.gone; is = there.is; whole = λ calm. none_of there.gone (omega (arith, there.few, whole calm)) }
 
 -- A CLIENT that is up with its session open has a server that is up
 server_up : (shape : Shape) (events : List DiskEvent) (s : LaneState) → IsShape shape → Run LaneStep (fresh shape) events s → (log_of after (nothing_yet shape) events).wire.forged ≡ false

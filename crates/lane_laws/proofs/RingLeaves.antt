@@ -1,13 +1,12 @@
 -- The log of the ring after an event that leaves its slots as they are: what is known of bytes, numbers and work carries over.
 use Rattle.std.proofs.Common.{◌≡◌, ℕ, ◌+◌, Bool, true, false, List, Option, Some, None, ◌⊎◌, inl, inr, refl, sym, ap, ◌∙◌, subst, arith}
 use Rattle.std.specs.Prelude.{⊤, ◌-◌, ◌%◌, slice_get}
-use Rattle.channel_laws.specs.Vocabulary.{A, B, ChannelState, Down, Injected, Joined, Lost, Reset, Resetting, Sent, Took, Up, WireEvent, peer_behind}
-use Rattle.lane_laws.specs.Vocabulary.{Accepted as Accepted_, Asks, ClientCounts, Desc, DiskEvent, DiskLog, Done, Finished, HoldsIssued, IdStands, IdsStand, InRing, InWork, LaneState, Moved}
-use Rattle.lane_laws.specs.Vocabulary.{OnWire, Published, Request, RingHolds, RingOf, SameSlots, ServerCounts, Stopped, Stored, Switches, WorkStands, Works, after, change_client, change_server}
-use Rattle.lane_laws.specs.Vocabulary.{opened_counts, ring_in}
+use Rattle.channel_laws.specs.Vocabulary.{A, B, Injected, Joined, Lost, Reset, Sent, Took, Up, WireEvent}
+use Rattle.lane_laws.specs.Vocabulary.{Accepted as Accepted_, Asks, ClientCounts, Desc, DiskEvent, DiskLog, Done, Finished, HoldsIssued, IdStands, IdsStand, InRing, InWork, LaneState, Moved, OnWire, Published, Request, RingHolds, RingOf, SameSlots, ServerCounts, Stopped, Stored, Switches, WorkStands, Works, after, change_client, change_server, opened_counts, ring_in}
 use Rattle.lane_laws.specs.RingLog.{Accepted, SlotLog}
 use Rattle.lane_laws.proofs.StandingSteps.{wired_keeps}
 use Rattle.lane_laws.proofs.RingTable.{map_stands, same_holds}
+use Rattle.channel_laws.proofs.HandshakesPlaced.{peer_up}
 
 -- the client's ids stay, or its session is gone
 abbrev pub KeepsIds : Option ClientCounts → Option ClientCounts → Type 0
@@ -125,13 +124,6 @@ pub work_opened : (b : Bool) (sid : ℕ) (f : ServerCounts → ServerCounts) (o 
 work_opened true sid f None same = refl
 work_opened true sid f (Some c) same = inl refl
 work_opened false sid f o same = work_changed f o same
-
-peer_up : (a b : ChannelState) → peer_behind a b ≡ Up → b ≡ Up
-peer_up Up Up is = refl
-peer_up Up Down is = absurd (cc is)
-peer_up Up Resetting is = absurd (cc is)
-peer_up Down b is = is
-peer_up Resetting b is = is
 
 -- EVENTS that leave the ring: no packet by which the client's session opens, no request, and of the work only pieces
 abbrev pub OpensNot : WireEvent → Type 0

@@ -2,12 +2,10 @@
 use Rattle.std.proofs.Common.{◌≡◌, ◌≢◌, ℕ, ◌+◌, ◌≤◌, Bool, true, false, Option, Some, None, List, ◌∷◌, refl, sym, ap, ◌∙◌, subst, arith}
 use Rattle.std.specs.Prelude.{is_none, is_some, ◌==◌}
 use Rattle.std.proofs.lemmas.Bool.Decides.{nat_tests}
-use Rattle.channel_laws.specs.Vocabulary.{ComesUp, EndsHandshake, EndsOwn, Goes, Handshake, PutKind, Responder, Role, Said, Seen, Turn, opens_by_put, put_opens, wrapped}
+use Rattle.channel_laws.specs.Vocabulary.{ComesUp, EndsHandshake, EndsOwn, Goes, PutKind, Said, Seen, Turn, wrapped}
 use Rattle.vdisk_msg.specs.Descriptor.{disk_desc_of}
 use Rattle.vdisk_msg.specs.Pieces.{pieces}
-use Rattle.vio_handshake.specs.declared.handshake.Phase.{Phase}
-use Rattle.lane_laws.specs.Vocabulary.{Ends, Progress, RangeStands, Reach, ServerAgrees, ServerCounted, ServerCounts, ServerCountsAgree, ServerFetches, ServerFinishes, ServerOrder, ServerSends}
-use Rattle.lane_laws.specs.Vocabulary.{ServerSession, ServerState, Shape, SlotRange, Work, WorkAgrees, change_server, desc_of, first_progress, owed_of, rest_of}
+use Rattle.lane_laws.specs.Vocabulary.{Ends, Progress, RangeStands, Reach, ServerAgrees, ServerCounted, ServerCounts, ServerCountsAgree, ServerFetches, ServerFinishes, ServerOrder, ServerSends, ServerSession, ServerState, Shape, SlotRange, Work, WorkAgrees, change_server, desc_of, first_progress, owed_of, rest_of}
 use Rattle.disk_model.specs.ServerPutting.{server_kind}
 use Rattle.disk_model.specs.ServerRule.{Fetches, Serves, server_rule}
 use Rattle.channel_laws.proofs.Apart.{none_is_some, some_same}
@@ -18,6 +16,7 @@ use Rattle.lane_laws.proofs.Speaking.{server_blocked_rests, server_blocked_utter
 use Rattle.lane_laws.proofs.ServerWorkCounting.{begins_owing, first_unit, holds_none}
 use Rattle.lane_laws.specs.Budget.{one_range}
 use Rattle.lane_laws.specs.LaneRests.{ServerRests, ServerUtters}
+use Rattle.channel_laws.proofs.PacketsLeft.{shut_in}
 
 not_same : (a b : ℕ) → (a == b) ≡ false → a ≡ b → ⊥
 not_same a b test is = let same : (a == b) ≡ true = grind (arith, nat_tests) in absurd (cc)
@@ -144,14 +143,6 @@ put_counting ComesUp shape v turns packet d few rests utters says counted = come
 put_counting EndsOwn shape v turns packet d few rests utters says counted = own_counting shape v turns packet d few says.1 says.0 counted
 put_counting EndsHandshake shape v turns packet d few rests utters says counted = handshake_counting shape v turns packet d rests says.1 says.0 counted
 
-responder_never : (role : Role) (phase : Phase) → role ≡ Responder → opens_by_put role phase ≡ false
-responder_never Responder phase is = refl
-responder_never role phase is = ap (λ (r : Role). opens_by_put r phase) is
-
-never_opens : (kind : PutKind) (h : Handshake) → h.role ≡ Responder → put_opens kind h ≡ false
-never_opens EndsHandshake h is = responder_never h.role h.phase is
-never_opens _ h is = refl
-
 pub server_puts_counting : (shape : Shape) (v : ServerState) (at : Seen) (packet : List ℕ) (opens : Bool) (t : ServerState) (turns : List Turn) (d : Option ServerCounts) → shape.slots ≤ 256
     → ServerSends v at packet opens t → ServerRests v turns → ServerUtters v turns → ServerCounted shape v turns d
     → ServerCounted shape t (Said packet ∷ turns) (answers_more shape turns packet d) × (opens ≡ false)
@@ -163,5 +154,5 @@ server_puts_counting shape v at packet opens t turns d few sends rests utters co
     let says = put_says (is_none sends.held.handshake.owed) sends.held.link t.link turns packet follows sends.packet in (
       subst (λ (x : ServerState). ServerCounted shape x (Said packet ∷ turns) (answers_more shape turns packet d)) (sym sends.is)
           (put_counting (server_kind sends.held) shape sends.held turns packet d few held_rests held_utters says held),
-      sends.opens_is ∙ never_opens (server_kind sends.held) sends.held.handshake held_rests.fits.role_is,
+      sends.opens_is ∙ shut_in (server_kind sends.held) sends.held.handshake held_rests.fits.role_is,
     )

@@ -2,11 +2,10 @@
 use Rattle.std.proofs.Common.{◌≡◌, ℕ, ◌+◌, ◌-◌, ◌≤◌, true, false, Option, Some, None, List, refl, sym, ap, ◌∙◌, subst, arith}
 use Rattle.channel_laws.specs.Vocabulary.{A, B, ChannelState, Down, Injected, Joined, Lost, Reset, Resetting, Sent, Took, Up, WireEvent, peer_behind, seen}
 use Rattle.channel_laws.proofs.Apart.{some_same}
-use Rattle.lane_laws.specs.Vocabulary.{ClientCounts, ClientSession, DiskLog, IfServer, LaneState, NearCounts, OnWire, OneRing, ServerAgrees, ServerCounts, ServerSession, WireStep, Work, after}
-use Rattle.lane_laws.specs.Vocabulary.{near_on_wire, opened_session}
+use Rattle.lane_laws.specs.Vocabulary.{ClientCounts, ClientSession, DiskLog, IfServer, LaneState, NearCounts, OnWire, OneRing, ServerCounts, WireStep, after, near_on_wire, opened_session}
 use Rattle.lane_laws.proofs.RingLeaves.{OpensNot}
 use Rattle.lane_laws.proofs.RingWork.{turn_in}
-use Rattle.lane_laws.proofs.SlotsStepping.{StepFacts}
+use Rattle.lane_laws.proofs.SlotsStepping.{StepFacts, work_first}
 use Rattle.lane_laws.proofs.StandingSteps.{wire_only, wired_keeps}
 use Rattle.lane_laws.specs.Standing.{LaneInvariant, SessionStands}
 use Rattle.lane_laws.proofs.EverStanding.{ever_left}
@@ -76,13 +75,6 @@ begins_k Up (Some d) None new done k same nothing based is = (is, omega (arith, 
 begins_k Up (Some d) (Some c) new done k same nothing based is =
     let none : k ≡ 0 = omega (arith, is, nothing d refl refl, based c refl) in (none, omega (arith, same, none, nothing d refl refl))
 begins_k _ _ o new done k same nothing based is = (is, is)
-
-pub work_first : (o : Option ServerSession) (w : Option Work) (q : Option ServerCounts) (d : ServerCounts) → q ≡ Some d → ServerAgrees o w q → d.finished ≤ d.descs
-work_first None w None d is agrees = absurd (cc is)
-work_first None w (Some c) d is agrees = absurd agrees
-work_first (Some s) w None d is agrees = absurd agrees
-work_first (Some s) None (Some c) d is agrees = let same : c ≡ d = some_same is in subst (λ (x : ServerCounts). x.finished ≤ x.descs) same (omega (arith, agrees.1.1))
-work_first (Some s) (Some work) (Some c) d is agrees = let same : c ≡ d = some_same is in subst (λ (x : ServerCounts). x.finished ≤ x.descs) same (omega (arith, agrees.1.2))
 
 pub opens_k : (s : LaneState) (l : DiskLog) (packet : List ℕ) (t : LaneState) → Before s l → StepFacts s l (OnWire (Sent A packet true)) t
     → (s.near.k ≡ 0) × KIs (counts_while l.wire.wire.end_b l.work.server) (after l (OnWire (Sent A packet true))).work.client l.work.done s.near.k

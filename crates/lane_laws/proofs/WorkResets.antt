@@ -1,7 +1,6 @@
 -- What ends a session without a packet has its ground in the ring: an acknowledged slot that isn't DONE, or in a server's range a slot that
 -- isn't READY or a copy that was refused.
-use Rattle.std.proofs.Common.{◌≡◌, ◌≢◌, ℕ, ◌-◌, ◌%◌, ◌<◌, ◌≤◌, Option, Some, None, List, refl, sym, ap, ◌∙◌, subst, arith, inl, inr}
-use Rattle.std.proofs.lemmas.Bool.Decides.{nat_tests}
+use Rattle.std.proofs.Common.{◌≡◌, ℕ, ◌-◌, ◌%◌, ◌≤◌, Option, Some, None, List, refl, sym, ap, ◌∙◌, subst, arith, inl, inr}
 use Rattle.cookie_copy.specs.declared.fault.CopyFault.{CopyFault}
 use Rattle.cookie_copy.specs.declared.fault.CopyFault.TheVariants as copy
 use Rattle.dring.specs.declared.peer.RingFault.{RingFault}
@@ -9,9 +8,7 @@ use Rattle.dring.specs.declared.peer.RingFault.TheVariants as refused
 use Rattle.dring.specs.Reaching.{RefusesFetch}
 use Rattle.channel_laws.specs.Vocabulary.{A, B, Cause, End, Reset}
 use Rattle.vio_tag.specs.declared.cause.Cause.TheVariants as the_cause
-use Rattle.lane_laws.specs.Vocabulary.{ClientFailed, ClientFails, ClientMay, DiskEvent, DiskLog, EndFails, EndOnWire, Ends, FetchFailed, FetchFails, InRange, InServer, LaneState, LaneStep}
-use Rattle.lane_laws.specs.Vocabulary.{MayFetch, OnWire, OwnReset, Progress, Reach, ResetOf, ServerCounts, ServerFails, ServerSession, WireStep, Work, WorkFails, WorkResetAt, cause_of, copy_number}
-use Rattle.lane_laws.specs.Vocabulary.{fetch_fault, reach, slot_at, slot_fetched}
+use Rattle.lane_laws.specs.Vocabulary.{ClientFailed, ClientFails, ClientMay, DiskEvent, DiskLog, EndFails, EndOnWire, Ends, FetchFailed, FetchFails, InRange, InServer, LaneState, LaneStep, MayFetch, OnWire, OwnReset, Progress, Reach, ResetOf, ServerCounts, ServerFails, ServerSession, WireStep, Work, WorkFails, WorkResetAt, cause_of, copy_number, fetch_fault, reach, slot_at, slot_fetched}
 use Rattle.disk_model.specs.ClientRule as client
 use Rattle.disk_model.specs.ServerRule as server
 use Rattle.lane_laws.proofs.Ruling.{client_may}
@@ -23,6 +20,7 @@ use Rattle.lane_laws.proofs.LaneResets.{by_giver}
 use Rattle.channel_laws.specs.Resetting.{LiesInPacket}
 use Rattle.lane_laws.proofs.WorkNumbers.{Grounded, Serving, fetches_next, in_client, in_server, serving}
 use Rattle.lane_laws.proofs.LaneViews.{at_client, at_server}
+use Rattle.lane_laws.proofs.NoOwnReset.{below_other}
 
 -- what lies in a packet
 carried_reset : (l : DiskLog) (e : End) (cause : Cause) (packet : List ℕ) → LiesInPacket cause → ResetOf l e cause (Some packet)
@@ -54,11 +52,8 @@ number_small : (why : CopyFault) → (1 ≤ copy_number why) × (copy_number why
 number_small copy.Channel = (omega arith, omega arith)
 number_small _ = (omega arith, omega arith)
 
-below : (a b : ℕ) → a ≤ b → a ≢ b → a < b
-below a b most other = grind (arith, nat_tests, most, other)
-
 asks_more : (s : LaneState) (l : DiskLog) (session : ServerSession) (now : Serving s l session) → InRange now.of.counts
-asks_more s l session now = below now.of.counts.finished now.of.counts.asked now.finished now.unfinished
+asks_more s l session now = below_other now.of.counts.finished now.of.counts.asked now.finished now.unfinished
 
 in_range : (s : LaneState) (l : DiskLog) (session : ServerSession) → Grounded s l → ServesFree s.server session → InServer l.work.server InRange
 in_range s l session grounded free =
