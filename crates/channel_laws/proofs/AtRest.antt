@@ -4,7 +4,8 @@ use Rattle.std.proofs.Common.{◌≡◌, ℕ, inl, inr, Bool, true, false, None,
 use Rattle.std.specs.Prelude.{is_some}
 use Rattle.std.proofs.lemmas.List.{append-nil}
 use Rattle.ldc_packet.specs.declared.packet.Packet.{Packet}
-use Rattle.channel_laws.specs.Vocabulary.{ChannelState, Initiator, LinkPhase, LinkState, Offer, OneWay, Responder, Sides, Turn, Up, first_phase, heard, is_established, is_up, live, numbered_heard, numbered_said, owed_in, owes, said}
+use Rattle.channel_laws.specs.Vocabulary.{ChannelState, Initiator, LinkPhase, LinkState, Offer, OneWay, Responder, Sides, Turn, Up, first_phase, heard, is_established, is_up, live, numbered_heard}
+use Rattle.channel_laws.specs.Vocabulary.{numbered_said, owed_in, owes, said}
 use Rattle.ldc_packet.specs.Spelling.{canonical}
 use Rattle.ldc_link.specs.declared.phase.LinkPhase.TheVariants as phase
 use Rattle.ldc_queue.specs.Fragments.{fragments_in}

@@ -2,8 +2,8 @@
 use Rattle.std.proofs.Common.{◌≡◌, ℕ, Bool, true, false, Option, Some, None, Ok, Err, List, ◌++◌, refl, sym, subst, inl, inr, ◌⊎◌}
 use Rattle.std.specs.Prelude.{◌&&◌, ◌||◌, not, Result, if◌then◌else◌, nat_eq, ⊤}
 use Rattle.std.proofs.lemmas.Bool.{eqb-true}
-use Rattle.channel_laws.specs.Vocabulary.{Attr, Cause, DringData, DringReg, DringUnreg, GapOf, Mcast, Message, Plain, Rdx, SpellsMessage, Turn, Ver, count_heard, counts_next, ctrl_at, ended_by}
-use Rattle.channel_laws.specs.Vocabulary.{env_at, half_heard, is_declined, may_come, seqid_at, type_at, whole_with}
+use Rattle.channel_laws.specs.Vocabulary.{Cause, DringData, DringReg, GapOf, Mcast, Message, SpellsMessage, Turn, count_heard, counts_next, ctrl_at, ended_by, env_at, half_heard, is_declined}
+use Rattle.channel_laws.specs.Vocabulary.{may_come, seqid_at, type_at, whole_with}
 use Rattle.ldc_packet.specs.declared.packet.PacketFault.{PacketFault}
 use Rattle.ldc_packet.specs.Fault.{first_fault}
 use Rattle.ldc_queue.specs.Fragments.{fragment_at, is_part}

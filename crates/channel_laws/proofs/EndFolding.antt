@@ -1,12 +1,11 @@
 -- Each move of an end leaves its link's phase and its handshake as its turns have them.
 use Rattle.std.proofs.Common.{◌≡◌, ℕ, ◌≤◌, Bool, true, false, ◌||◌, inl, inr, Option, Some, None, List, [], ◌∷◌, ◌++◌, refl, sym, ap, ◌∙◌, subst, arith}
 use Rattle.std.specs.Prelude.{◌==◌, Result, Ok}
-use Rattle.channel_laws.specs.Vocabulary.{Ack, Attr, Begins, CoreEvent, CoreFits, CoreStep, DringData, DringReg, DringUnreg, EndBegins, EndCore, EndHears, EndMove, EndSays, EndStands, EndStep}
-use Rattle.channel_laws.specs.Vocabulary.{Fails, Faults, GoesOpen, Handshake, HandshakeTake, Heard as Heard_, Hears, Info, Initiator, IsOfSession, IsShort, LaneCore, LinkPhase, LinkState, Mcast}
-use Rattle.channel_laws.specs.Vocabulary.{Message, Nack, Offer, OwedIsShort, Plain, Rdx as Ready, Renews, Responder, Role, Run, Said as Said_, Says, SpellsMessage, Stays, Turn, Ver, Waits}
-use Rattle.channel_laws.specs.Vocabulary.{canonical, ctrl_at, ended_by, env_at, first_phase, fresh_core, fresh_end, half_heard, half_said, handshake_sent, handshake_take, heard, in_mode}
-use Rattle.channel_laws.specs.Vocabulary.{is_established, is_rdx, is_up, number_at, phase_behind_put, phase_behind_rdx, phase_behind_rtr, phase_behind_rts, phase_behind_vers, subtype_code}
-use Rattle.channel_laws.specs.Vocabulary.{transcript_behind, turns_after}
+use Rattle.channel_laws.specs.Vocabulary.{Ack, Begins, CoreEvent, CoreFits, CoreStep, DringData, EndBegins, EndCore, EndHears, EndMove, EndSays, EndStands, EndStep, Fails, Faults, GoesOpen}
+use Rattle.channel_laws.specs.Vocabulary.{Handshake, HandshakeTake, Heard as Heard_, Hears, Info, Initiator, IsOfSession, IsShort, LaneCore, LinkPhase, LinkState, Mcast, Message, Offer}
+use Rattle.channel_laws.specs.Vocabulary.{OwedIsShort, Plain, Renews, Responder, Role, Run, Said as Said_, Says, SpellsMessage, Stays, Turn, Ver, Waits, canonical, ctrl_at, ended_by, env_at}
+use Rattle.channel_laws.specs.Vocabulary.{first_phase, fresh_core, fresh_end, half_heard, half_said, handshake_sent, handshake_take, heard, in_mode, is_established, is_rdx, is_up, number_at}
+use Rattle.channel_laws.specs.Vocabulary.{phase_behind_put, phase_behind_rdx, phase_behind_rtr, phase_behind_rts, phase_behind_vers, subtype_code, transcript_behind, turns_after}
 use Rattle.ldc_link.specs.declared.phase.LinkPhase.TheVariants as phase
 use Rattle.ldc_packet.specs.declared.packet.Body.TheVariants.{Rdx}
 use Rattle.ldc_packet.specs.declared.packet.Subtype.{Subtype}

@@ -2,7 +2,10 @@
 use Rattle.std.proofs.Common.{◌≡◌, ℕ, ◌^◌, ◌<◌, ◌≤◌, Bool, true, false, Some, List, [], ◌∷◌, ◌++◌, refl, sym, ap, ◌∙◌, subst, arith, ◌⊎◌, inl, inr}
 use Rattle.std.specs.Prelude.{slice_get}
 use Rattle.std.proofs.lemmas.List.{append-nil}
-use Rattle.channel_laws.specs.Vocabulary.{ChannelState, Down, DringData, DringUnreg, EndAnew, EndCore, EndHears, EndSays, EndStands, Handshake, Heard, Holding, Holds, HoldsOn, HoldsOwed, HoldsOwn, Info, Initiator, IsBelow, IsFront, IsOfSession, LinkPhase, LinkState, Mcast, Message, Offer, Plain, Resetting, Responder, Role, Said, Sides, SpellsMessage, Turn, Up, anew, canonical, envelope_at, envelope_code, first_phase, fresh_core, goes_on, half_said, handshake_sent, heard, is_declined, is_established, is_up, nothing_said, other, peer_behind, put, said, shut, sides_of, swapped, took, upset}
+use Rattle.channel_laws.specs.Vocabulary.{ChannelState, Down, DringData, DringUnreg, EndAnew, EndCore, EndHears, EndSays, EndStands, Handshake, Heard, Holding, Holds, HoldsOn, HoldsOwed, HoldsOwn}
+use Rattle.channel_laws.specs.Vocabulary.{Info, Initiator, IsBelow, IsFront, IsOfSession, LinkPhase, LinkState, Mcast, Message, Offer, Plain, Resetting, Responder, Role, Said, Sides, SpellsMessage}
+use Rattle.channel_laws.specs.Vocabulary.{Turn, Up, anew, canonical, envelope_at, envelope_code, first_phase, fresh_core, goes_on, half_said, handshake_sent, heard, is_declined, is_established}
+use Rattle.channel_laws.specs.Vocabulary.{is_up, nothing_said, other, peer_behind, put, said, shut, sides_of, swapped, took, upset}
 use Rattle.ldc_link.specs.declared.phase.LinkPhase.TheVariants as phase
 use Rattle.ldc_packet.specs.declared.packet.Subtype.{Subtype}
 use Rattle.vio_tag.specs.declared.message.MsgBody.{MsgBody}

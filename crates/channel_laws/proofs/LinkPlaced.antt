@@ -4,7 +4,10 @@ use Rattle.std.specs.Prelude.{slice_get}
 use Rattle.ldc_packet.proofs.Reading.{unpacked}
 use Rattle.ldc_packet.specs.declared.packet.Body.TheVariants.{Rdx}
 use Rattle.ldc_packet.specs.declared.packet.Packet.{Packet}
-use Rattle.channel_laws.specs.Vocabulary.{Ack, ChannelState, Down, EndAnew, EndCore, EndHears, EndSays, EndStands, Info, Initiator, LinkPhase, LinkState, LinkTake, Offer, Resetting, Responder, Role, Sides, TakesBytes, Turn, Up, anew, first_part, first_phase, fresh_core, goes_on, goes_to, in_mode, link_take, live, lossy_behind, missed, nothing_said, numbered_heard, numbered_said, other, peer_behind, phase_behind_rtr, phase_behind_rts, phase_behind_vers, put, queue_behind, shut, sides_of, swapped, takes_decoded, took, upset}
+use Rattle.channel_laws.specs.Vocabulary.{Ack, ChannelState, Down, EndAnew, EndCore, EndHears, EndSays, EndStands, Info, Initiator, LinkPhase, LinkState, LinkTake, Offer, Resetting, Responder}
+use Rattle.channel_laws.specs.Vocabulary.{Role, Sides, TakesBytes, Turn, Up, anew, first_part, first_phase, fresh_core, goes_on, goes_to, in_mode, link_take, live, lossy_behind, missed}
+use Rattle.channel_laws.specs.Vocabulary.{nothing_said, numbered_heard, numbered_said, other, peer_behind, phase_behind_rtr, phase_behind_rts, phase_behind_vers, put, queue_behind, shut, sides_of}
+use Rattle.channel_laws.specs.Vocabulary.{swapped, takes_decoded, took, upset}
 use Rattle.ldc_packet.specs.Decoding.{Unpacks}
 use Rattle.ldc_packet.specs.Form.{HasWidths, IsWellFormed}
 use Rattle.ldc_packet.specs.Spelling.{canonical}

@@ -3,7 +3,7 @@ use Rattle.std.proofs.Common.{◌≡◌, ℕ, ◌+◌, ◌<◌, ◌%◌, Bool, t
 use Rattle.std.specs.Prelude.{◌&&◌, if◌then◌else◌, nat_eq, nat_le}
 use Rattle.std.proofs.lemmas.Bool.{eq-eqb, eqb-true, le-leb}
 use Rattle.ldc_packet.specs.declared.packet.Body.{Body}
-use Rattle.ldc_packet.specs.declared.packet.Body.TheVariants.{Part, Rdx, Rtr, Rts, Vers}
+use Rattle.ldc_packet.specs.declared.packet.Body.TheVariants.{Part, Rdx}
 use Rattle.ldc_packet.specs.declared.packet.Subtype.{Subtype}
 use Rattle.channel_laws.specs.Vocabulary.{Cause, Info, LinkPhase, LinkState, LinkTake, OneWay, TakesBytes, Turn, Unheard, begins_rightly, control, count, counted, goes_to, in_turn, is_established}
 use Rattle.channel_laws.specs.Vocabulary.{is_up, may_come, numbered_heard, phase_behind_rdx, seqid_at, takes_body, takes_part, with_part}

@@ -1,7 +1,7 @@
 -- A wire is lossy exactly where a packet was lost behind the last event that emptied the queues.
 use Rattle.std.proofs.Common.{◌≡◌, ◌≢◌, ℕ, Bool, true, false, List, [], ◌∷◌, ◌++◌, refl, sym, ap, ◌∙◌, subst, inl, inr, ◌⊎◌}
-use Rattle.channel_laws.specs.Vocabulary.{A, B, Beside, Blocked, ChannelState, Closes, CoreEvent, CoreFits, CoreStep, Declines, Down, End, Idle, Injected, Joined, LaneCore, Lawful, Lost, Offer}
-use Rattle.channel_laws.specs.Vocabulary.{OnChannel, Poked, Reset, Resetting, Run, Sent, Took, Up, WireLog, fresh_core, log_append, log_of, lossy_behind, queue_behind, state_of, waiting_for}
+use Rattle.channel_laws.specs.Vocabulary.{A, B, ChannelState, Closes, CoreEvent, CoreFits, CoreStep, Down, End, Joined, LaneCore, Lawful, Lost, Offer, OnChannel, Reset, Resetting, Run, Up, WireLog}
+use Rattle.channel_laws.specs.Vocabulary.{fresh_core, log_append, log_of, lossy_behind, queue_behind, state_of, waiting_for}
 use Rattle.channel_laws.specs.CoreLog.{CoreLog, after, nothing_yet}
 use Rattle.channel_laws.specs.LossStands.{Empties, EmptiesNone, LossAmong, LossStands}
 use Rattle.channel_laws.proofs.CoreLaws.{wire_is}

@@ -4,7 +4,7 @@ use Rattle.std.specs.Prelude.{is_some}
 use Rattle.channel_laws.specs.Vocabulary.{Initiator, LinkPhase, LinkState, Responder, owed_in, owes, part_owed}
 use Rattle.ldc_link.specs.declared.phase.LinkPhase.TheVariants as phase
 use Rattle.ldc_packet.specs.declared.packet.Packet.{Packet}
-use Rattle.channel_laws.specs.LinkPlaces.{AnswerTaken, AtMost, BothUp, LinkPlace, ModeAgreed, ModeAnswered, ModePut, ModeTaken, NothingPut, ReadyPut, VersionAnswered, VersionPut, VersionTaken, Waits}
+use Rattle.channel_laws.specs.LinkPlaces.{AtMost, BothUp, LinkPlace, ModeAnswered, VersionAnswered, Waits}
 
 few_wait : (lossy : Bool) (p : Packet) (waiting : List (List ℕ)) → AtMost lossy p waiting → 2 ≤ length waiting → ⊥
 few_wait lossy p waiting (inl none) many = omega (arith, many, ap length none.0)

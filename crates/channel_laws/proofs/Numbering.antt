@@ -9,7 +9,7 @@ use Rattle.channel_laws.specs.Vocabulary.{TakesBytes, Took, Turn, WireEvent, Wir
 use Rattle.channel_laws.specs.Vocabulary.{half_said, more_if, numbered_heard, numbered_said, seqid_at, takes_decoded}
 use Rattle.ldc_packet.proofs.NoFault.{spelled_no_fault}
 use Rattle.ldc_packet.specs.declared.packet.Body.{Body}
-use Rattle.ldc_packet.specs.declared.packet.Body.TheVariants.{Part, Rdx, Rtr, Rts, Vers}
+use Rattle.ldc_packet.specs.declared.packet.Body.TheVariants.{Part, Rdx}
 use Rattle.ldc_packet.specs.declared.packet.Packet.{Packet}
 use Rattle.ldc_packet.specs.declared.packet.PacketFault.{PacketFault}
 use Rattle.ldc_packet.specs.Decoding.{Unpacks}

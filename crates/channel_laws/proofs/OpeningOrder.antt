@@ -17,7 +17,7 @@ use Rattle.vio_handshake.specs.declared.handshake.Phase.{Phase}
 use Rattle.vio_handshake.specs.declared.handshake.Phase.TheVariants.{Down, Open}
 use Rattle.vio_handshake.specs.Messages.{info}
 use Rattle.vio_handshake.specs.State.{begun, joined_handshake, next_sid, handshake_up}
-use Rattle.channel_model.specs.HandshakeOrder.{ComesUpBelow, Control, FollowsRow, HandshakeOrder, Hears as Hears_, HearsControl, IsControlOf, IsVersNack, Line, MayEnd, RdxGiven, RtrAnswered, RtsAsked, Says as Says_, SaysControl, VersAgreed, VersOffer}
+use Rattle.channel_model.specs.HandshakeOrder.{ComesUpBelow, Control, FollowsRow, HandshakeOrder, IsControlOf, IsVersNack, Line, MayEnd, RdxGiven, RtrAnswered, RtsAsked, Says as Says_, VersAgreed, VersOffer}
 use Rattle.channel_laws.proofs.Apart.{false_is_true, none_is_some}
 use Rattle.channel_laws.proofs.EndCases.{EndTook, NoMessage, PutControl, PutMore, PutOwn, PutReady, PutHandshake, PutWhat, Rises, TookMessage, TookOwn, TookHandshake, TookWhat, end_put, end_took, put_down, taken_down}
 use Rattle.channel_laws.proofs.EndResting.{StandsResting, held_handshake, of_sid, resting_step}

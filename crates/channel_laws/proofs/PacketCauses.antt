@@ -1,7 +1,11 @@
 -- An end whose session is open resets itself for the first cause that a packet has, and takes the packet where it has none.
 use Rattle.std.proofs.Common.{◌≡◌, ℕ, Bool, true, false, Option, Some, None, Ok, Err, List, ◌++◌, refl, sym, ap, ◌∙◌, subst, inr}
 use Rattle.std.specs.Prelude.{◌&&◌, ◌||◌, not, Result, if◌then◌else◌, nat_eq, ⊤}
-use Rattle.channel_laws.specs.Vocabulary.{A, B, Cause, CoreEvent, CoreFits, CoreStep, DringData, End, EndCore, Faults, Handshake, HandshakeTake, Initiator, LaneCore, LinkPhase, LinkState, LinkTake, Mcast, Message, Offer, Responder, Role, Run, TakesBytes, Turn, Unheard, Ver, count, count_heard, counts_next, ctrl_at, end_of, ended_by, env_at, fault_or, fresh_core, goes_to, half_heard, handshake_hear, handshake_take, is_declined, is_up, may_come, phase_behind_rdx, phase_behind_rtr, phase_behind_rts, phase_behind_vers, role_of, row, seqid_at, sid_fault, takes_body, takes_decoded, takes_part, transcript_behind, transcript_of, type_at, type_code, whole_of, whole_with, with_part}
+use Rattle.channel_laws.specs.Vocabulary.{A, B, Cause, CoreEvent, CoreFits, CoreStep, DringData, End, EndCore, Faults, Handshake, HandshakeTake, Initiator, LaneCore, LinkPhase, LinkState, LinkTake}
+use Rattle.channel_laws.specs.Vocabulary.{Mcast, Message, Offer, Responder, Role, Run, TakesBytes, Turn, Unheard, Ver, count, count_heard, counts_next, ctrl_at, end_of, ended_by, env_at, fault_or}
+use Rattle.channel_laws.specs.Vocabulary.{fresh_core, goes_to, half_heard, handshake_hear, handshake_take, is_declined, is_up, may_come, phase_behind_rdx, phase_behind_rtr, phase_behind_rts}
+use Rattle.channel_laws.specs.Vocabulary.{phase_behind_vers, role_of, row, seqid_at, sid_fault, takes_body, takes_decoded, takes_part, transcript_behind, transcript_of, type_at, type_code}
+use Rattle.channel_laws.specs.Vocabulary.{whole_of, whole_with, with_part}
 use Rattle.ldc_link.specs.declared.phase.LinkPhase.TheVariants as phase
 use Rattle.ldc_link.specs.Conversing.{IsData, fragment_of}
 use Rattle.ldc_link.specs.Following.{Follows}

@@ -2,7 +2,9 @@
 -- its session. Where the messages that it may begin count too, it doesn't rise.
 use Rattle.std.proofs.Common.{◌≡◌, ℕ, ◌+◌, ◌≤◌, ◌⊎◌, inl, inr, Bool, true, false, Option, Some, List, [], ◌∷◌, length, drop, refl, sym, ap, ◌∙◌, subst, arith, length-drop}
 use Rattle.std.proofs.lemmas.Bool.{leb-false}
-use Rattle.channel_laws.specs.Vocabulary.{EndAnew, EndCore, EndSays, EndStands, EndStays, EndWaits, EndsHandshake, Handshake, HandshakeStands, Holding, Holds, HoldsOn, HoldsOwed, HoldsOwn, Initiator, LinkPhase, LinkState, Message, Offer, PutKind, Rdx, Responder, Role, Turn, Ver, canonical, first_phase, handshake_sent, holds, is_established, is_open_in, kind_of, offered, opens_by_put, owes, put_opens}
+use Rattle.channel_laws.specs.Vocabulary.{EndAnew, EndCore, EndSays, EndStands, EndStays, EndWaits, EndsHandshake, Handshake, HandshakeStands, Holding, Holds, HoldsOn, HoldsOwed, HoldsOwn}
+use Rattle.channel_laws.specs.Vocabulary.{Initiator, LinkPhase, LinkState, Message, Offer, PutKind, Rdx, Responder, Role, Turn, Ver, canonical, first_phase, handshake_sent, holds, is_established}
+use Rattle.channel_laws.specs.Vocabulary.{is_open_in, kind_of, offered, opens_by_put, owes, put_opens}
 use Rattle.ldc_link.specs.declared.phase.LinkPhase.TheVariants as phase
 use Rattle.vio_handshake.specs.declared.handshake.Phase.{Phase}
 use Rattle.vio_handshake.specs.declared.handshake.Phase.TheVariants.{Open, OwnReady, OwnRing, PeerReadyTaken, PeerRingTaken, Version}

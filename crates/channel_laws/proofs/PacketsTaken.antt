@@ -2,7 +2,9 @@
 use Rattle.std.proofs.Common.{◌≡◌, ℕ, ◌+◌, ◌≤◌, Bool, true, false, Option, Some, List, [], ◌∷◌, ◌++◌, length, refl, sym, ap, ◌∙◌, subst, inl, inr, arith}
 use Rattle.std.specs.Prelude.{if◌then◌else◌, nat_eq, slice_get, take}
 use Rattle.std.proofs.lemmas.List.{length-take}
-use Rattle.channel_laws.specs.Vocabulary.{A, B, ChannelState, CoreEvent, CoreFits, CoreStep, DringReg, End, EndCore, EndHears, Handshake, Initiator, IsFront, LaneCore, LinkPhase, LinkState, Message, Offer, OnChannel, Responder, Role, Run, Sides, Took, TranscriptLog, Turn, Up, answer_to, canonical, end_of, first_phase, fresh_core, handshake_take, heard, holds, is_established, is_up, log_of, other, said, sides_of, swapped, took}
+use Rattle.channel_laws.specs.Vocabulary.{A, B, ChannelState, CoreEvent, CoreFits, CoreStep, DringReg, End, EndCore, EndHears, Handshake, Initiator, IsFront, LaneCore, LinkPhase, LinkState}
+use Rattle.channel_laws.specs.Vocabulary.{Message, Offer, OnChannel, Responder, Role, Run, Sides, Took, TranscriptLog, Turn, Up, answer_to, canonical, end_of, first_phase, fresh_core}
+use Rattle.channel_laws.specs.Vocabulary.{handshake_take, heard, holds, is_established, is_up, log_of, other, said, sides_of, swapped, took}
 use Rattle.ldc_link.specs.declared.phase.LinkPhase.TheVariants as phase
 use Rattle.ldc_queue.specs.Transcript as turn
 use Rattle.map_table.proofs.Putting.{length-cookies_bytes}

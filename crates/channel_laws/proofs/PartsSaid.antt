@@ -1,11 +1,11 @@
 -- Along every run the parts of messages that an end said since it last began are those that may come, one after the other.
 use Rattle.std.proofs.Common.{◌≡◌, ℕ, ◌≤◌, Bool, true, false, List, [], ◌∷◌, ◌++◌, length, take, refl, sym, ◌∙◌, subst, arith}
 use Rattle.std.proofs.lemmas.List.{append-nil, length-take-le}
-use Rattle.channel_laws.specs.Vocabulary.{Begins, CoreEvent, CoreFits, CoreStep, EndCore, EndMove, EndStands, EndStep, Fails, Hears, Initiator, IsSaid, IsSaidPart, LaneCore, Offer, Renews}
-use Rattle.channel_laws.specs.Vocabulary.{Responder, Role, Run, Said, Says, SpellsPacket, Stays, Turn, Waits, fresh_core, half_said, numbered_said, transcript_behind, turns_after}
+use Rattle.channel_laws.specs.Vocabulary.{CoreEvent, CoreFits, CoreStep, EndCore, EndMove, EndStands, EndStep, Hears, Initiator, IsSaid, IsSaidPart, LaneCore, Offer, Responder, Role, Run, Said}
+use Rattle.channel_laws.specs.Vocabulary.{Says, SpellsPacket, Stays, Turn, Waits, fresh_core, half_said, numbered_said, transcript_behind, turns_after}
 use Rattle.ldc_packet.proofs.Canonical.{canonical_spells}
 use Rattle.ldc_packet.specs.declared.packet.Body.{Body}
-use Rattle.ldc_packet.specs.declared.packet.Body.TheVariants.{Part, Rdx, Rtr, Rts, Vers}
+use Rattle.ldc_packet.specs.declared.packet.Body.TheVariants.{Part}
 use Rattle.ldc_packet.specs.declared.packet.Subtype.{Subtype}
 use Rattle.ldc_packet.specs.Form.{HasForm}
 use Rattle.ldc_link.proofs.Following.{parts_more, quiet}

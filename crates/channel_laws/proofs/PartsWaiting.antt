@@ -3,7 +3,8 @@
 use Rattle.std.proofs.Common.{◌≡◌, ℕ, ◌+◌, ◌*◌, ◌≤◌, Bool, true, false, List, [], ◌∷◌, ◌++◌, length, refl, sym, ap, ◌∙◌, subst, arith, length-append}
 use Rattle.std.specs.Prelude.{⊤}
 use Rattle.std.proofs.lemmas.List.{append-nil}
-use Rattle.channel_laws.specs.Vocabulary.{CoreEvent, CoreFits, CoreStep, EndCore, EndMove, EndStands, EndStep, Hears, Initiator, IsSaid, IsSaidPart, LaneCore, Offer, OneWay, Responder, Role, Run, Said, Says, Sides, Stays, Turn, Up, Waits, fresh_core, half_said, heard, live, numbered_heard, numbered_said, said, transcript_behind, turns_after}
+use Rattle.channel_laws.specs.Vocabulary.{CoreEvent, CoreFits, CoreStep, EndCore, EndMove, EndStands, EndStep, Hears, Initiator, IsSaid, IsSaidPart, LaneCore, Offer, OneWay, Responder, Role, Run}
+use Rattle.channel_laws.specs.Vocabulary.{Said, Says, Sides, Stays, Turn, Up, Waits, fresh_core, half_said, heard, live, numbered_heard, numbered_said, said, transcript_behind, turns_after}
 use Rattle.ldc_link.proofs.Following.{parts_more, quiet}
 use Rattle.ldc_queue.proofs.Messages.{fragments_in-append, half_in-append, whole_in-append}
 use Rattle.ldc_queue.specs.Fragments.{Fragment, fragment_at, fragments_in, is_part, joins}

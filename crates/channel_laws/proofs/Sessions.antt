@@ -1,7 +1,9 @@
 -- Where both sessions are open and nobody forged, both ends are up, what each heard is as the other has it, and the sessions are one.
 use Rattle.std.proofs.Common.{◌≡◌, ℕ, Bool, true, false, List, [], ◌∷◌, ◌++◌, inl, inr, refl, sym, ap, ◌∙◌, subst}
 use Rattle.std.specs.Prelude.{⊤}
-use Rattle.channel_laws.specs.Vocabulary.{A, B, ChannelState, CoreEvent, CoreFits, CoreStep, Down, End, EndCore, EndStands, Handshake, Initiator, IsFront, IsUp, LaneCore, Message, Offer, Resetting, Responder, Role, Run, Sides, TranscriptLog, Turn, Up, Ver, end_of, fresh_core, heard, is_up, log_of, peer_of, role_of, said, sides_of, swapped, transcript_after, transcript_behind, transcript_of}
+use Rattle.channel_laws.specs.Vocabulary.{A, B, ChannelState, CoreEvent, CoreFits, CoreStep, Down, End, EndCore, EndStands, Handshake, Initiator, IsFront, IsUp, LaneCore, Message, Offer, Resetting}
+use Rattle.channel_laws.specs.Vocabulary.{Responder, Role, Run, Sides, TranscriptLog, Turn, Up, Ver, end_of, fresh_core, heard, is_up, log_of, peer_of, role_of, said, sides_of, swapped}
+use Rattle.channel_laws.specs.Vocabulary.{transcript_after, transcript_behind, transcript_of}
 use Rattle.vio_handshake.specs.Messages.{ack, info}
 use Rattle.vio_handshake.specs.Offers.{Match}
 use Rattle.vio_handshake.specs.Pairing.{KnowsBoth}

@@ -2,10 +2,10 @@
 use Rattle.std.proofs.Common.{◌≡◌, ℕ, ◌+◌, ◌%◌, Bool, true, false, ◌||◌, List, [], ◌∷◌, Option, refl, sym, ap, ◌∙◌, arith}
 use Rattle.std.specs.Prelude.{⊤, nat_eq, ◌&&◌}
 use Rattle.std.proofs.lemmas.Bool.{eqb-true}
-use Rattle.channel_laws.specs.Vocabulary.{A, B, Begins, Beside, Blocked, ByRestart, ByScript, ByStep, ByTick, Cause, Closes, CoreEvent, CoreFits, CoreStep, Declines, EndCore, EndHears, EndMove}
-use Rattle.channel_laws.specs.Vocabulary.{EndSays, EndStands, EndStep, Fails, Giver, Handshake, Hears, Idle, Info, Initiator, Injected, Joined, LaneCore, Lost, Message, Offer, OnChannel, Poked}
-use Rattle.channel_laws.specs.Vocabulary.{Renews, Reset, Responder, Role, Run, Says, Sent, Stays, Took, TranscriptLog, Turn, Waits, ctrl_at, fresh_core, giver, handshake_sent, is_rdx, log_of}
-use Rattle.channel_laws.specs.Vocabulary.{more_if, move_of, nothing_said, reset_move, run_lawful, transcript_after, type_at}
+use Rattle.channel_laws.specs.Vocabulary.{A, B, Begins, Beside, Blocked, ByStep, Cause, Closes, CoreEvent, CoreFits, CoreStep, Declines, EndCore, EndHears, EndMove, EndSays, EndStands, EndStep}
+use Rattle.channel_laws.specs.Vocabulary.{Fails, Giver, Handshake, Hears, Idle, Info, Initiator, Injected, Joined, LaneCore, Lost, Message, Offer, OnChannel, Poked, Renews, Reset, Responder, Role}
+use Rattle.channel_laws.specs.Vocabulary.{Run, Says, Sent, Stays, Took, TranscriptLog, Turn, Waits, ctrl_at, fresh_core, giver, handshake_sent, is_rdx, log_of, more_if, move_of, nothing_said}
+use Rattle.channel_laws.specs.Vocabulary.{reset_move, run_lawful, transcript_after, type_at}
 use Rattle.ldc_packet.specs.declared.packet.Body.TheVariants.{Rdx}
 use Rattle.ldc_queue.specs.Fragments.{is_part}
 use Rattle.ldc_queue.specs.Numbered.{is_numbered}

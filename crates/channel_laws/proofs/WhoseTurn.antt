@@ -5,7 +5,7 @@ use Rattle.std.specs.Prelude.{is_some}
 use Rattle.std.proofs.lemmas.Bool.{leb-false, leb-true}
 use Rattle.std.proofs.lemmas.List.{length-take}
 use Rattle.channel_laws.specs.Vocabulary.{Handshake, Initiator, IsFront, Responder, Role, Turn, heard, other, said}
-use Rattle.vio_handshake.proofs.Places.{AllSaid, AttributesAnswered, AttributesSaid, Deal, IsPlace, PeerReadyAnswered, PeerReadySaid, PeerRingAnswered, PeerRingSaid, Place, ReadyAnswered, ReadySaid, RingAnswered, RingSaid, VersionAnswered, VersionSaid, owner}
+use Rattle.vio_handshake.proofs.Places.{AllSaid, AttributesAnswered, Deal, IsPlace, PeerReadySaid, PeerRingSaid, Place, ReadyAnswered, RingAnswered, VersionAnswered, owner}
 use Rattle.channel_laws.proofs.Apart.{none_is_some, true_is_false}
 use Rattle.channel_laws.proofs.HandshakePlaces.{AtPlace, owes_at, owes_none, owes_not, who}
 use Rattle.channel_laws.proofs.Script.{all_places, before, behind, bytes_at, index, next_at, not_last, one_if, own_role, said_at, said_by, said_by-append, same_next}

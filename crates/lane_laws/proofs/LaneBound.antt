@@ -3,7 +3,8 @@ use Rattle.std.proofs.Common.{◌≡◌, ℕ, ◌+◌, ◌-◌, ◌*◌, ◌≤�
 use Rattle.std.specs.Prelude.{is_some}
 use Rattle.channel_laws.specs.Vocabulary.{ChannelState, Down, Resetting, Run, Up, Ver, heard, log_of}
 use Rattle.vio_handshake.specs.Messages.{ack, info}
-use Rattle.lane_laws.specs.Vocabulary.{ClientState, DiskEvent, IsShape, LaneState, LaneStep, ServerState, Shape, absent, after, asked_by, asked_in, client_left, client_packets, fresh, life, nothing_yet, one_where, range_count, remaining, requests_left, second_life, server_left, server_packets, serving_left, total}
+use Rattle.lane_laws.specs.Vocabulary.{ClientState, DiskEvent, IsShape, LaneState, LaneStep, ServerState, Shape, absent, after, asked_by, asked_in, client_left, client_packets, fresh, life}
+use Rattle.lane_laws.specs.Vocabulary.{nothing_yet, one_where, range_count, remaining, requests_left, second_life, server_left, server_packets, serving_left, total}
 use Rattle.lane_laws.proofs.FlightAlong.{run_flight}
 use Rattle.lane_laws.proofs.FlightRuns.{InFlight}
 use Rattle.lane_laws.proofs.FlightSums.{FewFly}

@@ -14,7 +14,9 @@ use Rattle.dring.proofs.Turning.{slot_fits}
 use Rattle.dring.specs.declared.peer.RingFault.{RingFault}
 use Rattle.dring.specs.declared.peer.RingFault.TheVariants as refused
 use Rattle.dring.specs.Reaching.{RefusesFetch}
-use Rattle.lane_laws.specs.Vocabulary.{ClientMay, ClientSession, DiskEvent, DiskLog, EndFails, FetchFails, HoldsIssued, IfServer, IsShape, LaneState, LaneStep, Reach, ServerCounts, ServerMay, ServerSession, ServerState, Shape, Work, WorkAgrees, after, completed_descriptor, done_state, fetch_fault, fresh, nothing_yet, pages_of, reach, ring_in, slot_at, slot_bytes, slot_fetched, slots_cookies, word_fault}
+use Rattle.lane_laws.specs.Vocabulary.{ClientMay, ClientSession, DiskEvent, DiskLog, EndFails, FetchFails, HoldsIssued, IfServer, IsShape, LaneState, LaneStep, Reach, ServerCounts, ServerMay}
+use Rattle.lane_laws.specs.Vocabulary.{ServerSession, ServerState, Shape, Work, WorkAgrees, after, completed_descriptor, done_state, fetch_fault, fresh, nothing_yet, pages_of, reach, ring_in}
+use Rattle.lane_laws.specs.Vocabulary.{slot_at, slot_bytes, slot_fetched, slots_cookies, word_fault}
 use Rattle.map_table.specs.declared.cookie.Cookie.{Cookie}
 use Rattle.vdisk_msg.specs.declared.desc.DiskDesc.{DiskDesc}
 use Rattle.disk_model.specs.ClientRule as client_rules

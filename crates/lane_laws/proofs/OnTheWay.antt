@@ -3,9 +3,11 @@
 use Rattle.std.proofs.Common.{◌≡◌, ℕ, ◌+◌, ◌%◌, ◌≤◌, Bool, true, false, Option, Some, None, List, [], ◌∷◌, ◌++◌, cond, drop, drop_at, filter, length, inl, inr, refl, sym, ap, ◌∙◌, subst, arith}
 use Rattle.std.specs.Prelude.{is_some}
 use Rattle.std.proofs.lemmas.Nat.{mod_below}
-use Rattle.channel_laws.specs.Vocabulary.{A, Ack, B, ChannelState, Info, Initiator, IsFront, OneWay, Responder, Role, Run, TranscriptLog, Turn, Up, WireLog, heard, is_range, live, log_of, numbered_heard, numbered_said, range_if, said, seq_of, start_of, wrapped}
+use Rattle.channel_laws.specs.Vocabulary.{A, Ack, B, ChannelState, Info, Initiator, IsFront, OneWay, Responder, Role, Run, TranscriptLog, Turn, Up, WireLog, heard, is_range, live, log_of}
+use Rattle.channel_laws.specs.Vocabulary.{numbered_heard, numbered_said, range_if, said, seq_of, start_of, wrapped}
 use Rattle.ldc_queue.specs.Numbered.{numbered}
-use Rattle.lane_laws.specs.Vocabulary.{ClientCounts, DiskEvent, DiskLog, IsShape, LaneState, LaneStep, ServerAgrees, ServerCounts, ServerOrder, ServerSession, Shape, Work, after, client_core, fresh, length_in, nothing_yet, one_in, range_count, range_length, range_sum}
+use Rattle.lane_laws.specs.Vocabulary.{ClientCounts, DiskEvent, DiskLog, IsShape, LaneState, LaneStep, ServerAgrees, ServerCounts, ServerOrder, ServerSession, Shape, Work, after, client_core}
+use Rattle.lane_laws.specs.Vocabulary.{fresh, length_in, nothing_yet, one_in, range_count, range_length, range_sum}
 use Rattle.channel_model.specs.Messages.{end_of}
 use Rattle.channel_laws.proofs.HandshakesPlaced.{up_or}
 use Rattle.channel_laws.proofs.Sessions.{open_heard}

@@ -2,7 +2,9 @@
 use Rattle.std.proofs.Common.{◌≡◌, ℕ, ◌+◌, Bool, true, false, List, Option, Some, None, ◌⊎◌, inl, inr, refl, sym, ap, ◌∙◌, subst, arith}
 use Rattle.std.specs.Prelude.{⊤, ◌-◌, ◌%◌, slice_get}
 use Rattle.channel_laws.specs.Vocabulary.{A, B, Injected, Joined, Lost, Reset, Sent, Took, Up, WireEvent}
-use Rattle.lane_laws.specs.Vocabulary.{Accepted as Accepted_, Asks, ClientCounts, Desc, DiskEvent, DiskLog, Done, Finished, HoldsIssued, IdStands, IdsStand, InRing, InWork, LaneState, Moved, OnWire, Published, Request, RingHolds, RingOf, SameSlots, ServerCounts, Stopped, Stored, Switches, WorkStands, Works, after, change_client, change_server, opened_counts, ring_in}
+use Rattle.lane_laws.specs.Vocabulary.{Accepted as Accepted_, Asks, ClientCounts, Desc, DiskEvent, DiskLog, Done, Finished, HoldsIssued, IdStands, IdsStand, InRing, InWork, LaneState, Moved}
+use Rattle.lane_laws.specs.Vocabulary.{OnWire, Published, Request, RingHolds, RingOf, SameSlots, ServerCounts, Stopped, Stored, Switches, WorkStands, Works, after, change_client, change_server}
+use Rattle.lane_laws.specs.Vocabulary.{opened_counts, ring_in}
 use Rattle.lane_laws.specs.RingLog.{Accepted, SlotLog}
 use Rattle.lane_laws.proofs.StandingSteps.{wired_keeps}
 use Rattle.lane_laws.proofs.RingTable.{map_stands, same_holds}

@@ -5,7 +5,8 @@ use Rattle.std.proofs.lemmas.Bool.Decides.{nat_tests}
 use Rattle.channel_laws.specs.Vocabulary.{ComesUp, EndsHandshake, EndsOwn, Goes, PutKind, Said, Seen, Turn, wrapped}
 use Rattle.vdisk_msg.specs.Descriptor.{disk_desc_of}
 use Rattle.vdisk_msg.specs.Pieces.{pieces}
-use Rattle.lane_laws.specs.Vocabulary.{Ends, Progress, RangeStands, Reach, ServerAgrees, ServerCounted, ServerCounts, ServerCountsAgree, ServerFetches, ServerFinishes, ServerOrder, ServerSends, ServerSession, ServerState, Shape, SlotRange, Work, WorkAgrees, change_server, desc_of, first_progress, owed_of, rest_of}
+use Rattle.lane_laws.specs.Vocabulary.{Ends, Progress, RangeStands, Reach, ServerAgrees, ServerCounted, ServerCounts, ServerCountsAgree, ServerFetches, ServerFinishes, ServerOrder, ServerSends}
+use Rattle.lane_laws.specs.Vocabulary.{ServerSession, ServerState, Shape, SlotRange, Work, WorkAgrees, change_server, desc_of, first_progress, owed_of, rest_of}
 use Rattle.disk_model.specs.ServerPutting.{server_kind}
 use Rattle.disk_model.specs.ServerRule.{Fetches, Serves, server_rule}
 use Rattle.channel_laws.proofs.Apart.{none_is_some, some_same}

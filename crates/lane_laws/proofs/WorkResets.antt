@@ -8,7 +8,9 @@ use Rattle.dring.specs.declared.peer.RingFault.TheVariants as refused
 use Rattle.dring.specs.Reaching.{RefusesFetch}
 use Rattle.channel_laws.specs.Vocabulary.{A, B, Cause, End, Reset}
 use Rattle.vio_tag.specs.declared.cause.Cause.TheVariants as the_cause
-use Rattle.lane_laws.specs.Vocabulary.{ClientFailed, ClientFails, ClientMay, DiskEvent, DiskLog, EndFails, EndOnWire, Ends, FetchFailed, FetchFails, InRange, InServer, LaneState, LaneStep, MayFetch, OnWire, OwnReset, Progress, Reach, ResetOf, ServerCounts, ServerFails, ServerSession, WireStep, Work, WorkFails, WorkResetAt, cause_of, copy_number, fetch_fault, reach, slot_at, slot_fetched}
+use Rattle.lane_laws.specs.Vocabulary.{ClientFailed, ClientFails, ClientMay, DiskEvent, DiskLog, EndFails, EndOnWire, Ends, FetchFailed, FetchFails, InRange, InServer, LaneState, LaneStep}
+use Rattle.lane_laws.specs.Vocabulary.{MayFetch, OnWire, OwnReset, Progress, Reach, ResetOf, ServerCounts, ServerFails, ServerSession, WireStep, Work, WorkFails, WorkResetAt, cause_of, copy_number}
+use Rattle.lane_laws.specs.Vocabulary.{fetch_fault, reach, slot_at, slot_fetched}
 use Rattle.disk_model.specs.ClientRule as client
 use Rattle.disk_model.specs.ServerRule as server
 use Rattle.lane_laws.proofs.Ruling.{client_may}
