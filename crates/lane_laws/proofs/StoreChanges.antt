@@ -30,7 +30,7 @@ use Rattle.lane_laws.proofs.Changes.{Fetched, Flushed, ImageChange, IsChange, Ki
 use Rattle.lane_laws.proofs.PlacedViews.{live}
 use Rattle.lane_laws.proofs.ServerChanges.{ServesNow, server_view, serves_now}
 use Rattle.lane_laws.proofs.Standing.{Before}
-use Rattle.lane_laws.proofs.WireChanges.{Changed}
+use Rattle.lane_laws.proofs.WireChanges.{Changed, none_works}
 use Rattle.lane_laws.proofs.WorkSteps.{unit_blocks}
 
 -- A UNIT THAT IS STORED, with what the store gave in the step
@@ -264,7 +264,3 @@ fetched_changes s l slot bytes t before facts step =
       still = λ image other same_image. same_image;
       content = λ content. refl;
     }
-  where
-    none_works : (x : ChannelState) → work_while x None ≡ None
-    none_works Up = refl
-    none_works _ = refl
