@@ -1,4 +1,4 @@
--- The words that most proofs on a channel cite, from the crates beneath it and its own laws, in one place.
+-- The words that most proofs on a channel cite, in one place: each line says where its words are defined.
 pub use Rattle.channel_laws.specs.EndCore.{Begins, EndCore, EndMove, Fails, Hears, Renews, Says, Stays, Waits, fresh_end, holds}
 pub use Rattle.channel_laws.specs.EndStep.{DecodedFails, EndAnew, EndBegins, EndFails, EndHears, EndRenews, EndSays, EndStays, EndStep, EndWaits, HandshakeTakes, HearsDecoded, HearsWhole, Holding, Holds, HoldsOn, HoldsOwed, HoldsOwn, IsOfSession, IsOwn, KeepsOwn, LinkFails, MayTake, WholeFails, kind_of, opened_by, risen_at}
 pub use Rattle.channel_laws.specs.LaneCore.{AnswerStands, Beside, Closes, CoreEvent, CoreFits, CoreStands, CoreStep, LaneCore, OfferFits, OnChannel, WireStands, at_end, end_of, fresh_core, move_of, reset_move, role_of, transcript_after, transcript_behind, turns_after, wire_after}

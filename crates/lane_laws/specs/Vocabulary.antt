@@ -1,4 +1,4 @@
--- The words that most proofs on a disk's lane cite, from its model and its own laws, in one place.
+-- The words that most proofs on a disk's lane cite, in one place: each line says where its words are defined.
 pub use Rattle.cookie_copy.specs.Reach.{Reach, copy_number}
 pub use Rattle.disk_model.specs.ClientPutting.{announced, announcement, announcing, client_holds, client_kind, client_opens, client_put, holding, is_announcing, opened_if, session_behind}
 pub use Rattle.disk_model.specs.ClientState.{ClientSession, ClientState, ever_published_count, first_id, is_finished, is_nothing, joined_client, opened_session, slot_in}
