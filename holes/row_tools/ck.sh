@@ -1,0 +1,1 @@
+cd /tmp/h/view/crates/lane_laws; /tmp/h/hrt check --allow-holes 2>&1 | grep -v ": proved\|^checked\|^so far\|^statements\|^fn \|^library\|^logic\|^rt: chose\|: note: \|^note: only the first\|rt: rt check --fix\|declarations\? that depend\|^rt: rt" ; find proofs -name '*.antt' | xargs cat | wc -l
