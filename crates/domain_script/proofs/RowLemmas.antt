@@ -8,7 +8,7 @@ use Rattle.script_words.specs.vdisk_msg.declared.request.Request.TheVariants.{Re
 use Rattle.domain_script.specs.declared.event.Event.{Event}
 use Rattle.script_words.specs.declared.spelled.Piece.{Piece}
 use Rattle.domain_script.specs.declared.event.EndName.{EndName}
-use Rattle.domain_script.specs.declared.event.Event.TheVariants.{Blank, Issue, Poke, Send}
+use Rattle.domain_script.specs.declared.event.Event.TheVariants.{Blank, Inject, Issue, Poke, Send}
 use Rattle.script_words.specs.declared.numbers.Bounds.TheVariants as numbers
 use Rattle.domain_script.specs.declared.fields.EndKind.TheVariants as ends
 use Rattle.domain_script.specs.declared.fields.Field.{Field}
@@ -21,7 +21,8 @@ use Rattle.domain_script.specs.Printed.{CanPrint, RowCanStand}
 use Rattle.domain_script.specs.Rows.{row_among, row_named, row_of, rows}
 use Rattle.domain_script.specs.Spells.{FitsRow, IsOfKind, NamesEnd, NamesLane, SpellsFields, SpellsFound, SpellsRow}
 use Rattle.domain_script.specs.Values.{Said, ValuesOf, made, said}
-use Rattle.script_words.specs.Words.{SpellsNumber, SpellsFill, SpellsPiece}
+use Rattle.script_words.specs.Limits.{packet_bytes}
+use Rattle.script_words.specs.Words.{SpellsExactly, SpellsNumber, SpellsFill, SpellsPiece}
 use Rattle.domain_script.proofs.FieldValues.{SpellsNothing, as_many, fit_fields, nothing_at, one_values, stand_in_fields}
 
 -- AN EVENT AND WHAT IT IS MADE OF, there and back
@@ -100,6 +101,17 @@ if_poked None line names word place digits end at fill is named n filled = tt
 if_poked (Some done) line names word place digits end at fill is named n filled = record {
   values = (end, (at, (fill, tt)));
   spelled = rw is (named, ((n, tt), (filled, tt)));
+  makes = refl;
+}
+
+-- and that of a packet
+pub if_injected : (found : Option Unit) (line : List (List ℕ)) (names : NamesState) (word digits : List ℕ) (end : EndName) (packet : List ℕ)
+    → line ≡ word ∷ digits ∷ [] → NamesEnd names word end × IsOfKind ends.Any end
+    → OnSome found (SpellsExactly packet_bytes digits packet) → OnSome found (SpellsRow row.Inject line names (Inject end packet))
+if_injected None line names word digits end packet is named filled = tt
+if_injected (Some done) line names word digits end packet is named filled = record {
+  values = (end, (packet, tt));
+  spelled = rw is (named, (filled, tt));
   makes = refl;
 }
 

@@ -8,7 +8,7 @@ use crate::fields::EndKind;
 use crate::lane_words::declared_end;
 use crate::{Event, Names};
 use script_words::numbers::number;
-use script_words::spellings::{NO_FILL, packet, put_fill};
+use script_words::spellings::{NO_FILL, NO_PACKET, put_fill, put_packet};
 use script_words::words::{three_words, two_words};
 
 /// `inject END HEX`
@@ -17,10 +17,14 @@ pub fn inject_row(fields: &[u8], names: &Names, event: &mut Event) -> Option<()>
     ensures none { IfNone result ((event : event_data) → SpellsRow row.Inject (words fields.now) names.now event → ⊥) }
 {
     let (word, digits) = two_words(fields)?;
-    let end = declared_end(word, names, EndKind::Any)?;
-    let packet = packet(digits)?;
-    *event = Event::Inject { end, packet };
-    Some(())
+    *event = Event::Inject {
+        end: declared_end(word, names, EndKind::Any)?,
+        packet: NO_PACKET,
+    };
+    match event {
+        Event::Inject { packet, .. } => put_packet(digits, packet),
+        _ => unreachable!(),
+    }
 }
 
 /// `poke END AT HEX`, the end being one with memory of its own.

@@ -27,7 +27,10 @@ pub const NO_FILL: Fill = Fill {
     bytes: [0; MOST_FILL],
 };
 
-/// The piece of a frame before its word is put into it, likewise.
+/// A packet before its word is put into it.
+pub const NO_PACKET: [u8; PACKET] = [0; PACKET];
+
+/// The piece of a frame before its word is put into it: no bytes, and all zeros after them.
 pub const NO_PIECE: Piece = Piece {
     len: 0,
     bytes: [0; MOST_PIECE],
@@ -148,20 +151,19 @@ fn put_front(word: &[u8], most: usize, room: &mut [u8]) -> Option<usize>
     Some(len)
 }
 
-/// The packet whose 64 bytes a word spells in hexadecimal: the word is their own lower-case text.
-pub fn packet(word: &[u8]) -> Option<[u8; 64]>
-    ensures some { IfSome result (SpellsExactly 64 word.now) }
+/// Puts the 64 bytes that a word spells in hexadecimal into a packet: the word is their own lower-case text. None where
+/// it spells none; what the packet then is, is not specified.
+pub fn put_packet(word: &[u8], packet: &mut [u8; 64]) -> Option<()>
+    ensures some { OnSome result (SpellsExactly 64 word.now packet.new) }
     ensures none { IfNone result ((packet : List ℕ) → SpellsExactly 64 word.now packet → ⊥) }
 {
-    let mut bytes = [0; PACKET];
-    if decode_lower(word, &mut bytes) {
-        Some(bytes)
-    } else {
-        None
+    if !decode_lower(word, packet) {
+        return None;
     }
+    Some(())
 }
 
-/// The address whose six bytes a word spells, likewise.
+/// The address whose six bytes a word spells in hexadecimal: the word is their own lower-case text.
 pub fn address(word: &[u8]) -> Option<[u8; 6]>
     ensures some { IfSome result (SpellsExactly 6 word.now) }
     ensures none { IfNone result ((address : List ℕ) → SpellsExactly 6 word.now address → ⊥) }

@@ -1,17 +1,18 @@
-use Rattle.std.proofs.Common.{arith, refl}
+use Rattle.std.proofs.Common.{◌≡◌, arith}
+use Rattle.std.proofs.lemmas.Grind.{common_steps}
 use Rattle.domain_script.specs.declared.rows.RowKind.TheVariants as row
 use Rattle.script_words.specs.Words.{words}
-use Rattle.domain_script.proofs.RowLemmas.{no_row_at}
+use Rattle.domain_script.proofs.RowLemmas.{if_injected, no_row_at}
 use Rattle.domain_script.proofs.forging_rows.inject_row.Goals as goal
 
-pub returns-in_err-end-clause-none : goal.returns-in_err-end-clause-none
-returns-in_err-end-clause-none c = rw c.from_residual-in_err-end.ensures
+pub returns-in_err-declared_end-clause-none : goal.returns-in_err-declared_end-clause-none
+returns-in_err-declared_end-clause-none c = rw c.from_residual-in_err-declared_end.ensures
     (no_row_at 0 row.Inject (words c.args.fields.now) _ c.args.names.now c.in_ok-word.ensures (omega arith)
-    (λ end spelled. c.in_err-end.ensures.none end spelled.0 spelled.1))
+    (λ end spelled. c.in_err-declared_end.ensures.none end spelled.0 spelled.1))
 
 pub returns-clause-some : goal.returns-clause-some
-returns-clause-some c = record {
-  values = (c.in_ok-end.end, (c.in_ok-packet.packet, tt));
-  spelled = rw c.in_ok-word.ensures ((c.in_ok-end.ensures.some, c.in_ok-end.ensures.kind), (c.in_ok-packet.ensures.some, tt));
-  makes = refl;
-}
+returns-clause-some c =
+    let end : c.in-Inject.end ≡ c.in_ok-declared_end.field-0 = grind (arith, common_steps) in
+    rw end
+    (if_injected c.put_packet.result (words c.args.fields.now) c.args.names.now _ _ c.in_ok-declared_end.field-0 c.put_packet.new.packet
+    c.in_ok-word.ensures (c.in_ok-declared_end.ensures.some, c.in_ok-declared_end.ensures.kind) c.put_packet.ensures.some)
