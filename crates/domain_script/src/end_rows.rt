@@ -6,7 +6,7 @@ ghost use Rattle.script_words.specs.Words.{words};
 
 use crate::fields::{EndKind, TURNS};
 use crate::lane_words::{declared_end, one_end, one_lane};
-use crate::{Event, Names};
+use crate::{EndName, Event, Names};
 use script_words::numbers::number_within;
 use script_words::words::{one_word, two_words};
 
@@ -37,7 +37,8 @@ pub fn reset_row(fields: &[u8], names: &Names, event: &mut Event) -> Option<()>
     ensures some { OnSome result (SpellsRow row.Reset (words fields.now) names.now event.new) }
     ensures none { IfNone result ((event : event_data) → SpellsRow row.Reset (words fields.now) names.now event → ⊥) }
 {
-    let end = one_end(fields, names, EndKind::Any)?;
+    let EndName { lane, side } = one_end(fields, names, EndKind::Any)?;
+    let end = EndName { lane, side };
     *event = Event::Reset { end };
     Some(())
 }
@@ -47,7 +48,8 @@ pub fn restart_row(fields: &[u8], names: &Names, event: &mut Event) -> Option<()
     ensures some { OnSome result (SpellsRow row.Restart (words fields.now) names.now event.new) }
     ensures none { IfNone result ((event : event_data) → SpellsRow row.Restart (words fields.now) names.now event → ⊥) }
 {
-    let end = one_end(fields, names, EndKind::DiskServer)?;
+    let EndName { lane, side } = one_end(fields, names, EndKind::DiskServer)?;
+    let end = EndName { lane, side };
     *event = Event::Restart { end };
     Some(())
 }
@@ -57,7 +59,8 @@ pub fn lose_row(fields: &[u8], names: &Names, event: &mut Event) -> Option<()>
     ensures some { OnSome result (SpellsRow row.Lose (words fields.now) names.now event.new) }
     ensures none { IfNone result ((event : event_data) → SpellsRow row.Lose (words fields.now) names.now event → ⊥) }
 {
-    let end = one_end(fields, names, EndKind::Any)?;
+    let EndName { lane, side } = one_end(fields, names, EndKind::Any)?;
+    let end = EndName { lane, side };
     *event = Event::Lose { end };
     Some(())
 }

@@ -6,7 +6,7 @@ ghost use Rattle.script_words.specs.Words.{words};
 
 use crate::fields::EndKind;
 use crate::lane_words::declared_end;
-use crate::{Event, Names};
+use crate::{EndName, Event, Names};
 use script_words::numbers::number;
 use script_words::spellings::{NO_FILL, NO_PACKET, put_fill, put_packet};
 use script_words::words::{three_words, two_words};
@@ -17,8 +17,9 @@ pub fn inject_row(fields: &[u8], names: &Names, event: &mut Event) -> Option<()>
     ensures none { IfNone result ((event : event_data) → SpellsRow row.Inject (words fields.now) names.now event → ⊥) }
 {
     let (word, digits) = two_words(fields)?;
+    let EndName { lane, side } = declared_end(word, names, EndKind::Any)?;
     *event = Event::Inject {
-        end: declared_end(word, names, EndKind::Any)?,
+        end: EndName { lane, side },
         packet: NO_PACKET,
     };
     match event {
