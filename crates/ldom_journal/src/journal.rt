@@ -321,8 +321,8 @@ impl Journal {
         self.frames += 1;
     }
 
-    /// As many requests are pending as the ring holds.
-    fn push_full(&mut self, who: Who)
+    /// As many requests or frames are pending as the ring holds, or as many packets wait for an end as its queue holds.
+    pub fn push_full(&mut self, who: Who)
         requires { 0 < self.old.room }
         ensures { PutsEntry self.old (the_entry.Full who) self.new }
     {
@@ -349,7 +349,7 @@ impl Journal {
     }
 
     /// What a line asked for and changes nothing.
-    fn push_calm(&mut self, who: Who)
+    pub fn push_calm(&mut self, who: Who)
         requires { 0 < self.old.room }
         ensures { PutsEntry self.old (the_entry.Calm who) self.new }
     {

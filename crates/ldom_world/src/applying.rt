@@ -45,7 +45,7 @@ impl<D: Store> World<D> {
             Event::Lose { end } => self.call_on(end.lane, LaneCall::Lose(end.side), journal),
             Event::Tick { lane } => self.call_on(*lane, LaneCall::Tick, journal),
             Event::Inject { end, packet } => {
-                self.call_on(end.lane, LaneCall::Inject(end.side, *packet), journal)
+                self.call_on(end.lane, LaneCall::Inject(end.side, packet), journal)
             }
             Event::Poke { end, at, bytes } => {
                 self.poke_on(*end, *at, fill_bytes(bytes), journal)

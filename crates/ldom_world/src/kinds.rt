@@ -91,7 +91,7 @@ impl<D: Store> World<D> {
     pub(crate) fn call_on(
         &mut self,
         lane: Lane,
-        call: LaneCall,
+        call: LaneCall<'_>,
         journal: &mut Journal,
     ) -> Result<(), NoMemory>
         requires lane { IsLaneOf self.old lane }
@@ -166,10 +166,10 @@ impl<D: Store> World<D> {
     }
 
     /// Calls the lane of the disk with this number.
-    fn answer_call(
+    pub(crate) fn answer_call(
         &mut self,
         disk: u32,
-        call: LaneCall,
+        call: LaneCall<'_>,
         journal: &mut Journal,
     ) -> Result<(), NoMemory>
         requires disk { disk < length self.old.first.lanes }
@@ -237,7 +237,7 @@ impl<D: Store> World<D> {
     fn answer_port(
         &mut self,
         port: u32,
-        call: LaneCall,
+        call: LaneCall<'_>,
         journal: &mut Journal,
     ) -> Result<(), NoMemory>
         requires port { port < length self.old.second }

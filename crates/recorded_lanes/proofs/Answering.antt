@@ -279,6 +279,16 @@ module _ (k : ℕ) (s t : LaneState) (x : Entry) where
     says = ap (λ (z : Entry). world_event (Asked k request) z) is ∙ refused_says k request why;
   }
 
+-- AN ANSWER IS RECORDED, whose entry was put last
+pub recorded : (k : ℕ) (s t : LaneState) (x : Entry) (old new : JournalState) (line : Line) (Answers : DiskEvent → Type 0)
+    → LaneAnswers line k Answers s x t → new.entries ≡ old.entries ++ x ∷ [] → new.room + 1 ≡ old.room
+    → RecordsAnswer line k Answers s old new t
+recorded k s t x old new line Answers answer entries room = record {
+  entry = x;
+  puts = record { entries = entries; room = room };
+  answer = answer;
+}
+
 -- A REQUEST'S ANSWER IS RECORDED: one that was accepted, with a copy of it
 module _ (k : ℕ) (s t : LaneState) (request : Request) (old new : JournalState) where
   pub accepted_put : (kept : Request) (id : ℕ) → kept ≡ request → LaneStep s (Asks (admitted (Ok id) request)) t

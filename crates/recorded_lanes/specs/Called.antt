@@ -24,7 +24,7 @@ call_of lane.Stop = script.Stops
 call_of lane.Start = script.Starts
 call_of (lane.Lose side) = script.Loses (end_of side)
 call_of lane.Tick = script.Ticks
-call_of (lane.Inject side packet) = script.Injects (end_of side) packet
+call_of (lane.Inject side packet) = script.Injects (end_of side) packet.now
 
 -- the entry of a frame that wasn't held
 abbrev pub unsent_entry : ℕ → SendFault → Entry

@@ -8,7 +8,7 @@ ghost use Rattle.ldom_report.specs.Report.{accepted_count};
 ghost use Rattle.ldom_entries.specs.declared.entry.Entry.TheVariants as the_entry;
 ghost use Rattle.ldom_entries.specs.declared.entry.Who.TheVariants as the_who;
 ghost use Rattle.recorded_lanes.specs.Called.{call_of};
-ghost use Rattle.recorded_lanes.specs.OneLane.{LaneAnswers};
+ghost use Rattle.recorded_lanes.specs.OneLane.{LaneAnswers, RecordsAnswer};
 ghost use Rattle.world_parts.specs.domain_laws.Lines as script;
 ghost use Rattle.world_parts.specs.domain_laws.Lines.{AnswersCall, Calls, Injects, Loses, Resets, Restarts, Starts, Stops, Ticks};
 ghost use Rattle.recorded_lanes.specs.Steps.{MakesAnswer};
@@ -26,7 +26,7 @@ use vio_tag::Cause;
 
 /// A call of a lane.
 #[derive(Clone, Copy)]
-pub enum LaneCall {
+pub enum LaneCall<'a> {
     /// Resets an end, but a stopped server's.
     Reset(Side),
 
@@ -46,7 +46,7 @@ pub enum LaneCall {
     Tick,
 
     /// Makes a packet wait for an end as if its peer had put it.
-    Inject(Side, [u8; 64]),
+    Inject(Side, &'a [u8; 64]),
 }
 
 #[tactic(auto, using(crate::proofs::Opened::answered))]
@@ -55,7 +55,7 @@ impl<D: Store> Disks<D> {
     pub fn answer_call(
         &mut self,
         disk: u32,
-        call: LaneCall,
+        call: LaneCall<'_>,
         journal: &mut Journal,
     ) -> Result<(), NoMemory>
         requires disk { disk < length self.old.lanes }
@@ -67,26 +67,26 @@ impl<D: Store> Disks<D> {
         ensures agrees { accepted_count journal.new.entries ≡ issued_on self.new.lanes }
     {
         journal.reserve(1)?;
-        let entry = call_lane(&mut self.lanes[disk as usize], disk, call);
-        journal.push(entry);
+        call_lane(&mut self.lanes[disk as usize], disk, call, journal);
         Ok(())
     }
 }
 
-/// Calls a lane, and gives the entry of what came of it.
-fn call_lane(lane: &mut DiskLane, disk: u32, call: LaneCall) -> Entry
-    ensures answers { LaneAnswers (Calls (script.DiskLane disk) (call_of call)) disk (AnswersCall (call_of call)) lane.old result
-        lane.new }
+/// Calls a lane, and puts the entry of what came of it.
+fn call_lane(lane: &mut DiskLane, disk: u32, call: LaneCall<'_>, journal: &mut Journal)
+    requires room { 0 < journal.old.room }
+    ensures answers { RecordsAnswer (Calls (script.DiskLane disk) (call_of call)) disk (AnswersCall (call_of call)) lane.old
+        journal.old journal.new lane.new }
     ensures shape { lane.new.shape ≡ lane.old.shape }
 {
     match call {
-        LaneCall::Reset(side) => reset_end(lane, disk, side),
-        LaneCall::Restart => restart_server(lane, disk),
-        LaneCall::Stop => stop_server(lane, disk),
-        LaneCall::Start => start_server(lane, disk),
-        LaneCall::Lose(side) => lose_packet(lane, disk, side),
-        LaneCall::Tick => tick_client(lane, disk),
-        LaneCall::Inject(side, packet) => inject_packet(lane, disk, side, packet),
+        LaneCall::Reset(side) => journal.push(reset_end(lane, disk, side)),
+        LaneCall::Restart => journal.push(restart_server(lane, disk)),
+        LaneCall::Stop => journal.push(stop_server(lane, disk)),
+        LaneCall::Start => journal.push(start_server(lane, disk)),
+        LaneCall::Lose(side) => journal.push(lose_packet(lane, disk, side)),
+        LaneCall::Tick => journal.push(tick_client(lane, disk)),
+        LaneCall::Inject(side, packet) => inject_packet(lane, disk, side, packet, journal),
     }
 }
 
@@ -161,17 +161,18 @@ fn tick_client(lane: &mut DiskLane, disk: u32) -> Entry
     }
 }
 
-/// Forges a packet, and gives the entry: there is no room for it, or the end isn't up, or it waits.
-fn inject_packet(lane: &mut DiskLane, disk: u32, side: Side, packet: [u8; 64]) -> Entry
-    ensures answers { LaneAnswers (Calls (script.DiskLane disk) (Injects (end_of side) packet)) disk
-        (AnswersCall (Injects (end_of side) packet)) lane.old result lane.new }
+/// Forges a packet, and puts the entry: there is no room for it, or the end isn't up, or it waits.
+fn inject_packet(lane: &mut DiskLane, disk: u32, side: Side, packet: &[u8; 64], journal: &mut Journal)
+    requires room { 0 < journal.old.room }
+    ensures answers { RecordsAnswer (Calls (script.DiskLane disk) (Injects (end_of side) packet.now)) disk
+        (AnswersCall (Injects (end_of side) packet.now)) lane.old journal.old journal.new lane.new }
     ensures shape { lane.new.shape ≡ lane.old.shape }
 {
     let end = disk_end(disk, side);
-    match lane.inject(end_of(side), &packet) {
-        Ok(()) => Entry::Injected { end, packet },
-        Err(PutFault::NotUp) => Entry::Calm { who: Who::End(end) },
-        Err(PutFault::Full) => Entry::Full { who: Who::End(end) },
+    match lane.inject(end_of(side), packet) {
+        Ok(()) => journal.push_injected(end, packet),
+        Err(PutFault::NotUp) => journal.push_calm(Who::End(end)),
+        Err(PutFault::Full) => journal.push_full(Who::End(end)),
     }
 }
 

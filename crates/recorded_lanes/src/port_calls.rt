@@ -71,7 +71,7 @@ impl PortLanes {
     pub fn answer_call(
         &mut self,
         port: u32,
-        call: LaneCall,
+        call: LaneCall<'_>,
         journal: &mut Journal,
     ) -> Result<(), NoMemory>
         requires port { port < length self.old }
@@ -85,8 +85,7 @@ impl PortLanes {
         ensures accepted { accepted_count journal.new.entries ≡ accepted_count journal.old.entries }
     {
         journal.reserve(1)?;
-        let entry = call_port(&mut self.lanes, port, call);
-        journal.push(entry);
+        call_port(&mut self.lanes, port, call, journal);
         Ok(())
     }
 
@@ -162,18 +161,19 @@ fn join_group(lanes: &mut Ports, port: u32, address: [u8; 6]) -> Entry
     }
 }
 
-/// Calls a port, and gives the entry of what came of it.
-fn call_port(lanes: &mut Ports, port: u32, call: LaneCall) -> Entry
+/// Calls a port, and puts the entry of what came of it.
+fn call_port(lanes: &mut Ports, port: u32, call: LaneCall<'_>, journal: &mut Journal)
     requires port { port < length lanes.old }
     requires call { IsPortCall call }
-    ensures { PortAnswers (Calls (script.PortLane port) (call_of call)) port (AnswersPortCall (call_of call))
-        lanes.old result lanes.new }
+    requires ready { 0 < journal.old.room }
+    ensures { RecordsPortAnswer (Calls (script.PortLane port) (call_of call)) port (AnswersPortCall (call_of call))
+        lanes.old journal.old journal.new lanes.new }
 {
     match call {
-        LaneCall::Reset(side) => reset_end(lanes, port, side),
-        LaneCall::Lose(side) => lose_packet(lanes, port, side),
-        LaneCall::Tick => tick_guest(lanes, port),
-        LaneCall::Inject(side, packet) => inject_packet(lanes, port, side, packet),
+        LaneCall::Reset(side) => journal.push(reset_end(lanes, port, side)),
+        LaneCall::Lose(side) => journal.push(lose_packet(lanes, port, side)),
+        LaneCall::Tick => journal.push(tick_guest(lanes, port)),
+        LaneCall::Inject(side, packet) => inject_packet(lanes, port, side, packet, journal),
         LaneCall::Restart | LaneCall::Stop | LaneCall::Start => unreachable!(),
     }
 }
@@ -225,17 +225,18 @@ fn tick_guest(lanes: &mut Ports, port: u32) -> Entry
     }
 }
 
-/// Forges a packet, and gives the entry: there is no room for it, or the end isn't up, or it waits.
-fn inject_packet(lanes: &mut Ports, port: u32, side: Side, packet: [u8; 64]) -> Entry
+/// Forges a packet, and puts the entry: there is no room for it, or the end isn't up, or it waits.
+fn inject_packet(lanes: &mut Ports, port: u32, side: Side, packet: &[u8; 64], journal: &mut Journal)
     requires port { port < length lanes.old }
-    ensures { PortAnswers (Calls (script.PortLane port) (script.Injects (end_of side) packet)) port
-        (AnswersPortCall (script.Injects (end_of side) packet)) lanes.old result lanes.new }
+    requires ready { 0 < journal.old.room }
+    ensures { RecordsPortAnswer (Calls (script.PortLane port) (script.Injects (end_of side) packet.now)) port
+        (AnswersPortCall (script.Injects (end_of side) packet.now)) lanes.old journal.old journal.new lanes.new }
 {
     let end = port_end(port, side);
-    match lanes.inject(port, end_of(side), &packet) {
-        Ok(()) => Entry::Injected { end, packet },
-        Err(PutFault::NotUp) => Entry::Calm { who: Who::End(end) },
-        Err(PutFault::Full) => Entry::Full { who: Who::End(end) },
+    match lanes.inject(port, end_of(side), packet) {
+        Ok(()) => journal.push_injected(end, packet),
+        Err(PutFault::NotUp) => journal.push_calm(Who::End(end)),
+        Err(PutFault::Full) => journal.push_full(Who::End(end)),
     }
 }
 
