@@ -191,81 +191,63 @@ impl PortSession {
     }
 
     /// One more frame is published.
-    pub fn published_one(self) -> PortSession
-        requires { self.published < 2 ^ 64 - 1 }
-        ensures { result ≡ published self }
+    pub fn note_published(&mut self)
+        requires { self.old.published < 2 ^ 64 - 1 }
+        ensures { self.new ≡ published self.old }
     {
-        PortSession {
-            published: self.published + 1,
-            ..self
-        }
+        self.published += 1;
     }
 
     /// An INFO was formed.
-    pub fn announced(self) -> PortSession
-        requires { self.infos < 2 ^ 64 - 1 }
-        ensures { result ≡ record self { infos = self.infos + 1; asking = true } }
+    pub fn note_announced(&mut self)
+        requires { self.old.infos < 2 ^ 64 - 1 }
+        ensures { self.new ≡ record self.old { infos = self.old.infos + 1; asking = true } }
     {
-        PortSession {
-            infos: self.infos + 1,
-            asking: true,
-            ..self
-        }
+        self.infos += 1;
+        self.asking = true;
     }
 
     /// An MCAST_INFO was formed.
-    pub fn told(self) -> PortSession
-        ensures { result ≡ record self { untold = false; telling = true } }
+    pub fn note_told(&mut self)
+        ensures { self.new ≡ record self.old { untold = false; telling = true } }
     {
-        PortSession {
-            untold: false,
-            telling: true,
-            ..self
-        }
+        self.untold = false;
+        self.telling = true;
     }
 
     /// The answer to an MCAST_INFO was formed.
-    pub fn replied(self) -> PortSession
-        ensures { result ≡ record self { reply = None } }
+    pub fn note_replied(&mut self)
+        ensures { self.new ≡ record self.old { reply = None } }
     {
-        PortSession {
-            reply: None,
-            ..self
-        }
+        self.reply = None;
     }
 
     /// The frame of the next slot of the peer's ring, of so many slots, was taken.
-    pub fn taken(self, activity: RingActivity, slots: u32) -> PortSession
+    pub fn note_taken(&mut self, activity: RingActivity, slots: u32)
         requires slots { slots ≤ 64 }
-        requires slot { self.place < slots }
-        ensures { result ≡ record self {
-          place = (self.place + 1) % slots;
-          active = Some (record activity { last = Some self.place });
+        requires slot { self.old.place < slots }
+        ensures { self.new ≡ record self.old {
+          place = (self.old.place + 1) % slots;
+          active = Some (record activity { last = Some self.old.place });
         } }
     {
-        PortSession {
-            place: (self.place + 1) % slots,
-            active: Some(RingActivity {
-                last: Some(self.place),
-                ..activity
-            }),
-            ..self
-        }
+        self.active = Some(RingActivity {
+            last: Some(self.place),
+            ..activity
+        });
+        self.place = (self.place + 1) % slots;
     }
 
     /// The peer's ring is active from this INFO on.
-    pub fn activated(self, seq: u64, start: u32) -> PortSession
-        ensures { result ≡ active self seq start }
+    pub fn note_activated(&mut self, seq: u64, start: u32)
+        ensures { self.new ≡ active self.old seq start }
     {
-        PortSession {
-            seq: self.seq.wrapping_add(1),
-            active: Some(RingActivity {
-                seq,
-                start,
-                last: None,
-            }),
-            ..self
-        }
+        self.seq = self.seq.wrapping_add(1);
+        self.active = Some(RingActivity {
+            seq,
+            start,
+            last: None,
+        });
     }
 
     /// Whether so many more frames may be acknowledged: all of them are published.
@@ -277,54 +259,39 @@ impl PortSession {
     }
 
     /// So many more frames are acknowledged, and no INFO is unanswered.
-    pub fn acknowledged(self, count: u32) -> PortSession
-        requires { self.seen + count < 2 ^ 64 }
-        ensures { result ≡ record self { seen = self.seen + count; asking = false } }
+    pub fn note_acknowledged(&mut self, count: u32)
+        requires { self.old.seen + count < 2 ^ 64 }
+        ensures { self.new ≡ record self.old { seen = self.old.seen + count; asking = false } }
     {
-        PortSession {
-            seen: self.seen + count as u64,
-            asking: false,
-            ..self
-        }
+        self.seen += count as u64;
+        self.asking = false;
     }
 
     /// The answer to an MCAST_INFO is owed.
-    pub fn replying(self, reply: MembershipReply) -> PortSession
-        ensures { result ≡ replying reply self }
+    pub fn note_groups(&mut self, reply: MembershipReply)
+        ensures { self.new ≡ replying reply self.old }
     {
-        PortSession {
-            reply: Some(reply),
-            ..self
-        }
+        self.reply = Some(reply);
     }
 
     /// The guest's MCAST_INFO was answered.
-    pub fn agreed_to(self) -> PortSession
-        ensures { result ≡ record self { telling = false } }
+    pub fn note_agreed(&mut self)
+        ensures { self.new ≡ record self.old { telling = false } }
     {
-        PortSession {
-            telling: false,
-            ..self
-        }
+        self.telling = false;
     }
 
     /// The answer to the peer's INFO was formed: its ring isn't active.
-    pub fn answered(self) -> PortSession
-        ensures { result ≡ record self { active = None } }
+    pub fn note_answered(&mut self)
+        ensures { self.new ≡ record self.old { active = None } }
     {
-        PortSession {
-            active: None,
-            ..self
-        }
+        self.active = None;
     }
 
     /// The list of groups isn't told as it is.
-    pub fn to_be_told(self) -> PortSession
-        ensures { result ≡ record self { untold = true } }
+    pub fn note_untold(&mut self)
+        ensures { self.new ≡ record self.old { untold = true } }
     {
-        PortSession {
-            untold: true,
-            ..self
-        }
+        self.untold = true;
     }
 }

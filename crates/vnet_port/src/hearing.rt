@@ -7,7 +7,7 @@ ghost use Rattle.ldc_link.specs.Putting.{owes_control};
 ghost use Rattle.vio_handshake.specs.Rules.{handshake_take};
 ghost use Rattle.vio_handshake.specs.declared.handshake.Phase.TheVariants.{Down, Open};
 ghost use Rattle.port_model.specs.Groups.{groups_after};
-ghost use Rattle.port_model.specs.NetEndState.{NetEndState};
+ghost use Rattle.port_model.specs.NetEndState.{NetEndState, NetSession};
 ghost use Rattle.port_model.specs.NetEndTaking.{refused};
 ghost use Rattle.vnet_port.specs.Hearing.{take_of};
 ghost use Rattle.port_frames.specs.Memories.{HoldsRing};
@@ -20,7 +20,7 @@ use ldc_link::{Role, TakeOut};
 use ldc_packet::Subtype;
 use ldc_queue::Channel;
 use port_frames::{first_undone, free_slots};
-use port_session::{MembershipReply, PortSession, groups_after};
+use port_session::{MembershipReply, groups_after};
 use vio_handshake::HsOut;
 use vio_tag::{Cause, Message, MsgBody, TagFault, decode};
 
@@ -28,7 +28,7 @@ use vio_tag::{Cause, Message, MsgBody, TagFault, decode};
 const NO_END: u32 = 0xffffffff;
 
 impl PortEnd {
-    ghost use Rattle.port_model.specs.FramesStand.{CountsStand};
+    ghost use Rattle.port_model.specs.FramesStand.{FramesStand};
     ghost use Rattle.vnet_port.specs.Memberships.{SetsGroups};
     ghost use Rattle.port_model.specs.NetEndRule.{Takes};
     ghost use Rattle.port_model.specs.NetEndTaking.{GoesOn, HearsWhole, by_handshake, hears_message, in_session, opens_by_take, reads, takes_ack, takes_groups, takes_info, takes_range, told};
@@ -111,47 +111,39 @@ impl PortEnd {
         ensures kept { OnErr result ((self.new ≡ self.old) × (memory.new ≡ memory.old)) }
         ensures same_length { length memory.new ≡ length memory.old }
     {
-        match self.session {
-            Some(session) => self.hear_in_session(session, message, memory),
+        match &self.session {
+            Some(_) => self.hear_in_session(message, memory),
             None => self.hear_handshake(message, memory),
         }
     }
 
     /// In session, rings and groups are the end's own, and all else is the handshake's.
-    fn hear_in_session(
-        &mut self,
-        session: PortSession,
-        message: &Message,
-        memory: &mut Memory,
-    ) -> Result<bool, Cause>
+    fn hear_in_session(&mut self, message: &Message, memory: &mut Memory) -> Result<bool, Cause>
         requires may { MayHear self.old }
-        requires open { self.old.session ≡ Some session }
+        requires open { self.old.session ≢ None }
         requires room { HoldsRing self.old.slots memory.old }
-        ensures heard { take_of result self.new memory.new ≡ hears_message (role_of self.old) self.old memory.old (Some session) message.now }
+        ensures heard { (session : NetSession) → self.old.session ≡ Some session
+            → take_of result self.new memory.new ≡ hears_message (role_of self.old) self.old memory.old (Some session) message.now }
         ensures kept { OnErr result ((self.new ≡ self.old) × (memory.new ≡ memory.old)) }
         ensures same_length { length memory.new ≡ length memory.old }
     {
-        let agreed = self.agreed();
-        if message.sid != agreed.sid {
+        let expected = self.agreed().sid;
+        if message.sid != expected {
             return Err(Cause::Sid {
-                expected: agreed.sid,
+                expected,
                 found: message.sid,
             });
         }
-        self.hear_own(session, message, memory)
+        self.hear_own(message, memory)
     }
 
     /// Rings and groups are the end's own, and all else is the handshake's.
-    fn hear_own(
-        &mut self,
-        session: PortSession,
-        message: &Message,
-        memory: &mut Memory,
-    ) -> Result<bool, Cause>
+    fn hear_own(&mut self, message: &Message, memory: &mut Memory) -> Result<bool, Cause>
         requires may { MayHear self.old }
-        requires open { self.old.session ≡ Some session }
+        requires open { self.old.session ≢ None }
         requires room { HoldsRing self.old.slots memory.old }
-        ensures heard { take_of result self.new memory.new ≡ in_session (role_of self.old) self.old session memory.old message.now message.now.subtype message.now.body }
+        ensures heard { (session : NetSession) → self.old.session ≡ Some session
+            → take_of result self.new memory.new ≡ in_session (role_of self.old) self.old session memory.old message.now message.now.subtype message.now.body }
         ensures kept { OnErr result ((self.new ≡ self.old) × (memory.new ≡ memory.old)) }
         ensures same_length { length memory.new ≡ length memory.old }
     {
@@ -166,7 +158,7 @@ impl PortEnd {
                     end,
                     ..
                 },
-            ) => self.hear_info(session, *seq, *ident, *start, *end),
+            ) => self.hear_info(*seq, *ident, *start, *end),
             (
                 _,
                 Subtype::Ack,
@@ -176,7 +168,7 @@ impl PortEnd {
                     end,
                     ..
                 },
-            ) => self.hear_ack(session, *ident, *start, *end, memory),
+            ) => self.hear_ack(*ident, *start, *end, memory),
             (_, Subtype::Nack, MsgBody::DringData { .. }) => Err(Cause::Refused),
             (
                 Role::Responder,
@@ -186,32 +178,31 @@ impl PortEnd {
                     count,
                     addresses,
                 },
-            ) => self.hear_groups(session, *set, *count, addresses),
-            (Role::Initiator, Subtype::Ack, MsgBody::Mcast { .. }) => self.hear_told(session),
-            (Role::Initiator, Subtype::Nack, MsgBody::Mcast { .. }) => refuse(&session),
+            ) => self.hear_groups(*set, *count, addresses),
+            (Role::Initiator, Subtype::Ack, MsgBody::Mcast { .. }) => self.hear_told(),
+            (Role::Initiator, Subtype::Nack, MsgBody::Mcast { .. }) => self.refuse(),
             _ => self.hear_handshake(message, memory),
         }
     }
 
     /// Groups that a guest names: the list is kept or refused, and the answer is owed.
-    fn hear_groups(
-        &mut self,
-        session: PortSession,
-        set: u8,
-        count: u8,
-        addresses: &[[u8; 6]; 7],
-    ) -> Result<bool, Cause>
-        requires { length self.old.groups ≤ 7 }
-        ensures heard { (memory : List ℕ) → take_of result self.new memory ≡ takes_groups self.old session memory set count addresses.now (groups_after set count addresses.now self.old.groups) }
+    fn hear_groups(&mut self, set: u8, count: u8, addresses: &[[u8; 6]; 7]) -> Result<bool, Cause>
+        requires open { self.old.session ≢ None }
+        requires few { length self.old.groups ≤ 7 }
+        ensures heard { (session : NetSession) (memory : List ℕ) → self.old.session ≡ Some session
+            → take_of result self.new memory ≡ takes_groups self.old session memory set count addresses.now (groups_after set count addresses.now self.old.groups) }
         ensures ok { IsOk result }
     {
         let agrees = self.set_groups(set, count, addresses);
-        self.session = Some(session.replying(MembershipReply {
+        let Some(session) = &mut self.session else {
+            unreachable!()
+        };
+        session.note_groups(MembershipReply {
             subtype: if agrees { Subtype::Ack } else { Subtype::Nack },
             set,
             count,
             addresses: *addresses,
-        }));
+        });
         Ok(false)
     }
 
@@ -230,15 +221,36 @@ impl PortEnd {
     }
 
     /// The answer to a guest's own MCAST_INFO, whose fields aren't looked at.
-    fn hear_told(&mut self, session: PortSession) -> Result<bool, Cause>
-        ensures heard { (memory : List ℕ) → take_of result self.new memory ≡ told self.old session memory }
+    fn hear_told(&mut self) -> Result<bool, Cause>
+        requires open { self.old.session ≢ None }
+        ensures heard { (session : NetSession) (memory : List ℕ) → self.old.session ≡ Some session
+            → take_of result self.new memory ≡ told self.old session memory }
         ensures kept { OnErr result (self.new ≡ self.old) }
     {
+        let Some(session) = &mut self.session else {
+            unreachable!()
+        };
         if !session.telling {
             return Err(Cause::Order);
         }
-        self.session = Some(session.agreed_to());
+        session.note_agreed();
         Ok(false)
+    }
+
+    /// A refusal of groups, where an MCAST_INFO is unanswered; else it is out of order.
+    fn refuse(&self) -> Result<bool, Cause>
+        requires { self.now.session ≢ None }
+        ensures heard { (session : NetSession) (s : NetEndState) (memory : List ℕ) → self.now.session ≡ Some session
+            → take_of result s memory ≡ refused session }
+    {
+        let Some(session) = &self.session else {
+            unreachable!()
+        };
+        if session.telling {
+            Err(Cause::Refused)
+        } else {
+            Err(Cause::Order)
+        }
     }
 
     /// A message of the handshake. The session of the switch's end may open by it.
@@ -276,16 +288,11 @@ impl PortEnd {
 
     /// The peer's ring is active: an INFO names it, has the next number, begins at the next slot, and where it names an
     /// end, that is a slot of it.
-    fn hear_info(
-        &mut self,
-        session: PortSession,
-        seq: u64,
-        ident: u64,
-        start: u32,
-        end: u32,
-    ) -> Result<bool, Cause>
+    fn hear_info(&mut self, seq: u64, ident: u64, start: u32, end: u32) -> Result<bool, Cause>
+        requires open { self.old.session ≢ None }
         requires phase { self.old.handshake.phase ≡ Open }
-        ensures heard { (memory : List ℕ) → take_of result self.new memory ≡ takes_info self.old session memory seq ident start end }
+        ensures heard { (session : NetSession) (memory : List ℕ) → self.old.session ≡ Some session
+            → take_of result self.new memory ≡ takes_info self.old session memory seq ident start end }
         ensures kept { OnErr result (self.new ≡ self.old) }
     {
         let agreed = self.agreed();
@@ -295,6 +302,9 @@ impl PortEnd {
                 found: ident,
             });
         }
+        let Some(session) = &mut self.session else {
+            unreachable!()
+        };
         if seq != session.seq {
             return Err(Cause::Seq {
                 expected: session.seq,
@@ -310,7 +320,7 @@ impl PortEnd {
         if end != NO_END && end >= agreed.peer_slots {
             return Err(Cause::RangeEnd { found: end });
         }
-        self.session = Some(session.activated(seq, start));
+        session.note_activated(seq, start);
         Ok(false)
     }
 
@@ -318,27 +328,31 @@ impl PortEnd {
     /// published.
     fn hear_ack(
         &mut self,
-        session: PortSession,
         ident: u64,
         start: u32,
         end: u32,
         memory: &mut Memory,
     ) -> Result<bool, Cause>
+        requires open { self.old.session ≢ None }
         requires phase { self.old.handshake.phase ≡ Open }
-        requires counts { CountsStand self.old session }
+        requires frames { FramesStand self.old }
         requires sized { IsSized self.old.slots self.old.next_id (length self.old.groups) }
         requires room { HoldsRing self.old.slots memory.old }
-        ensures heard { take_of result self.new memory.new ≡ takes_ack self.old session memory.old ident start end }
+        ensures heard { (session : NetSession) → self.old.session ≡ Some session
+            → take_of result self.new memory.new ≡ takes_ack self.old session memory.old ident start end }
         ensures kept { OnErr result ((self.new ≡ self.old) × (memory.new ≡ memory.old)) }
         ensures same_length { length memory.new ≡ length memory.old }
     {
-        let agreed = self.agreed();
-        if ident != agreed.ident_own {
+        let expected = self.agreed().ident_own;
+        if ident != expected {
             return Err(Cause::Ident {
-                expected: agreed.ident_own,
+                expected,
                 found: ident,
             });
         }
+        let Some(session) = &self.session else {
+            unreachable!()
+        };
         let expected = session.seen_slot(self.slots);
         if start != expected {
             return Err(Cause::Slot {
@@ -353,41 +367,30 @@ impl PortEnd {
         if !session.may_acknowledge(count) {
             return Err(Cause::RangeEnd { found: end });
         }
-        self.hear_range(session, count, memory)
+        self.hear_range(count, memory)
     }
 
     /// Each slot of a range is DONE. They become FREE, and the frames leave.
-    fn hear_range(
-        &mut self,
-        session: PortSession,
-        count: u32,
-        memory: &mut Memory,
-    ) -> Result<bool, Cause>
-        requires counts { CountsStand self.old session }
-        requires within { session.seen + count ≤ session.published }
+    fn hear_range(&mut self, count: u32, memory: &mut Memory) -> Result<bool, Cause>
+        requires open { self.old.session ≢ None }
+        requires within { (session : NetSession) → self.old.session ≡ Some session → session.seen + count ≤ session.published }
+        requires frames { FramesStand self.old }
         requires sized { IsSized self.old.slots self.old.next_id (length self.old.groups) }
         requires room { HoldsRing self.old.slots memory.old }
-        ensures heard { take_of result self.new memory.new ≡ takes_range self.old session memory.old count }
+        ensures heard { (session : NetSession) → self.old.session ≡ Some session
+            → take_of result self.new memory.new ≡ takes_range self.old session memory.old count }
         ensures kept { OnErr result ((self.new ≡ self.old) × (memory.new ≡ memory.old)) }
         ensures same_length { length memory.new ≡ length memory.old }
     {
+        let Some(session) = &mut self.session else {
+            unreachable!()
+        };
         if let Some(cause) = first_undone(memory, self.slots, session.seen, count) {
             return Err(cause);
         }
         free_slots(memory, self.slots, session.seen, count);
         self.frames.drop_front(count as usize);
-        self.session = Some(session.acknowledged(count));
+        session.note_acknowledged(count);
         Ok(false)
-    }
-}
-
-/// A refusal of groups, where an MCAST_INFO is unanswered; else it is out of order.
-fn refuse(session: &PortSession) -> Result<bool, Cause>
-    ensures heard { (s : NetEndState) (memory : List ℕ) → take_of result s memory ≡ refused session.now }
-{
-    if session.telling {
-        Err(Cause::Refused)
-    } else {
-        Err(Cause::Order)
     }
 }

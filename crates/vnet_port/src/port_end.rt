@@ -148,8 +148,8 @@ impl PortEnd {
     fn untell(&mut self)
         ensures { self.new ≡ record self.old { session = untold self.old.session } }
     {
-        if let Some(session) = self.session {
-            self.session = Some(session.to_be_told());
+        if let Some(session) = &mut self.session {
+            session.note_untold();
         }
     }
 

@@ -1,6 +1,6 @@
 // What an end says: what the handshake owes, and the messages of the session.
 
-ghost use Rattle.std.specs.Prelude.{◌≡◌, ◌<◌, ◌≤◌, length, true, false, None, Some};
+ghost use Rattle.std.specs.Prelude.{◌≡◌, ◌≤◌, length, true, None, Some};
 ghost use Rattle.ldc_link.specs.Putting.{owes};
 ghost use Rattle.ldc_queue.specs.Wire.{state_of};
 ghost use Rattle.ldc_queue.specs.declared.end.ChannelState.TheVariants.{Up};
@@ -28,14 +28,16 @@ const NO_END: u32 = 0xffffffff;
 const SET: u8 = 1;
 
 impl PortEnd {
-    ghost use Rattle.port_model.specs.FramesStand.{CountsStand};
+    ghost use Rattle.port_model.specs.FramesStand.{FramesStand};
     ghost use Rattle.port_model.specs.Groups.{membership};
     ghost use Rattle.port_model.specs.NetEndPutting.{announcement, groups_answer};
     ghost use Rattle.port_model.specs.NetEndRule.{Announces, Puts, Replies, Says, Tells};
-    ghost use Rattle.vnet_port.specs.Calls.{end_of};
+    ghost use Rattle.port_model.specs.NetEndState.{GroupsReply, NetSession};
+    ghost use Rattle.vnet_port.specs.Calls.{end_of, role_of};
     ghost use Rattle.vnet_port.specs.Putting.{CanSay, MayOpen};
-    ghost use Rattle.vnet_port.specs.Standing.{IsSized};
+    ghost use Rattle.vnet_port.specs.Standing.{IsSized, SessionStands};
     ghost use Rattle.vnet_port.specs.Stepping.{StepsAlone, rule_of};
+    ghost use Rattle.vnet_port.specs.Turns.{is_to_announce, is_to_tell, owes_reply};
 
     /// Puts the rest of what the link owes.
     pub(crate) fn put_rest(&mut self, channel: &mut Channel, memory: &mut Memory, out: &mut NetOut)
@@ -71,74 +73,71 @@ impl PortEnd {
     }
 
     /// Answers an MCAST_INFO.
-    pub(crate) fn say_reply(
-        &mut self,
-        session: PortSession,
-        reply: MembershipReply,
-        channel: &mut Channel,
-        memory: &mut Memory,
-        out: &mut NetOut,
-    )
+    pub(crate) fn say_reply(&mut self, channel: &mut Channel, memory: &mut Memory, out: &mut NetOut)
         requires up { state_of (end_of self.old) channel.old.wire ≡ Up }
-        requires rule { rule_of self.old channel.old ≡ Replies session reply }
+        requires rule { (session : NetSession) (reply : GroupsReply) → self.old.session ≡ Some session → session.reply ≡ Some reply → rule_of self.old channel.old ≡ Replies session reply }
+        requires owes { owes_reply self.old.session ≡ true }
         requires free { self.old.handshake.owed ≡ None }
-        requires open { self.old.handshake.phase ≡ Open }
+        requires stands { SessionStands self.old.slots self.old.handshake.phase self.old.session }
         requires can { CanSay self.old }
         requires room { HoldsRing self.old.slots memory.old }
         ensures step { StepsAlone self.old channel.old memory.old out.new self.new channel.new memory.new }
         ensures same_length { length memory.new ≡ length memory.old }
     {
+        let Some(session) = &mut self.session else {
+            unreachable!()
+        };
+        let Some(reply) = session.reply else {
+            unreachable!()
+        };
+        session.note_replied();
         let message = self.groups_answer(reply);
-        self.session = Some(session.replied());
         self.say(PutOf::Own, &message, channel, memory, out);
     }
 
     /// Tells the switch the whole list of groups.
-    pub(crate) fn tell(
-        &mut self,
-        session: PortSession,
-        channel: &mut Channel,
-        memory: &mut Memory,
-        out: &mut NetOut,
-    )
+    pub(crate) fn tell(&mut self, channel: &mut Channel, memory: &mut Memory, out: &mut NetOut)
         requires up { state_of (end_of self.old) channel.old.wire ≡ Up }
-        requires rule { rule_of self.old channel.old ≡ Tells session }
+        requires rule { (session : NetSession) → self.old.session ≡ Some session → rule_of self.old channel.old ≡ Tells session }
+        requires some { is_to_tell (role_of self.old) self.old.session ≡ true }
         requires free { self.old.handshake.owed ≡ None }
-        requires open { self.old.handshake.phase ≡ Open }
+        requires stands { SessionStands self.old.slots self.old.handshake.phase self.old.session }
         requires sized { IsSized self.old.slots self.old.next_id (length self.old.groups) }
         requires can { CanSay self.old }
         requires room { HoldsRing self.old.slots memory.old }
         ensures step { StepsAlone self.old channel.old memory.old out.new self.new channel.new memory.new }
         ensures same_length { length memory.new ≡ length memory.old }
     {
+        let Some(session) = &mut self.session else {
+            unreachable!()
+        };
+        session.note_told();
         let message = self.membership();
-        self.session = Some(session.told());
         self.say(PutOf::Own, &message, channel, memory, out);
     }
 
     /// Announces the frames that are published and not acknowledged.
-    pub(crate) fn announce(
-        &mut self,
-        session: PortSession,
-        channel: &mut Channel,
-        memory: &mut Memory,
-        out: &mut NetOut,
-    )
+    pub(crate) fn announce(&mut self, channel: &mut Channel, memory: &mut Memory, out: &mut NetOut)
         requires up { state_of (end_of self.old) channel.old.wire ≡ Up }
-        requires rule { rule_of self.old channel.old ≡ Announces session }
+        requires rule { (session : NetSession) → self.old.session ≡ Some session → rule_of self.old channel.old ≡ Announces session }
+        requires some { is_to_announce self.old.session ≡ true }
         requires free { self.old.handshake.owed ≡ None }
-        requires open { self.old.handshake.phase ≡ Open }
-        requires counts { CountsStand self.old session }
-        requires some { session.seen < session.published }
-        requires first { session.asking ≡ false }
+        requires stands { SessionStands self.old.slots self.old.handshake.phase self.old.session }
+        requires frames { FramesStand self.old }
         requires sized { IsSized self.old.slots self.old.next_id (length self.old.groups) }
         requires can { CanSay self.old }
         requires room { HoldsRing self.old.slots memory.old }
         ensures step { StepsAlone self.old channel.old memory.old out.new self.new channel.new memory.new }
         ensures same_length { length memory.new ≡ length memory.old }
     {
-        let message = self.announcement(&session);
-        self.session = Some(session.announced());
+        let Some(session) = &self.session else {
+            unreachable!()
+        };
+        let message = self.announcement(session);
+        let Some(session) = &mut self.session else {
+            unreachable!()
+        };
+        session.note_announced();
         self.say(PutOf::Own, &message, channel, memory, out);
     }
 

@@ -1,12 +1,11 @@
 // A step: the first rule that applies.
 
-ghost use Rattle.std.specs.Prelude.{◌≡◌, ◌≢◌, ◌<◌, ◌≤◌, length, is_some, ℕ, List, true, false, None, Some, slice_get};
+ghost use Rattle.std.specs.Prelude.{◌≡◌, ◌≢◌, ◌<◌, ◌≤◌, length, true, false, ℕ, List, None, Some};
 ghost use Rattle.cookie_copy.specs.Faults.{PagesWithin};
 ghost use Rattle.ldc_link.specs.Putting.{owes, owes_control};
 ghost use Rattle.ldc_queue.specs.Wire.{state_of};
 ghost use Rattle.ldc_queue.specs.declared.end.ChannelState.TheVariants.{Up};
 ghost use Rattle.vio_handshake.specs.State.{OwesWell};
-ghost use Rattle.vio_handshake.specs.declared.handshake.Phase.TheVariants.{Open};
 ghost use Rattle.vio_tag.specs.declared.message.Message.{Message};
 
 use crate::net_out::NetOut;
@@ -15,20 +14,20 @@ use dom_memory::Memory;
 use ldc_link::Role;
 use ldc_queue::{Channel, ChannelState};
 use map_table::MapTable;
-use port_session::PortSession;
 
 impl PortEnd {
     ghost use Rattle.port_model.specs.FramesStand.{FramesStand};
-    ghost use Rattle.port_model.specs.NetEndRule.{Idles, Joins, NetRule, Says, Tells, fetches_first, publishes, replies_first, takes_first, tells_first};
-    ghost use Rattle.port_model.specs.NetEndState.{unseen_in};
+    ghost use Rattle.port_model.specs.NetEndRule.{Joins, Says};
     ghost use Rattle.vnet_port.specs.Calls.{end_of, role_of};
     ghost use Rattle.vnet_port.specs.Putting.{CanSay};
     ghost use Rattle.vnet_port.specs.Standing.{Stands};
     ghost use Rattle.port_frames.specs.Memories.{HoldsRing};
     ghost use Rattle.vnet_port.specs.Stepping.{Steps, StepsAlone, rule_of, sees};
+    ghost use Rattle.vnet_port.specs.Turns.{has_unpublished, is_active, is_to_announce, is_to_tell, offers, owes_reply};
 
-    /// An end that isn't up joins; what the link owes is put, and what the handshake owes is said; and then what is of
-    /// the session.
+    /// An end that isn't up joins; what the link owes is put, and what the handshake owes is said. In session, an answer
+    /// to groups is said, and the peer's ring is worked. A packet that waits is taken, and then the end goes on with its
+    /// own. What it is to do is asked of the session where that stands.
     pub(crate) fn step(
         &mut self,
         channel: &mut Channel,
@@ -53,10 +52,16 @@ impl PortEnd {
         if self.handshake.owes() {
             return self.say_next(channel, memory, out);
         }
-        match self.session {
-            Some(session) => self.go_on(session, channel, memory, table, peer, out),
-            None => self.listen(channel, memory, out),
+        if self.owes_reply() {
+            return self.say_reply(channel, memory, out);
         }
+        if self.is_active() {
+            return self.fetch(channel, memory, table, peer, out);
+        }
+        if channel.waiting(self.end()) > 0 {
+            return self.take(channel, memory, out);
+        }
+        self.offer_next(channel, memory, out);
     }
 
     /// The end isn't up: it begins anew.
@@ -86,111 +91,84 @@ impl PortEnd {
         }
     }
 
-    /// No session is open: a packet that waits is taken.
-    fn listen(&mut self, channel: &mut Channel, memory: &mut Memory, out: &mut NetOut)
-        requires up { state_of (end_of self.old) channel.old.wire ≡ Up }
-        requires rule { rule_of self.old channel.old ≡ takes_first (sees self.old channel.old).first Idles }
-        requires calm { owes_control self.old.link ≡ false }
-        requires free { self.old.handshake.owed ≡ None }
-        requires stands { Stands self.old }
-        requires room { HoldsRing self.old.slots memory.old }
-        ensures step { StepsAlone self.old channel.old memory.old out.new self.new channel.new memory.new }
-        ensures same_length { length memory.new ≡ length memory.old }
-    {
-        if channel.waiting(self.end()) > 0 {
-            return self.take(channel, memory, out);
-        }
-        *out = NetOut::Idle;
-    }
-
-    /// In session: an answer to groups is said, the peer's ring is worked, a packet that waits is taken, and then the
-    /// end goes on with its own.
-    fn go_on(
-        &mut self,
-        session: PortSession,
-        channel: &mut Channel,
-        memory: &mut Memory,
-        table: &MapTable,
-        peer: &mut Memory,
-        out: &mut NetOut,
-    )
-        requires up { state_of (end_of self.old) channel.old.wire ≡ Up }
-        requires rule { rule_of self.old channel.old
-            ≡ replies_first session session.reply
-            (fetches_first session session.active
-            (takes_first (sees self.old channel.old).first
-            (tells_first (role_of self.old) session
-            (publishes session (slice_get self.old.frames (unseen_in session)))))) }
-        requires calm { owes_control self.old.link ≡ false }
-        requires free { self.old.handshake.owed ≡ None }
-        requires open { self.old.session ≡ Some session }
-        requires can { CanSay self.old }
-        requires stands { Stands self.old }
-        requires room { HoldsRing self.old.slots memory.old }
-        requires pages { PagesWithin table.now (length peer.old) }
-        ensures step { Steps self.old channel.old memory.old table.now peer.old out.new self.new channel.new memory.new peer.new }
-        ensures same_length { length memory.new ≡ length memory.old }
-        ensures same_peer { length peer.new ≡ length peer.old }
-    {
-        if let Some(reply) = session.reply {
-            return self.say_reply(session, reply, channel, memory, out);
-        }
-        if let Some(activity) = session.active {
-            return self.fetch(session, activity, channel, memory, table, peer, out);
-        }
-        if channel.waiting(self.end()) > 0 {
-            return self.take(channel, memory, out);
-        }
-        self.offer_next(session, channel, memory, out);
-    }
-
     /// A guest's groups are told; a frame that isn't published is; what is published is announced.
-    fn offer_next(
-        &mut self,
-        session: PortSession,
-        channel: &mut Channel,
-        memory: &mut Memory,
-        out: &mut NetOut,
-    )
+    fn offer_next(&mut self, channel: &mut Channel, memory: &mut Memory, out: &mut NetOut)
         requires up { state_of (end_of self.old) channel.old.wire ≡ Up }
-        requires rule { rule_of self.old channel.old
-            ≡ tells_first (role_of self.old) session (publishes session (slice_get self.old.frames (unseen_in session))) }
+        requires rule { rule_of self.old channel.old ≡ offers (role_of self.old) self.old self.old.session }
+        requires quiet { owes self.old.link ≡ false }
         requires free { self.old.handshake.owed ≡ None }
-        requires open { self.old.session ≡ Some session }
-        requires can { CanSay self.old }
         requires stands { Stands self.old }
         requires room { HoldsRing self.old.slots memory.old }
         ensures step { StepsAlone self.old channel.old memory.old out.new self.new channel.new memory.new }
         ensures same_length { length memory.new ≡ length memory.old }
     {
-        if self.tells(&session) {
-            return self.tell(session, channel, memory, out);
+        if self.is_to_tell() {
+            return self.tell(channel, memory, out);
         }
-        if self.has_unpublished(&session) {
-            return self.publish(session, memory, out);
+        if self.has_unpublished() {
+            return self.publish(memory, out);
         }
-        if session.is_to_announce() {
-            return self.announce(session, channel, memory, out);
+        if self.is_to_announce() {
+            return self.announce(channel, memory, out);
         }
         *out = NetOut::Idle;
+    }
+}
+
+// What is to be done in session. Where none is open, it is nothing.
+impl PortEnd {
+    ghost use Rattle.port_model.specs.FramesStand.{FramesStand};
+    ghost use Rattle.vnet_port.specs.Calls.{role_of};
+    ghost use Rattle.vnet_port.specs.Turns.{has_unpublished, is_active, is_to_announce, is_to_tell, owes_reply};
+
+    /// Whether an answer to groups is owed.
+    fn owes_reply(&self) -> bool
+        ensures { result ≡ owes_reply self.now.session }
+    {
+        match &self.session {
+            Some(session) => session.reply.is_some(),
+            None => false,
+        }
+    }
+
+    /// Whether the peer's ring is active.
+    fn is_active(&self) -> bool
+        ensures { result ≡ is_active self.now.session }
+    {
+        match &self.session {
+            Some(session) => session.active.is_some(),
+            None => false,
+        }
     }
 
     /// Whether a guest's groups are to be told.
-    fn tells(&self, session: &PortSession) -> bool
-        ensures tells { result ≡ true → (otherwise : NetRule) → tells_first (role_of self.now) session.now otherwise ≡ Tells session.now }
-        ensures goes_on { result ≡ false → (otherwise : NetRule) → tells_first (role_of self.now) session.now otherwise ≡ otherwise }
+    fn is_to_tell(&self) -> bool
+        ensures { result ≡ is_to_tell (role_of self.now) self.now.session }
     {
-        match self.role {
-            Role::Initiator => session.is_to_tell(),
-            Role::Responder => false,
+        match (self.role, &self.session) {
+            (Role::Initiator, Some(session)) => session.is_to_tell(),
+            _ => false,
         }
     }
 
-    /// Whether a frame that it holds isn't published in this session.
-    fn has_unpublished(&self, session: &PortSession) -> bool
-        requires { session.now.seen ≤ session.now.published }
-        ensures { result ≡ is_some (slice_get self.now.frames (unseen_in session.now)) }
+    /// Whether a frame that it holds isn't published.
+    fn has_unpublished(&self) -> bool
+        requires { FramesStand self.now }
+        ensures { result ≡ has_unpublished self.now.frames self.now.session }
     {
-        self.frames.get(session.unseen() as usize).is_some()
+        match &self.session {
+            Some(session) => self.frames.get(session.unseen() as usize).is_some(),
+            None => false,
+        }
+    }
+
+    /// Whether frames that are published are to be announced.
+    fn is_to_announce(&self) -> bool
+        ensures { result ≡ is_to_announce self.now.session }
+    {
+        match &self.session {
+            Some(session) => session.is_to_announce(),
+            None => false,
+        }
     }
 }

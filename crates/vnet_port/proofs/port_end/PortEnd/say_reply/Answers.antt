@@ -1,7 +1,7 @@
-use Rattle.std.proofs.Common.{◌≡◌, None, refl, sym, subst, true, Option, ap}
+use Rattle.std.proofs.Common.{◌≡◌, None, refl, sym, subst, true, Option, ap, Some, ◌∙◌}
 use Rattle.cookie_copy.specs.Reach.{Reach}
 use Rattle.port_model.specs.NetEndRule.{Replies}
-use Rattle.port_model.specs.NetEndState.{NetEndState}
+use Rattle.port_model.specs.NetEndState.{NetEndState, NetSession}
 use Rattle.port_model.specs.NetEndPutting.{groups_answer}
 use Rattle.std.specs.Prelude.{is_none}
 use Rattle.vio_tag.specs.declared.message.Message.{Message}
@@ -19,9 +19,11 @@ say-requires-clause-whose c =
 pub returns-clause-step : goal.returns-clause-step
 returns-clause-step c =
     let s : NetEndState = the_view c.self.inside in
+    let p : NetSession = c.in-Some.session in
+    let opened : c.args.self.now.session ≡ Some p = sym (ap (λ (s : NetEndState). s.session) c.self.view_is) ∙ c.in-Some.is in
     subst (λ (s : NetEndState). StepsAlone s c.args.channel.now c.args.memory.now c.say.new.out c.say.new.self c.say.new.channel c.say.new.memory) c.self.view_is
-    (own_steps s c.say.new.self (record c.args.session { reply = None }) c.replied.result (groups_answer s c.args.reply) c.groups_answer-message.result (Replies c.args.session c.args.reply) c.args.channel.now c.say.new.channel c.args.memory.now c.say.new.memory c.say.new.out
-    (subst (λ (s : NetEndState). rule_of s c.args.channel.now ≡ Replies c.args.session c.args.reply) (sym c.self.view_is) c.requires.rule)
+    (own_steps s c.say.new.self (record p { reply = None }) c.note_replied.new.self (groups_answer s c.in-Some-reply.reply) c.groups_answer-message.result (Replies p c.in-Some-reply.reply) c.args.channel.now c.say.new.channel c.args.memory.now c.say.new.memory c.say.new.out
+    (subst (λ (s : NetEndState). rule_of s c.args.channel.now ≡ Replies p c.in-Some-reply.reply) (sym c.self.view_is) (c.requires.rule p c.in-Some-reply.reply opened (ap (λ (x : NetSession). x.reply) (sym c.session.view_is) ∙ c.in-Some-reply.is)))
     (λ (reach : Reach). refl)
-    (subst (λ (s : NetEndState). c.groups_answer-message.result ≡ groups_answer s c.args.reply) (sym c.self.view_is) c.groups_answer-message.ensures)
-    c.replied.ensures c.say.ensures.put)
+    c.groups_answer-message.ensures
+    c.note_replied.ensures c.say.ensures.put)

@@ -9,5 +9,11 @@ returns-then-owes-clause-step c = c.put_rest.ensures.step c.args.table.now c.arg
 pub returns-then-owes-2-clause-step : goal.returns-then-owes-2-clause-step
 returns-then-owes-2-clause-step c = c.say_next.ensures.step c.args.table.now c.args.peer.now
 
-pub returns-in-None-clause-step : goal.returns-in-None-clause-step
-returns-in-None-clause-step c = c.listen.ensures.step c.args.table.now c.args.peer.now
+pub returns-then-owes_reply-clause-step : goal.returns-then-owes_reply-clause-step
+returns-then-owes_reply-clause-step c = c.say_reply.ensures.step c.args.table.now c.args.peer.now
+
+pub returns-then-waiting-gt0-clause-step : goal.returns-then-waiting-gt0-clause-step
+returns-then-waiting-gt0-clause-step c = c.take.ensures.step c.args.table.now c.args.peer.now
+
+pub returns-clause-step : goal.returns-clause-step
+returns-clause-step c = c.offer_next.ensures.step c.args.table.now c.args.peer.now

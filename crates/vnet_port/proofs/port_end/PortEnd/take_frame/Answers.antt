@@ -14,4 +14,4 @@ returns-clause-takes c =
     subst (λ (x : NetEndState). TakesFrame c.take.result (fetched x (reach_over c.args.channel.now c.args.table.now c.args.peer.now) c.args.slot) x c.args.peer.now t c.take.new.peer)
     c.self.view_is
     (takes_frame c.take.result (fetched s (reach_over c.args.channel.now c.args.table.now c.args.peer.now) c.args.slot) s t c.args.peer.now c.take.new.peer c.take.new.self
-    (c.take.ensures.takes s (c.peer_ring-ring.ensures ∙ ap peer_ring (sym c.self.view_is))) refl)
+    (c.take.ensures.takes s (c.requires.ring ∙ ap peer_ring (sym c.self.view_is))) refl)

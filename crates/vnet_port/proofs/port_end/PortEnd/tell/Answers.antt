@@ -1,7 +1,7 @@
-use Rattle.std.proofs.Common.{◌≡◌, true, false, refl, sym, subst, None, Option, ap}
+use Rattle.std.proofs.Common.{◌≡◌, true, false, refl, sym, subst, None, Option, ap, Some, ◌∙◌}
 use Rattle.cookie_copy.specs.Reach.{Reach}
 use Rattle.port_model.specs.NetEndRule.{Tells}
-use Rattle.port_model.specs.NetEndState.{NetEndState}
+use Rattle.port_model.specs.NetEndState.{NetEndState, NetSession}
 use Rattle.port_model.specs.Groups.{membership}
 use Rattle.std.specs.Prelude.{is_none}
 use Rattle.vio_tag.specs.declared.message.Message.{Message}
@@ -19,9 +19,11 @@ say-requires-clause-whose c =
 pub returns-clause-step : goal.returns-clause-step
 returns-clause-step c =
     let s : NetEndState = the_view c.self.inside in
+    let p : NetSession = c.in-Some.session in
+    let opened : c.args.self.now.session ≡ Some p = sym (ap (λ (s : NetEndState). s.session) c.self.view_is) ∙ c.in-Some.is in
     subst (λ (s : NetEndState). StepsAlone s c.args.channel.now c.args.memory.now c.say.new.out c.say.new.self c.say.new.channel c.say.new.memory) c.self.view_is
-    (own_steps s c.say.new.self (record c.args.session { untold = false; telling = true }) c.told.result (membership s.handshake.draft.sid s.groups) c.membership-message.result (Tells c.args.session) c.args.channel.now c.say.new.channel c.args.memory.now c.say.new.memory c.say.new.out
-    (subst (λ (s : NetEndState). rule_of s c.args.channel.now ≡ Tells c.args.session) (sym c.self.view_is) c.requires.rule)
+    (own_steps s c.say.new.self (record p { untold = false; telling = true }) c.note_told.new.self (membership s.handshake.draft.sid s.groups) c.membership-message.result (Tells p) c.args.channel.now c.say.new.channel c.args.memory.now c.say.new.memory c.say.new.out
+    (subst (λ (s : NetEndState). rule_of s c.args.channel.now ≡ Tells p) (sym c.self.view_is) (c.requires.rule p opened))
     (λ (reach : Reach). refl)
-    (subst (λ (s : NetEndState). c.membership-message.result ≡ membership s.handshake.draft.sid s.groups) (sym c.self.view_is) c.membership-message.ensures)
-    c.told.ensures c.say.ensures.put)
+    c.membership-message.ensures
+    c.note_told.ensures c.say.ensures.put)
