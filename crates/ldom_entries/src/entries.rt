@@ -1,7 +1,7 @@
 ghost use Rattle.std.specs.Prelude.{◌≡◌, [], ◌∷◌, length, IfSome, IsNone};
 ghost use Rattle.ldom_entries.specs.Told.{told};
 
-use crate::beside::{Beside, NO_MARK, idle};
+use crate::beside::Beside;
 use crate::entry_ref::EntryRef;
 use crate::header::Header;
 use std::marker::Model;
@@ -46,15 +46,30 @@ impl<'a> Entries<'a> {
         ensures none { IsNone result → self.old ≡ [] }
         ensures ended { IsNone result → self.new ≡ [] }
     {
+        // Only a place: the entry is written over it.
+        let mut entry = EntryRef::Settled;
+        if self.read_next(&mut entry) {
+            Some(entry)
+        } else {
+            None
+        }
+    }
+
+    /// Writes the next entry over one of the caller's: so it isn't moved from call to call. False exactly where no entry
+    /// is left; then the caller's stays.
+    pub fn read_next(&mut self, entry: &mut EntryRef<'a>) -> bool
+        ensures some { IsTrue result → self.old ≡ told entry.new ∷ self.new }
+        ensures none { IsFalse result → self.old ≡ [] }
+        ensures ended { IsFalse result → self.new ≡ [] }
+        ensures stays { IsFalse result → entry.new ≡ entry.old }
+    {
         match self.headers {
             [header, rest @ ..] => {
-                // Only a place: the entry is written over it.
-                let mut entry = idle(NO_MARK, 0);
-                self.beside.read_into(*header, &mut entry);
+                self.beside.read_into(*header, entry);
                 self.headers = rest;
-                Some(entry)
+                true
             }
-            [] => None,
+            [] => false,
         }
     }
 

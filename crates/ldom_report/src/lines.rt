@@ -1,7 +1,7 @@
 // The lines of a report.
 ghost use Rattle.std.specs.Prelude.{◌≡◌, ◌+◌, ◌≤◌, ◌<◌, true, [], ◌∷◌, ◌++◌, length, codes, IsErr};
 ghost use Rattle.vio_io.specs.Causes.{Fails};
-ghost use Rattle.std.specs.Prelude.{All, IfSome, IsNone, OnOk, OnErr};
+ghost use Rattle.std.specs.Prelude.{All, IsFalse, IsTrue, OnOk, OnErr};
 ghost use Rattle.std.specs.Io.KnownBytes.{Appends};
 ghost use Rattle.domain_script.specs.NamesState.{declared_by};
 ghost use Rattle.ldom_report.specs.EntryText.{entry_lines, head_text, line_text, may_be_seen, may_show};
@@ -186,27 +186,27 @@ fn put_line<K: Sink>(
     }
 }
 
-/// The next entry that a user of the disks and ports may see. None where no further one is left.
-fn next_seen<'a>(entries: &mut Entries<'a>) -> Option<EntryRef<'a>>
-    ensures some { IfSome result (λ entry. PassesUnseen entries.old (told entry ∷ entries.new)) }
-    ensures seen { IfSome result (λ entry. may_be_seen (told entry) ≡ true) }
-    ensures none { IsNone result → PassesUnseen entries.old [] }
+/// Reads the next entry that a user of the disks and ports may see. False where no further one is left.
+fn read_seen<'a>(entries: &mut Entries<'a>, entry: &mut EntryRef<'a>) -> bool
+    ensures some { IsTrue result → PassesUnseen entries.old (told entry.new ∷ entries.new) }
+    ensures seen { IsTrue result → may_be_seen (told entry.new) ≡ true }
+    ensures none { IsFalse result → PassesUnseen entries.old [] }
 {
     entries.pass_unseen();
-    entries.next_entry()
+    entries.read_next(entry)
 }
 
-/// The next entry that the mode may show. None where it shows no further one.
+/// Reads the next entry that the mode may show. False where it shows no further one.
 #[tactic(auto, using(crate::proofs::ReportLines::leaving_out))]
-fn next_to_show<'a>(entries: &mut Entries<'a>, mode: Mode) -> Option<EntryRef<'a>>
-    ensures some { IfSome result (λ entry. LeavesOut mode entries.old (told entry ∷ entries.new)) }
-    ensures may { IfSome result (λ entry. may_show mode (told entry) ≡ true) }
-    ensures none { IsNone result → LeavesOut mode entries.old [] }
+fn read_to_show<'a>(entries: &mut Entries<'a>, mode: Mode, entry: &mut EntryRef<'a>) -> bool
+    ensures some { IsTrue result → LeavesOut mode entries.old (told entry.new ∷ entries.new) }
+    ensures may { IsTrue result → may_show mode (told entry.new) ≡ true }
+    ensures none { IsFalse result → LeavesOut mode entries.old [] }
 {
     match mode {
-        Mode::Run => next_seen(entries),
-        Mode::Trace => entries.next_entry(),
-        Mode::EndOnly => None,
+        Mode::Run => read_seen(entries, entry),
+        Mode::Trace => entries.read_next(entry),
+        Mode::EndOnly => false,
     }
 }
 
@@ -226,7 +226,9 @@ fn write_lines<K: Sink>(
 {
     let mut text = Text::new();
     let mut rest = journal.entries();
-    while let Some(entry) = next_to_show(&mut rest, mode) {
+    // Only a place: each entry is written over it.
+    let mut entry = EntryRef::Settled;
+    while read_to_show(&mut rest, mode, &mut entry) {
         put_line(&mut text, mode, &entry, names, out)?;
     }
     text.flush(out)

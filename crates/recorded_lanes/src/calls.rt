@@ -162,7 +162,13 @@ fn tick_client(lane: &mut DiskLane, disk: u32) -> Entry
 }
 
 /// Forges a packet, and puts the entry: there is no room for it, or the end isn't up, or it waits.
-fn inject_packet(lane: &mut DiskLane, disk: u32, side: Side, packet: &[u8; 64], journal: &mut Journal)
+fn inject_packet(
+    lane: &mut DiskLane,
+    disk: u32,
+    side: Side,
+    packet: &[u8; 64],
+    journal: &mut Journal,
+)
     requires room { 0 < journal.old.room }
     ensures answers { RecordsAnswer (Calls (script.DiskLane disk) (Injects (end_of side) packet.now)) disk
         (AnswersCall (Injects (end_of side) packet.now)) lane.old journal.old journal.new lane.new }

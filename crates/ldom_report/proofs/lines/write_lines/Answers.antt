@@ -11,8 +11,8 @@ use Rattle.gathered_text.proofs.GatheredText.{on_err, on_ok_then, on_err_then, g
 use Rattle.ldom_report.proofs.ReportLines.{all_left, fewer_left, next_lines, no_lines}
 use Rattle.ldom_report.proofs.lines.write_lines.Goals as goal
 
-pub loop-entry-init : goal.loop-entry-init
-loop-entry-init g c = record {
+pub loop-rest-init : goal.loop-rest-init
+loop-rest-init g c = record {
   so_far = [];
   whole = ap (report_entries c.args.mode c.args.names.now) (sym c.entries-rest.ensures);
   words = subst (λ (l : List Entry). All (HasWords c.args.names.now) l) (sym c.entries-rest.ensures) c.requires.words;
@@ -23,63 +23,63 @@ loop-entry-init g c = record {
 pub put_line-requires : goal.put_line-requires
 put_line-requires g c =
     let P : Entry → Type 0 = HasWords c.args.names.now in
-    record { may = c.in-Some.ensures.may; words = All-head P (told c.in-Some.entry) c.next_to_show.new.entries (all_left P c.args.mode c.loop-entry.rest (told c.in-Some.entry ∷ c.next_to_show.new.entries) c.in-Some.ensures.some c.loop-entry.invariant.words) }
+    record { may = c.read_to_show.ensures.may c.loop-rest-test.true; words = All-head P (told c.read_to_show.new.entry) c.read_to_show.new.entries (all_left P c.args.mode c.loop-rest.rest (told c.read_to_show.new.entry ∷ c.read_to_show.new.entries) (c.read_to_show.ensures.some c.loop-rest-test.true) c.loop-rest.invariant.words) }
 
 pub returns-in_err-put_line-clause-front : goal.returns-in_err-put_line-clause-front
 returns-in_err-put_line-clause-front g c =
     let mode = c.args.mode in
     let declared = c.args.names.now in
-    let i = c.loop-entry.invariant in
+    let i = c.loop-rest.invariant in
     let whole : List ℕ = report_entries mode declared c.args.journal.now.entries in
-    let line : List ℕ = entry_lines mode declared (told c.in-Some.entry) in
-    let rest : List ℕ = report_entries mode declared c.next_to_show.new.entries in
+    let line : List ℕ = entry_lines mode declared (told c.read_to_show.new.entry) in
+    let rest : List ℕ = report_entries mode declared c.read_to_show.new.entries in
     on_err c.from_residual.result _
     (wrote_front_of_more _ _ (i.so_far ++ line) rest whole
-    (next_lines mode declared whole i.so_far c.loop-entry.rest c.next_to_show.new.entries (told c.in-Some.entry) i.whole c.in-Some.ensures.some)
-    (wrote_front_then _ _ _ c.loop-entry.text i.so_far line i.gathers c.in_err-put_line.ensures.front))
+    (next_lines mode declared whole i.so_far c.loop-rest.rest c.read_to_show.new.entries (told c.read_to_show.new.entry) i.whole (c.read_to_show.ensures.some c.loop-rest-test.true))
+    (wrote_front_then _ _ _ c.loop-rest.text i.so_far line i.gathers c.in_err-put_line.ensures.front))
 
-pub loop-entry-preserved : goal.loop-entry-preserved
-loop-entry-preserved g c =
+pub loop-rest-preserved : goal.loop-rest-preserved
+loop-rest-preserved g c =
     let mode = c.args.mode in
     let declared = c.args.names.now in
     let P : Entry → Type 0 = HasWords declared in
-    let i = c.loop-entry.invariant in
+    let i = c.loop-rest.invariant in
     let whole : List ℕ = report_entries mode declared c.args.journal.now.entries in
-    let line : List ℕ = entry_lines mode declared (told c.in-Some.entry) in
+    let line : List ℕ = entry_lines mode declared (told c.read_to_show.new.entry) in
     record {
       so_far = i.so_far ++ line;
-      whole = next_lines mode declared whole i.so_far c.loop-entry.rest c.next_to_show.new.entries (told c.in-Some.entry) i.whole c.in-Some.ensures.some;
-      words = All-tail P (told c.in-Some.entry) c.next_to_show.new.entries (all_left P mode c.loop-entry.rest (told c.in-Some.entry ∷ c.next_to_show.new.entries) c.in-Some.ensures.some i.words);
-      gathers = gathers_then _ _ _ c.loop-entry.text c.put_line.new.text i.so_far line i.gathers c.in_ok-put_line.ensures.told;
+      whole = next_lines mode declared whole i.so_far c.loop-rest.rest c.read_to_show.new.entries (told c.read_to_show.new.entry) i.whole (c.read_to_show.ensures.some c.loop-rest-test.true);
+      words = All-tail P (told c.read_to_show.new.entry) c.read_to_show.new.entries (all_left P mode c.loop-rest.rest (told c.read_to_show.new.entry ∷ c.read_to_show.new.entries) (c.read_to_show.ensures.some c.loop-rest-test.true) i.words);
+      gathers = gathers_then _ _ _ c.loop-rest.text c.put_line.new.text i.so_far line i.gathers c.in_ok-put_line.ensures.told;
       unfailed = c.in_ok-put_line.ensures.faults.unfailed (λ is. cc) ∙ i.unfailed;
     }
 
-pub loop-entry-smaller : goal.loop-entry-smaller
-loop-entry-smaller g c =
-    let shorter : suc (length c.next_to_show.new.entries) ≤ length c.loop-entry.rest =
-    fewer_left c.args.mode c.loop-entry.rest (told c.in-Some.entry ∷ c.next_to_show.new.entries) c.in-Some.ensures.some in
+pub loop-rest-smaller : goal.loop-rest-smaller
+loop-rest-smaller g c =
+    let shorter : suc (length c.read_to_show.new.entries) ≤ length c.loop-rest.rest =
+    fewer_left c.args.mode c.loop-rest.rest (told c.read_to_show.new.entry ∷ c.read_to_show.new.entries) (c.read_to_show.ensures.some c.loop-rest-test.true) in
     omega (arith, shorter)
 
 pub returns-clause-told : goal.returns-clause-told
 returns-clause-told g c =
     let mode = c.args.mode in
     let declared = c.args.names.now in
-    let i = c.loop-entry.invariant in
+    let i = c.loop-rest.invariant in
     let all : i.so_far ≡ report_entries mode declared c.args.journal.now.entries =
-    no_lines mode declared (report_entries mode declared c.args.journal.now.entries) i.so_far c.loop-entry.rest i.whole (c.in_default.ensures.none refl) in
+    no_lines mode declared (report_entries mode declared c.args.journal.now.entries) i.so_far c.loop-rest.rest i.whole (c.read_to_show.ensures.none c.loop-rest-test.false) in
     on_ok_then c.flush.result
     (λ told. subst (λ (l : List ℕ). Appends (g.K.Sink.written c.args.out.now) (g.K.Sink.written c.flush.new.out) l) all
-    (appends_last _ _ _ c.loop-entry.text i.so_far i.gathers told))
+    (appends_last _ _ _ c.loop-rest.text i.so_far i.gathers told))
     c.flush.ensures.told
 
 pub returns-clause-front : goal.returns-clause-front
 returns-clause-front g c =
     let mode = c.args.mode in
     let declared = c.args.names.now in
-    let i = c.loop-entry.invariant in
+    let i = c.loop-rest.invariant in
     let all : i.so_far ≡ report_entries mode declared c.args.journal.now.entries =
-    no_lines mode declared (report_entries mode declared c.args.journal.now.entries) i.so_far c.loop-entry.rest i.whole (c.in_default.ensures.none refl) in
+    no_lines mode declared (report_entries mode declared c.args.journal.now.entries) i.so_far c.loop-rest.rest i.whole (c.read_to_show.ensures.none c.loop-rest-test.false) in
     on_err_then c.flush.result
     (λ front. subst (λ (l : List ℕ). WroteFront (g.K.Sink.written c.args.out.now) (g.K.Sink.written c.flush.new.out) l) all
-    (wrote_front_last _ _ _ c.loop-entry.text i.so_far i.gathers front))
+    (wrote_front_last _ _ _ c.loop-rest.text i.so_far i.gathers front))
     c.flush.ensures.front

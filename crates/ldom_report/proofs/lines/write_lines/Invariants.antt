@@ -5,8 +5,8 @@ use Rattle.ldom_report.specs.HasWords.{HasWords}
 use Rattle.gathered_text.specs.Gathered.{Gathers}
 use Rattle.ldom_report.proofs.lines.write_lines.Given as goal
 
-abbrev pub invariant-loop-entry : goal.invariant-loop-entry
-invariant-loop-entry g l = record {
+abbrev pub invariant-loop-rest : goal.invariant-loop-rest
+invariant-loop-rest g l = record {
   so_far : List ℕ;
   whole : report_entries l.mode l.names l.journal.entries ≡ so_far ++ report_entries l.mode l.names l.rest;
   words : All (HasWords l.names) l.rest;
@@ -14,5 +14,5 @@ invariant-loop-entry g l = record {
   unfailed : g.K.Sink.faults l.out ≡ g.K.Sink.faults l.initial.out;
 }
 
-abbrev pub decreases-loop-entry : goal.decreases-loop-entry
-decreases-loop-entry g l = length l.rest
+abbrev pub decreases-loop-rest : goal.decreases-loop-rest
+decreases-loop-rest g l = length l.rest
