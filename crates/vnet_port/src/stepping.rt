@@ -1,8 +1,8 @@
 // A step: the first rule that applies.
 
-ghost use Rattle.std.specs.Prelude.{◌≡◌, ◌≢◌, ◌<◌, ◌≤◌, length, true, false, ℕ, List, None, Some};
+ghost use Rattle.std.specs.Prelude.{◌≡◌, ◌≢◌, ℕ, List, length, false, None, Some};
 ghost use Rattle.cookie_copy.specs.Faults.{PagesWithin};
-ghost use Rattle.ldc_link.specs.Putting.{owes, owes_control};
+ghost use Rattle.ldc_link.specs.Putting.{owes};
 ghost use Rattle.ldc_queue.specs.Wire.{state_of};
 ghost use Rattle.ldc_queue.specs.declared.end.ChannelState.TheVariants.{Up};
 ghost use Rattle.vio_handshake.specs.State.{OwesWell};
@@ -22,12 +22,13 @@ impl PortEnd {
     ghost use Rattle.vnet_port.specs.Putting.{CanSay};
     ghost use Rattle.vnet_port.specs.Standing.{Stands};
     ghost use Rattle.port_frames.specs.Memories.{HoldsRing};
-    ghost use Rattle.vnet_port.specs.Stepping.{Steps, StepsAlone, rule_of, sees};
-    ghost use Rattle.vnet_port.specs.Turns.{has_unpublished, is_active, is_to_announce, is_to_tell, offers, owes_reply};
+    ghost use Rattle.vnet_port.specs.Stepping.{Steps, StepsAlone, rule_of};
+    ghost use Rattle.vnet_port.specs.Turns.{offers};
 
-    /// An end that isn't up joins; what the link owes is put, and what the handshake owes is said. In session, an answer
-    /// to groups is said, and the peer's ring is worked. A packet that waits is taken, and then the end goes on with its
-    /// own. What it is to do is asked of the session where that stands.
+    /// An end that isn't up joins; what the link owes is put, and what the handshake owes is said. In session an answer to
+    /// groups is said, and the peer's ring is worked. A packet that waits is taken, and then the end goes on with its own.
+    ///
+    /// Each is asked of the session where it stands: it is long, and most steps change nothing of it.
     pub(crate) fn step(
         &mut self,
         channel: &mut Channel,
