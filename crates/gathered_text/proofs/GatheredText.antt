@@ -1,7 +1,7 @@
 -- What is written of a text, and what is still gathered.
-use Rattle.std.proofs.Common.{◌≡◌, refl, ℕ, ◌+◌, ◌≤◌, List, [], ◌++◌, take, drop, Option, Result, Ok, Err, OnOk, OnErr, sym, subst, ap, ◌∙◌, append_assoc, append-nil, ◌<◌, inl, inr, arith}
+use Rattle.std.proofs.Common.{◌≡◌, refl, ℕ, ◌+◌, ◌≤◌, List, [], ◌++◌, take, drop, Option, Result, Ok, Err, OnOk, OnErr, sym, subst, ap, ◌∙◌, append_assoc, append-nil, length, length-append, ◌<◌, inl, inr, arith}
 use Rattle.std.proofs.lemmas.Bool.{cases_lt}
-use Rattle.std.proofs.lemmas.List.{take-append-drop}
+use Rattle.std.proofs.lemmas.List.{take-append-drop, length-drop}
 use Rattle.std.proofs.Math.Seq.{take-add}
 use Rattle.std.proofs.KnownBytes.{Appends-trans, Appends-kept, Appends-nil}
 use Rattle.std.specs.Io.KnownBytes.{Appends, Keeps}
@@ -27,10 +27,11 @@ appends_piece a b c xs rest at n is p q =
     (Appends-trans a b c (take at xs) (take n rest) p q)
 
 -- a call that failed wrote nothing after the front that was written
-pub wrote_front_kept : (a b c : Option (List ℕ)) (xs : List ℕ) (at : ℕ) → Appends a b (take at xs) → Keeps b c → WroteFront a c xs
-wrote_front_kept a b c xs at p k = record {
+pub wrote_front_kept : (a b c : Option (List ℕ)) (xs : List ℕ) (at : ℕ) → at < length xs → Appends a b (take at xs) → Keeps b c → WroteFront a c xs
+wrote_front_kept a b c xs at lt p k = record {
   front = take at xs;
   rest = drop at xs;
+  more = omega (arith, lt, length-drop at xs);
   whole = sym (take-append-drop at xs);
   written = Appends-kept a b c (take at xs) p k;
 }
@@ -68,6 +69,7 @@ pub wrote_front_then : (a b c : Option (List ℕ)) (first text bytes : List ℕ)
 wrote_front_then a b c first text bytes p q = record {
   front = p.front ++ q.front;
   rest = q.rest;
+  more = q.more;
   whole = ap (λ (l : List ℕ). l ++ bytes) p.whole ∙ append_assoc p.front first bytes ∙ ap (λ (l : List ℕ). p.front ++ l) q.whole ∙ sym (append_assoc p.front q.front q.rest);
   written = Appends-trans a b c p.front q.front p.written q.written;
 }
@@ -77,6 +79,7 @@ pub wrote_front_of_more : (a b : Option (List ℕ)) (text more whole : List ℕ)
 wrote_front_of_more a b text more whole is p = record {
   front = p.front;
   rest = p.rest ++ more;
+  more = omega (arith, p.more, length-append p.rest more);
   whole = is ∙ ap (λ (l : List ℕ). l ++ more) p.whole ∙ append_assoc p.front p.rest more;
   written = p.written;
 }
@@ -96,6 +99,7 @@ pub wrote_front_behind : (a b c : Option (List ℕ)) (first text so_far more who
 wrote_front_behind a b c first text so_far more whole is p q = record {
   front = p.front ++ q.front;
   rest = q.rest ++ more;
+  more = omega (arith, q.more, length-append q.rest more);
   whole =
       ap (λ (l : List ℕ). text ++ l) is
       ∙ sym (append_assoc text so_far more)
@@ -130,6 +134,7 @@ pub wrote_front_last : (a b c : Option (List ℕ)) (gathered text : List ℕ) �
 wrote_front_last a b c gathered text p q = record {
   front = p.front ++ q.front;
   rest = q.rest;
+  more = q.more;
   whole = p.whole ∙ ap (λ (l : List ℕ). p.front ++ l) q.whole ∙ sym (append_assoc p.front q.front q.rest);
   written = Appends-trans a b c p.front q.front p.written q.written;
 }
@@ -143,6 +148,7 @@ pub wrote_front_appended : (a b c : Option (List ℕ)) (first second : List ℕ)
 wrote_front_appended a b c first second p q = record {
   front = first ++ q.front;
   rest = q.rest;
+  more = q.more;
   whole = ap (λ (l : List ℕ). first ++ l) q.whole ∙ sym (append_assoc first q.front q.rest);
   written = Appends-trans a b c first q.front p q.written;
 }

@@ -6,6 +6,10 @@ use Rattle.std.proofs.lemmas.List.{flat_map_more, length-map, map-append}
 use Rattle.std.proofs.lemmas.List.Sums.{sum_by-append}
 use Rattle.domain_script.specs.ScriptLines.{LinesTaken, TakesLine}
 use Rattle.domain_script.proofs.ScriptLemmas.{taken_more, taken_none}
+use Rattle.script_reader.specs.declared.lines.LinesStop.{LinesStop}
+use Rattle.script_reader.specs.declared.lines.LinesStop.TheVariants.{Going}
+use Rattle.script_reader.specs.LinesState.{AllFed}
+use Rattle.script_reader.proofs.FedLines.{fed_more, fed_none}
 use Rattle.ldom_report.specs.declared.status.Status.{Status}
 use Rattle.ldom_report.specs.declared.status.Status.TheVariants as the_status
 use Rattle.gathered_text.specs.Gathered.{Gathers, WroteFront}
@@ -27,20 +31,22 @@ are_push : (all : List Decoded) (decoded : Decoded) → AreOfLines all → IsOfL
 are_push [] decoded are is = (is, tt)
 are_push (d ∷ all) decoded are is = (are.0, are_push all decoded are.1 is)
 
--- the lines that were decoded so far
-pub record LinesSoFar (start rest old new : Option (List ℕ)) (gathered : List ℕ) (count packets faults : ℕ) : Type 0 where
+-- the lines that were decoded so far; each had its line feed where the reader goes on
+pub record LinesSoFar (stop : LinesStop) (start rest old new : Option (List ℕ)) (gathered : List ℕ) (count packets faults : ℕ) : Type 0 where
   pub all : List Decoded
   pub taken : LinesTaken start rest (map (λ decoded. decoded.line) all)
+  pub feeds : stop ≡ Going → AllFed start rest (map (λ decoded. decoded.line) all)
   pub are : AreOfLines all
   pub counts : count ≡ length all
   pub packets_are : packets ≡ count_by is_packet all
   pub faults_are : faults ≡ count_by is_fault all
   pub gathers : Gathers old new gathered (decoded_lines all)
 
-pub so_far_none : (start old : Option (List ℕ)) (gathered : List ℕ) (count : ℕ) → count ≡ 0 → gathered ≡ [] → LinesSoFar start start old old gathered count 0 0
-so_far_none start old gathered count zero none = record {
+pub so_far_none : (stop : LinesStop) (start old : Option (List ℕ)) (gathered : List ℕ) (count : ℕ) → count ≡ 0 → gathered ≡ [] → LinesSoFar stop start start old old gathered count 0 0
+so_far_none stop start old gathered count zero none = record {
   all = [];
   taken = taken_none start;
+  feeds = λ _. fed_none start;
   are = tt;
   counts = zero;
   packets_are = refl;
@@ -58,17 +64,17 @@ one_fault : (decoded : Decoded) (b : Bool) → b ≡ is_ok decoded.packet → b 
 one_fault decoded b is is_none = let ok : is_ok decoded.packet ≡ false = sym is ∙ is_none in (rw ok refl, rw ok refl)
 
 -- the line that was read, with what it says
-abbrev read_line : (rest left mid new : Option (List ℕ)) (bytes gathered after : List ℕ) (whether : Bool) → ReadsBytes rest left bytes → PutsPacket bytes mid new gathered after whether → Decoded
-read_line rest left mid new bytes gathered after whether reads puts = record { line = reads.line; packet = puts.tells.packet; said = puts.tells.said }
+abbrev read_line : (stop : LinesStop) (rest left mid new : Option (List ℕ)) (bytes gathered after : List ℕ) (whether : Bool) → ReadsBytes stop rest left bytes → PutsPacket bytes mid new gathered after whether → Decoded
+read_line stop rest left mid new bytes gathered after whether reads puts = record { line = reads.line; packet = puts.tells.packet; said = puts.tells.said }
 
 -- one line more, by how much the counts rise
-so_far_more : (start rest left old mid new : Option (List ℕ)) (bytes gathered after : List ℕ) (whether : Bool) (count next packets faults packets_next faults_next : ℕ)
-    → LinesSoFar start rest old mid gathered count packets faults → (reads : ReadsBytes rest left bytes) → next ≡ count + 1 → next ≤ 20000 → (puts : PutsPacket bytes mid new gathered after whether)
-    → packets_next ≡ packets + count_by is_packet (read_line rest left mid new bytes gathered after whether reads puts ∷ [])
-    → faults_next ≡ faults + count_by is_fault (read_line rest left mid new bytes gathered after whether reads puts ∷ [])
-    → LinesSoFar start left old new after next packets_next faults_next
-so_far_more start rest left old mid new bytes gathered after whether count next packets faults packets_next faults_next so_far reads is few puts more_packets more_faults =
-    let decoded : Decoded = read_line rest left mid new bytes gathered after whether reads puts in
+so_far_more : (before stop : LinesStop) (start rest left old mid new : Option (List ℕ)) (bytes gathered after : List ℕ) (whether : Bool) (count next packets faults packets_next faults_next : ℕ)
+    → LinesSoFar before start rest old mid gathered count packets faults → (reads : ReadsBytes stop rest left bytes) → next ≡ count + 1 → next ≤ 20000 → (puts : PutsPacket bytes mid new gathered after whether)
+    → packets_next ≡ packets + count_by is_packet (read_line stop rest left mid new bytes gathered after whether reads puts ∷ [])
+    → faults_next ≡ faults + count_by is_fault (read_line stop rest left mid new bytes gathered after whether reads puts ∷ [])
+    → LinesSoFar stop start left old new after next packets_next faults_next
+so_far_more before stop start rest left old mid new bytes gathered after whether count next packets faults packets_next faults_next so_far reads is few puts more_packets more_faults =
+    let decoded : Decoded = read_line stop rest left mid new bytes gathered after whether reads puts in
     let text : List ℕ = decoded_text decoded in
     let here : Gathers mid new after (gathered ++ text) = gathers_more mid new puts.room after gathered text puts.wrote puts.tells.is in
     record {
@@ -77,6 +83,8 @@ so_far_more start rest left old mid new bytes gathered after whether count next 
           subst (λ (l : List (List ℕ)). LinesTaken start left l) (sym (map-append (λ (d : Decoded). d.line) so_far.all (decoded ∷ [])))
           (taken_more start rest left (map (λ (d : Decoded). d.line) so_far.all) reads.line so_far.taken reads.taken reads.short
           (omega (arith, few, is, so_far.counts, length-map so_far.all (λ (d : Decoded). d.line))));
+      feeds = λ going. subst (λ (l : List (List ℕ)). AllFed start left l) (sym (map-append (λ (d : Decoded). d.line) so_far.all (decoded ∷ [])))
+          (fed_more stop start rest left (map (λ (d : Decoded). d.line) so_far.all) reads.line so_far.taken.taken reads.ends going);
       are = are_push so_far.all decoded so_far.are (record { bytes = bytes; digits = reads.digits; is = record { packet = puts.tells.says; carries = puts.tells.carries } });
       counts = is ∙ ap (λ (n : ℕ). n + 1) so_far.counts ∙ sym (length-append so_far.all (decoded ∷ []));
       packets_are = count_push is_packet so_far.all decoded packets packets_next so_far.packets_are more_packets;
@@ -87,20 +95,20 @@ so_far_more start rest left old mid new bytes gathered after whether count next 
     }
 
 -- one packet more
-pub so_far_packet : (start rest left old mid new : Option (List ℕ)) (bytes gathered after : List ℕ) (whether : Bool) (count next packets faults : ℕ)
-    → LinesSoFar start rest old mid gathered count packets faults → ReadsBytes rest left bytes → next ≡ count + 1 → next ≤ 20000 → PutsPacket bytes mid new gathered after whether → whether ≡ true
-    → LinesSoFar start left old new after next (packets + 1) faults
-so_far_packet start rest left old mid new bytes gathered after whether count next packets faults so_far reads is few puts is_one =
-    let one = one_packet (read_line rest left mid new bytes gathered after whether reads puts) whether puts.tells.whether_is is_one in
-    so_far_more start rest left old mid new bytes gathered after whether count next packets faults (packets + 1) faults so_far reads is few puts (omega (arith, one.0)) (omega (arith, one.1))
+pub so_far_packet : (before stop : LinesStop) (start rest left old mid new : Option (List ℕ)) (bytes gathered after : List ℕ) (whether : Bool) (count next packets faults : ℕ)
+    → LinesSoFar before start rest old mid gathered count packets faults → ReadsBytes stop rest left bytes → next ≡ count + 1 → next ≤ 20000 → PutsPacket bytes mid new gathered after whether → whether ≡ true
+    → LinesSoFar stop start left old new after next (packets + 1) faults
+so_far_packet before stop start rest left old mid new bytes gathered after whether count next packets faults so_far reads is few puts is_one =
+    let one = one_packet (read_line stop rest left mid new bytes gathered after whether reads puts) whether puts.tells.whether_is is_one in
+    so_far_more before stop start rest left old mid new bytes gathered after whether count next packets faults (packets + 1) faults so_far reads is few puts (omega (arith, one.0)) (omega (arith, one.1))
 
 -- one line more that is no packet
-pub so_far_fault : (start rest left old mid new : Option (List ℕ)) (bytes gathered after : List ℕ) (whether : Bool) (count next packets faults : ℕ)
-    → LinesSoFar start rest old mid gathered count packets faults → ReadsBytes rest left bytes → next ≡ count + 1 → next ≤ 20000 → PutsPacket bytes mid new gathered after whether → whether ≡ false
-    → LinesSoFar start left old new after next packets (faults + 1)
-so_far_fault start rest left old mid new bytes gathered after whether count next packets faults so_far reads is few puts is_none =
-    let one = one_fault (read_line rest left mid new bytes gathered after whether reads puts) whether puts.tells.whether_is is_none in
-    so_far_more start rest left old mid new bytes gathered after whether count next packets faults packets (faults + 1) so_far reads is few puts (omega (arith, one.0)) (omega (arith, one.1))
+pub so_far_fault : (before stop : LinesStop) (start rest left old mid new : Option (List ℕ)) (bytes gathered after : List ℕ) (whether : Bool) (count next packets faults : ℕ)
+    → LinesSoFar before start rest old mid gathered count packets faults → ReadsBytes stop rest left bytes → next ≡ count + 1 → next ≤ 20000 → PutsPacket bytes mid new gathered after whether → whether ≡ false
+    → LinesSoFar stop start left old new after next packets (faults + 1)
+so_far_fault before stop start rest left old mid new bytes gathered after whether count next packets faults so_far reads is few puts is_none =
+    let one = one_fault (read_line stop rest left mid new bytes gathered after whether reads puts) whether puts.tells.whether_is is_none in
+    so_far_more before stop start rest left old mid new bytes gathered after whether count next packets faults packets (faults + 1) so_far reads is few puts (omega (arith, one.0)) (omega (arith, one.1))
 
 unless_sink_fault : (why : Status) (old new : Option (List ℕ)) (gathered text : List ℕ) → IsReaders why → Gathers old new gathered text → GathersUnlessSinkFault why old new gathered text
 unless_sink_fault the_status.Done old new gathered text readers g = g
@@ -115,15 +123,16 @@ unless_sink_fault (the_status.Limit line kind) old new gathered text readers g =
 unless_sink_fault the_status.NoMemory old new gathered text readers g = g
 
 -- no further line is read
-pub lines_stop : (start rest now old new : Option (List ℕ)) (held : List ℕ) (why : Status) (gathered : List ℕ) (count lines packets faults : ℕ)
-    → LinesSoFar start rest old new gathered count packets faults → IsReaders why → DumpStopsAt why rest held now count → lines ≡ counted_lines why count → DumpsLines start now why old new gathered lines packets faults
-lines_stop start rest now old new held why gathered count lines packets faults so_far readers stop is = record {
+pub lines_stop : (stop : LinesStop) (start rest now old new : Option (List ℕ)) (held : List ℕ) (why : Status) (gathered : List ℕ) (count lines packets faults : ℕ)
+    → LinesSoFar stop start rest old new gathered count packets faults → IsReaders why → DumpStopsAt why rest held now count → (why ≡ the_status.SourceFault → stop ≡ Going) → lines ≡ counted_lines why count → DumpsLines start now why old new gathered lines packets faults
+lines_stop stop start rest now old new held why gathered count lines packets faults so_far readers stops going is = record {
   all = so_far.all;
   left = rest;
   taken = so_far.taken;
   are = so_far.are;
   held = held;
-  stop = subst (λ (n : ℕ). DumpStopsAt why rest held now n) so_far.counts stop;
+  stop = subst (λ (n : ℕ). DumpStopsAt why rest held now n) so_far.counts stops;
+  feeds = λ failed. so_far.feeds (going failed);
   lines_are = λ other. is ∙ ap (λ (n : ℕ). counted_lines why n) so_far.counts;
   packets_are = so_far.packets_are;
   faults_are = so_far.faults_are;
@@ -131,15 +140,16 @@ lines_stop start rest now old new held why gathered count lines packets faults s
 }
 
 -- the sink failed before the next line's text was gathered
-pub lines_cut : (start rest now old mid new : Option (List ℕ)) (held line gathered after : List ℕ) (count lines packets faults : ℕ)
-    → LinesSoFar start rest old mid gathered count packets faults → TakesLine rest (prepend_known held now) line → WroteFront mid new gathered → DumpsLines start now the_status.SinkFault old new after lines packets faults
-lines_cut start rest now old mid new held line gathered after count lines packets faults so_far next front = record {
+pub lines_cut : (stop : LinesStop) (start rest now old mid new : Option (List ℕ)) (held line gathered after : List ℕ) (count lines packets faults : ℕ)
+    → LinesSoFar stop start rest old mid gathered count packets faults → TakesLine rest (prepend_known held now) line → WroteFront mid new gathered → DumpsLines start now the_status.SinkFault old new after lines packets faults
+lines_cut stop start rest now old mid new held line gathered after count lines packets faults so_far next front = record {
   all = so_far.all;
   left = rest;
   taken = so_far.taken;
   are = so_far.are;
   held = held;
   stop = (line, next);
+  feeds = λ failed. cc failed;
   lines_are = λ other. absurd (other refl);
   packets_are = so_far.packets_are;
   faults_are = so_far.faults_are;
@@ -152,7 +162,7 @@ nothing_held (Some bytes) = refl
 
 -- memory was wanted before the first line
 pub lines_unread : (start old : Option (List ℕ)) (gathered : List ℕ) → gathered ≡ [] → DumpsLines start start the_status.NoMemory old old gathered 0 0 0
-lines_unread start old gathered none = lines_stop start start start old old [] the_status.NoMemory gathered 0 0 0 0 (so_far_none start old gathered 0 refl none) tt (nothing_held start) refl
+lines_unread start old gathered none = lines_stop Going start start start old old [] the_status.NoMemory gathered 0 0 0 0 (so_far_none Going start old gathered 0 refl none) tt (nothing_held start) (λ _. refl) refl
 
 -- how a last line was written after what was gathered
 ends : (why status : Status) (old mid new : Option (List ℕ)) (gathered text last whole : List ℕ) → whole ≡ text ++ last → Gathers old mid gathered text
@@ -197,5 +207,6 @@ dumps start now old mid new why status gathered lines packets faults read finish
       why = why;
       told = told;
       stop = read.stop;
+      feeds = read.feeds;
       written = written why status old mid new gathered (end_line lines packets faults why) read.all last read.gathers finishes;
     }

@@ -5,6 +5,7 @@ use Rattle.std.specs.List.{count_by}
 use Rattle.domain_script.specs.ScriptLines.{LinesTaken}
 use Rattle.ldom_report.specs.declared.status.Status.{Status}
 use Rattle.ldom_report.specs.declared.status.Status.TheVariants.{SinkFault, SourceFault}
+use Rattle.script_reader.specs.LinesState.{AllFed}
 use Rattle.gathered_text.specs.Gathered.{WroteFront}
 use Rattle.vio_io.specs.Causes.{Fails}
 use Rattle.ldom_report.specs.LinesEnd.{counted_lines}
@@ -33,7 +34,8 @@ Written SinkFault status old new all = (status ≡ SinkFault) × WroteFront old 
 Written why status old new all = ((status ≡ why) × Appends old new (dump_text all why)) ⊎ ((status ≡ SinkFault) × WroteFront old new (dump_text all why))
 
 -- These lines were read and decoded from the front of what a source had, and then no further one. It has `now` left, and had
--- failed so often before and after.
+-- failed so often before and after. Where it failed, each line that was taken up had its line feed: so a source that was
+-- at its end behind a last line isn't asked again.
 pub record Dumps (start now : Option (List ℕ)) (status : Status) (old new : Option (List ℕ)) (before after : ℕ) : Type 0 where
   pub all : List Decoded
   -- what was to come after these lines
@@ -46,4 +48,5 @@ pub record Dumps (start now : Option (List ℕ)) (status : Status) (old new : Op
   pub why : Status
   pub told : Fails (why ≡ SourceFault) before after
   pub stop : DumpStopsAt why left held now (length all)
+  pub feeds : why ≡ SourceFault → AllFed start left (map (λ decoded. decoded.line) all)
   pub written : Written why status old new all

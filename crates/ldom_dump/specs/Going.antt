@@ -11,7 +11,8 @@ use Rattle.std.specs.Prelude.{Result}
 use Rattle.ldc_packet.specs.Decoding.{Unpacks}
 use Rattle.vio_tag.specs.Decoding.{Decodes}
 use Rattle.ldom_report.specs.declared.status.Status.{Status}
-use Rattle.ldom_report.specs.declared.status.Status.TheVariants.{SinkFault}
+use Rattle.ldom_report.specs.declared.status.Status.TheVariants.{SinkFault, SourceFault}
+use Rattle.script_reader.specs.LinesState.{AllFed}
 use Rattle.gathered_text.specs.Gathered.{Gathers, WroteFront}
 use Rattle.ldom_report.specs.LinesEnd.{counted_lines}
 use Rattle.ldom_dump.specs.Decoded.{AreOfLines, Carries, CarriesIn, Decoded, decoded_lines, is_fault, is_ok, is_packet}
@@ -51,7 +52,8 @@ abbrev pub GathersUnlessSinkFault : Status → Option (List ℕ) → Option (Lis
 GathersUnlessSinkFault SinkFault old new gathered text = WroteFront old new text
 GathersUnlessSinkFault why old new gathered text = Gathers old new gathered text
 
--- These lines were decoded from the front of what is to come, and then no further one. Their text is gathered.
+-- These lines were decoded from the front of what is to come, and then no further one. Their text is gathered. Where the
+-- source failed, each had its line feed.
 pub record DumpsLines (start now : Option (List ℕ)) (why : Status) (old new : Option (List ℕ)) (gathered : List ℕ) (lines packets faults : ℕ) : Type 0 where
   pub all : List Decoded
   pub left : Option (List ℕ)
@@ -59,6 +61,7 @@ pub record DumpsLines (start now : Option (List ℕ)) (why : Status) (old new : 
   pub are : AreOfLines all
   pub held : List ℕ
   pub stop : DumpStopsAt why left held now (length all)
+  pub feeds : why ≡ SourceFault → AllFed start left (map (λ decoded. decoded.line) all)
   pub lines_are : why ≢ SinkFault → lines ≡ counted_lines why (length all)
   pub packets_are : packets ≡ count_by is_packet all
   pub faults_are : faults ≡ count_by is_fault all

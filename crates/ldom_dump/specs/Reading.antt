@@ -9,13 +9,16 @@ use Rattle.ldom_report.specs.declared.status.Status.{Status}
 use Rattle.ldom_report.specs.declared.status.Status.TheVariants as status
 use Rattle.ldom_report.specs.LinesEnd.{IsPast}
 use Rattle.ldom_dump.specs.Decoded.{SpellsBytes}
+use Rattle.script_reader.specs.declared.lines.LinesStop.{LinesStop}
+use Rattle.script_reader.specs.LinesState.{LineEnds}
 use Rattle.domain_script.specs.Limits.{most_line_bytes, most_lines}
 
--- the next line spells these 64 bytes
-pub record ReadsBytes (rest left : Option (List ℕ)) (bytes : List ℕ) : Type 0 where
+-- the next line spells these 64 bytes, and ended as the reader behind it says
+pub record ReadsBytes (stop : LinesStop) (rest left : Option (List ℕ)) (bytes : List ℕ) : Type 0 where
   pub line : List ℕ
   pub taken : TakesLine rest left line
   pub short : length line ≤ most_line_bytes
+  pub ends : LineEnds stop rest left line
   pub digits : SpellsBytes line bytes
 
 -- the next line isn't 128 lower-case hexadecimal digits

@@ -1,5 +1,6 @@
 // A line of hexadecimal digits.
-ghost use Rattle.std.specs.Prelude.{◌≡◌, ◌+◌, ◌≤◌, ℕ, List, IfErr, IfNone, IfOk, IfSome};
+ghost use Rattle.std.specs.Prelude.{◌≡◌, ◌≢◌, ◌+◌, ◌≤◌, ℕ, List, IfErr, IfNone, IfOk, IfSome};
+ghost use Rattle.script_reader.specs.declared.lines.LinesStop.TheVariants.{Going};
 ghost use Rattle.script_reader.specs.LinesState.{GoesOn, to_come};
 ghost use Rattle.ldom_report.specs.LinesEnd.{counted_lines};
 ghost use Rattle.ldom_dump.specs.Decoded.{SpellsBytes};
@@ -34,7 +35,7 @@ pub fn read_bytes<S: Source>(lines: &mut Lines, source: &mut S) -> Result<[u8; 6
     requires goes { GoesOn lines.old (S.left source.old) }
     requires few { lines.old.number ≤ most_lines }
 
-    ensures bytes { IfOk result (ReadsBytes (to_come lines.old (S.left source.old))
+    ensures bytes { IfOk result (ReadsBytes lines.new.stop (to_come lines.old (S.left source.old))
         (to_come lines.new (S.left source.new))) }
     ensures next { IfOk result (λ _. (lines.new.number ≡ lines.old.number + 1) × (lines.new.number ≤ most_lines)
         × GoesOn lines.new (S.left source.new)) }
@@ -44,6 +45,9 @@ pub fn read_bytes<S: Source>(lines: &mut Lines, source: &mut S) -> Result<[u8; 6
     ensures lines { IfErr result (λ stop. lines.new.number ≡ counted_lines (stop_status stop lines.new.number)
         lines.old.number) }
     ensures most { lines.new.number ≤ most_lines }
+
+    // Behind a last line without a line feed the source isn't asked.
+    ensures going { result ≢ Err Stop.End → lines.old.stop ≡ Going }
     ensures source { Fails (result ≡ Err Stop.Source) (S.faults source.old) (S.faults source.new) }
 {
     next_line(lines, source)?;

@@ -9,7 +9,7 @@ use Rattle.domain_script.specs.declared.event.Event.{Event}
 use Rattle.domain_script.specs.declared.event.Event.TheVariants as line
 use Rattle.script_reader.specs.declared.lines.LinesStop.{LinesStop}
 use Rattle.script_reader.specs.declared.lines.LinesStop.TheVariants.{Going}
-use Rattle.script_reader.specs.LinesState.{LinesState, to_come}
+use Rattle.script_reader.specs.LinesState.{AllFed, LinesState, to_come}
 use Rattle.domain_script.specs.Declarations.{Declared}
 use Rattle.domain_script.specs.declared.event.DiskDecl.{DiskDecl}
 use Rattle.domain_script.specs.declared.event.PortDecl.{PortDecl}
@@ -32,11 +32,11 @@ use Rattle.ldom_report.specs.LinesEnd.{counted_lines}
 use Rattle.script_laws.specs.Reading.{StopsAt}
 use Rattle.script_laws.specs.Replayed.{FaultsAre, Replayed, Stopped, attach_status, ended_status, start_of}
 use Rattle.script_laws.specs.LanesStand.{LanesStand}
-use Rattle.script_laws.specs.Script.{AllFed, ReadSoFar}
+use Rattle.script_laws.specs.Script.{ReadSoFar}
 use Rattle.domain_script.specs.ScriptEvents.{AllSpell, no_names}
 use Rattle.world_parts.specs.Script.{BeginBelow, FitsScript, ScriptParts, all_lines, entries_in, events_in, events_of, journal_of}
 use Rattle.world_parts.specs.domain_laws.Domain.{DomainState, Lanes, lanes_in}
-use Rattle.script_laws.proofs.Feeds.{fed_both}
+use Rattle.script_reader.proofs.FedLines.{fed_both}
 use Rattle.script_laws.proofs.LineCases.{none_begun, noted_disks, noted_ports, silent, stays_ended}
 use Rattle.script_laws.proofs.LineLists.{all_behind, behind_ends, behind_lines, below_both, below_push, by_readers, entries_push, events_behind, events_both, journal_behind, whole_ends}
 use Rattle.script_laws.proofs.ReadLemmas.{opening_halves, other_line, read_none}

@@ -18,7 +18,6 @@ pub mod ScriptLaws
 pub mod DeclaredWorlds
 pub mod Entries
 pub mod Failing
-pub mod Feeds
 pub mod FinishedBy
 pub mod LedLanes
 pub mod LeftWhere

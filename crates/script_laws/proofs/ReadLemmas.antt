@@ -17,12 +17,13 @@ use Rattle.script_reader.specs.declared.lines.LinesStop.TheVariants.{Going}
 use Rattle.ldom_report.specs.LinesEnd.{counted_lines}
 use Rattle.ldom_report.specs.declared.status.Status.{Status}
 use Rattle.ldom_report.specs.declared.status.Status.TheVariants as status
+use Rattle.script_reader.specs.LinesState.{AllFed}
 use Rattle.script_laws.specs.Attached.{AreOpening, is_opening}
 use Rattle.script_laws.specs.Opening.{Opens, OpensAndStops}
 use Rattle.script_laws.specs.Reading.{ReadsEvent, StopsAt}
 use Rattle.domain_script.specs.ScriptEvents.{AllSpell, no_names}
-use Rattle.script_laws.specs.Script.{AllFed, ReadSoFar}
-use Rattle.script_laws.proofs.Feeds.{fed_more, fed_none}
+use Rattle.script_laws.specs.Script.{ReadSoFar}
+use Rattle.script_reader.proofs.FedLines.{fed_more, fed_none}
 use Rattle.script_laws.proofs.LineCases.{ends, noted_disks, noted_ports, stays_ended}
 
 pub spell_more : (texts : List (List ℕ)) (text : List ℕ) (first names after : NamesState) (events : List Event) (event : Event) → AllSpell texts first events names → Spells text names event → after ≡ noted names event

@@ -12,8 +12,8 @@ use Rattle.ldom_report.specs.declared.status.Status.TheVariants as status
 use Rattle.ldom_report.specs.Stops.{IsReaders}
 use Rattle.script_reader.specs.declared.lines.LinesStop.{LinesStop}
 use Rattle.script_reader.specs.declared.lines.LinesStop.TheVariants.{Going}
+use Rattle.script_reader.specs.LinesState.{AllFed}
 use Rattle.script_laws.specs.Going.{ReadsOn, RunsLines}
-use Rattle.script_laws.specs.Script.{AllFed}
 use Rattle.world_parts.specs.Lines.{LineStarts, EventStep, line_of}
 use Rattle.world_parts.specs.Parts.{Fits, FitsSoFar}
 use Rattle.ldom_report.specs.LinesEnd.{counted_lines}
@@ -21,7 +21,7 @@ use Rattle.script_laws.specs.Reading.{ReadsEvent, StopsAt}
 use Rattle.world_parts.specs.domain_laws.Domain.{DomainState}
 use Rattle.world_parts.specs.Script.{BeginBelow, entries_in, events_in}
 use Rattle.domain_script.proofs.ScriptLemmas.{short-append, takes-append, takes_none}
-use Rattle.script_laws.proofs.Feeds.{fed_more, fed_none}
+use Rattle.script_reader.proofs.FedLines.{fed_more, fed_none}
 use Rattle.script_laws.proofs.LineLists.{below_push, entries_push, events_both, whole_ends}
 use Rattle.script_laws.proofs.ReadLemmas.{spell_more}
 

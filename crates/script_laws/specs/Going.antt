@@ -6,11 +6,11 @@ use Rattle.ldom_entries.specs.declared.entry.Entry.{Entry}
 use Rattle.ldom_report.specs.declared.status.Status.{Status}
 use Rattle.ldom_report.specs.declared.status.Status.TheVariants as status
 use Rattle.ldom_report.specs.LinesEnd.{counted_lines}
+use Rattle.script_reader.specs.LinesState.{AllFed}
 use Rattle.script_laws.specs.Attached.{AreOpening}
 use Rattle.world_parts.specs.Endings.{EndsSo, JournalIs, ending}
 use Rattle.script_laws.specs.Reading.{StopsAt}
 use Rattle.script_laws.specs.Replayed.{Stopped}
-use Rattle.script_laws.specs.Script.{AllFed}
 use Rattle.domain_script.specs.ScriptLines.{AreShort, TakesLines}
 use Rattle.domain_script.specs.ScriptEvents.{AllSpell}
 use Rattle.world_parts.specs.Script.{FitsScript, ScriptParts, events_of, journal_of}

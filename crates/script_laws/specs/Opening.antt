@@ -6,10 +6,10 @@ use Rattle.ldom_report.specs.declared.status.Status.{Status}
 use Rattle.ldom_report.specs.declared.status.Status.TheVariants as status
 use Rattle.script_laws.specs.Attached.{AreOpening}
 use Rattle.script_laws.specs.Replayed.{Stopped}
-use Rattle.script_laws.specs.Script.{AllFed, ReadSoFar}
+use Rattle.script_laws.specs.Script.{ReadSoFar}
 use Rattle.script_reader.specs.declared.lines.LinesStop.{LinesStop}
 use Rattle.script_reader.specs.declared.lines.LinesStop.TheVariants.{Going}
-use Rattle.script_reader.specs.LinesState.{LinesState, to_come}
+use Rattle.script_reader.specs.LinesState.{AllFed, LinesState, to_come}
 
 -- After blank lines and declarations came this event. Where the reader goes on, each line had its line feed.
 pub record Opens (stop : LinesStop) (start left : Option (List ℕ)) (event : Event) (names : NamesState)

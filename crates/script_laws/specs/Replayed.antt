@@ -9,13 +9,14 @@ use Rattle.ldom_report.specs.declared.status.Status.TheVariants as status
 use Rattle.vio_io.specs.declared.host.AttachFault.{AttachFault}
 use Rattle.vio_io.specs.declared.host.AttachFault.TheVariants.{Failed, Memory}
 use Rattle.ldom_report.specs.LinesEnd.{counted_lines}
+use Rattle.script_reader.specs.LinesState.{AllFed}
 use Rattle.script_laws.specs.Attached.{ImageStands}
 use Rattle.script_laws.specs.Behind.{StandsBehind}
 use Rattle.world_parts.specs.Endings.{JournalIs, ending}
 use Rattle.world_parts.specs.domain_laws.Domain.{DomainState, Lanes}
 use Rattle.script_laws.specs.Reading.{StopsAt}
 use Rattle.script_laws.specs.LanesStand.{LanesStand}
-use Rattle.script_laws.specs.Script.{AllFed, ReadSoFar}
+use Rattle.script_laws.specs.Script.{ReadSoFar}
 use Rattle.disk_law.specs.ListState.{attached}
 use Rattle.world_parts.specs.Declared.{bytes_needed, nets_of, world_of}
 use Rattle.world_parts.specs.Script.{ScriptParts, events_of}

@@ -1,15 +1,9 @@
 -- How far a script was read.
-use Rattle.std.specs.Prelude.{◌≡◌, ℕ, List, ◌++◌, length, Option, Some, None, ⊤}
+use Rattle.std.specs.Prelude.{◌≡◌, ℕ, List, length, Option}
 use Rattle.domain_script.specs.declared.event.Event.{Event}
 use Rattle.domain_script.specs.NamesState.{NamesState}
 use Rattle.domain_script.specs.ScriptEvents.{AllSpell, no_names}
-use Rattle.domain_script.specs.ScriptLines.{LinesTaken, fed}
-
--- known bytes are these lines, each with its line feed, and then what is left
-abbrev pub AllFed : Option (List ℕ) → Option (List ℕ) → List (List ℕ) → Type 0
-AllFed None left texts = ⊤
-AllFed (Some bytes) None texts = ⊥
-AllFed (Some bytes) (Some left) texts = bytes ≡ fed texts ++ left
+use Rattle.domain_script.specs.ScriptLines.{LinesTaken}
 
 -- these lines were read from the front of what a source gives, and spell these events
 pub record ReadSoFar (start left : Option (List ℕ)) (events : List Event) (names : NamesState) (count : ℕ) : Type 0 where

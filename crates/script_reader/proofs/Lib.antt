@@ -2,3 +2,4 @@ mod PieceLemmas
 mod PartLemmas
 mod ToCome
 mod Readers
+pub mod FedLines

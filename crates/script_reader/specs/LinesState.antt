@@ -6,7 +6,7 @@ use Rattle.script_reader.specs.declared.lines.LinesFault.TheVariants.{Source, Lo
 use Rattle.script_reader.specs.declared.lines.LinesStop.{LinesStop}
 use Rattle.script_reader.specs.declared.lines.LinesStop.TheVariants.{Going, Ended, TooLong, TooMany}
 use Rattle.domain_script.specs.Pieces.{DecidesNothing}
-use Rattle.domain_script.specs.ScriptLines.{TakesLine, BeginsWithLonger}
+use Rattle.domain_script.specs.ScriptLines.{TakesLine, BeginsWithLonger, fed}
 use Rattle.domain_script.specs.Limits.{most_line_bytes, most_lines}
 
 pub record LinesState : Type 0 where
@@ -28,6 +28,12 @@ abbrev pub HasFeed : Option (List ℕ) → Option (List ℕ) → List ℕ → Ty
 HasFeed None left line = ⊤
 HasFeed (Some bytes) None line = ⊥
 HasFeed (Some bytes) (Some left) line = bytes ≡ line ++ 10 ∷ left
+
+-- known bytes are these lines, each with its line feed, and then what is left
+abbrev pub AllFed : Option (List ℕ) → Option (List ℕ) → List (List ℕ) → Type 0
+AllFed None left texts = ⊤
+AllFed (Some bytes) None texts = ⊥
+AllFed (Some bytes) (Some left) texts = bytes ≡ fed texts ++ left
 
 -- How the line that was given ended. A reader that goes on gave its line feed with it. One that ended gave all that there
 -- was, without a line feed, and the source has nothing left.

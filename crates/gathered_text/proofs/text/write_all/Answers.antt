@@ -5,7 +5,7 @@ use Rattle.gathered_text.proofs.text.write_all.Goals as goal
 
 pub returns-in_err-at-clause-front : goal.returns-in_err-at-clause-front
 returns-in_err-at-clause-front g c =
-    on_err c.from_residual.result _ (wrote_front_kept _ _ _ c.args.bytes.now c.loop-at.at c.loop-at.invariant.written c.in_err-at.ensures.told)
+    on_err c.from_residual.result _ (wrote_front_kept _ _ _ c.args.bytes.now c.loop-at.at c.loop-at-test.true c.loop-at.invariant.written c.in_err-at.ensures.told)
 
 pub loop-at-preserved : goal.loop-at-preserved
 loop-at-preserved g c =

@@ -12,7 +12,7 @@ loop-bytes-preserved-in-Ok-true g c =
       goes = c.in-Ok.ensures.next.2;
       few = c.in-Ok.ensures.next.1;
       sum = omega (arith, c.loop-bytes.invariant.sum, c.in-Ok.ensures.next.0);
-      so_far = so_far_packet start rest left (g.K.Sink.written c.args.out.now) (g.K.Sink.written c.loop-bytes.out) (g.K.Sink.written c.put_packet.new.out)
+      so_far = so_far_packet c.loop-bytes.lines.stop c.read_bytes.new.lines.stop start rest left (g.K.Sink.written c.args.out.now) (g.K.Sink.written c.loop-bytes.out) (g.K.Sink.written c.put_packet.new.out)
           c.in-Ok.bytes c.loop-bytes.text c.put_packet.new.text _ c.loop-bytes.lines.number c.read_bytes.new.lines.number c.loop-bytes.packets c.loop-bytes.faults
           c.loop-bytes.invariant.so_far c.in-Ok.ensures.bytes c.in-Ok.ensures.next.0 c.in-Ok.ensures.next.1 c.in-Ok-true.ensures.told c.in-Ok-true.field-0-test;
       source = c.in-Ok.ensures.source.unfailed (λ is. cc) ∙ c.loop-bytes.invariant.source;
@@ -28,7 +28,7 @@ loop-bytes-preserved g c =
       goes = c.in-Ok.ensures.next.2;
       few = c.in-Ok.ensures.next.1;
       sum = omega (arith, c.loop-bytes.invariant.sum, c.in-Ok.ensures.next.0);
-      so_far = so_far_fault start rest left (g.K.Sink.written c.args.out.now) (g.K.Sink.written c.loop-bytes.out) (g.K.Sink.written c.put_packet.new.out)
+      so_far = so_far_fault c.loop-bytes.lines.stop c.read_bytes.new.lines.stop start rest left (g.K.Sink.written c.args.out.now) (g.K.Sink.written c.loop-bytes.out) (g.K.Sink.written c.put_packet.new.out)
           c.in-Ok.bytes c.loop-bytes.text c.put_packet.new.text _ c.loop-bytes.lines.number c.read_bytes.new.lines.number c.loop-bytes.packets c.loop-bytes.faults
           c.loop-bytes.invariant.so_far c.in-Ok.ensures.bytes c.in-Ok.ensures.next.0 c.in-Ok.ensures.next.1 c.in-Ok-false.ensures.told c.in-Ok-false.field-0-test;
       source = c.in-Ok.ensures.source.unfailed (λ is. cc) ∙ c.loop-bytes.invariant.source;

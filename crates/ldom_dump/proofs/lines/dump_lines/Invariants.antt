@@ -8,7 +8,7 @@ invariant-loop-bytes g l = record {
   goes : GoesOn l.lines (g.S.Source.left l.source);
   few : l.lines.number ≤ 20000;
   sum : l.packets + l.faults ≡ l.lines.number;
-  so_far : LinesSoFar (to_come l.fn.lines (g.S.Source.left l.fn.source)) (to_come l.lines (g.S.Source.left l.source)) (g.K.Sink.written l.fn.out) (g.K.Sink.written l.out) l.text l.lines.number l.packets l.faults;
+  so_far : LinesSoFar l.lines.stop (to_come l.fn.lines (g.S.Source.left l.fn.source)) (to_come l.lines (g.S.Source.left l.source)) (g.K.Sink.written l.fn.out) (g.K.Sink.written l.out) l.text l.lines.number l.packets l.faults;
   source : g.S.Source.faults l.source ≡ g.S.Source.faults l.fn.source;
   sink : g.K.Sink.faults l.out ≡ g.K.Sink.faults l.fn.out;
 }

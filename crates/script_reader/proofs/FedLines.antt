@@ -4,8 +4,7 @@ use Rattle.domain_script.specs.ScriptLines.{AreBytesOf, TakesLines, fed}
 use Rattle.domain_script.proofs.ScriptLemmas.{fed-append}
 use Rattle.script_reader.specs.declared.lines.LinesStop.{LinesStop}
 use Rattle.script_reader.specs.declared.lines.LinesStop.TheVariants.{Going}
-use Rattle.script_reader.specs.LinesState.{HasFeed, LineEnds}
-use Rattle.script_laws.specs.Script.{AllFed}
+use Rattle.script_reader.specs.LinesState.{AllFed, HasFeed, LineEnds}
 
 -- none yet
 pub fed_none : (start : Option (List ℕ)) → AllFed start start []
