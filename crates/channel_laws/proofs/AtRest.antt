@@ -1,6 +1,6 @@
 -- Two ends on a channel that nobody forged and on which nothing was lost: where both are up and owe nothing, and nothing waits for either, each
 -- heard all that the other said, and both sessions are open.
-use Rattle.std.proofs.Common.{◌≡◌, ℕ, ◌≤◌, inl, inr, Bool, true, false, None, List, [], ◌∷◌, ◌++◌, length, refl, sym, ap, ◌∙◌, subst, arith}
+use Rattle.std.proofs.Common.{◌≡◌, ℕ, inl, inr, Bool, true, false, None, List, [], ◌∷◌, ◌++◌, refl, sym, ap, ◌∙◌, subst, arith}
 use Rattle.std.specs.Prelude.{is_some}
 use Rattle.std.proofs.lemmas.List.{append-nil}
 use Rattle.ldc_packet.specs.declared.packet.Packet.{Packet}
@@ -29,15 +29,13 @@ use Rattle.channel_laws.specs.Conversing.{Converse}
 use Rattle.channel_laws.specs.LinkPlaces.{AnswerTaken, AtMost, BothUp, LinkPlace, LinksAt, ModeAgreed, ModeAnswered, ModePut, ModeTaken, NothingPut, ReadyFirst, ReadyPut, VersionPut, VersionTaken, live_phase}
 use Rattle.channel_laws.specs.LinkPlaces as link
 use Rattle.channel_laws.specs.Sides.{Sides}
+use Rattle.channel_laws.proofs.LinkPlaced.{up_live}
+use Rattle.channel_laws.proofs.NextPacket.{none_of}
 
 -- WHAT WAS SAID WAS HEARD where nothing was lost and nothing waits
-no_packets : (xs : List (List ℕ)) → length xs ≤ 0 → xs ≡ []
-no_packets [] few = refl
-no_packets (x ∷ xs) few = absurd (omega (arith, few))
-
 all_heard : (said_packets heard_packets waiting : List (List ℕ)) (lost : ℕ) → OneWay said_packets heard_packets (numbered waiting) lost → lost ≡ 0 → waiting ≡ [] → said_packets ≡ heard_packets
 all_heard said_packets heard_packets waiting lost way whole none =
-    let gone : way.gone ≡ [] = no_packets way.gone (omega (arith, way.few, whole)) in
+    let gone : way.gone ≡ [] = none_of way.gone (omega (arith, way.few, whole)) in
     way.is ∙ ap (λ (xs : List (List ℕ)). heard_packets ++ (xs ++ numbered waiting)) gone ∙ ap (λ (xs : List (List ℕ)). heard_packets ++ numbered xs) none ∙ append-nil heard_packets
 
 -- BOTH ARE UP, owe nothing, and nothing waits
@@ -51,9 +49,6 @@ pub record BothRest (s : Sides) : Type 0 where
   pub peer_quiet : owes s.theirs.core.link ≡ false
   pub owed : s.mine.core.handshake.owed ≡ None
   pub peer_owed : s.theirs.core.handshake.owed ≡ None
-
-live_up : (state : ChannelState) (packets : List (List ℕ)) → state ≡ Up → live state packets ≡ packets
-live_up state packets is = ap (λ (x : ChannelState). live x packets) is
 
 owes_at : (k : LinkState) (ph : LinkPhase) (X : Type 0) → k.phase ≡ ph → is_some (owed_in ph k) ≡ true → owes k ≡ false → X
 owes_at k ph X at owes_it quiet =
@@ -99,7 +94,7 @@ links_up s at rest same = by_place at.place refl
         let none : link.HeardAt Responder ReadyPut (live s.theirs.state (numbered_heard s.theirs.turns)) =
         subst (λ (x : LinkPlace). link.HeardAt Responder x (live s.theirs.state (numbered_heard s.theirs.turns))) is at.heard_theirs in
         let empty : live s.mine.state (numbered_said s.mine.turns) ≡ [] =
-        live_up s.mine.state (numbered_said s.mine.turns) rest.up ∙ same ∙ sym (live_up s.theirs.state (numbered_heard s.theirs.turns) rest.peer_up) ∙ none in
+        up_live s.mine.state (numbered_said s.mine.turns) rest.up ∙ same ∙ sym (up_live s.theirs.state (numbered_heard s.theirs.turns) rest.peer_up) ∙ none in
         absurd (subst ReadyFirst empty ready)
     by_place BothUp is = record { mine = ap is_established (mine_at BothUp is); theirs = ap is_established (theirs_at BothUp is) }
 
@@ -116,13 +111,13 @@ pub heard_all : (s : Sides) → BothRest s → Converse Initiator s → LinksAt 
 heard_all s rest converse links =
     let lost = converse.whole rest.whole in
     let asked : numbered_said s.mine.turns ≡ numbered_heard s.theirs.turns =
-    sym (live_up s.mine.state (numbered_said s.mine.turns) rest.up)
+    sym (up_live s.mine.state (numbered_said s.mine.turns) rest.up)
     ∙ all_heard (live s.mine.state (numbered_said s.mine.turns)) (live s.theirs.state (numbered_heard s.theirs.turns)) s.theirs.waiting converse.lost_theirs converse.stream.to_b
-    lost.1 rest.peer_waits ∙ live_up s.theirs.state (numbered_heard s.theirs.turns) rest.peer_up in
+    lost.1 rest.peer_waits ∙ up_live s.theirs.state (numbered_heard s.theirs.turns) rest.peer_up in
     let answered : numbered_said s.theirs.turns ≡ numbered_heard s.mine.turns =
-    sym (live_up s.theirs.state (numbered_said s.theirs.turns) rest.peer_up)
+    sym (up_live s.theirs.state (numbered_said s.theirs.turns) rest.peer_up)
     ∙ all_heard (live s.theirs.state (numbered_said s.theirs.turns)) (live s.mine.state (numbered_heard s.mine.turns)) s.mine.waiting converse.lost_mine converse.stream.to_a
-    lost.0 rest.waits ∙ live_up s.mine.state (numbered_heard s.mine.turns) rest.up in
+    lost.0 rest.waits ∙ up_live s.mine.state (numbered_heard s.mine.turns) rest.up in
     record { up = links_up s links rest asked; to_theirs = same_messages s.mine.turns s.theirs.turns asked; to_mine = same_messages s.theirs.turns s.mine.turns answered }
 
 -- BOTH SESSIONS ARE OPEN

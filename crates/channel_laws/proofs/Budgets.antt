@@ -34,8 +34,6 @@ budget_less _ n m less = omega arith
 
 budget_most : (ph : LinkPhase) (n : ℕ) → budget_in ph n ≤ n + 515
 budget_most phase.Established n = omega arith
-budget_most phase.OwesRdx n = omega arith
-budget_most phase.OwesVersInfo n = omega arith
 budget_most _ n = omega arith
 
 owed_one : (owed : Option Message) → one_owed owed ≤ 1
@@ -74,8 +72,7 @@ more_few Responder _ = omega arith
 
 opening_few : (role : Role) (ph : Phase) → opening_left role ph ≤ 256
 opening_few Initiator PeerReadyTaken = omega arith
-opening_few Initiator _ = omega arith
-opening_few Responder _ = omega arith
+opening_few _ _ = omega arith
 
 -- what a role owes in a phase
 abbrev HasNone : Phase → Type 0

@@ -16,7 +16,7 @@ use Rattle.vio_tag.specs.declared.cause.Cause.{Cause}
 use Rattle.vio_tag.specs.declared.cause.Cause.TheVariants as the_cause
 use Rattle.vio_tag.specs.declared.message.Message.{Message}
 use Rattle.vio_tag.specs.declared.message.MsgBody.{MsgBody}
-use Rattle.vio_tag.specs.declared.message.MsgBody.TheVariants.{Attr, DringData, DringReg, DringUnreg, Mcast, Plain, Rdx, Ver}
+use Rattle.vio_tag.specs.declared.message.MsgBody.TheVariants.{DringData, DringReg, Mcast}
 use Rattle.vio_tag.specs.declared.message.TagFault.{TagFault}
 use Rattle.vio_tag.specs.Decoding.{Decodes}
 use Rattle.vio_tag.specs.Fault as message
@@ -90,13 +90,9 @@ module _ (own : Message → Option Cause) (rightly : JudgesRightly own) (turns :
   body_told : (one : Message) (body : MsgBody) → message.first_fault bytes ≡ None → SpellsMessage bytes one → Says turns packet (body_cause own one body)
   body_told one (DringData seq ident start end state) fine spells = some_told (own one) (rightly.says bytes one fine spells)
   body_told one (Mcast set count addresses) fine spells = some_told (own one) (rightly.says bytes one fine spells)
-  body_told one (Ver major minor class) fine spells = declined_told (is_declined one.subtype (Ver major minor class)) fine
-  body_told one (Attr attributes) fine spells = declined_told (is_declined one.subtype (Attr attributes)) fine
   body_told one (DringReg ident slots slot_size options count cookies) fine spells =
       declined_told (is_declined one.subtype (DringReg ident slots slot_size options count cookies)) fine
-  body_told one (DringUnreg ident) fine spells = declined_told (is_declined one.subtype (DringUnreg ident)) fine
-  body_told one Rdx fine spells = declined_told (is_declined one.subtype Rdx) fine
-  body_told one (Plain envelope) fine spells = declined_told (is_declined one.subtype (Plain envelope)) fine
+  body_told one body fine spells = declined_told (is_declined one.subtype body) fine
 
   sid_told : (b : Bool) (sid : ℕ) (one : Message) → b ≡ nat_eq sid one.sid → message.first_fault bytes ≡ None → SpellsMessage bytes one
       → Says turns packet (if b then body_cause own one one.body else Some (the_cause.Sid sid one.sid))

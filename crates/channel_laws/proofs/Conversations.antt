@@ -294,8 +294,7 @@ missed_converse role s packet at_front c =
 -- IT BEGINS, or is closed
 queue_shorter : (e : ChannelState) (waiting : List (List ℕ)) → length (queue_behind e waiting) ≤ length waiting
 queue_shorter Up waiting = omega arith
-queue_shorter Down waiting = omega arith
-queue_shorter Resetting waiting = omega arith
+queue_shorter _ waiting = omega arith
 
 -- what may be lost for an end that begins, and for its peer; with as many packets without a number as before, or at most two
 joined_few : (e peer : ChannelState) (waiting beyond : List (List ℕ)) (lost theirs own new left now : ℕ)

@@ -50,9 +50,7 @@ room_wire n w (Lost B packet) stands room = record { to_a = room.to_a; to_b = on
 room_wire n w (Injected A packet) stands room = record { to_a = one_more n w.wire.to_a packet stands.1; to_b = room.to_b }
 room_wire n w (Injected B packet) stands room = record { to_a = room.to_a; to_b = one_more n w.wire.to_b packet stands.1 }
 room_wire n w (Poked e at bytes) stands room = record { to_a = room.to_a; to_b = room.to_b }
-room_wire n w (Idle e) stands room = room
-room_wire n w (Blocked e) stands room = room
-room_wire n w (Declines d) stands room = room
+room_wire n w _ stands room = room
 
 pub room_after : (n : ℕ) (w : WireLog) (event : CoreEvent) → 1 ≤ n → CoreStands n w event → Room n w → Room n (wire_after w event)
 room_after n w (OnChannel event) some stands room = room_wire n w event stands room

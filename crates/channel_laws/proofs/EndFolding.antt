@@ -11,7 +11,7 @@ use Rattle.ldc_link.specs.Putting.{phase_behind_put}
 use Rattle.ldc_link.specs.Taking.{in_mode, phase_behind_rdx, phase_behind_rtr, phase_behind_rts, phase_behind_vers}
 use Rattle.ldc_packet.specs.declared.packet.Body.TheVariants.{Rdx}
 use Rattle.ldc_packet.specs.declared.packet.Subtype.{Subtype}
-use Rattle.ldc_packet.specs.declared.packet.Subtype.TheVariants.{Ack, Info, Nack}
+use Rattle.ldc_packet.specs.declared.packet.Subtype.TheVariants.{Ack, Info}
 use Rattle.ldc_packet.specs.Spelling.{ctrl_at, env_at, subtype_at, subtype_code}
 use Rattle.ldc_queue.specs.Fragments.{is_part}
 use Rattle.ldc_queue.specs.Transcript.{Heard as Heard_, Said as Said_, Turn}
@@ -20,7 +20,7 @@ use Rattle.vio_tag.proofs.Deciding.{some_result}
 use Rattle.vio_tag.proofs.Reading.{one_result, spelled_decodes}
 use Rattle.vio_tag.specs.declared.message.Message.{Message}
 use Rattle.vio_tag.specs.declared.message.MsgBody.{MsgBody}
-use Rattle.vio_tag.specs.declared.message.MsgBody.TheVariants.{Attr, DringData, DringReg, DringUnreg, Mcast, Plain, Rdx as Ready, Ver}
+use Rattle.vio_tag.specs.declared.message.MsgBody.TheVariants.{DringData, Mcast, Plain, Ver}
 use Rattle.vio_tag.specs.declared.message.TagFault.{TagFault}
 use Rattle.vio_tag.specs.Form.{IsWellFormed}
 use Rattle.vio_tag.specs.Spelling.{SpellsMessage, canonical}
@@ -55,8 +55,7 @@ use Rattle.channel_laws.specs.Standing.{EndStands, IsShort, OwedIsShort}
 -- WHAT A LINK HEARS moves its phase by the packet's fields
 named_is : (s : Subtype) → subtype_named (subtype_code s) ≡ s
 named_is Info = refl
-named_is Ack = refl
-named_is Nack = refl
+named_is _ = refl
 
 subtype_is : (bytes : List ℕ) (s : Subtype) → subtype_at bytes ≡ subtype_code s → subtype_named (subtype_at bytes) ≡ s
 subtype_is bytes s is = ap subtype_named is ∙ named_is s
@@ -135,15 +134,11 @@ unfolding canonical
 owed_session m short = by_body m.subtype m.sid m.body short
   where
     by_body : (s : Subtype) (n : ℕ) (b : MsgBody) → IsShort b → is_of_session (canonical (record { subtype = s; sid = n; body = b })) ≡ false
-    by_body s n (Ver major minor class) is = refl
-    by_body s n (Attr bytes) is = refl
-    by_body s n (DringReg ident slots slot_size options count cookies) is = refl
-    by_body s n (DringUnreg ident) is = refl
-    by_body s n Ready is = refl
     by_body s n (DringData seq ident start end state) is = absurd is
     by_body s n (Mcast set count addresses) is = absurd is
     by_body s n (Plain envelope) (inl is) = ap (λ (e : ℕ). is_of_session (canonical (record { subtype = s; sid = n; body = Plain e }))) is
     by_body s n (Plain envelope) (inr is) = ap (λ (e : ℕ). is_of_session (canonical (record { subtype = s; sid = n; body = Plain e }))) is
+    by_body s n _ is = refl
 
 -- what a handshake makes of a message that it takes, and of one of the session, which it doesn't take
 moves_to : (h t : Handshake) (message : Message) → GoesTo (handshake_take h message) t → t ≡ moved_by (handshake_take h message) h

@@ -32,15 +32,10 @@ live_small Resetting n small = omega arith
 -- at most two packets without a number are left
 takes_few : (ph : LinkPhase) → takes_left ph ≤ 2
 takes_few phase.OwesVersInfo = omega arith
-takes_few phase.AwaitsVersAck = omega arith
-takes_few phase.OwesRts = omega arith
-takes_few phase.AwaitsRtr = omega arith
 takes_few _ = omega arith
 
 puts_few : (ph : LinkPhase) → puts_left ph ≤ 2
 puts_few phase.OwesVersInfo = omega arith
-puts_few phase.AwaitsVersAck = omega arith
-puts_few phase.OwesRts = omega arith
 puts_few _ = omega arith
 
 pub live_takes_few : (e : ChannelState) (ph : LinkPhase) → live_takes e ph ≤ 2

@@ -106,7 +106,7 @@ anew_last role c t begins zero =
 anew_below : (role : Role) (c t : EndCore) (X : Type 0) → EndAnew role c t → is_up t.link ≡ true → X
 anew_below role c t X begins up = true_is_false (sym up ∙ ap is_up begins.link ∙ first_down role)
 
-peer_up : (x y : ChannelState) → peer_behind x y ≡ Up → y ≡ Up
+pub peer_up : (x y : ChannelState) → peer_behind x y ≡ Up → y ≡ Up
 peer_up Up Up is = refl
 peer_up Up Down is = absurd (cc is)
 peer_up Up Resetting is = absurd (cc is)

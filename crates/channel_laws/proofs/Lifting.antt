@@ -27,9 +27,7 @@ use Rattle.channel_laws.specs.Standing.{EndStands}
 -- THE TURNS of each end are those of its moves
 reset_turns : (g : Giver) (turns : List Turn) (cause : Cause) (packet : Option (List ℕ)) → turns_after turns (reset_move g cause packet) ≡ []
 reset_turns ByStep turns cause packet = refl
-reset_turns ByScript turns cause packet = refl
-reset_turns ByRestart turns cause packet = refl
-reset_turns ByTick turns cause packet = refl
+reset_turns _ turns cause packet = refl
 
 pub transcript_turns : (e : End) (l : TranscriptLog) (event : CoreEvent) → transcript_of e (transcript_after l event) ≡ turns_after (transcript_of e l) (move_of e event)
 transcript_turns A l (OnChannel (Joined A lost)) = refl
@@ -212,12 +210,8 @@ event_behind Holds keep s t transcript (OnChannel (Lost B packet)) kept step cle
     let seen = from_b Holds keep s.entries s.wire t.a t.b transcript k in
     keep.swaps Responder (missed (swapped (sides_in s.entries s.wire t.a t.b transcript)))
     (keep.misses Responder (swapped (sides_in s.entries s.wire t.a t.b transcript)) packet seen.stand step.stands seen.holds)
-event_behind Holds keep s t transcript (OnChannel (Idle e)) kept step clean =
-    (b_stays Holds keep s.entries s.wire t.a s.b t.b transcript step.b (a_stays Holds keep s.entries s.wire s.a t.a s.b transcript step.a kept)).holds
 event_behind Holds keep s t transcript (OnChannel (Injected e packet)) kept step clean = absurd (forged_never (wire_moved s.wire (Injected e packet)) ⊥ refl clean)
 event_behind Holds keep s t transcript (OnChannel (Poked e at bytes)) kept step clean = absurd (forged_never (wire_moved s.wire (Poked e at bytes)) ⊥ refl clean)
-event_behind Holds keep s t transcript (OnChannel (Declines d)) kept step clean =
-    (b_stays Holds keep s.entries s.wire t.a s.b t.b transcript step.b (a_stays Holds keep s.entries s.wire s.a t.a s.b transcript step.a kept)).holds
 event_behind Holds keep s t transcript (Closes A) kept step clean =
     let k = b_stays Holds keep s.entries s.wire s.a s.b t.b transcript step.b kept in
     keep.closes Initiator (sides_in s.entries s.wire s.a t.b transcript) t.a k.stand (renews_anew Initiator s.a t.a step.a) k.holds
@@ -226,7 +220,7 @@ event_behind Holds keep s t transcript (Closes B) kept step clean =
     let seen = from_b Holds keep s.entries s.wire t.a s.b transcript k in
     keep.swaps Responder (shut t.b (swapped (sides_in s.entries s.wire t.a s.b transcript)))
     (keep.closes Responder (swapped (sides_in s.entries s.wire t.a s.b transcript)) t.b seen.stand (renews_anew Responder s.b t.b step.b) seen.holds)
-event_behind Holds keep s t transcript Beside kept step clean =
+event_behind Holds keep s t transcript _ kept step clean =
     (b_stays Holds keep s.entries s.wire t.a s.b t.b transcript step.b (a_stays Holds keep s.entries s.wire s.a t.a s.b transcript step.a kept)).holds
 
 -- ALONG EVERY RUN, where nobody forged
@@ -238,9 +232,7 @@ pub record CoreHolds (Holds : Role → Sides → Type 0) (s : LaneCore) (transcr
 was_clean : (w : WireLog) (event : CoreEvent) → (wire_after w event).forged ≡ false → w.forged ≡ false
 was_clean w (OnChannel (Injected e packet)) clean = forged_never (wire_moved w (Injected e packet)) (w.forged ≡ false) refl clean
 was_clean w (OnChannel (Poked e at bytes)) clean = forged_never (wire_moved w (Poked e at bytes)) (w.forged ≡ false) refl clean
-was_clean w (OnChannel event) clean = clean
-was_clean w (Closes e) clean = clean
-was_clean w Beside clean = clean
+was_clean w _ clean = clean
 
 pub core_step : (Holds : Role → Sides → Type 0) → ActsKeep Holds → (s : LaneCore) (transcript : TranscriptLog) (event : CoreEvent) (t : LaneCore) → CoreHolds Holds s transcript → CoreStep s event t
     → CoreHolds Holds t (transcript_after transcript event)

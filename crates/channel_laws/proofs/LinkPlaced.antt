@@ -100,13 +100,11 @@ none_heard Responder = refl
 -- of an end that is told that the queues were emptied nothing counts any more
 upset_phase : (x : ChannelState) (first now : LinkPhase) → live_phase (upset x) first now ≡ first
 upset_phase Up first now = refl
-upset_phase Down first now = refl
-upset_phase Resetting first now = refl
+upset_phase _ first now = refl
 
 upset_none : (x : ChannelState) (packets : List (List ℕ)) → live (upset x) packets ≡ []
 upset_none Up packets = refl
-upset_none Down packets = refl
-upset_none Resetting packets = refl
+upset_none _ packets = refl
 
 -- both begin
 emptied : (role : Role) (s : Sides) (state : ChannelState) (lossy : Bool) (t : EndCore) → live_phase state (first_phase role) t.link.phase ≡ first_phase role
@@ -125,8 +123,7 @@ emptied role s state lossy t first = record {
   where
     nothing_live : (x : ChannelState) → live x [] ≡ []
     nothing_live Up = refl
-    nothing_live Down = refl
-    nothing_live Resetting = refl
+    nothing_live _ = refl
 
 -- one that wasn't up counted as one that begins
 woken : (role : Role) (s : Sides) (t : EndCore) → t.link.phase ≡ first_phase role → live_phase s.mine.state (first_phase role) s.mine.core.link.phase ≡ first_phase role
@@ -426,7 +423,7 @@ put_place role place k m turns bytes follows at (PartGone from some is link) =
 up_phase : (x : ChannelState) (first now : LinkPhase) → x ≡ Up → live_phase x first now ≡ now
 up_phase x first now is = ap (λ (y : ChannelState). live_phase y first now) is
 
-up_live : (x : ChannelState) (packets : List (List ℕ)) → x ≡ Up → live x packets ≡ packets
+pub up_live : (x : ChannelState) (packets : List (List ℕ)) → x ≡ Up → live x packets ≡ packets
 up_live x packets is = ap (λ (y : ChannelState). live y packets) is
 
 put_links : (role : Role) (s : Sides) (t : EndCore) (packet : List ℕ) (opens : Bool) → EndStands role s.mine.core s.mine.turns → s.mine.state ≡ Up → EndSays role s.mine.core packet opens t

@@ -3,7 +3,7 @@ use Rattle.std.proofs.Common.{◌≡◌, ℕ, ◌+◌, ◌<◌, ◌%◌, Bool, t
 use Rattle.std.specs.Prelude.{◌&&◌, if◌then◌else◌, nat_eq, nat_le}
 use Rattle.std.proofs.lemmas.Bool.{eq-eqb, eqb-true, le-leb}
 use Rattle.ldc_packet.specs.declared.packet.Body.{Body}
-use Rattle.ldc_packet.specs.declared.packet.Body.TheVariants.{Part, Rdx, Rtr, Rts, Vers}
+use Rattle.ldc_packet.specs.declared.packet.Body.TheVariants.{Part, Rdx}
 use Rattle.ldc_packet.specs.declared.packet.Subtype.{Subtype}
 use Rattle.ldc_packet.specs.declared.packet.Subtype.TheVariants.{Info}
 use Rattle.ldc_packet.specs.Spelling.{seqid_at}
@@ -38,10 +38,7 @@ may_at half (x ∷ xs) f ys all = may_at (half_with x.stop (half ++ x.bytes)) xs
 data_part : (b : Body) → IsData b → has_part b ≡ true
 unfolding has_part
 data_part (Part start stop len bytes) carries = refl
-data_part (Vers major minor) carries = absurd carries
-data_part (Rts mode) carries = absurd carries
-data_part (Rtr mode) carries = absurd carries
-data_part Rdx carries = absurd carries
+data_part _ carries = absurd carries
 
 pub part_is : (packet : List ℕ) (part : IsPartOf packet) → is_part packet ≡ true
 part_is packet part = spelled_part packet part.packet (part_spells packet part) ∙ data_part part.packet.body part.carries
@@ -85,10 +82,7 @@ pub record Turned (k : LinkState) (said heard : List (List ℕ)) (packet : List 
 
 data_turned : (k : LinkState) (s : Subtype) (n : ℕ) (b : Body) → IsData b → takes_body k s n b ≡ in_turn k n (takes_part k (fragment_of b))
 data_turned k s n (Part start stop len bytes) carries = refl
-data_turned k s n (Vers major minor) carries = absurd carries
-data_turned k s n (Rts mode) carries = absurd carries
-data_turned k s n (Rtr mode) carries = absurd carries
-data_turned k s n Rdx carries = absurd carries
+data_turned k s n _ carries = absurd carries
 
 part_answer : (k : LinkState) (packet : List ℕ) (part : IsPartOf packet) (answer : LinkTake) → TakesBytes k packet answer
     → answer ≡ in_turn k part.packet.seqid (takes_part k (fragment_of part.packet.body))

@@ -8,10 +8,10 @@ use Rattle.ldc_queue.specs.declared.end.End.{End}
 use Rattle.ldc_queue.specs.declared.end.End.TheVariants.{A, B}
 use Rattle.ldc_queue.specs.Wire.{queue_behind, state_of, waiting_for}
 use Rattle.vio_handshake.specs.declared.session.Offer.{Offer}
-use Rattle.channel_model.specs.WireEvent.{Blocked, Declines, Idle, Injected, Joined, Lost, Poked, Reset, Sent, Took}
+use Rattle.channel_model.specs.WireEvent.{Joined, Lost, Reset}
 use Rattle.channel_model.specs.WireLog.{WireLog, lossy_behind}
 use Rattle.channel_laws.specs.CoreLog.{CoreLog, after, nothing_yet}
-use Rattle.channel_laws.specs.LaneCore.{Beside, Closes, CoreEvent, CoreFits, CoreStep, LaneCore, OnChannel, fresh_core}
+use Rattle.channel_laws.specs.LaneCore.{Closes, CoreEvent, CoreFits, CoreStep, LaneCore, OnChannel, fresh_core}
 use Rattle.channel_laws.specs.LossStands.{Empties, EmptiesNone, LossAmong, LossStands}
 use Rattle.channel_laws.proofs.CoreLaws.{wire_is}
 
@@ -35,29 +35,15 @@ was_lossy : (l : CoreLog) (event : CoreEvent) → (after l event).wire.lossy ≡
 was_lossy l (OnChannel (Joined e lost)) is = inr (begun_lossy (state_of e l.wire.wire) l.wire.lossy is)
 was_lossy l (OnChannel (Reset e cause packet lost)) is = inr (begun_lossy (state_of e l.wire.wire) l.wire.lossy is)
 was_lossy l (OnChannel (Lost e packet)) is = inl (record { e = e; packet = packet; is = refl })
-was_lossy l (OnChannel (Took e packet opens)) is = inr (is, λ never. never)
-was_lossy l (OnChannel (Sent e packet opens)) is = inr (is, λ never. never)
-was_lossy l (OnChannel (Idle e)) is = inr (is, λ never. never)
-was_lossy l (OnChannel (Blocked e)) is = inr (is, λ never. never)
-was_lossy l (OnChannel (Injected e packet)) is = inr (is, λ never. never)
-was_lossy l (OnChannel (Poked e at bytes)) is = inr (is, λ never. never)
-was_lossy l (OnChannel (Declines d)) is = inr (is, λ never. never)
 was_lossy l (Closes e) is = absurd (cc)
-was_lossy l Beside is = inr (is, λ never. never)
+was_lossy l _ is = inr (is, λ never. never)
 
 stays_lossy : (l : CoreLog) (event : CoreEvent) → l.wire.lossy ≡ true → EmptiesNone l event → (after l event).wire.lossy ≡ true
 stays_lossy l (OnChannel (Joined e lost)) is keeps = still_lossy (state_of e l.wire.wire) l.wire.lossy keeps is
 stays_lossy l (OnChannel (Reset e cause packet lost)) is keeps = still_lossy (state_of e l.wire.wire) l.wire.lossy keeps is
 stays_lossy l (OnChannel (Lost e packet)) is keeps = refl
-stays_lossy l (OnChannel (Took e packet opens)) is keeps = is
-stays_lossy l (OnChannel (Sent e packet opens)) is keeps = is
-stays_lossy l (OnChannel (Idle e)) is keeps = is
-stays_lossy l (OnChannel (Blocked e)) is keeps = is
-stays_lossy l (OnChannel (Injected e packet)) is keeps = is
-stays_lossy l (OnChannel (Poked e at bytes)) is keeps = is
-stays_lossy l (OnChannel (Declines d)) is keeps = is
 stays_lossy l (Closes e) is keeps = absurd (keeps tt)
-stays_lossy l Beside is keeps = is
+stays_lossy l _ is keeps = is
 
 -- ALL EVENTS
 shifted : (l : CoreLog) (event : CoreEvent) (events : List CoreEvent) → LossAmong (after l event) events → LossAmong l (event ∷ events)
@@ -143,16 +129,8 @@ queues_emptied l (OnChannel (Reset A cause packet lost)) A up = none_left l.wire
 queues_emptied l (OnChannel (Reset A cause packet lost)) B up = none_left l.wire.wire.end_a l.wire.wire.to_b up
 queues_emptied l (OnChannel (Reset B cause packet lost)) A up = none_left l.wire.wire.end_b l.wire.wire.to_a up
 queues_emptied l (OnChannel (Reset B cause packet lost)) B up = none_left l.wire.wire.end_b l.wire.wire.to_b up
-queues_emptied l (OnChannel (Took e packet opens)) end never = absurd never
-queues_emptied l (OnChannel (Sent e packet opens)) end never = absurd never
-queues_emptied l (OnChannel (Idle e)) end never = absurd never
-queues_emptied l (OnChannel (Blocked e)) end never = absurd never
-queues_emptied l (OnChannel (Lost e packet)) end never = absurd never
-queues_emptied l (OnChannel (Injected e packet)) end never = absurd never
-queues_emptied l (OnChannel (Poked e at bytes)) end never = absurd never
-queues_emptied l (OnChannel (Declines d)) end never = absurd never
 queues_emptied l (Closes A) A up = refl
 queues_emptied l (Closes A) B up = refl
 queues_emptied l (Closes B) A up = refl
 queues_emptied l (Closes B) B up = refl
-queues_emptied l Beside end never = absurd never
+queues_emptied l _ end never = absurd never

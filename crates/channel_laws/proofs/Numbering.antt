@@ -7,7 +7,7 @@ use Rattle.runs.specs.Lawful.{Lawful}
 use Rattle.runs.specs.Run.{Run}
 use Rattle.ldc_packet.proofs.NoFault.{spelled_no_fault}
 use Rattle.ldc_packet.specs.declared.packet.Body.{Body}
-use Rattle.ldc_packet.specs.declared.packet.Body.TheVariants.{Part, Rdx, Rtr, Rts, Vers}
+use Rattle.ldc_packet.specs.declared.packet.Body.TheVariants.{Part, Rdx}
 use Rattle.ldc_packet.specs.declared.packet.Packet.{Packet}
 use Rattle.ldc_packet.specs.declared.packet.PacketFault.{PacketFault}
 use Rattle.ldc_packet.specs.declared.packet.Subtype.TheVariants.{Info}
@@ -134,10 +134,7 @@ end_said role c t turns packet opens stands says =
 part_data : (b : Body) → has_part b ≡ true → IsData b
 unfolding has_part
 part_data (Part start stop len bytes) part = tt
-part_data (Vers major minor) part = absurd (cc part)
-part_data (Rts mode) part = absurd (cc part)
-part_data (Rtr mode) part = absurd (cc part)
-part_data Rdx part = absurd (cc part)
+part_data _ part = absurd (cc part)
 
 pub heard_so : (k : LinkState) (turns : List Turn) (bytes : List ℕ) (m : LinkState) → Follows k turns → TakesBytes k bytes (Heard m) → IsHeard turns bytes
 heard_so k turns bytes m follows takes = from takes.decoded takes.unpacks takes.is
@@ -165,28 +162,12 @@ end_heard role c t turns packet opens stands hears = heard_so c.link turns packe
 said_wire : (s : LaneCore) (l : CoreLog) (event : WireEvent) (t : LaneCore) → Knows Converse s l → CoreStep s (OnChannel event) t → WireSaidAt l.transcript event
 said_wire s l (Sent A packet opens) t knows step = end_said Initiator s.a t.a l.transcript.client packet opens knows.holds.ends.a step.a
 said_wire s l (Sent B packet opens) t knows step = end_said Responder s.b t.b l.transcript.server packet opens knows.holds.ends.b step.b
-said_wire s l (Joined e lost) t knows step = tt
-said_wire s l (Reset e cause packet lost) t knows step = tt
-said_wire s l (Took e packet opens) t knows step = tt
-said_wire s l (Idle e) t knows step = tt
-said_wire s l (Blocked e) t knows step = tt
-said_wire s l (Lost e packet) t knows step = tt
-said_wire s l (Injected e packet) t knows step = tt
-said_wire s l (Poked e at bytes) t knows step = tt
-said_wire s l (Declines d) t knows step = tt
+said_wire s l _ t knows step = tt
 
 heard_wire : (s : LaneCore) (l : CoreLog) (event : WireEvent) (t : LaneCore) → Knows Converse s l → CoreStep s (OnChannel event) t → WireHeardAt l.transcript event
 heard_wire s l (Took A packet opens) t knows step = end_heard Initiator s.a t.a l.transcript.client packet opens knows.holds.ends.a step.a
 heard_wire s l (Took B packet opens) t knows step = end_heard Responder s.b t.b l.transcript.server packet opens knows.holds.ends.b step.b
-heard_wire s l (Joined e lost) t knows step = tt
-heard_wire s l (Reset e cause packet lost) t knows step = tt
-heard_wire s l (Sent e packet opens) t knows step = tt
-heard_wire s l (Idle e) t knows step = tt
-heard_wire s l (Blocked e) t knows step = tt
-heard_wire s l (Lost e packet) t knows step = tt
-heard_wire s l (Injected e packet) t knows step = tt
-heard_wire s l (Poked e at bytes) t knows step = tt
-heard_wire s l (Declines d) t knows step = tt
+heard_wire s l _ t knows step = tt
 
 said_at : (s : LaneCore) (l : CoreLog) (event : CoreEvent) (t : LaneCore) → Knows Converse s l → CoreStep s event t → SaidAt l event
 said_at s l (OnChannel event) t knows step = said_wire s l event t knows step

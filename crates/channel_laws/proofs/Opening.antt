@@ -188,10 +188,7 @@ comes_up both Responder OwnRing coming = tt
 comes_up both Responder PeerReady coming = rows_up both Responder
 comes_up both Responder PeerReadyTaken coming = rows_up both Responder
 comes_up both Responder OwnReady coming = rows_up both Responder
-comes_up both Initiator Down coming = absurd coming
-comes_up both Responder Down coming = absurd coming
-comes_up both Initiator Open coming = absurd coming
-comes_up both Responder Open coming = absurd coming
+comes_up both _ _ coming = absurd coming
 
 -- A MESSAGE THAT IS HEARD, by its fields
 pub heard_line : (turns : List Turn) (packet bytes : List ℕ) (d : Message) (s : Subtype) (b : MsgBody) (sid : ℕ) → EndsBy turns packet bytes → SpellsMessage bytes d
@@ -242,10 +239,7 @@ said_line turns packet message subtype envelope sid says is = record {
 next_said : (role : Role) (lines : List Line) (sid : ℕ) (message : Message) (turns : List Turn) (packet : List ℕ) → SaysWhole turns packet message → IsNext lines sid message
     → FollowsRow role sid (drop 1 lines) turns → FollowsRow role sid lines (Said packet ∷ turns)
 next_said role (Says subtype envelope ∷ lines) sid message turns packet says next follows = inl (said_line turns packet message subtype envelope sid says next, follows)
-next_said role (SaysControl control ∷ lines) sid message turns packet says next follows = absurd next
-next_said role (HearsControl control ∷ lines) sid message turns packet says next follows = absurd next
-next_said role (Hears subtype envelope ∷ lines) sid message turns packet says next follows = absurd next
-next_said role [] sid message turns packet says next follows = absurd next
+next_said role _ sid message turns packet says next follows = absurd next
 
 may_end : (b : Bool) (bytes : List ℕ) (message : Message) → b ≡ true → bytes ≡ canonical message → message.subtype ≡ Nack → MayEnd b bytes
 may_end true bytes message stop is refusal = ap message_at.subtype_at is ∙ subtype_reads message ∙ ap subtype_code refusal

@@ -28,7 +28,7 @@ use Rattle.vio_handshake.specs.declared.session.Offer.{Offer}
 use Rattle.vio_handshake.specs.Messages.{info}
 use Rattle.vio_handshake.specs.Rules.{opens_by_put, put_in, handshake_sent, sid_fault}
 use Rattle.vio_handshake.specs.State.{begun, joined_handshake, next_sid, handshake_up}
-use Rattle.channel_model.specs.HandshakeOrder.{ComesUpBelow, Control, FollowsRow, HandshakeOrder, Hears as Hears_, HearsControl, IsControlOf, IsVersNack, Line, MayEnd, RdxGiven, RtrAnswered, RtsAsked, Says as Says_, SaysControl, VersAgreed, VersOffer}
+use Rattle.channel_model.specs.HandshakeOrder.{ComesUpBelow, Control, FollowsRow, HandshakeOrder, IsControlOf, IsVersNack, Line, MayEnd, RdxGiven, RtrAnswered, RtsAsked, Says as Says_, VersAgreed, VersOffer}
 use Rattle.channel_model.specs.Sayings.{half_said}
 use Rattle.channel_model.specs.TranscriptLog.{transcript_of}
 use Rattle.channel_model.specs.WireEvent.{Sent as Sent_, Took as Took_}
@@ -243,10 +243,7 @@ drop_up both role p sid message coming next = by_lines (met both role p) (comes_
   where
     by_lines : (lines : List Line) → ComesUpBelow lines → IsNext lines sid message → ComesUpBelow (drop 1 lines)
     by_lines (Says_ subtype envelope ∷ lines) up is = up
-    by_lines (SaysControl one ∷ lines) up is = absurd is
-    by_lines (HearsControl one ∷ lines) up is = absurd is
-    by_lines (Hears_ subtype envelope ∷ lines) up is = absurd is
-    by_lines [] up is = absurd is
+    by_lines _ up is = absurd is
 
 part_comes : (role : Role) (h : Handshake) (turns : List Turn) (packet : List ℕ) → is_part packet ≡ true → (fragment_at packet).stop ≡ false → HandshakeComes role h turns
     → HandshakeComes role h (Said packet ∷ turns)
@@ -522,13 +519,10 @@ opens_hearing entries asks answers events s B packet t fits run step = end_took_
 -- THE OFFERS stay as they were
 offer_step : (asks answers : Offer) (role : Role) (c : EndCore) (move : EndMove) (t : EndCore) (turns : List Turn) → c.offer ≡ offer_in asks answers role → EndStep role c move t
     → t.offer ≡ offer_in asks answers role
-offer_step asks answers role c Begins t turns is step = step.offer ∙ is
-offer_step asks answers role c Renews t turns is step = step.offer ∙ is
 offer_step asks answers role c (Fails cause packet) t turns is step = step.1.offer ∙ is
-offer_step asks answers role c (Hears packet opens) t turns is step = step.offer ∙ is
 offer_step asks answers role c (Says packet opens) t turns is step = said_offer role c t packet opens step ∙ is
 offer_step asks answers role c Waits t turns is step = held_offer c t step.what step.holds ∙ is
-offer_step asks answers role c Stays t turns is step = step.offer ∙ is
+offer_step asks answers role c _ t turns is step = step.offer ∙ is
 
 pub offers_stay : (entries : ℕ) (asks answers : Offer) (events : List CoreEvent) (s : LaneCore) → Run CoreStep (fresh_core entries asks answers) events s
     → (s.a.offer ≡ asks) × (s.b.offer ≡ answers)

@@ -8,7 +8,7 @@ use Rattle.ldc_link.specs.declared.phase.Role.{Role}
 use Rattle.ldc_link.specs.declared.phase.Role.TheVariants.{Initiator, Responder}
 use Rattle.ldc_link.specs.Conversing.{IsData, fragment_of}
 use Rattle.ldc_link.specs.Following.{Follows}
-use Rattle.ldc_link.specs.LinkState.{LinkState, is_established, is_up}
+use Rattle.ldc_link.specs.LinkState.{LinkState, is_up}
 use Rattle.ldc_link.specs.Taking.{Heard, LinkTake, TakesBytes, Unheard, count, goes_to, may_come, phase_behind_rdx, phase_behind_rtr, phase_behind_rts, phase_behind_vers, takes_body, takes_decoded, takes_part, whole_of, with_part}
 use Rattle.ldc_link.proofs.Spelled.{has_number, has_part, spelled_fragment, spelled_numbered, spelled_part}
 use Rattle.ldc_packet.proofs.NoFault.{spelled_no_fault}
@@ -36,7 +36,7 @@ use Rattle.vio_tag.specs.declared.cause.Cause.{Cause}
 use Rattle.vio_tag.specs.declared.cause.Cause.TheVariants as the_cause
 use Rattle.vio_tag.specs.declared.message.Message.{Message}
 use Rattle.vio_tag.specs.declared.message.MsgBody.{MsgBody}
-use Rattle.vio_tag.specs.declared.message.MsgBody.TheVariants.{Attr, DringData, DringReg, DringUnreg, Mcast, Plain, Rdx as Ready, Ver}
+use Rattle.vio_tag.specs.declared.message.MsgBody.TheVariants.{DringData, Mcast, Ver}
 use Rattle.vio_tag.specs.declared.message.TagFault.{TagFault}
 use Rattle.channel_model.proofs.SameSayings.{half_heard_is}
 use Rattle.channel_model.specs.Messages.{ended_by, whole_with}
@@ -52,25 +52,12 @@ use Rattle.channel_laws.specs.EndCore.{EndCore}
 use Rattle.channel_laws.specs.EndFold.{decoded_of}
 use Rattle.channel_laws.specs.LaneCore.{CoreEvent, CoreFits, CoreStep, LaneCore, end_of, fresh_core, role_of, transcript_behind}
 use Rattle.channel_laws.specs.PacketCauses.{Judges, LinkJudged, WholeJudged, body_cause, decoded_cause, fault_cause, fault_first, judged, judged_body, message_cause, mode_cause, names_mode, number_cause, packet_cause, part_cause, refused_by}
+use Rattle.channel_laws.proofs.LinkCases.{established}
 
 -- THE MESSAGE: an open handshake declines what it takes, and all else is out of order
 open_row : (role : Role) (h : Handshake) (subtype : Subtype) (sid : ℕ) (body : MsgBody) → row role Open h subtype sid body ≡ Faults the_cause.Order
 open_row Initiator h subtype sid (Ver major minor class) = refl
-open_row Initiator h subtype sid (Attr bytes) = refl
-open_row Initiator h subtype sid (DringReg ident slots slot_size options number cookies) = refl
-open_row Initiator h subtype sid (DringUnreg ident) = refl
-open_row Initiator h subtype sid (DringData seq ident start end state) = refl
-open_row Initiator h subtype sid Ready = refl
-open_row Initiator h subtype sid (Mcast set number addresses) = refl
-open_row Initiator h subtype sid (Plain envelope) = refl
-open_row Responder h subtype sid (Ver major minor class) = refl
-open_row Responder h subtype sid (Attr bytes) = refl
-open_row Responder h subtype sid (DringReg ident slots slot_size options number cookies) = refl
-open_row Responder h subtype sid (DringUnreg ident) = refl
-open_row Responder h subtype sid (DringData seq ident start end state) = refl
-open_row Responder h subtype sid Ready = refl
-open_row Responder h subtype sid (Mcast set number addresses) = refl
-open_row Responder h subtype sid (Plain envelope) = refl
+open_row _ h subtype sid _ = refl
 
 refused_if : (b : Bool) (h : Handshake) (take : HandshakeTake) → take ≡ Faults the_cause.Order → refused_by (if b then Goes h else take) ≡ (if b then None else Some the_cause.Order)
 refused_if true h take is = refl
@@ -91,17 +78,7 @@ body_judged : (own : Message → Option Cause) (h : Handshake) (message : Messag
     → judged_body own h message body ≡ body_cause own message body
 body_judged own h message (DringData seq ident start end state) is open_now sound = refl
 body_judged own h message (Mcast set number addresses) is open_now sound = refl
-body_judged own h message (Ver major minor class) is open_now sound =
-    take_refused h message open_now sound ∙ ap (λ (b : MsgBody). if is_declined message.subtype b then None else Some the_cause.Order) is
-body_judged own h message (Attr bytes) is open_now sound =
-    take_refused h message open_now sound ∙ ap (λ (b : MsgBody). if is_declined message.subtype b then None else Some the_cause.Order) is
-body_judged own h message (DringReg ident slots slot_size options number cookies) is open_now sound =
-    take_refused h message open_now sound ∙ ap (λ (b : MsgBody). if is_declined message.subtype b then None else Some the_cause.Order) is
-body_judged own h message (DringUnreg ident) is open_now sound =
-    take_refused h message open_now sound ∙ ap (λ (b : MsgBody). if is_declined message.subtype b then None else Some the_cause.Order) is
-body_judged own h message Ready is open_now sound =
-    take_refused h message open_now sound ∙ ap (λ (b : MsgBody). if is_declined message.subtype b then None else Some the_cause.Order) is
-body_judged own h message (Plain envelope) is open_now sound =
+body_judged own h message _ is open_now sound =
     take_refused h message open_now sound ∙ ap (λ (b : MsgBody). if is_declined message.subtype b then None else Some the_cause.Order) is
 
 -- a sid that is known
@@ -239,10 +216,6 @@ ends_message k turns packet part half is same =
     same_whole part.stop (k.half_heard ++ part.bytes) ∙ ap (λ (xs : List ℕ). whole_with part.stop (xs ++ part.bytes)) half
     ∙ ap (λ (f : Fragment). whole_with f.stop (half_heard turns ++ f.bytes)) (sym same)
     ∙ sym (ap (λ (b : Bool). whole_with (b && (fragment_at packet).stop) (half_heard turns ++ (fragment_at packet).bytes)) is)
-
-established : (p : LinkPhase) → is_established p ≡ true → p ≡ phase.Established
-established phase.Established is = refl
-established _ is = absurd (cc is)
 
 module _ (own : Message → Option Cause) (sid : ℕ) (turns : List Turn) (packet : List ℕ) (k : LinkState) (follows : Follows k turns) (up : is_up k ≡ true) where
   abbrev Holds : LinkTake → Type 0

@@ -20,7 +20,7 @@ use Rattle.vio_tag.proofs.Canonical.{length_canonical}
 use Rattle.vio_tag.specs.declared.message.Message.{Message}
 use Rattle.vio_tag.specs.declared.message.MsgBody.TheVariants.{Rdx, Ver}
 use Rattle.vio_tag.specs.Spelling.{canonical}
-use Rattle.channel_model.specs.EndPuts.{ComesUp, EndsHandshake, EndsOwn, Goes, PutKind, put_opens}
+use Rattle.channel_model.specs.EndPuts.{EndsHandshake, PutKind, put_opens}
 use Rattle.channel_laws.proofs.Apart.{none_is_some, true_is_false}
 use Rattle.channel_laws.proofs.EndCases.{PutControl, PutHandshake, PutMore, PutOwn, PutReady, PutWhat, end_put}
 use Rattle.channel_laws.proofs.EndStanding.{few_offered, held_stands, holds_some, last_none, open_up, owing_up, up_empty}
@@ -165,8 +165,7 @@ stays_packets c t stays =
 -- IT HOLDS a message: one of its session only where its link owed no packet and its handshake no message
 pub own_most : (what : Holding) → own_in what ≤ 1
 own_most HoldsOn = omega arith
-own_most (HoldsOwed message) = omega arith
-own_most (HoldsOwn message) = omega arith
+own_most _ = omega arith
 
 pub loud_none : (c held : EndCore) (what : Holding) → owes c.link ≡ true → Holds c what held → own_in what ≡ 0
 loud_none c held HoldsOn loud holds = refl
@@ -332,11 +331,9 @@ opening_shut Initiator PeerReadyTaken opens = (refl, refl)
 opening_shut Responder at opens = absurd (cc opens)
 opening_shut Initiator at opens = absurd (cc opens)
 
-shut_in : (kind : PutKind) (h : Handshake) → h.role ≡ Responder → put_opens kind h ≡ false
+pub shut_in : (kind : PutKind) (h : Handshake) → h.role ≡ Responder → put_opens kind h ≡ false
 shut_in EndsHandshake h role_is = ap (λ (r : Role). opens_by_put r h.phase) role_is
-shut_in Goes h role_is = refl
-shut_in ComesUp h role_is = refl
-shut_in EndsOwn h role_is = refl
+shut_in _ h role_is = refl
 
 pub answering_shut : (c t : EndCore) (turns : List Turn) (packet : List ℕ) (opens : Bool) → EndStands Responder c turns → EndSays Responder c packet opens t → opens ≡ false
 answering_shut c t turns packet opens stands says =

@@ -37,7 +37,7 @@ use Rattle.vio_tag.specs.Spelling.{canonical}
 use Rattle.channel_model.specs.Sayings.{heard, said}
 use Rattle.channel_model.specs.TranscriptLog.{TranscriptLog}
 use Rattle.channel_model.specs.WireEvent.{Took}
-use Rattle.channel_laws.proofs.Apart.{false_is_true, none_is_some, not_turn, true_is_false}
+use Rattle.channel_laws.proofs.Apart.{none_is_some, not_turn, true_is_false}
 use Rattle.channel_laws.proofs.ConversingRuns.{HeardFrom, hears_next}
 use Rattle.channel_laws.proofs.CoreRuns.{Knows}
 use Rattle.channel_laws.proofs.EndCases.{EndTook, NoMessage, Rises, TookHandshake, TookMessage, TookOwn, TookWhat, end_took, taken_down}
@@ -46,7 +46,7 @@ use Rattle.channel_laws.proofs.HandshakeCases.{HandshakeTook}
 use Rattle.channel_laws.proofs.HandshakePlaces.{AtPlace, IsOwn, Matches, deal, deal_fits, goes_alike, message_is, open_place, own_heard, owes_at, peer_said, place_bytes, who}
 use Rattle.channel_laws.proofs.HandshakesPlaced.{Meets, meets_keep, never_declined, peer_place}
 use Rattle.channel_laws.proofs.Lifting.{BothStand}
-use Rattle.channel_laws.proofs.LinkCases.{ControlHeard, ControlTaken, LinkHeard, ModeAgreed, ModeAsked, PartHeard, ReadyHeard, VersionAgreed, VersionAsked}
+use Rattle.channel_laws.proofs.LinkCases.{ControlHeard, ControlTaken, LinkHeard, ModeAgreed, ModeAsked, PartHeard, ReadyHeard, VersionAgreed, VersionAsked, established}
 use Rattle.channel_laws.proofs.PacketsLeft.{held_empty, up_left}
 use Rattle.channel_laws.proofs.Script.{not_last}
 use Rattle.channel_laws.proofs.Sessions.{meets_knows}
@@ -80,8 +80,6 @@ most_at PeerRingAnswered = 2
 most_at _ = 1
 
 parts_at : (d : Deal) (n : Place) → FewCookies d → parts (length (canonical (message_at d n))) ≤ most_at n
-parts_at d VersionSaid few = omega (arith, length_canonical (message_at d VersionSaid))
-parts_at d VersionAnswered few = omega (arith, length_canonical (message_at d VersionAnswered))
 parts_at d AttributesSaid few = omega (arith, length_canonical (message_at d AttributesSaid), said_long d.asks.both_rings d.asks (minor_of d) refl)
 parts_at d AttributesAnswered few =
     omega (arith, length_canonical (message_at d AttributesAnswered), answered_long d.answers.both_rings d.answers (minor_of d) (said_attributes d.asks (minor_of d)) refl)
@@ -89,11 +87,7 @@ parts_at d RingSaid few = (ring_parts d.sid 0 d.asks.slots d.asks.slot_size 1 d.
 parts_at d RingAnswered few = (ring_parts d.sid d.sid d.asks.slots d.asks.slot_size 1 d.asks.count d.asks.cookies few.asks).1
 parts_at d PeerRingSaid few = (ring_parts d.sid 0 d.answers.slots d.answers.slot_size 1 d.answers.count d.answers.cookies few.answers).0
 parts_at d PeerRingAnswered few = (ring_parts d.sid d.sid d.answers.slots d.answers.slot_size 1 d.answers.count d.answers.cookies few.answers).1
-parts_at d ReadySaid few = omega (arith, length_canonical (message_at d ReadySaid))
-parts_at d ReadyAnswered few = omega (arith, length_canonical (message_at d ReadyAnswered))
-parts_at d PeerReadySaid few = omega (arith, length_canonical (message_at d PeerReadySaid))
-parts_at d PeerReadyAnswered few = omega (arith, length_canonical (message_at d PeerReadyAnswered))
-parts_at d AllSaid few = omega (arith, length_canonical (message_at d AllSaid))
+parts_at d n few = omega (arith, length_canonical (message_at d n))
 
 -- FROM ONE PLACE TO THE NEXT, which the other end's message leads to
 abbrev place_left : Bool → Deal → Role → Place → ℕ
@@ -139,10 +133,6 @@ place_fewer both d role n few rings here turn =
     )
 
 -- THE LINK
-up_phase : (p : LinkPhase) → is_established p ≡ true → p ≡ phase.Established
-up_phase phase.Established is = refl
-up_phase _ is = false_is_true is
-
 -- no link refuses a version
 abbrev refuses : LinkPhase → Bool
 refuses (phase.OwesVersNack major) = true
@@ -267,7 +257,7 @@ took_packets asks answers role s t packet opens fits few_asks few_answers stands
     fine = ap refuses (sym now_phase ∙ placed) ∙ never_refuses role meets_now.links.place
 
     up_so : is_up c.link ≡ true → is_up took_so.now ≡ true → t.handshake ≡ c.handshake → packets_left t ≤ packets_left c
-    up_so was stays handshake = same_fewer c t (up_phase c.link.phase was) (now_phase ∙ up_phase took_so.now.phase stays) left handshake hears.own
+    up_so was stays handshake = same_fewer c t (established c.link.phase was) (now_phase ∙ established took_so.now.phase stays) left handshake hears.own
 
     by_how : is_up took_so.now ≡ is_up c.link → t.handshake ≡ c.handshake → LinkHeard c.link packet took_so.now → packets_left t ≤ packets_left c
     by_how same handshake (ControlHeard next taken is) =
@@ -304,7 +294,7 @@ took_packets asks answers role s t packet opens fits few_asks few_answers stands
         (ap (λ (h : Handshake). handshake_take h message) there.is ∙ ap (handshake_take (handshake_at both d role there.place)) named) handshake.takes
         (take_at both d role there.place (deal_fits asks answers meets.handshakes.sid fits.matched) there.here is) in
         let empty : c.link.to_send ≡ [] = up_empty c.link took_message.up (hears.may.quiet (shut there is c.is_open refl)) in
-        up_fewer c t (up_phase c.link.phase took_message.up) (now_phase ∙ up_phase took_so.now.phase took_message.stays)
+        up_fewer c t (established c.link.phase took_message.up) (now_phase ∙ established took_so.now.phase took_message.stays)
         (turn_sums _ _ _ _ _ _ _ _ (place_fewer both d role there.place (record { asks = few_asks; answers = few_answers }) (rings role) there.here is)
         (held_empty t.own t.link.to_send t.handshake.owed (left ∙ empty)) (ap (λ (h : Handshake). later_in h) goes) (ap (λ (h : Handshake). parts_owed h.owed) goes)
         (ap (λ (h : Handshake). later_in h) there.is))
@@ -341,7 +331,7 @@ took_packets asks answers role s t packet opens fits few_asks few_answers stands
     rising down handshake now_up (ReadyHeard at ready number is) =
         let below = stands.mine.below down in
         rising_sums _ _ _ _ _ _ _ _ (up_left c.handshake) (ap (λ (p : LinkPhase). left_in p (all_in c.handshake) (messages_in c)) at)
-        (ap (λ (p : LinkPhase). left_in p (all_in t.handshake) (messages_in t)) (now_phase ∙ up_phase took_so.now.phase now_up))
+        (ap (λ (p : LinkPhase). left_in p (all_in t.handshake) (messages_in t)) (now_phase ∙ established took_so.now.phase now_up))
         (held_empty t.own t.link.to_send t.handshake.owed (left ∙ below.left)) (ap (λ (h : Handshake). parts_owed h.owed) handshake) (ap later_in handshake)
 
     by_what : TookWhat role c s.mine.turns packet opens t took_so.now → packets_left t ≤ packets_left c

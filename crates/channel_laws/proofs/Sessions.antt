@@ -49,7 +49,7 @@ transcript_is l [] = refl
 transcript_is l (event ∷ events) = transcript_is (after l event) events
 
 -- AN OPEN SESSION heard a message
-not_among : (message : Message) (messages : List (List ℕ)) → messages ≡ [] → Among message messages → ⊥
+pub not_among : (message : Message) (messages : List (List ℕ)) → messages ≡ [] → Among message messages → ⊥
 not_among message [] is among = among
 not_among message (bytes ∷ messages) is among = cc is
 

@@ -20,7 +20,7 @@ use Rattle.vio_handshake.specs.State.{begun, joined_handshake, handshake_up}
 use Rattle.vio_tag.specs.declared.cause.Cause.{Cause}
 use Rattle.vio_tag.specs.declared.message.Message.{Message}
 use Rattle.channel_model.specs.TranscriptLog.{TranscriptLog, is_rdx, more_if, nothing_said}
-use Rattle.channel_model.specs.WireEvent.{Blocked, ByRestart, ByScript, ByStep, ByTick, Declines, Giver, Idle, Injected, Joined, Lost, Poked, Reset, Sent, Took, giver}
+use Rattle.channel_model.specs.WireEvent.{Blocked, ByStep, Declines, Giver, Idle, Injected, Joined, Lost, Poked, Reset, Sent, Took, giver}
 use Rattle.channel_laws.proofs.Apart.{roles_differ}
 use Rattle.channel_laws.proofs.EndCases.{EndTook, NoMessage, PutControl, PutMore, PutOwn, PutReady, PutHandshake, PutWhat, Rises, TookOwn, TookHandshake, TookWhat, end_put, end_took}
 use Rattle.channel_laws.proofs.EndResting.{held_handshake}
@@ -156,15 +156,11 @@ last_step role c Stays t turns stands step = ap (λ (h : Handshake). h.last_sid)
 
 zero_step : (c : EndCore) (move : EndMove) (t : EndCore) (turns : List Turn) → EndStands Responder c turns → EndStep Responder c move t → c.handshake.last_sid ≡ 0
     → t.handshake.last_sid ≡ 0
-zero_step c Begins t turns stands step zero = last_step Responder c Begins t turns stands step ∙ zero
 zero_step c Renews t turns stands step zero = last_step Responder c Renews t turns stands step
-zero_step c (Fails cause packet) t turns stands step zero = last_step Responder c (Fails cause packet) t turns stands step ∙ zero
-zero_step c (Hears packet opens) t turns stands step zero = last_step Responder c (Hears packet opens) t turns stands step ∙ zero
 zero_step c (Says packet opens) t turns stands step zero =
     let says = says_last Responder c t turns packet opens stands step in
     says.last ∙ ap (λ (b : Bool). next_if b c.handshake.last_sid) (says.never refl) ∙ zero
-zero_step c Waits t turns stands step zero = last_step Responder c Waits t turns stands step ∙ zero
-zero_step c Stays t turns stands step zero = last_step Responder c Stays t turns stands step ∙ zero
+zero_step c move t turns stands step zero = last_step Responder c move t turns stands step ∙ zero
 
 -- EACH EVENT
 more_mod : (b : Bool) (last n : ℕ) → last ≡ n % 4294967296 → next_if b last ≡ more_if b n % 4294967296
@@ -173,9 +169,7 @@ more_mod false last n is = is
 
 reset_count : (g : Giver) (cause : Cause) (packet : Option (List ℕ)) (last n : ℕ) → last ≡ n % 4294967296 → sid_after Initiator (reset_move g cause packet) last ≡ n % 4294967296
 reset_count ByStep cause packet last n is = is
-reset_count ByScript cause packet last n is = is
-reset_count ByRestart cause packet last n is = is
-reset_count ByTick cause packet last n is = is
+reset_count _ cause packet last n is = is
 
 event_count : (event : CoreEvent) (last n : ℕ) → last ≡ n % 4294967296 → sid_after Initiator (move_of A event) last ≡ comings_after n event % 4294967296
 event_count (OnChannel (Sent A packet opens)) last n is = more_mod (is_rdx packet) last n is

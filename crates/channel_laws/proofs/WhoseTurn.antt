@@ -9,7 +9,7 @@ use Rattle.ldc_link.specs.declared.phase.Role.TheVariants.{Initiator, Responder}
 use Rattle.ldc_queue.specs.OneStream.{IsFront}
 use Rattle.ldc_queue.specs.Transcript.{Turn}
 use Rattle.vio_handshake.specs.declared.handshake.Handshake.{Handshake}
-use Rattle.vio_handshake.proofs.Places.{AllSaid, AttributesAnswered, AttributesSaid, Deal, IsPlace, PeerReadyAnswered, PeerReadySaid, PeerRingAnswered, PeerRingSaid, Place, ReadyAnswered, ReadySaid, RingAnswered, RingSaid, VersionAnswered, VersionSaid, owner}
+use Rattle.vio_handshake.proofs.Places.{AllSaid, AttributesAnswered, Deal, IsPlace, PeerReadySaid, PeerRingSaid, Place, ReadyAnswered, RingAnswered, VersionAnswered, owner}
 use Rattle.channel_model.specs.Sayings.{heard, said}
 use Rattle.channel_laws.proofs.Apart.{none_is_some, true_is_false}
 use Rattle.channel_laws.proofs.HandshakePlaces.{AtPlace, owes_at, owes_none, owes_not, who}
@@ -162,13 +162,7 @@ last_asked false d RingAnswered here turn = omega arith
 last_asked false d PeerRingSaid here turn = absurd here
 last_asked false d ReadyAnswered here turn = omega arith
 last_asked false d PeerReadySaid here turn = omega arith
-last_asked both d VersionSaid here turn = absurd (cc turn)
-last_asked both d AttributesSaid here turn = absurd (cc turn)
-last_asked both d RingSaid here turn = absurd (cc turn)
-last_asked both d PeerRingAnswered here turn = absurd (cc turn)
-last_asked both d ReadySaid here turn = absurd (cc turn)
-last_asked both d PeerReadyAnswered here turn = absurd (cc turn)
-last_asked both d AllSaid here turn = absurd (cc turn)
+last_asked both d _ here turn = absurd (cc turn)
 
 pub initiator_done : (both : Bool) (d : Deal) (h g : Handshake) (mine theirs : List Turn) → (at : AtPlace both d Initiator h mine) → (there : AtPlace both d Responder g theirs)
     → there.place ≡ AllSaid → IsFront (heard theirs) (said mine) → at.place ≡ AllSaid

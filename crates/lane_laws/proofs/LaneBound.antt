@@ -1,5 +1,5 @@
 -- What remains on a lane that nobody forged is at most 36 and 16 for each pending request, and where a packet was lost at most 69 and 32.
-use Rattle.std.proofs.Common.{◌≡◌, ℕ, ◌+◌, ◌-◌, ◌*◌, ◌≤◌, Bool, true, false, Option, Some, None, List, [], ◌∷◌, length, refl, ap, arith}
+use Rattle.std.proofs.Common.{◌≡◌, ℕ, ◌+◌, ◌-◌, ◌*◌, ◌≤◌, Bool, true, false, Option, Some, None, List, length, refl, ap, arith}
 use Rattle.std.specs.Prelude.{is_some}
 use Rattle.runs.specs.Lawful.{log_of}
 use Rattle.runs.specs.Run.{Run}
@@ -24,12 +24,7 @@ use Rattle.lane_laws.specs.Counted.{one_where, range_count}
 use Rattle.lane_laws.specs.LaneTranscripts.{transcript_behind}
 use Rattle.lane_laws.specs.Remaining.{absent, asked_by, asked_in, client_left, client_packets, life, remaining, requests_left, second_life, server_left, server_packets, serving_left, total}
 use Rattle.lane_laws.proofs.HeardFront.{unheard_client, unheard_server}
-use Rattle.channel_laws.specs.Grounds.{Among}
-use Rattle.vio_tag.specs.declared.message.Message.{Message}
-
-not_among : (message : Message) (messages : List (List ℕ)) → messages ≡ [] → Among message messages → ⊥
-not_among message [] is among = among
-not_among message (bytes ∷ messages) is among = absurd (cc is)
+use Rattle.channel_laws.proofs.Sessions.{not_among}
 
 -- an end that is up has no session where the other isn't
 closed_by : {X : Type 0} (o : Option X) → (is_some o ≡ true → ⊥) → o ≡ None

@@ -137,7 +137,7 @@ word_answered s r pages slots slot at both reaches below within even =
 other_number : (a b : ℕ) → (a == b) ≡ false → a ≢ b
 other_number a b test same = grind (arith, nat_tests)
 
-below_other : (a b : ℕ) → a ≤ b → a ≢ b → a < b
+pub below_other : (a b : ℕ) → a ≤ b → a ≢ b → a < b
 below_other a b most other = grind (arith, nat_tests, most, other)
 
 pub record NextSlot (s : LaneState) (l : DiskLog) (v : ServerSession) : Type 0 where

@@ -19,7 +19,6 @@ use Rattle.disk_model.specs.DiskEvent.{DiskEvent}
 use Rattle.lane_laws.specs.DiskLog.{DiskLog, after, nothing_yet}
 use Rattle.disk_model.specs.LaneState.{IsShape, LaneState, Shape, fresh}
 use Rattle.disk_model.specs.LaneStep.{LaneStep}
-use Rattle.channel_model.specs.Messages.{end_of, is_range, range_if, seq_of, start_of}
 use Rattle.channel_model.specs.Ranges.{wrapped}
 use Rattle.dring.specs.Slots.{range_length}
 use Rattle.channel_model.specs.Sayings.{heard, said}
@@ -27,6 +26,7 @@ use Rattle.disk_model.specs.ServerState.{ServerSession, Work}
 use Rattle.channel_model.specs.TranscriptLog.{TranscriptLog}
 use Rattle.channel_model.specs.WireLog.{WireLog}
 use Rattle.lane_laws.specs.WorkLog.{ClientCounts, ServerCounts, length_in, one_in}
+use Rattle.channel_model.specs.Messages.{end_of, is_range, range_if, seq_of, start_of}
 use Rattle.channel_laws.proofs.HandshakesPlaced.{up_or}
 use Rattle.channel_laws.proofs.Sessions.{open_heard}
 use Rattle.lane_laws.proofs.AckedFinished.{same_ranges}
@@ -41,6 +41,7 @@ use Rattle.lane_laws.specs.Counted.{ServerOrder, range_count, range_sum}
 use Rattle.lane_laws.specs.LaneTranscripts.{transcript_behind}
 use Rattle.lane_laws.specs.OnTheWay.{NameAll, OnTheWay, SeqsFrom, WaitsOrLost, answered_by, asked_by, expected_by, ranges_behind}
 use Rattle.lane_laws.specs.ChannelEnds.{client_core}
+use Rattle.channel_laws.proofs.NextPacket.{none_of}
 
 same_names : (slots from other to goal : ℕ) (messages : List (List ℕ)) → from ≡ other → to ≡ goal → NameAll slots from to messages → NameAll slots other goal messages
 same_names slots from other to goal messages begins ends names =
@@ -189,16 +190,12 @@ place_is slots (Some v) w None turns order agrees = absurd order
 place_is slots (Some v) w (Some d) turns order agrees = record { asked = sym order.asked; answered = sym order.answered; seq = sym order.seq }
 
 -- ONE DIRECTION between two ends that are up
-nothing : (packets : List (List ℕ)) → length packets ≤ 0 → packets ≡ []
-nothing [] none = refl
-nothing (packet ∷ packets) none = absurd (omega (arith, none))
-
 direction : (e f : ChannelState) (put taken waiting : List (List ℕ)) (lost : ℕ) (lossy : Bool) → e ≡ Up → f ≡ Up → OneWay (live e put) (live f taken) waiting lost → (lossy ≡ false → lost ≡ 0)
     → WaitsOrLost put taken waiting lossy
 direction e f put taken waiting lost lossy up_e up_f way whole =
     let there : OneWay put taken waiting lost =
     subst (λ (x : ChannelState). OneWay (live x put) taken waiting lost) up_e (subst (λ (x : ChannelState). OneWay (live e put) (live x taken) waiting lost) up_f way) in
-    record { gone = there.gone; is = there.is; whole = λ calm. nothing there.gone (omega (arith, there.few, whole calm)) }
+    record { gone = there.gone; is = there.is; whole = λ calm. none_of there.gone (omega (arith, there.few, whole calm)) }
 
 -- A CLIENT that is up with its session open has a server that is up
 server_up : (shape : Shape) (events : List DiskEvent) (s : LaneState) → IsShape shape → Run LaneStep (fresh shape) events s → (log_of after (nothing_yet shape) events).wire.forged ≡ false

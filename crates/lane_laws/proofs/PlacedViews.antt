@@ -23,6 +23,7 @@ use Rattle.lane_laws.specs.RingSlots.{HoldsIssued}
 use Rattle.lane_laws.specs.LaneView.{view_of, work_while}
 use Rattle.lane_laws.proofs.Changes.{Placed}
 use Rattle.lane_laws.proofs.LiveCounts.{KIs, counts_while, zero_where}
+use Rattle.lane_laws.proofs.SlotsStepping.{work_first}
 use Rattle.lane_laws.proofs.Standing.{Before}
 use Rattle.channel_laws.proofs.Apart.{some_is_none, some_same}
 
@@ -199,15 +200,8 @@ finished_by s l before (inr is) =
           subst (λ (x : ClientSession). x.completed + s.near.k ≤ x.published) same few;
     }
   where
-    counts_first : (o : Option ServerSession) (w : Option Work) (q : Option ServerCounts) (d : ServerCounts) → q ≡ Some d → ServerAgrees o w q → d.finished ≤ d.descs
-    counts_first None w None d there agrees = absurd (cc there)
-    counts_first None w (Some c) d there agrees = absurd agrees
-    counts_first (Some v) w None d there agrees = absurd agrees
-    counts_first (Some v) None (Some c) d there agrees = let same : c ≡ d = some_same there in subst (λ (x : ServerCounts). x.finished ≤ x.descs) same (omega (arith, agrees.1.1))
-    counts_first (Some v) (Some work) (Some c) d there agrees = let same : c ≡ d = some_same there in subst (λ (x : ServerCounts). x.finished ≤ x.descs) same (omega (arith, agrees.1.2))
-
     finished_descs : (s : LaneState) (l : DiskLog) (d : ServerCounts) → Before s l → l.work.server ≡ Some d → d.finished ≤ d.descs
-    finished_descs s l d before there = counts_first s.server.session s.server.work l.work.server d there before.known.agree.server
+    finished_descs s l d before there = work_first s.server.session s.server.work l.work.server d there before.known.agree.server
 
 below_pending : (k completed own pending : ℕ) → completed + k < own → own ≤ completed + pending → k < pending
 below_pending k completed own pending few most = omega arith

@@ -1,10 +1,8 @@
 -- The log of the ring after an event that leaves its slots as they are: what is known of bytes, numbers and work carries over.
 use Rattle.std.proofs.Common.{◌≡◌, ℕ, ◌+◌, Bool, true, false, List, Option, Some, None, ◌⊎◌, inl, inr, refl, sym, ap, ◌∙◌, subst, arith}
 use Rattle.std.specs.Prelude.{⊤, ◌-◌, ◌%◌, slice_get}
-use Rattle.ldc_queue.specs.declared.end.ChannelState.{ChannelState}
-use Rattle.ldc_queue.specs.declared.end.ChannelState.TheVariants.{Down, Resetting, Up}
+use Rattle.ldc_queue.specs.declared.end.ChannelState.TheVariants.{Up}
 use Rattle.ldc_queue.specs.declared.end.End.TheVariants.{A, B}
-use Rattle.ldc_queue.specs.Wire.{peer_behind}
 use Rattle.channel_model.specs.WireEvent.{Injected, Joined, Lost, Reset, Sent, Took, WireEvent}
 use Rattle.vdisk_msg.specs.declared.request.Request.{Request}
 use Rattle.lane_laws.specs.DiskLog.{DiskLog, after}
@@ -16,6 +14,7 @@ use Rattle.disk_model.specs.DiskEvent.{Accepted as Accepted_, Asks, Desc, DiskEv
 use Rattle.lane_laws.proofs.RingTable.{map_stands, same_holds}
 use Rattle.lane_laws.specs.RingAgreed.{InRing, ring_in}
 use Rattle.lane_laws.specs.RingSlots.{HoldsIssued, IdStands, IdsStand, InWork, RingHolds, RingOf, SameSlots, WorkStands}
+use Rattle.channel_laws.proofs.HandshakesPlaced.{peer_up}
 
 -- the client's ids stay, or its session is gone
 abbrev pub KeepsIds : Option ClientCounts → Option ClientCounts → Type 0
@@ -133,13 +132,6 @@ pub work_opened : (b : Bool) (sid : ℕ) (f : ServerCounts → ServerCounts) (o 
 work_opened true sid f None same = refl
 work_opened true sid f (Some c) same = inl refl
 work_opened false sid f o same = work_changed f o same
-
-peer_up : (a b : ChannelState) → peer_behind a b ≡ Up → b ≡ Up
-peer_up Up Up is = refl
-peer_up Up Down is = absurd (cc is)
-peer_up Up Resetting is = absurd (cc is)
-peer_up Down b is = is
-peer_up Resetting b is = is
 
 -- EVENTS that leave the ring: no packet by which the client's session opens, no request, and of the work only pieces
 abbrev pub OpensNot : WireEvent → Type 0

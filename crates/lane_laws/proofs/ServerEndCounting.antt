@@ -2,17 +2,12 @@
 use Rattle.std.proofs.Common.{◌≡◌, ◌≢◌, ℕ, ◌+◌, ◌≤◌, Bool, true, false, Option, Some, None, List, ◌∷◌, refl, sym, ap, ◌∙◌, subst, arith}
 use Rattle.std.specs.Prelude.{is_none, is_some, ◌==◌}
 use Rattle.std.proofs.lemmas.Bool.Decides.{nat_tests}
-use Rattle.ldc_link.specs.declared.phase.Role.{Role}
-use Rattle.ldc_link.specs.declared.phase.Role.TheVariants.{Responder}
 use Rattle.ldc_queue.specs.Transcript.{Said, Turn}
 use Rattle.vdisk_msg.specs.Descriptor.{disk_desc_of}
 use Rattle.vdisk_msg.specs.Pieces.{pieces}
-use Rattle.vio_handshake.specs.declared.handshake.Handshake.{Handshake}
-use Rattle.vio_handshake.specs.declared.handshake.Phase.{Phase}
-use Rattle.vio_handshake.specs.Rules.{opens_by_put}
 use Rattle.lane_laws.specs.Agreement.{ServerAgrees, ServerCountsAgree, WorkAgrees, owed_of}
 use Rattle.lane_laws.specs.WorkLog.{ServerCounts, change_server, rest_of}
-use Rattle.channel_model.specs.EndPuts.{ComesUp, EndsOwn, EndsHandshake, Goes, PutKind, put_opens}
+use Rattle.channel_model.specs.EndPuts.{ComesUp, EndsOwn, EndsHandshake, Goes, PutKind}
 use Rattle.disk_model.specs.LaneState.{Shape}
 use Rattle.channel_model.specs.Ranges.{wrapped}
 use Rattle.channel_model.specs.Seeing.{Seen}
@@ -31,6 +26,7 @@ use Rattle.lane_laws.proofs.ServerWorkCounting.{begins_owing, first_unit, holds_
 use Rattle.lane_laws.specs.Budget.{one_range}
 use Rattle.lane_laws.specs.Counted.{RangeStands, ServerCounted, ServerOrder}
 use Rattle.lane_laws.specs.LaneRests.{ServerRests, ServerUtters}
+use Rattle.channel_laws.proofs.PacketsLeft.{shut_in}
 
 not_same : (a b : ℕ) → (a == b) ≡ false → a ≡ b → ⊥
 not_same a b test is = let same : (a == b) ≡ true = grind (arith, nat_tests) in absurd (cc)
@@ -157,14 +153,6 @@ put_counting ComesUp shape v turns packet d few rests utters says counted = come
 put_counting EndsOwn shape v turns packet d few rests utters says counted = own_counting shape v turns packet d few says.1 says.0 counted
 put_counting EndsHandshake shape v turns packet d few rests utters says counted = handshake_counting shape v turns packet d rests says.1 says.0 counted
 
-responder_never : (role : Role) (phase : Phase) → role ≡ Responder → opens_by_put role phase ≡ false
-responder_never Responder phase is = refl
-responder_never role phase is = ap (λ (r : Role). opens_by_put r phase) is
-
-never_opens : (kind : PutKind) (h : Handshake) → h.role ≡ Responder → put_opens kind h ≡ false
-never_opens EndsHandshake h is = responder_never h.role h.phase is
-never_opens _ h is = refl
-
 pub server_puts_counting : (shape : Shape) (v : ServerState) (at : Seen) (packet : List ℕ) (opens : Bool) (t : ServerState) (turns : List Turn) (d : Option ServerCounts) → shape.slots ≤ 256
     → ServerSends v at packet opens t → ServerRests v turns → ServerUtters v turns → ServerCounted shape v turns d
     → ServerCounted shape t (Said packet ∷ turns) (answers_more shape turns packet d) × (opens ≡ false)
@@ -176,5 +164,5 @@ server_puts_counting shape v at packet opens t turns d few sends rests utters co
     let says = put_says (is_none sends.held.handshake.owed) sends.held.link t.link turns packet follows sends.packet in (
       subst (λ (x : ServerState). ServerCounted shape x (Said packet ∷ turns) (answers_more shape turns packet d)) (sym sends.is)
           (put_counting (server_kind sends.held) shape sends.held turns packet d few held_rests held_utters says held),
-      sends.opens_is ∙ never_opens (server_kind sends.held) sends.held.handshake held_rests.fits.role_is,
+      sends.opens_is ∙ shut_in (server_kind sends.held) sends.held.handshake held_rests.fits.role_is,
     )

@@ -1,8 +1,6 @@
 -- What a unit that is read or stored, a fetched descriptor, and the end of one are to a lane's view.
 use Rattle.std.proofs.Common.{◌≡◌, ℕ, ◌+◌, ◌*◌, ◌/◌, ◌^◌, ◌<◌, ◌≤◌, Bool, false, Option, Some, None, List, drop, length, refl, sym, ap, ◌∙◌, subst, arith}
 use Rattle.std.specs.Prelude.{slice_get, ◌==◌, if◌then◌else◌}
-use Rattle.ldc_queue.specs.declared.end.ChannelState.{ChannelState}
-use Rattle.ldc_queue.specs.declared.end.ChannelState.TheVariants.{Up}
 use Rattle.ldc_queue.specs.declared.end.End.TheVariants.{B}
 use Rattle.vdisk_msg.proofs.Written.{requested_is_sound}
 use Rattle.vdisk_msg.specs.Check.{first_defect}
@@ -45,7 +43,7 @@ use Rattle.lane_laws.proofs.Changes.{Fetched, Flushed, ImageChange, IsChange, Ki
 use Rattle.lane_laws.proofs.PlacedViews.{live}
 use Rattle.lane_laws.proofs.ServerChanges.{ServesNow, server_view, serves_now}
 use Rattle.lane_laws.proofs.Standing.{Before}
-use Rattle.lane_laws.proofs.WireChanges.{Changed}
+use Rattle.lane_laws.proofs.WireChanges.{Changed, none_works}
 use Rattle.lane_laws.proofs.WorkSteps.{unit_blocks}
 
 -- A UNIT THAT IS STORED, with what the store gave in the step
@@ -279,7 +277,3 @@ fetched_changes s l slot bytes t before facts step =
       still = λ image other same_image. same_image;
       content = λ content. refl;
     }
-  where
-    none_works : (x : ChannelState) → work_while x None ≡ None
-    none_works Up = refl
-    none_works _ = refl

@@ -184,12 +184,13 @@ peer_idle s l before = by_state s.wire.wire.end_a refl
     by_state Down is = idle_while s l before (λ up. let never : Down ≡ Up = sym is ∙ up in absurd (cc never))
     by_state Resetting is = idle_while s l before (λ up. let never : Resetting ≡ Up = sym is ∙ up in absurd (cc never))
 
+-- a server that has no work serves none
+pub none_works : (x : ChannelState) → work_while x None ≡ None
+none_works Up = refl
+none_works _ = refl
+
 pub reset_drops : (e : End) (s : LaneState) (l : DiskLog) (work : Option Work) → Before s l → (e ≡ B → work ≡ None) → (e ≡ A → work ≡ s.server.work) → (next : Wire)
     → (e ≡ A → next.end_b ≡ peer_behind s.wire.wire.end_a s.wire.wire.end_b) → work_while next.end_b work ≡ None
 reset_drops A s l work before gone same next peer =
     ap (λ (x : ChannelState). work_while x work) (peer refl) ∙ ap (work_while (peer_behind s.wire.wire.end_a s.wire.wire.end_b)) (same refl) ∙ peer_idle s l before
 reset_drops B s l work before gone same next peer = ap (work_while next.end_b) (gone refl) ∙ none_works next.end_b
-  where
-    none_works : (x : ChannelState) → work_while x None ≡ None
-    none_works Up = refl
-    none_works _ = refl

@@ -6,7 +6,6 @@ use Rattle.ldc_queue.specs.declared.end.End.TheVariants.{A, B}
 use Rattle.ldc_queue.specs.Wire.{peer_behind}
 use Rattle.channel_model.specs.WireEvent.{Injected, Joined, Lost, Reset, Sent, Took, WireEvent}
 use Rattle.channel_laws.proofs.Apart.{some_same}
-use Rattle.lane_laws.specs.Agreement.{ServerAgrees}
 use Rattle.lane_laws.specs.DiskLog.{DiskLog, after}
 use Rattle.lane_laws.specs.WorkLaws.{IfServer}
 use Rattle.lane_laws.specs.WorkLog.{ClientCounts, ServerCounts}
@@ -15,10 +14,9 @@ use Rattle.disk_model.specs.DiskEvent.{OnWire}
 use Rattle.disk_model.specs.LaneState.{LaneState, NearCounts}
 use Rattle.disk_model.specs.LaneStep.{WireStep, near_on_wire}
 use Rattle.channel_model.specs.Seeing.{seen}
-use Rattle.disk_model.specs.ServerState.{ServerSession, Work}
 use Rattle.lane_laws.proofs.RingLeaves.{OpensNot}
 use Rattle.lane_laws.proofs.RingWork.{turn_in}
-use Rattle.lane_laws.proofs.SlotsStepping.{StepFacts}
+use Rattle.lane_laws.proofs.SlotsStepping.{StepFacts, work_first}
 use Rattle.lane_laws.proofs.StandingSteps.{wire_only, wired_keeps}
 use Rattle.lane_laws.specs.RingAgreed.{OneRing}
 use Rattle.lane_laws.specs.Standing.{LaneInvariant, SessionStands}
@@ -89,13 +87,6 @@ begins_k Up (Some d) None new done k same nothing based is = (is, omega (arith, 
 begins_k Up (Some d) (Some c) new done k same nothing based is =
     let none : k ≡ 0 = omega (arith, is, nothing d refl refl, based c refl) in (none, omega (arith, same, none, nothing d refl refl))
 begins_k _ _ o new done k same nothing based is = (is, is)
-
-pub work_first : (o : Option ServerSession) (w : Option Work) (q : Option ServerCounts) (d : ServerCounts) → q ≡ Some d → ServerAgrees o w q → d.finished ≤ d.descs
-work_first None w None d is agrees = absurd (cc is)
-work_first None w (Some c) d is agrees = absurd agrees
-work_first (Some s) w None d is agrees = absurd agrees
-work_first (Some s) None (Some c) d is agrees = let same : c ≡ d = some_same is in subst (λ (x : ServerCounts). x.finished ≤ x.descs) same (omega (arith, agrees.1.1))
-work_first (Some s) (Some work) (Some c) d is agrees = let same : c ≡ d = some_same is in subst (λ (x : ServerCounts). x.finished ≤ x.descs) same (omega (arith, agrees.1.2))
 
 pub opens_k : (s : LaneState) (l : DiskLog) (packet : List ℕ) (t : LaneState) → Before s l → StepFacts s l (OnWire (Sent A packet true)) t
     → (s.near.k ≡ 0) × KIs (counts_while l.wire.wire.end_b l.work.server) (after l (OnWire (Sent A packet true))).work.client l.work.done s.near.k

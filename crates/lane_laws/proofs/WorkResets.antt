@@ -1,7 +1,6 @@
 -- What ends a session without a packet has its ground in the ring: an acknowledged slot that isn't DONE, or in a server's range a slot that
 -- isn't READY or a copy that was refused.
-use Rattle.std.proofs.Common.{◌≡◌, ◌≢◌, ℕ, ◌-◌, ◌%◌, ◌<◌, ◌≤◌, Option, Some, None, List, refl, sym, ap, ◌∙◌, subst, arith, inl, inr}
-use Rattle.std.proofs.lemmas.Bool.Decides.{nat_tests}
+use Rattle.std.proofs.Common.{◌≡◌, ℕ, ◌-◌, ◌%◌, ◌≤◌, Option, Some, None, List, refl, sym, ap, ◌∙◌, subst, arith, inl, inr}
 use Rattle.cookie_copy.specs.declared.fault.CopyFault.{CopyFault}
 use Rattle.cookie_copy.specs.declared.fault.CopyFault.TheVariants as copy
 use Rattle.dring.specs.declared.peer.RingFault.{RingFault}
@@ -35,6 +34,7 @@ use Rattle.lane_laws.proofs.LaneResets.{by_giver}
 use Rattle.channel_laws.specs.Resetting.{LiesInPacket}
 use Rattle.lane_laws.proofs.WorkNumbers.{Grounded, Serving, fetches_next, in_client, in_server, serving}
 use Rattle.lane_laws.proofs.LaneViews.{at_client, at_server}
+use Rattle.lane_laws.proofs.NoOwnReset.{below_other}
 
 -- what lies in a packet
 carried_reset : (l : DiskLog) (e : End) (cause : Cause) (packet : List ℕ) → LiesInPacket cause → ResetOf l e cause (Some packet)
@@ -66,11 +66,8 @@ number_small : (why : CopyFault) → (1 ≤ copy_number why) × (copy_number why
 number_small copy.Channel = (omega arith, omega arith)
 number_small _ = (omega arith, omega arith)
 
-below : (a b : ℕ) → a ≤ b → a ≢ b → a < b
-below a b most other = grind (arith, nat_tests, most, other)
-
 asks_more : (s : LaneState) (l : DiskLog) (session : ServerSession) (now : Serving s l session) → InRange now.of.counts
-asks_more s l session now = below now.of.counts.finished now.of.counts.asked now.finished now.unfinished
+asks_more s l session now = below_other now.of.counts.finished now.of.counts.asked now.finished now.unfinished
 
 in_range : (s : LaneState) (l : DiskLog) (session : ServerSession) → Grounded s l → ServesFree s.server session → InServer l.work.server InRange
 in_range s l session grounded free =
