@@ -1,5 +1,5 @@
 -- Where the causes of a kind's sessions are as the messages say, each cause that a packet has is as the packet says, and a gap names both numbers.
-use Rattle.std.proofs.Common.{◌≡◌, ℕ, Bool, true, false, Option, Some, None, Ok, Err, List, ◌++◌, refl, sym, subst, inl, inr, ◌⊎◌}
+use Rattle.std.proofs.Common.{◌≡◌, ℕ, Bool, true, false, Option, Some, None, Ok, Err, List, ◌++◌, refl, sym, subst, inl, inr, ◌⊎◌, arith}
 use Rattle.std.specs.Prelude.{◌&&◌, ◌||◌, not, Result, if◌then◌else◌, nat_eq, ⊤}
 use Rattle.std.proofs.lemmas.Bool.{eqb-true}
 use Rattle.ldc_link.specs.Taking.{may_come}
@@ -144,18 +144,7 @@ mode_told turns packet rest sound says =
 
 number_told : (turns : List Turn) (packet : List ℕ) (rest : Option Cause) → first_fault packet ≡ None → Says turns packet rest
     → Says turns packet (number_cause (is_numbered packet) (counts_next (count_heard turns)) (seqid_at packet) rest)
-number_told turns packet rest sound says =
-    says_if turns packet (is_numbered packet && not (nat_eq (seqid_at packet) (counts_next (count_heard turns)))) (the_cause.Gap (counts_next (count_heard turns)) (seqid_at packet)) rest
-    (λ test.
-    let tests = both_true (is_numbered packet) (not (nat_eq (seqid_at packet) (counts_next (count_heard turns)))) test in (
-      sound,
-      record {
-        has_number = tests.0;
-        next = refl;
-        is = refl;
-        other = λ same. other_number (seqid_at packet) (counts_next (count_heard turns)) (not_true (nat_eq (seqid_at packet) (counts_next (count_heard turns))) tests.1) (sym same);
-      },
-    )) says
+number_told turns packet rest sound says = grind (arith, says_if, both_true, other_number, not_true)
 
 fault_told : (turns : List Turn) (packet : List ℕ) (fault : Option PacketFault) (rest : Option Cause) → first_fault packet ≡ fault → (first_fault packet ≡ None → Says turns packet rest)
     → Says turns packet (fault_cause fault rest)
@@ -163,12 +152,7 @@ fault_told turns packet (Some fault) rest is says = (is, tt)
 fault_told turns packet None rest is says = says is
 
 packet_told : (own : Message → Option Cause) → JudgesRightly own → (sid : ℕ) (turns : List Turn) (packet : List ℕ) → Says turns packet (packet_cause own sid turns packet)
-packet_told own rightly sid turns packet =
-    fault_told turns packet (first_fault packet) _ refl (λ sound.
-    number_told turns packet _ sound
-    (mode_told turns packet _ sound
-    (part_told turns packet (is_part packet) (may_come (half_heard turns) (fragment_at packet)) _ sound refl refl
-    (message_told own rightly sid turns packet (ended_by (half_heard turns) packet) sound refl))))
+packet_told own rightly sid turns packet = search (fault_told, number_told, mode_told, part_told, message_told)
 
 pub cause_said : (own : Message → Option Cause) (sid : ℕ) (turns : List Turn) (packet : List ℕ) (cause : Cause) → JudgesRightly own → packet_cause own sid turns packet ≡ Some cause
     → PacketSays turns packet cause × GapOf turns cause (Some packet)

@@ -3,7 +3,7 @@ use Rattle.std.proofs.Common.{◌≡◌, ℕ, ◌+◌, ◌≤◌, ◌<◌, Bool,
 use Rattle.ldc_link.specs.declared.phase.LinkPhase.{LinkPhase}
 use Rattle.ldc_link.specs.declared.phase.LinkPhase.TheVariants as phase
 use Rattle.ldc_queue.specs.declared.end.ChannelState.{ChannelState}
-use Rattle.ldc_queue.specs.declared.end.ChannelState.TheVariants.{Down, Resetting, Up}
+use Rattle.ldc_queue.specs.declared.end.ChannelState.TheVariants.{Up}
 use Rattle.ldc_queue.specs.Numbered.{is_numbered, kept}
 use Rattle.ldc_queue.specs.QueueLog.{IsFirst, lost_past}
 use Rattle.channel_laws.specs.Conversing.{AreFew, live_budget, live_puts, live_takes, puts_left, takes_left, unless, unnumbered}
@@ -20,14 +20,10 @@ up_takes e ph up = ap (λ (x : ChannelState). live_takes x ph) up
 
 -- a budget that is lower
 pub live_lower : (e : ChannelState) (n m : ℕ) → n ≤ m → live_budget e n ≤ live_budget e m
-live_lower Up n m lower = lower
-live_lower Down n m lower = omega arith
-live_lower Resetting n m lower = omega arith
+live_lower e n m lower = grind arith
 
 pub live_small : (e : ChannelState) (n : ℕ) → n ≤ 34000 → live_budget e n ≤ 34000
-live_small Up n small = small
-live_small Down n small = omega arith
-live_small Resetting n small = omega arith
+live_small e n small = grind arith
 
 -- at most two packets without a number are left
 takes_few : (ph : LinkPhase) → takes_left ph ≤ 2
@@ -39,14 +35,10 @@ puts_few phase.OwesVersInfo = omega arith
 puts_few _ = omega arith
 
 pub live_takes_few : (e : ChannelState) (ph : LinkPhase) → live_takes e ph ≤ 2
-live_takes_few Up ph = takes_few ph
-live_takes_few Down ph = omega arith
-live_takes_few Resetting ph = omega arith
+live_takes_few e ph = grind (arith, takes_few)
 
 pub live_puts_few : (e : ChannelState) (ph : LinkPhase) → live_puts e ph ≤ 2
-live_puts_few Up ph = puts_few ph
-live_puts_few Down ph = omega arith
-live_puts_few Resetting ph = omega arith
+live_puts_few e ph = grind (arith, puts_few)
 
 -- what has no number
 unless_more : (b : Bool) (n : ℕ) → unless b n ≡ n + unless b 0

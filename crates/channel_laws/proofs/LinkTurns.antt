@@ -1,5 +1,5 @@
 -- A packet with a number that waits first, where nobody forged: the link takes it where it is the next, and else its cause is a gap.
-use Rattle.std.proofs.Common.{◌≡◌, ℕ, ◌+◌, ◌<◌, ◌%◌, Bool, true, false, List, [], ◌∷◌, ◌++◌, length, refl, sym, ap, ◌∙◌, subst}
+use Rattle.std.proofs.Common.{◌≡◌, ℕ, ◌+◌, ◌<◌, ◌%◌, Bool, true, false, List, [], ◌∷◌, ◌++◌, length, refl, sym, ap, ◌∙◌, subst, arith}
 use Rattle.std.specs.Prelude.{◌&&◌, if◌then◌else◌, nat_eq, nat_le}
 use Rattle.std.proofs.lemmas.Bool.{eq-eqb, eqb-true, le-leb}
 use Rattle.ldc_packet.specs.declared.packet.Body.{Body}
@@ -16,7 +16,7 @@ use Rattle.ldc_link.specs.LinkState.{LinkState, is_established, is_up}
 use Rattle.ldc_link.specs.Putting.{control}
 use Rattle.ldc_link.specs.Taking.{Heard, LinkTake, TakesBytes, Unheard, begins_rightly, count, counted, goes_to, in_turn, may_come, phase_behind_rdx, takes_body, takes_part, with_part}
 use Rattle.ldc_queue.proofs.Messages.{fragments_in-append}
-use Rattle.ldc_queue.specs.Fragments.{Fragment, fragment_at, fragments_in, is_part, joins}
+use Rattle.ldc_queue.specs.Fragments.{Fragment, fragment_at, fragments_in, is_part}
 use Rattle.ldc_queue.specs.Messages.{AllMayCome, MayCome, half_in, half_with, is_empty}
 use Rattle.ldc_queue.specs.Numbered.{is_numbered, numbered}
 use Rattle.ldc_queue.specs.OneStream.{OneWay}
@@ -45,12 +45,7 @@ part_is packet part = spelled_part packet part.packet (part_spells packet part) 
 
 next_may : (said heard : List (List ℕ)) (packet : List ℕ) → AllMayCome [] (fragments_in said) → is_part packet ≡ true → IsNext said heard packet
     → MayCome (half_in [] (fragments_in heard)) (fragment_at packet)
-next_may said heard packet all part next =
-    let own : fragments_in (heard ++ packet ∷ []) ≡ fragments_in heard ++ fragment_at packet ∷ [] =
-    fragments_in-append heard (packet ∷ []) ∙ ap (λ (b : Bool). fragments_in heard ++ joins b (fragment_at packet) []) part in
-    let parts : fragments_in said ≡ (fragments_in heard ++ fragment_at packet ∷ []) ++ fragments_in next.rest =
-    ap fragments_in next.is ∙ fragments_in-append (heard ++ packet ∷ []) next.rest ∙ ap (λ (xs : List Fragment). xs ++ fragments_in next.rest) own in
-    may_at [] (fragments_in heard) (fragment_at packet) (fragments_in next.rest) (subst (AllMayCome []) parts all)
+next_may said heard packet all part next = grind (arith, fragments_in-append, may_at)
 
 -- A LINK THAT IS UP takes a part that may come
 begins_so : (start : Bool) (half : List ℕ) → start ≡ is_empty half → begins_rightly start half ≡ true

@@ -1,6 +1,6 @@
 -- How many packets an end has still to put doesn't grow by what it takes, where nobody forged and each ring has at most five cookies.
 use Rattle.std.proofs.Common.{◌≡◌, ℕ, ◌+◌, ◌≤◌, Bool, true, false, Option, Some, List, [], ◌∷◌, ◌++◌, length, refl, sym, ap, ◌∙◌, subst, inl, inr, arith}
-use Rattle.std.specs.Prelude.{if◌then◌else◌, nat_eq, slice_get, take}
+use Rattle.std.specs.Prelude.{if◌then◌else◌, nat_eq, slice_get}
 use Rattle.std.proofs.lemmas.List.{length-take}
 use Rattle.runs.specs.Lawful.{log_of}
 use Rattle.runs.specs.Run.{Run}
@@ -46,7 +46,7 @@ use Rattle.channel_laws.proofs.HandshakeCases.{HandshakeTook}
 use Rattle.channel_laws.proofs.HandshakePlaces.{AtPlace, IsOwn, Matches, deal, deal_fits, goes_alike, message_is, open_place, own_heard, owes_at, peer_said, place_bytes, who}
 use Rattle.channel_laws.proofs.HandshakesPlaced.{Meets, meets_keep, never_declined, peer_place}
 use Rattle.channel_laws.proofs.Lifting.{BothStand}
-use Rattle.channel_laws.proofs.LinkCases.{ControlHeard, ControlTaken, LinkHeard, ModeAgreed, ModeAsked, PartHeard, ReadyHeard, VersionAgreed, VersionAsked, established}
+use Rattle.channel_laws.proofs.LinkCases.{ControlHeard, ControlTaken, LinkHeard, PartHeard, ReadyHeard, established}
 use Rattle.channel_laws.proofs.PacketsLeft.{held_empty, up_left}
 use Rattle.channel_laws.proofs.Script.{not_last}
 use Rattle.channel_laws.proofs.Sessions.{meets_knows}
@@ -63,10 +63,7 @@ use Rattle.channel_laws.specs.Sides.{Sides, other, sides_of, swapped, took}
 ring_parts : (sid ident slots slot_size options count : ℕ) (cookies : List Cookie) → count ≤ 5
     → (parts (length (canonical (info sid (DringReg ident slots slot_size options count cookies)))) ≤ 2)
     × (parts (length (canonical (ack sid (DringReg ident slots slot_size options count cookies)))) ≤ 2)
-ring_parts sid ident slots slot_size options count cookies few = (
-  omega (arith, few, length_canonical (info sid (DringReg ident slots slot_size options count cookies)), length-cookies_bytes (take count cookies), length-take count cookies),
-  omega (arith, few, length_canonical (ack sid (DringReg ident slots slot_size options count cookies)), length-cookies_bytes (take count cookies), length-take count cookies),
-)
+ring_parts sid ident slots slot_size options count cookies few = grind (arith, length_canonical, length-cookies_bytes, length-take)
 
 record FewCookies (d : Deal) : Type 0 where
   asks : d.asks.count ≤ 5
@@ -124,13 +121,7 @@ next_fewer both d role n few here turn = not_turn turn refl
 -- with the rings that its own offer says
 place_fewer : (both : Bool) (d : Deal) (role : Role) (n : Place) → FewCookies d → (offer_at d role).both_rings ≡ both → IsPlace both n → owner n ≡ Some (other role)
     → later_in (handshake_at both d role (next both n)) + parts_owed (handshake_at both d role (next both n)).owed ≤ later_in (handshake_at both d role n)
-place_fewer both d role n few rings here turn =
-    omega (
-      arith,
-      next_fewer both d role n few here turn,
-      ap (λ (b : Bool). later b role (phase_at both role (next both n))) rings,
-      ap (λ (b : Bool). later b role (phase_at both role n)) rings,
-    )
+place_fewer both d role n few rings here turn = grind (arith, next_fewer, phase_at, next)
 
 -- THE LINK
 -- no link refuses a version
@@ -139,28 +130,7 @@ refuses (phase.OwesVersNack major) = true
 refuses _ = false
 
 never_refuses : (role : Role) (place : LinkPlace) → refuses (link.phase_at role place) ≡ false
-never_refuses Initiator link.NothingPut = refl
-never_refuses Initiator link.VersionPut = refl
-never_refuses Initiator link.VersionTaken = refl
-never_refuses Initiator link.VersionAnswered = refl
-never_refuses Initiator link.AnswerTaken = refl
-never_refuses Initiator link.ModePut = refl
-never_refuses Initiator link.ModeTaken = refl
-never_refuses Initiator link.ModeAnswered = refl
-never_refuses Initiator link.ModeAgreed = refl
-never_refuses Initiator link.ReadyPut = refl
-never_refuses Initiator link.BothUp = refl
-never_refuses Responder link.NothingPut = refl
-never_refuses Responder link.VersionPut = refl
-never_refuses Responder link.VersionTaken = refl
-never_refuses Responder link.VersionAnswered = refl
-never_refuses Responder link.AnswerTaken = refl
-never_refuses Responder link.ModePut = refl
-never_refuses Responder link.ModeTaken = refl
-never_refuses Responder link.ModeAnswered = refl
-never_refuses Responder link.ModeAgreed = refl
-never_refuses Responder link.ReadyPut = refl
-never_refuses Responder link.BothUp = refl
+never_refuses role place = grind arith
 
 by_tests : (b c : Bool) (all n : ℕ) → refuses (if b then phase.OwesVersAck else if c then phase.OwesVersNack 0 else phase.OwesVersNack 1) ≡ false
     → left_in (if b then phase.OwesVersAck else if c then phase.OwesVersNack 0 else phase.OwesVersNack 1) all n ≤ all + 2
@@ -172,16 +142,7 @@ answer_left : (major all n : ℕ) → refuses (answer_to major) ≡ false → le
 answer_left major all n fine = by_tests (nat_eq major 1) (nat_eq major 0) all n fine
 
 control_taken : (before next : LinkPhase) (bytes : List ℕ) (all n m : ℕ) → ControlTaken before bytes next → refuses next ≡ false → left_in next all n ≤ left_in before all m
-control_taken before next bytes all n m (VersionAsked major minor at packet goes) fine =
-    omega (
-      arith,
-      answer_left major all n (sym (ap refuses goes) ∙ fine),
-      ap (λ (p : LinkPhase). left_in p all m) at,
-      ap (λ (p : LinkPhase). left_in p all n) goes,
-    )
-control_taken before next bytes all n m (VersionAgreed at packet goes) fine = omega (arith, ap (λ (p : LinkPhase). left_in p all m) at, ap (λ (p : LinkPhase). left_in p all n) goes)
-control_taken before next bytes all n m (ModeAsked at packet goes) fine = omega (arith, ap (λ (p : LinkPhase). left_in p all m) at, ap (λ (p : LinkPhase). left_in p all n) goes)
-control_taken before next bytes all n m (ModeAgreed at packet goes) fine = omega (arith, ap (λ (p : LinkPhase). left_in p all m) at, ap (λ (p : LinkPhase). left_in p all n) goes)
+control_taken before next bytes all n m taken fine = grind (arith, answer_left)
 
 -- BOTH UP
 held_same : (xs : List ℕ) (one two : Bool) (owed : Option Message) → (1 ≤ length xs → one ≡ two) → held_left one xs owed ≡ held_left two xs owed
@@ -189,26 +150,11 @@ held_same [] one two owed same = refl
 held_same (x ∷ xs) one two owed same = ap (λ (b : Bool). held_left b (x ∷ xs) owed) (same (omega arith))
 
 up_fewer : (c t : EndCore) → c.link.phase ≡ phase.Established → t.link.phase ≡ phase.Established → messages_in t ≤ messages_in c → packets_left t ≤ packets_left c
-up_fewer c t was now less =
-    omega (
-      arith,
-      less,
-      ap (λ (p : LinkPhase). left_in p (all_in c.handshake) (messages_in c)) was,
-      ap (λ (p : LinkPhase). left_in p (all_in t.handshake) (messages_in t)) now,
-    )
+up_fewer c t was now less = grind arith
 
 same_fewer : (c t : EndCore) → c.link.phase ≡ phase.Established → t.link.phase ≡ phase.Established → t.link.to_send ≡ c.link.to_send → t.handshake ≡ c.handshake
     → (holds c.link ≡ true → holds t.link ≡ true → t.own ≡ c.own) → packets_left t ≤ packets_left c
-same_fewer c t was now left handshake own =
-    let same : 1 ≤ length c.link.to_send → t.own ≡ c.own =
-    λ some. own (holds_some c.link (ap is_established was) some) (holds_some t.link (ap is_established now) (omega (arith, some, ap length left))) in
-    up_fewer c t was now
-    (omega (
-      arith,
-      ap later_in handshake,
-      ap (λ (xs : List ℕ). held_left t.own xs t.handshake.owed) left ∙ ap (λ (h : Handshake). held_left t.own c.link.to_send h.owed) handshake,
-      held_same c.link.to_send t.own c.own c.handshake.owed same,
-    ))
+same_fewer c t was now left handshake own = grind (arith, holds_some, up_fewer, held_same)
 
 -- sums over what is left, of numbers alone
 turn_sums : (now held was held_was next owed parts at : ℕ) → next + owed ≤ at → held ≡ parts → now ≡ next → parts ≡ owed → was ≡ at → now + held ≤ was + held_was

@@ -24,7 +24,7 @@ use Rattle.channel_laws.proofs.LinkTurns.{part_is}
 use Rattle.channel_laws.proofs.Numbering.{end_said}
 use Rattle.channel_laws.proofs.PartsSaid.{PartsSaid}
 use Rattle.channel_laws.specs.Conversing.{Converse}
-use Rattle.channel_laws.specs.EndCore.{EndCore, EndMove, Hears, Says, Stays, Waits}
+use Rattle.channel_laws.specs.EndCore.{EndCore, EndMove}
 use Rattle.channel_laws.specs.EndStep.{EndStep}
 use Rattle.channel_laws.specs.LaneCore.{CoreEvent, CoreFits, CoreStep, LaneCore, fresh_core, transcript_behind, turns_after}
 use Rattle.channel_laws.specs.LinkPlaces.{AllNumbered, BothUp, EachPart, LinkPlace, LinksAt, ReadyFirst, SaidAt, HeardAt}
@@ -78,11 +78,7 @@ pub record SaysLong (role : Role) (c : EndCore) (turns : List Turn) : Type 0 whe
   pub long : LongSaid turns
 
 long_move : (role : Role) (c : EndCore) (move : EndMove) (t : EndCore) (turns : List Turn) → SaysLong role c turns → EndStep role c move t → LongSaid (turns_after turns move)
-long_move role c (Hears packet opens) t turns says step = says.long
-long_move role c (Says packet opens) t turns says step = says_long turns packet (end_said role c t turns packet opens says.stands step) says.long
-long_move role c Waits t turns says step = says.long
-long_move role c Stays t turns says step = says.long
-long_move role c _ t turns says step = tt
+long_move role c move t turns says step = grind (arith, says_long, end_said)
 
 pub long_run : (entries : ℕ) (asks answers : Offer) (events : List CoreEvent) (s : LaneCore) → CoreFits entries asks answers
     → Run CoreStep (fresh_core entries asks answers) events s → EndsAll SaysLong s (transcript_behind events)

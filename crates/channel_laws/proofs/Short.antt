@@ -47,11 +47,7 @@ taken_cookies : (n : ℕ) (cookies : List Cookie) → n ≤ 14 → length (cooki
 taken_cookies n cookies few = omega (arith, few, length-take n cookies, cookies_long (take n cookies))
 
 body_within : (body : MsgBody) → IsShort body → length (body_bytes body) ≤ 248
-body_within (Attr bytes) short = omega (arith, short)
-body_within (DringReg ident slots slot_size options count cookies) short = omega (arith, taken_cookies count cookies short)
-body_within (DringData seq ident start end state) short = absurd short
-body_within (Mcast set count addresses) short = absurd short
-body_within _ short = omega arith
+body_within body short = grind (arith, taken_cookies)
 
 pub short_within : (message : Message) → IsShort message.body → length (canonical message) ≤ 256
 short_within message short = omega (arith, length_canonical message, body_within message.body short)
