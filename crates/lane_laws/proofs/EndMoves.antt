@@ -1,10 +1,10 @@
 -- Each step of a lane is a move of its client and a move of its server, as ends on a channel.
-use Rattle.std.proofs.Common.{◌≡◌, ℕ, Bool, List, refl, sym, subst}
+use Rattle.std.proofs.Common.{◌≡◌, ℕ, Bool, List, refl, sym, subst, arith}
 use Rattle.ldc_link.specs.declared.phase.Role.TheVariants.{Initiator, Responder}
 use Rattle.ldc_queue.specs.declared.end.End.{End}
 use Rattle.ldc_queue.specs.declared.end.End.TheVariants.{A, B}
 use Rattle.channel_model.specs.TranscriptLog.{TranscriptLog}
-use Rattle.channel_model.specs.WireEvent.{Blocked, Giver, Idle, Joined, Reset, Sent, Took, giver}
+use Rattle.channel_model.specs.WireEvent.{Blocked, Giver, Idle, Joined, Reset, Sent, Took}
 use Rattle.disk_model.specs.DiskEvent.{Desc, DiskEvent, Done, Finished, Moved, OnWire, Published, Stopped, Stored, Switches, Works}
 use Rattle.lane_laws.specs.DiskLog.{after_transcript}
 use Rattle.disk_model.specs.LaneState.{LaneState}
@@ -16,7 +16,7 @@ use Rattle.lane_laws.proofs.ServerMoves.{server_begins, server_fails, server_fet
 use Rattle.lane_laws.specs.ChannelEnds.{client_core, core_event, server_core}
 use Rattle.lane_laws.specs.Sound.{ClientSound}
 use Rattle.lane_laws.proofs.LaneViews.{Beside, ClientActs, ClientAsked, ClientCalled, ClientStays, ClientView, IsApart, IsOwnStep, ServerActs, ServerCalled, ServerRenewed, ServerStays, ServerStopped, ServerView, at_client, at_server, lane_view, reach_of}
-use Rattle.channel_laws.specs.EndCore.{Begins, EndMove, Hears, Says, Stays, Waits}
+use Rattle.channel_laws.specs.EndCore.{EndMove, Stays}
 use Rattle.disk_model.specs.ClientStep.{ClientStep}
 use Rattle.disk_model.specs.ServerStep.{ServerStep}
 
@@ -27,20 +27,10 @@ pub record Sound (s t : LaneState) : Type 0 where
 
 -- BESIDE AN END an event is no move of it
 apart_stays : (e f : End) (move : EndMove) → IsApart e f → at_end e f move ≡ Stays
-apart_stays A A move apart = absurd apart
-apart_stays B B move apart = absurd apart
-apart_stays A B move apart = refl
-apart_stays B A move apart = refl
+apart_stays e f move apart = grind arith
 
 beside_stays : (e : End) (event : DiskEvent) → Beside e event → move_of e (core_event event) ≡ Stays
-beside_stays e (OnWire (Joined f lost)) beside = apart_stays e f Begins beside
-beside_stays e (OnWire (Reset f cause packet lost)) beside = apart_stays e f (reset_move (giver cause) cause packet) beside
-beside_stays e (OnWire (Took f packet opens)) beside = apart_stays e f (Hears packet opens) beside
-beside_stays e (OnWire (Sent f packet opens)) beside = apart_stays e f (Says packet opens) beside
-beside_stays e (OnWire (Blocked f)) beside = apart_stays e f Waits beside
-beside_stays A (Switches Stopped) beside = refl
-beside_stays B (Switches Stopped) beside = absurd beside
-beside_stays e _ beside = refl
+beside_stays e event beside = grind (arith, apart_stays)
 
 -- ITS CLIENT
 abbrev MovesA : LaneState → LaneState → EndMove → Type 0

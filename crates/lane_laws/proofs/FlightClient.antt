@@ -2,7 +2,7 @@
 use Rattle.std.proofs.Common.{◌≡◌, ℕ, ◌+◌, ◌≤◌, sym, subst, arith}
 use Rattle.disk_model.specs.ClientState.{ClientState}
 use Rattle.disk_model.specs.ClientStep.{ClientAdmits}
-use Rattle.disk_model.specs.DiskEvent.{Accepted, Admitted, Full, Refused}
+use Rattle.disk_model.specs.DiskEvent.{Admitted}
 use Rattle.lane_laws.proofs.RemainingClientPuts.{ClientFalls}
 use Rattle.lane_laws.specs.Budget.{infos_begun}
 use Rattle.lane_laws.specs.Remaining.{client_packets}
@@ -19,6 +19,4 @@ same_flies : (s t : ClientState) → t ≡ s → ClientFlies 0 s t
 same_flies s t is = subst (ClientFlies 0 s) (sym is) (omega arith)
 
 pub client_admits_flies : (s : ClientState) (event : Admitted) (t : ClientState) → ClientAdmits s event t → ClientFlies 0 s t
-client_admits_flies s (Refused why request) t admits = same_flies s t admits.1
-client_admits_flies s (Full request) t admits = same_flies s t admits.2
-client_admits_flies s (Accepted id request) t admits = subst (ClientFlies 0 s) (sym admits.5) (omega arith)
+client_admits_flies s event t admits = grind (arith, same_flies)

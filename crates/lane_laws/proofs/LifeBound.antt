@@ -75,10 +75,7 @@ serving_by None s l session is agrees order = absurd agrees
 serving_by (Some d) s l session is agrees order = record { counts = d; is = is; agree = agrees.0; work = agrees.1; order = order }
 
 serving_of : (s : LaneState) (l : DiskLog) (session : ServerSession) → Knows s l → s.server.session ≡ Some session → Serving s l session
-serving_of s l session knows is =
-    let server = knows.counted.server in
-    serving_by l.work.server s l session refl (subst (λ (p : Option ServerSession). ServerAgrees p s.server.work l.work.server) is server.agrees)
-    (subst (λ (p : Option ServerSession). ServerOrder l.shape.slots p l.work.server l.transcript.server) is server.order)
+serving_of s l session knows is = grind (arith, serving_by)
 
 working_more : (work : Option Work) (d : ServerCounts) → WorkAgrees work d → d.descs ≤ d.asked → work ≢ None → d.finished + 1 ≤ d.asked
 working_more None d agrees most some = absurd (some refl)

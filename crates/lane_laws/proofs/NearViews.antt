@@ -34,14 +34,7 @@ rests_near blocks content v w image change near =
     })
 
 pub opens_near : (blocks : ℕ) (content : List ℕ) (v w : View) (image : List ℕ) → Opens v w → NearView blocks content v image → NearView blocks content w image
-opens_near blocks content v w image change near =
-    subst (λ (x : View). NearView blocks content x image) (sym change.is) (record {
-      content_long = near.content_long;
-      image_long = near.image_long;
-      image_near = near.image_near;
-      done = λ session is i below block count got. absurd (omega (arith, below, change.unfinished));
-      work = λ session is work now block count got. some_is_none (sym now ∙ change.idle);
-    })
+opens_near blocks content v w image change near = grind (arith, some_is_none)
 
 pub disturbs_near : (blocks : ℕ) (content : List ℕ) (p : ℕ) (v w : View) (image : List ℕ) → AreSound blocks v.pending → Disturbs p v w → NearView blocks content v image → NearView blocks content w image
 disturbs_near blocks content p v w image sound change near =

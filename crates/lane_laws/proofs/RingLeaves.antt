@@ -1,19 +1,19 @@
 -- The log of the ring after an event that leaves its slots as they are: what is known of bytes, numbers and work carries over.
-use Rattle.std.proofs.Common.{◌≡◌, ℕ, ◌+◌, Bool, true, false, List, Option, Some, None, ◌⊎◌, inl, inr, refl, sym, ap, ◌∙◌, subst, arith}
-use Rattle.std.specs.Prelude.{⊤, ◌-◌, ◌%◌, slice_get}
+use Rattle.std.proofs.Common.{◌≡◌, ℕ, ◌+◌, Bool, true, false, List, Option, Some, None, ◌⊎◌, inl, inr, refl, sym, subst, arith}
+use Rattle.std.specs.Prelude.{⊤}
 use Rattle.ldc_queue.specs.declared.end.ChannelState.TheVariants.{Up}
-use Rattle.ldc_queue.specs.declared.end.End.TheVariants.{A, B}
-use Rattle.channel_model.specs.WireEvent.{Injected, Joined, Lost, Reset, Sent, Took, WireEvent}
+use Rattle.ldc_queue.specs.declared.end.End.TheVariants.{A}
+use Rattle.channel_model.specs.WireEvent.{Sent, Took, WireEvent}
 use Rattle.vdisk_msg.specs.declared.request.Request.{Request}
 use Rattle.lane_laws.specs.DiskLog.{DiskLog, after}
-use Rattle.lane_laws.specs.RingLog.{Accepted, SlotLog}
+use Rattle.lane_laws.specs.RingLog.{SlotLog}
 use Rattle.lane_laws.specs.WorkLog.{ClientCounts, ServerCounts, change_client, change_server, opened_counts}
 use Rattle.disk_model.specs.LaneState.{LaneState}
 use Rattle.lane_laws.proofs.StandingSteps.{wired_keeps}
-use Rattle.disk_model.specs.DiskEvent.{Accepted as Accepted_, Asks, Desc, DiskEvent, Done, Finished, Moved, OnWire, Published, Stopped, Stored, Switches, Works}
+use Rattle.disk_model.specs.DiskEvent.{Accepted as Accepted_, Asks, Desc, DiskEvent, Done, Finished, OnWire, Published, Works}
 use Rattle.lane_laws.proofs.RingTable.{map_stands, same_holds}
 use Rattle.lane_laws.specs.RingAgreed.{InRing, ring_in}
-use Rattle.lane_laws.specs.RingSlots.{HoldsIssued, IdStands, IdsStand, InWork, RingHolds, RingOf, SameSlots, WorkStands}
+use Rattle.lane_laws.specs.RingSlots.{IdStands, IdsStand, InWork, RingHolds, RingOf, SameSlots, WorkStands}
 use Rattle.channel_laws.proofs.HandshakesPlaced.{peer_up}
 
 -- the client's ids stay, or its session is gone
@@ -45,16 +45,7 @@ pub record LeavesRing (l : DiskLog) (event : DiskEvent) : Type 0 where
 
 -- WHAT CARRIES OVER
 same_ids : (slots done : ℕ) (c d : ClientCounts) (slot : ℕ) → d.base ≡ c.base → d.published ≡ c.published → (id : ℕ) → IdStands slots done c slot id → IdStands slots done d slot id
-same_ids slots done c d slot base published id stands =
-    let since = stands.since in
-    let based = stands.based in
-    let below = stands.below in
-    record {
-      based = omega (arith, base, based);
-      since = since;
-      below = omega (arith, base, published, below);
-      slot_is = stands.slot_is ∙ ap (λ (b : ℕ). (id - b) % slots) (sym base);
-    }
+same_ids slots done c d slot base published id stands = grind arith
 
 ids_kept : (slots done : ℕ) (ring : List SlotLog) (o q : Option ClientCounts) → KeepsIds o q → IdsStand slots done ring o → IdsStand slots done ring q
 ids_kept slots done ring None None keeps stand = tt
@@ -63,23 +54,10 @@ ids_kept slots done ring None (Some d) keeps stand = absurd keeps
 ids_kept slots done ring (Some c) (Some d) keeps stand = λ slot is got. map_stands slots done done c d slot (same_ids slots done c d slot keeps.0 keeps.1) is (stand slot is got)
 
 work_same : (r : RingOf) (ring : List SlotLog) (c d : ServerCounts) → SameWork c d → (c.descs ≡ c.finished + 1 → InWork r ring c) → d.descs ≡ d.finished + 1 → InWork r ring d
-work_same r ring c d same stands one =
-    let descs = same.descs in
-    let finished = same.finished in
-    let work = stands (omega (arith, descs, finished, one)) in
-    record {
-      id = work.id;
-      stands = subst (λ (f : ℕ). slice_get ring (f % r.slots) ≡ Some (Accepted work.id)) (sym finished) work.stands;
-      fetched = subst (λ (bytes : List ℕ). HoldsIssued r (d.finished % r.slots) work.id 2 0 bytes) (sym same.desc)
-          (subst (λ (f : ℕ). HoldsIssued r (f % r.slots) work.id 2 0 c.desc) (sym finished) work.fetched);
-    }
+work_same r ring c d same stands one = grind arith
 
 work_kept : (r : RingOf) (ring : List SlotLog) (o q : Option ServerCounts) → KeepsWork o q → WorkStands r ring o → WorkStands r ring q
-work_kept r ring None None keeps stand = tt
-work_kept r ring (Some c) None keeps stand = tt
-work_kept r ring None (Some d) keeps stand = λ one. absurd (omega (arith, keeps, one))
-work_kept r ring (Some c) (Some d) (inl none) stand = λ one. absurd (omega (arith, none, one))
-work_kept r ring (Some c) (Some d) (inr same) stand = work_same r ring c d same stand
+work_kept r ring o q keeps stand = grind (arith, work_same)
 
 -- where the server's end is up after it
 work_live : (r : RingOf) (ring : List SlotLog) (o q : Option ServerCounts) (up : Type 0) → KeepsWork o q → (up → WorkStands r ring o) → up ⊎ (q ≡ None) → WorkStands r ring q
@@ -150,59 +128,17 @@ Leaves _ = ⊤
 
 -- the slots, and the requests
 log_left : (l : DiskLog) (event : DiskEvent) → Leaves event → ((after l event).ring ≡ l.ring) × ((after l event).work.issued ≡ l.work.issued) × ((after l event).work.done ≡ l.work.done)
-log_left l (OnWire event) leaves = let keeps = wired_keeps l.shape.slots l.transcript l.work event in (slots_left event leaves, keeps.issued, keeps.done)
-  where
-    slots_left : (event : WireEvent) → OpensNot event → (after l (OnWire event)).ring ≡ l.ring
-    slots_left (Sent A packet true) not = absurd (cc not)
-    slots_left (Sent A packet false) not = refl
-    slots_left _ not = refl
-log_left l (Asks (Accepted_ id request)) leaves = absurd leaves
-log_left l (Works (Published id)) leaves = absurd leaves
-log_left l (Works (Done id operation status bytes)) leaves = absurd leaves
-log_left l (Works (Desc slot bytes)) leaves = absurd leaves
-log_left l (Works (Finished slot status)) leaves = absurd leaves
-log_left l (Switches Stopped) leaves = (refl, refl, refl)
-log_left l _ leaves = (refl, refl, refl)
+log_left l event leaves = grind (arith, wired_keeps)
 
 -- the counts of both ends
 ids_left : (l : DiskLog) (event : DiskEvent) → Leaves event → KeepsIds l.work.client (after l event).work.client
-ids_left l (OnWire (Joined A lost)) leaves = ids_gone l.work.client
-ids_left l (OnWire (Reset A cause packet lost)) leaves = ids_gone l.work.client
-ids_left l (OnWire (Took A packet false)) leaves = ids_changed _ l.work.client (λ c. refl) (λ c. refl)
-ids_left l (OnWire (Took A packet true)) leaves = absurd (cc leaves)
-ids_left l (OnWire (Sent A packet false)) leaves = ids_changed _ l.work.client (λ c. refl) (λ c. refl)
-ids_left l (OnWire (Sent A packet true)) leaves = absurd (cc leaves)
-ids_left l (Asks (Accepted_ id request)) leaves = absurd leaves
-ids_left l (Works (Published id)) leaves = absurd leaves
-ids_left l (Switches Stopped) leaves = ids_stay l.work.client
-ids_left l _ leaves = ids_stay l.work.client
+ids_left l event leaves = grind (arith, ids_gone, ids_changed, ids_stay)
 
 work_left : (l : DiskLog) (event : DiskEvent) → Leaves event → KeepsWork l.work.server (after l event).work.server
-work_left l (OnWire (Joined B lost)) leaves = work_gone l.work.server
-work_left l (OnWire (Reset B cause packet lost)) leaves = work_gone l.work.server
-work_left l (OnWire (Took B packet opens)) leaves = work_opened opens _ _ l.work.server (λ c. record { descs = refl; finished = refl; desc = refl })
-work_left l (OnWire (Sent B packet opens)) leaves = work_opened opens _ _ l.work.server (λ c. record { descs = refl; finished = refl; desc = refl })
-work_left l (Asks (Accepted_ id request)) leaves = absurd leaves
-work_left l (Works (Desc slot bytes)) leaves = absurd leaves
-work_left l (Works (Finished slot status)) leaves = absurd leaves
-work_left l (Works (Moved unit fault)) leaves = work_changed _ l.work.server (λ c. record { descs = refl; finished = refl; desc = refl })
-work_left l (Works (Stored operation block count failed)) leaves = work_changed _ l.work.server (λ c. record { descs = refl; finished = refl; desc = refl })
-work_left l (Switches Stopped) leaves = work_gone l.work.server
-work_left l _ leaves = work_stays l.work.server
+work_left l event leaves = grind (arith, work_gone, work_opened, work_changed, work_stays)
 
 live_left : (l : DiskLog) (event : DiskEvent) → (after l event).wire.wire.end_b ≡ Up → (l.wire.wire.end_b ≡ Up) ⊎ ((after l event).work.server ≡ None)
-live_left l (OnWire (Joined A lost)) up = inl (peer_up l.wire.wire.end_a l.wire.wire.end_b up)
-live_left l (OnWire (Reset A cause packet lost)) up = inl (peer_up l.wire.wire.end_a l.wire.wire.end_b up)
-live_left l (OnWire (Joined B lost)) up = inr refl
-live_left l (OnWire (Reset B cause packet lost)) up = inr refl
-live_left l (OnWire (Took A packet opens)) up = inl up
-live_left l (OnWire (Sent A packet opens)) up = inl up
-live_left l (OnWire (Lost A packet)) up = inl up
-live_left l (OnWire (Injected A packet)) up = inl up
-live_left l (Switches Stopped) up = inr refl
-live_left l _ up = inl up
+live_left l event up = grind (arith, peer_up)
 
 pub event_leaves : (l : DiskLog) (event : DiskEvent) → Leaves event → LeavesRing l event
-event_leaves l event leaves =
-    let log = log_left l event leaves in
-    record { ring = log.0; issued = log.1; done = log.2; client = ids_left l event leaves; server = work_left l event leaves; live = live_left l event }
+event_leaves l event leaves = grind (arith, log_left, ids_left, work_left, live_left)

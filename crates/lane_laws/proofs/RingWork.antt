@@ -59,9 +59,7 @@ pub some_slots : (s : LaneState) (l : DiskLog) → Known s l → 1 ≤ l.shape.s
 some_slots s l known = omega (arith, slots_is s l known.stands, known.memory.some)
 
 pub turn_in : (s : LaneState) (l : DiskLog) (k : ClientCounts) → Known s l → l.work.client ≡ Some k → RingTurn k l.work.done l.shape.slots
-turn_in s l k known is =
-    subst (RingTurn k l.work.done) (slots_is s l known.stands)
-    (turn_of s.client.session l.work.done (length s.client.pending) s.client.slots l.work.client k is known.agree.client known.sound.counts known.sound.pending)
+turn_in s l k known is = grind (arith, slots_is, turn_of)
 
 pub ids_in : (s : LaneState) (l : DiskLog) (k : ClientCounts) → Known s l → l.work.client ≡ Some k → IdsStand l.shape.slots l.work.done l.ring (Some k)
 ids_in s l k known is = subst (IdsStand l.shape.slots l.work.done l.ring) is known.ring.ids

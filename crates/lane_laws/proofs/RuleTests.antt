@@ -1,5 +1,5 @@
 -- WHICH RULE IS AN END'S NEXT STEP: all that was tested on the way to it, by one walk down each end's rules.
-use Rattle.std.proofs.Common.{◌≡◌, ◌≢◌, ℕ, ◌-◌, ◌<◌, ◌⊎◌, Bool, true, false, Option, Some, None, List, inl, inr, refl, sym, ap, ◌∙◌, subst}
+use Rattle.std.proofs.Common.{◌≡◌, ◌≢◌, ℕ, ◌-◌, ◌<◌, ◌⊎◌, Bool, true, false, Option, Some, None, List, inl, inr, refl, sym, ap, ◌∙◌, subst, arith}
 use Rattle.std.specs.Prelude.{◌&&◌, ◌||◌, ◌==◌, if◌then◌else◌, is_none, is_some, nat_lt, slice_get}
 use Rattle.std.proofs.lemmas.Bool.{eqb-true, ltb-true}
 use Rattle.channel_laws.proofs.Apart.{none_is_some, some_same, true_is_false}
@@ -10,18 +10,15 @@ use Rattle.disk_model.specs.ClientState.{ClientSession, ClientState}
 use Rattle.disk_model.specs.ServerRule as server
 use Rattle.disk_model.specs.ServerState.{ServerSession, ServerState, SlotRange, Work}
 use Rattle.ldc_link.specs.declared.phase.LinkPhase.{LinkPhase}
-use Rattle.ldc_link.specs.declared.phase.LinkPhase.TheVariants as phase
 use Rattle.ldc_link.specs.LinkState.{LinkState}
 use Rattle.ldc_link.specs.Putting.{owed_in, owes, owes_control, owes_in}
 use Rattle.ldc_queue.specs.declared.end.ChannelState.{ChannelState}
-use Rattle.ldc_queue.specs.declared.end.ChannelState.TheVariants.{Down, Resetting, Up}
+use Rattle.ldc_queue.specs.declared.end.ChannelState.TheVariants.{Up}
 use Rattle.vdisk_msg.specs.declared.request.Request.{Request}
 use Rattle.vio_tag.specs.declared.message.Message.{Message}
 
 up_is : (e : ChannelState) → is_up e ≡ true → e ≡ Up
-up_is Up up = refl
-up_is Down up = absurd (cc)
-up_is Resetting up = absurd (cc)
+up_is e up = grind arith
 
 not_up : (e : ChannelState) → is_up e ≡ false → e ≢ Up
 not_up Up down up = absurd (cc)
@@ -29,13 +26,7 @@ not_up _ down up = absurd (cc)
 
 -- a packet of the link's handshake is one that is owed
 pub control_in : (ph : LinkPhase) (k : LinkState) → owes_in ph ≡ true → is_some (owed_in ph k) ≡ true
-control_in phase.OwesVersInfo k is = refl
-control_in phase.OwesRts k is = refl
-control_in phase.OwesRdx k is = refl
-control_in phase.OwesVersAck k is = refl
-control_in (phase.OwesVersNack major) k is = refl
-control_in phase.OwesRtr k is = refl
-control_in _ k is = absurd (cc)
+control_in ph k is = grind arith
 
 not_owing : (a b c d : Bool) → (a ≡ true → c ≡ true) → c ≡ false → b ≡ false → (a || b || (d && c)) ≡ false
 not_owing true b c d owes free none = true_is_false (sym (owes refl) ∙ free)
@@ -107,11 +98,7 @@ session_tested s at None rests is = record { rests = rests; session = λ session
 session_tested s at (Some session) rests is = publishes_tested s at session (slice_get s.pending (session.published - session.completed)) rests is refl
 
 nothing_first : (s : ClientState) (at : Seen) → PutsNow s at → owes s.link ≡ false → s.handshake.owed ≡ None → at.first ≡ None
-nothing_first s at now free none = by now.turn
-  where
-    by : (client.is_urgent s ≡ true) ⊎ (at.first ≡ None) → at.first ≡ None
-    by (inl urgent) = true_is_false (sym urgent ∙ not_urgent s free none)
-    by (inr first) = first
+nothing_first s at now free none = grind (arith, true_is_false, not_urgent)
 
 says_tested : (s : ClientState) (at : Seen) (owed : Option Message) → PutsNow s at → owes s.link ≡ false → s.handshake.owed ≡ owed → ClientTested s at (client.says s owed)
 says_tested s at None now free is =
@@ -202,9 +189,7 @@ range_served s at session range false up free none is ranged test = work_served 
 
 ranges_served : (s : ServerState) (at : Seen) (session : ServerSession) (range : Option SlotRange) → at.state ≡ Up → owes s.link ≡ false → s.handshake.owed ≡ None → s.session ≡ Some session
     → session.range ≡ range → ServerTested s at (server.in_range s session range at)
-ranges_served s at session None up free none is ranged =
-    first_served s at at.first up (record { free = free; owed = none; range = λ other now. subst (λ (x : ServerSession). x.range ≡ None) (some_same (sym is ∙ now)) ranged }) refl
-ranges_served s at session (Some range) up free none is ranged = range_served s at session range (session.finished == session.asked) up free none is ranged refl
+ranges_served s at session range up free none is ranged = grind (arith, first_served, some_same, range_served)
 
 session_served : (s : ServerState) (at : Seen) (open_one : Option ServerSession) → at.state ≡ Up → owes s.link ≡ false → s.handshake.owed ≡ None → s.session ≡ open_one
     → ServerTested s at (server.in_session s open_one at)

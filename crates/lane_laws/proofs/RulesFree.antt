@@ -1,5 +1,5 @@
 -- What more is known where a rule is an end's next step: that its link holds nothing, that nothing is owed or urgent, and how its range stands.
-use Rattle.std.proofs.Common.{◌≡◌, ℕ, ◌⊎◌, Bool, true, false, Option, Some, None, List, refl, sym, ◌∙◌, inl, inr}
+use Rattle.std.proofs.Common.{◌≡◌, ℕ, ◌⊎◌, Bool, true, false, Option, Some, None, List, refl, arith}
 use Rattle.std.specs.Prelude.{◌&&◌, ◌||◌, is_none, is_some, ⊤}
 use Rattle.ldc_link.specs.Putting.{owes, owes_control}
 use Rattle.vdisk_msg.specs.declared.request.Request.{Request}
@@ -26,17 +26,10 @@ takes_calm s at packet rule = (client_test s at (client.Takes packet) rule).2
 -- where nothing is urgent, a client puts only where nothing waits for it
 pub urgent_or_none : (s : ClientState) (at : Seen) (rule : client.ClientRule) (held : ClientState) → client_holds rule s ≡ Some held → ClientTested s at rule
     → (client.is_urgent s ≡ true) ⊎ (at.first ≡ None)
-urgent_or_none s at client.Puts held is test = test.0.turn
-urgent_or_none s at (client.Says message) held is test = test.0.turn
-urgent_or_none s at (client.Announces session) held is test = inr test.0.first
-urgent_or_none s at _ held is test = none_is_some is
+urgent_or_none s at rule held is test = grind (arith, none_is_some)
 
 pub puts_calm : (s : ClientState) (at : Seen) (held : ClientState) → client_holds (client.client_rule s at) s ≡ Some held → client.is_urgent s ≡ false → at.first ≡ None
-puts_calm s at held is calm = by (urgent_or_none s at (client.client_rule s at) held is (client_tested s at))
-  where
-    by : (client.is_urgent s ≡ true) ⊎ (at.first ≡ None) → at.first ≡ None
-    by (inl urgent) = true_is_false (sym urgent ∙ calm)
-    by (inr none) = none
+puts_calm s at held is calm = grind (arith, urgent_or_none, client_tested, true_is_false)
 
 middle_false : (a b c : Bool) → (a || b || c) ≡ false → b ≡ false
 middle_false true b c is = absurd (cc is)
@@ -61,12 +54,7 @@ ServerFree s (server.Serves session work) = ServesFree s session × (s.work ≡ 
 ServerFree s _ = ⊤
 
 free_by : (s : ServerState) (at : Seen) (rule : server.ServerRule) → ServerTested s at rule → ServerFree s rule
-free_by s at (server.Takes packet) test = test.1
-free_by s at server.Puts test = test.1
-free_by s at (server.Says message) test = (test.1, test.2)
-free_by s at (server.Fetches session) test = (test.1, test.2)
-free_by s at (server.Serves session work) test = (test.1, test.2)
-free_by s at _ test = tt
+free_by s at rule test = grind arith
 
 pub server_free : (s : ServerState) (at : Seen) → ServerFree s (server.server_rule s at)
 server_free s at = free_by s at (server.server_rule s at) (server_tested s at)

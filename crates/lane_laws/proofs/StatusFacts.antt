@@ -4,7 +4,6 @@ use Rattle.std.proofs.Common.{◌≡◌, ◌≢◌, ℕ, ◌-◌, ◌≤◌, Boo
 use Rattle.std.specs.Prelude.{is_some, slice_get}
 use Rattle.runs.specs.Lawful.{lawful_split, log_append, log_of}
 use Rattle.runs.specs.Run.{Run, run_push}
-use Rattle.ldc_link.specs.declared.phase.Role.{Role}
 use Rattle.ldc_link.specs.declared.phase.Role.TheVariants.{Initiator, Responder}
 use Rattle.ldc_link.specs.LinkState.{is_up}
 use Rattle.ldc_queue.specs.declared.end.ChannelState.TheVariants.{Up}
@@ -13,7 +12,6 @@ use Rattle.ldc_queue.specs.OneStream.{IsFront}
 use Rattle.ldc_queue.specs.Transcript.{Heard as Heard_, Said, Turn}
 use Rattle.vio_handshake.proofs.Places.{AllSaid, Deal, Place}
 use Rattle.vio_handshake.specs.declared.handshake.Phase.TheVariants.{Open}
-use Rattle.vio_handshake.specs.Rules.{opens_by_put}
 use Rattle.channel_model.specs.Sayings.{half_heard, half_said, heard, said}
 use Rattle.channel_model.specs.TranscriptLog.{TranscriptLog}
 use Rattle.channel_model.specs.WireEvent.{Sent, Took}
@@ -27,7 +25,7 @@ use Rattle.lane_laws.specs.WorkLog.{ClientCounts, ServerCounts}
 use Rattle.disk_model.specs.ClientPutting.{client_kind}
 use Rattle.disk_model.specs.ClientState.{ClientSession, ClientState}
 use Rattle.disk_model.specs.DiskEvent.{DiskEvent, OnWire}
-use Rattle.channel_model.specs.EndPuts.{EndsHandshake, PutKind, put_opens}
+use Rattle.channel_model.specs.EndPuts.{PutKind, put_opens}
 use Rattle.disk_model.specs.LaneState.{IsShape, LaneState, Shape, fresh}
 use Rattle.disk_model.specs.LaneStep.{LaneStep}
 use Rattle.channel_model.specs.Seeing.{seen}
@@ -111,12 +109,7 @@ not_open b closed is = false_is_true (sym closed ∙ is)
 
 -- A SESSION OF THE CLIENT opens where it had none
 kind_opens : (kind : PutKind) (c : ClientState) → c.handshake.phase ≡ Open → put_opens kind c.handshake ≡ false
-kind_opens EndsHandshake c is = ap (opens_by_put c.handshake.role) is ∙ by_role c.handshake.role
-  where
-    by_role : (r : Role) → opens_by_put r Open ≡ false
-    by_role Initiator = refl
-    by_role Responder = refl
-kind_opens _ c is = refl
+kind_opens kind c is = grind arith
 
 none_if : (o : Option ClientSession) → (is_some o ≡ true → ⊥) → o ≡ None
 none_if None never = refl
@@ -136,14 +129,7 @@ sends_new shape s l packet t now step =
 
 few_said : (d : Deal) (c : ClientState) (turns : List Turn) → EndStands Initiator (client_core c) turns → (is_up c.link ≡ true → AtPlace false d Initiator c.handshake turns) → c.session ≡ None
     → length (said turns) ≤ 4
-few_said d c turns stands there none = by_up (is_up c.link) refl
-  where
-    by_up : (b : Bool) → is_up c.link ≡ b → length (said turns) ≤ 4
-    by_up false is = omega (arith, ap length (stands.below is).said_none)
-    by_up true is =
-        let at = there is in
-        let far : at.place ≢ AllSaid = λ last. not_open (is_some c.session) (ap is_some none) (place_open false d Initiator (client_core c) turns stands at last) in
-        omega (arith, ap length (at.said_is ∙ ap (λ (xs : List (List ℕ)). said_at false d Initiator at.place ++ xs) (at.only far).0), few_at d at.place far)
+few_said d c turns stands there none = grind (arith, not_open, place_open, said_at, few_at)
 
 pub names_session : (shape : Shape) (s : LaneState) (l : DiskLog) (packet : List ℕ) (t : LaneState) → Around shape s l (OnWire (Sent A packet true)) t → LaneStep s (OnWire (Sent A packet true)) t
     → IsNamed (opening_sid (half_said l.transcript.client) packet) (said (Said packet ∷ l.transcript.client))
@@ -160,9 +146,7 @@ names_session shape s l packet t now step =
 
 -- and no server whose end is up works
 none_server : (q : Option ServerCounts) (s : LaneState) (l : DiskLog) → s.client.session ≡ None → ClientAgrees s.client.session l.work.done l.work.client → IfServer q (OneRing s l.work) → q ≡ None
-none_server None s l none agrees ring = refl
-none_server (Some d) s l none agrees ring =
-    absurd (not_open (is_some s.client.session) (ap is_some none) (client_some s.client.session l.work.done l.work.client ring.client ring.open_is agrees))
+none_server q s l none agrees ring = grind (arith, not_open, client_some)
 
 pub opens_alone : (shape : Shape) (s : LaneState) (l : DiskLog) (packet : List ℕ) (t : LaneState) → Around shape s l (OnWire (Sent A packet true)) t → LaneStep s (OnWire (Sent A packet true)) t
     → l.wire.wire.end_b ≡ Up → l.work.server ≡ None
@@ -172,14 +156,7 @@ opens_alone shape s l packet t now step up =
 -- A SESSION OF THE SERVER opens
 few_heard : (d : Deal) (v : ServerState) (turns : List Turn) → EndStands Responder (server_core v) turns → (is_up v.link ≡ true → AtPlace false d Responder v.handshake turns) → v.session ≡ None
     → length (heard turns) ≤ 4
-few_heard d v turns stands there none = by_up (is_up v.link) refl
-  where
-    by_up : (b : Bool) → is_up v.link ≡ b → length (heard turns) ≤ 4
-    by_up false is = omega (arith, ap length (stands.below is).heard_none)
-    by_up true is =
-        let at = there is in
-        let far : at.place ≢ AllSaid = λ last. not_open (is_some v.session) (ap is_some none) (place_open false d Responder (server_core v) turns stands at last) in
-        omega (arith, ap length (at.heard_is ∙ ap (λ (xs : List (List ℕ)). said_at false d Initiator at.place ++ xs) (at.only far).1), few_at d at.place far)
+few_heard d v turns stands there none = grind (arith, not_open, place_open, said_at, few_at)
 
 pub hears_session : (shape : Shape) (s : LaneState) (l : DiskLog) (packet : List ℕ) (t : LaneState) → Around shape s l (OnWire (Took B packet true)) t → LaneStep s (OnWire (Took B packet true)) t
     → IsNamed (opening_sid (half_heard l.transcript.server) packet) (said l.transcript.client)

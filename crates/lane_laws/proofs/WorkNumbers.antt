@@ -64,14 +64,7 @@ publishes s t l at id grounded step =
 -- one that is done
 completes : (s t : LaneState) (l : DiskLog) (at : Seen) (id operation status : ℕ) (bytes : List ℕ) → Grounded s l
     → ClientCompletes s.client at s.memory id operation status bytes t.client t.memory → InClient l.work.client (MayComplete id)
-completes s t l at id operation status bytes grounded step =
-    let may = subst (ClientMay s.client at) step.rule (client_may s.client at) in
-    let of : OfClient step.session l.work.done l.work.client =
-    of_client s.client.session step.session l.work.done l.work.client may.1 grounded.knows.counted.client.agrees in
-    in_client l.work.client of.counts (MayComplete id) of.is (record {
-      since = omega (arith, step.id_is, of.agree.base);
-      acked = omega (arith, step.id_is, of.agree.base, of.agree.acked, may.2);
-    })
+completes s t l at id operation status bytes grounded step = grind (arith, client_may, of_client, in_client)
 
 -- a descriptor that is fetched
 pub server_ring : (s : LaneState) (l : DiskLog) (session : ServerSession) → Grounded s l → s.server.session ≡ Some session → s.server.handshake.draft.peer_slots ≡ l.shape.slots
@@ -104,9 +97,7 @@ serving s l session grounded free =
 
 pub slot_in_log : (s : LaneState) (l : DiskLog) (session : ServerSession) (count number : ℕ) → Grounded s l → s.server.session ≡ Some session → count ≡ wrapped number
     → count % s.server.handshake.draft.peer_slots ≡ number % l.shape.slots
-slot_in_log s l session count number grounded is wraps =
-    ap (λ (n : ℕ). count % n) (server_ring s l session grounded is)
-    ∙ slot_of_count l.shape.slots count number grounded.sound.slots grounded.sound.some_slots grounded.sound.most_slots wraps
+slot_in_log s l session count number grounded is wraps = grind (arith, server_ring, slot_of_count)
 
 pub fetches_next : (s : LaneState) (l : DiskLog) (session : ServerSession) → Grounded s l → ServerFree s.server (server.Fetches session) → (now : Serving s l session)
     → MayFetch l (slot_at s.server session.descs) now.of.counts
