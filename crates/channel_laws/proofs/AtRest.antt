@@ -1,13 +1,10 @@
 -- Two ends on a channel that nobody forged and on which nothing was lost: where both are up and owe nothing, and nothing waits for either, each
 -- heard all that the other said, and both sessions are open.
-use Rattle.std.proofs.Common.{◌≡◌, ℕ, Bool, true, false, None, List, [], sym, ap, ◌∙◌, arith}
-use Rattle.std.specs.Prelude.{is_some}
+use Rattle.std.proofs.Common.{◌≡◌, ℕ, true, false, None, List, [], sym, ap, ◌∙◌, arith}
 use Rattle.std.proofs.lemmas.List.{append-nil}
-use Rattle.ldc_packet.specs.declared.packet.Packet.{Packet}
-use Rattle.ldc_link.specs.declared.phase.LinkPhase.{LinkPhase}
 use Rattle.ldc_link.specs.declared.phase.Role.TheVariants.{Initiator, Responder}
-use Rattle.ldc_link.specs.LinkState.{LinkState, is_up}
-use Rattle.ldc_link.specs.Putting.{owed_in, owes}
+use Rattle.ldc_link.specs.LinkState.{is_up}
+use Rattle.ldc_link.specs.Putting.{owes}
 use Rattle.ldc_queue.specs.declared.end.ChannelState.TheVariants.{Up}
 use Rattle.ldc_queue.specs.Fragments.{fragments_in}
 use Rattle.ldc_queue.specs.Messages.{whole_in}
@@ -17,13 +14,12 @@ use Rattle.ldc_queue.specs.Transcript.{Turn, numbered_heard, numbered_said}
 use Rattle.vio_handshake.specs.declared.session.Offer.{Offer}
 use Rattle.channel_model.proofs.SameSayings.{heard_is, said_is}
 use Rattle.channel_model.specs.Sayings.{heard, said}
-use Rattle.channel_laws.proofs.Apart.{true_is_false}
 use Rattle.channel_laws.proofs.HandshakePlaces.{deal, place_open}
 use Rattle.channel_laws.proofs.HandshakesPlaced.{Meets}
 use Rattle.channel_laws.proofs.Lifting.{BothStand}
 use Rattle.channel_laws.proofs.WhoseTurn.{both_done}
 use Rattle.channel_laws.specs.Conversing.{Converse}
-use Rattle.channel_laws.specs.LinkPlaces.{AtMost, LinksAt}
+use Rattle.channel_laws.specs.LinkPlaces.{LinksAt}
 use Rattle.channel_laws.specs.Sides.{Sides}
 use Rattle.channel_laws.proofs.LinkPlaced.{up_live}
 use Rattle.channel_laws.proofs.NextPacket.{none_of}
@@ -44,19 +40,12 @@ pub record BothRest (s : Sides) : Type 0 where
   pub owed : s.mine.core.handshake.owed ≡ None
   pub peer_owed : s.theirs.core.handshake.owed ≡ None
 
-owes_at : (k : LinkState) (ph : LinkPhase) (X : Type 0) → k.phase ≡ ph → is_some (owed_in ph k) ≡ true → owes k ≡ false → X
-owes_at k ph X at owes_it quiet =
-    true_is_false (sym owes_it ∙ sym (ap (λ (x : LinkPhase). is_some (owed_in x k)) at) ∙ quiet)
-
-never_waits : (lossy : Bool) (packet : Packet) (waiting : List (List ℕ)) (X : Type 0) → lossy ≡ false → waiting ≡ [] → AtMost lossy packet waiting → X
-never_waits lossy packet waiting X whole none most = grind (arith, true_is_false)
-
 pub record LinksUp (s : Sides) : Type 0 where
   pub mine : is_up s.mine.core.link ≡ true
   pub theirs : is_up s.theirs.core.link ≡ true
 
 links_up : (s : Sides) → LinksAt Initiator s → BothRest s → numbered_said s.mine.turns ≡ numbered_heard s.theirs.turns → LinksUp s
-links_up s at rest same = grind (arith, owes_at, never_waits, up_live)
+links_up s at rest same = grind arith
 
 -- EACH HEARD ALL that the other said
 pub record HeardAll (s : Sides) : Type 0 where

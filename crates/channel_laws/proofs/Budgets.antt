@@ -1,24 +1,21 @@
 -- The budget of an end: it is never above 34,000, doesn't grow but by what the end takes, and falls with each packet that it puts.
-use Rattle.std.proofs.Common.{◌≡◌, ℕ, ◌+◌, ◌*◌, ◌≤◌, Bool, true, false, Option, Some, None, List, [], ◌∷◌, length, drop, refl, sym, ap, ◌∙◌, arith, length-drop}
+use Rattle.std.proofs.Common.{◌≡◌, ℕ, ◌+◌, ◌*◌, ◌≤◌, Bool, true, false, Option, List, [], ◌∷◌, length, drop, refl, sym, ap, ◌∙◌, arith, length-drop}
 use Rattle.std.proofs.lemmas.Bool.{leb-false}
 use Rattle.ldc_link.specs.declared.phase.LinkPhase.{LinkPhase}
 use Rattle.ldc_link.specs.declared.phase.LinkPhase.TheVariants as phase
 use Rattle.ldc_link.specs.declared.phase.Role.{Role}
 use Rattle.ldc_link.specs.declared.phase.Role.TheVariants.{Initiator, Responder}
-use Rattle.ldc_link.specs.LinkState.{LinkState, first_phase, is_established, is_up, offered}
+use Rattle.ldc_link.specs.LinkState.{LinkState, first_phase, is_established}
 use Rattle.ldc_queue.specs.Transcript.{Turn}
 use Rattle.vio_handshake.specs.declared.handshake.Handshake.{Handshake}
-use Rattle.vio_handshake.specs.declared.handshake.Phase.{Phase}
-use Rattle.vio_handshake.specs.declared.handshake.Phase.TheVariants.{Open, OwnReady, OwnRing, PeerReadyTaken, Version}
 use Rattle.vio_handshake.specs.Rules.{opens_by_put, handshake_sent}
-use Rattle.vio_handshake.specs.State.{begun, joined_handshake, handshake_up}
+use Rattle.vio_handshake.specs.State.{handshake_up}
 use Rattle.vio_tag.specs.declared.message.Message.{Message}
-use Rattle.vio_tag.specs.Spelling.{canonical}
 use Rattle.channel_laws.proofs.EndCases.{PutControl, PutMore, PutOwn, PutReady, PutHandshake, PutWhat, end_put}
-use Rattle.channel_laws.proofs.EndStanding.{held_stands, holds_some, last_none, open_up, owing_up, up_empty}
+use Rattle.channel_laws.proofs.EndStanding.{held_stands, holds_some, last_none}
 use Rattle.channel_laws.proofs.HandshakeCases.{RowSent, row_sent}
 use Rattle.channel_laws.proofs.LinkCases.{ControlPut, behind_part, behind_ready}
-use Rattle.channel_laws.proofs.Short.{short_within, some_bytes}
+use Rattle.channel_laws.proofs.Short.{short_within}
 use Rattle.channel_laws.proofs.TurnCases.{SaysLast}
 use Rattle.channel_laws.specs.Budget.{budget, budget_in, messages_left, one_more, one_owed, opening_left, owed_left}
 use Rattle.channel_laws.specs.EndCore.{EndCore, holds}
@@ -26,24 +23,6 @@ use Rattle.channel_laws.specs.EndStep.{EndAnew, EndSays, EndStays, EndWaits, Hol
 use Rattle.channel_laws.specs.Standing.{EndStands}
 
 -- SUMS
-budget_less : (ph : LinkPhase) (n m : ℕ) → n ≤ m → budget_in ph n ≤ budget_in ph m
-budget_less ph n m less = grind arith
-
-budget_most : (ph : LinkPhase) (n : ℕ) → budget_in ph n ≤ n + 515
-budget_most phase.Established n = omega arith
-budget_most _ n = omega arith
-
-owed_one : (owed : Option Message) → one_owed owed ≤ 1
-owed_one None = omega arith
-owed_one (Some message) = omega arith
-
-owed_few : (own : Bool) (xs : List ℕ) (owed : Option Message) → owed_left own xs owed ≤ 1
-owed_few own xs owed = grind (arith, owed_one)
-
-owed_empty : (own : Bool) (xs : List ℕ) (owed : Option Message) → xs ≡ [] → owed_left own xs owed ≡ one_owed owed
-owed_empty own [] owed empty = refl
-owed_empty own (x ∷ xs) owed empty = absurd (cc empty)
-
 owed_held : (xs : List ℕ) (owed : Option Message) → 1 ≤ length xs → owed_left false xs owed ≡ 0
 owed_held [] owed some = absurd (omega (arith, some))
 owed_held (x ∷ xs) owed some = refl
@@ -55,58 +34,17 @@ owed_beside (x ∷ xs) owed = refl
 owed_same : (own : Bool) (xs ys : List ℕ) (owed : Option Message) → 1 ≤ length xs → 1 ≤ length ys → owed_left own xs owed ≡ owed_left own ys owed
 owed_same own xs ys owed some more = grind arith
 
-more_few : (role : Role) (ph : Phase) → one_more role ph ≤ 1
-more_few role ph = grind arith
-
-opening_few : (role : Role) (ph : Phase) → opening_left role ph ≤ 256
-opening_few Initiator PeerReadyTaken = omega arith
-opening_few _ _ = omega arith
-
--- what a role owes in a phase
-abbrev HasNone : Phase → Type 0
-HasNone ph = (role : Role) → (one_more role ph ≡ 0) × (opening_left role ph ≡ 0)
-
-version_none : HasNone Version
-version_none Initiator = (refl, refl)
-version_none Responder = (refl, refl)
-
-ready_none : HasNone OwnReady
-ready_none Initiator = (refl, refl)
-ready_none Responder = (refl, refl)
-
-ring_none : HasNone OwnRing
-ring_none Initiator = (refl, refl)
-ring_none Responder = (refl, refl)
-
-open_none : HasNone Open
-open_none Initiator = (refl, refl)
-open_none Responder = (refl, refl)
-
-begun_phase : (role : Role) (h : Handshake) → (begun role (joined_handshake h)).phase ≡ Version
-begun_phase Initiator h = refl
-begun_phase Responder h = refl
-
-up_none : (h : Handshake) → (one_more (handshake_up h).role (handshake_up h).phase ≡ 0) × (opening_left (handshake_up h).role (handshake_up h).phase ≡ 0)
-up_none h = grind (arith, begun_phase, version_none)
-
 -- once its message was put: the next one was counted, and so were the messages of a session that opens
 record SentLess (h t : Handshake) (opens : Bool) (more now : ℕ) : Type 0 where
   owed : one_owed t.owed + one_more t.role t.phase ≤ one_more h.role h.phase
   opening : opening_left t.role t.phase + now ≤ opening_left h.role h.phase + more
 
-sent_to : (h t x : Handshake) (opens : Bool) (more now : ℕ) → t ≡ x → x.role ≡ h.role → HasNone x.phase → one_owed x.owed ≤ one_more h.role h.phase
-    → now ≤ opening_left h.role h.phase + more → SentLess h t opens more now
-sent_to h t x opens more now is role none owed less = grind arith
-
-more_at : (h : Handshake) (role : Role) (ph : Phase) → h.role ≡ role → h.phase ≡ ph → (one_more h.role h.phase ≡ one_more role ph) × (opening_left h.role h.phase ≡ opening_left role ph)
-more_at h role ph is at = search
-
 sent_less : (h t : Handshake) (opens : Bool) (more now : ℕ) → now ≤ 256 → (opens ≡ false → now ≤ more) → RowSent h t opens → SentLess h t opens more now
-sent_less h t opens more now most less sent = grind (arith, sent_to, ready_none, more_at, ring_none, open_none)
+sent_less h t opens more now most less sent = grind arith
 
 -- ITS BOUND
 pub budget_small : (role : Role) (c : EndCore) (turns : List Turn) → EndStands role c turns → budget c ≤ 34000
-budget_small role c turns stands = grind (arith, budget_most, owed_few, more_few, opening_few)
+budget_small role c turns stands = grind arith
 
 -- IT BEGINS
 first_budget : (role : Role) (n : ℕ) → budget_in (first_phase role) n ≤ 1
@@ -119,18 +57,13 @@ anew_budget role c t anew =
 
 -- IT GOES ON beside the wire, or holds a message
 same_budget : (c t : EndCore) → t.link ≡ c.link → t.handshake ≡ c.handshake → t.own ≡ c.own → t.more ≤ c.more → budget t ≤ budget c
-same_budget c t link handshake own more = grind (arith, budget_less)
+same_budget c t link handshake own more = grind arith
 
 pub stays_budget : (c t : EndCore) → EndStays c t → budget t ≤ budget c
 stays_budget c t stays = same_budget c t stays.link stays.handshake stays.own stays.more
 
-offered_budget : (c held : EndCore) (message : Message) → is_up c.link ≡ true → c.link.to_send ≡ [] → held.link ≡ offered (canonical message) c.link → held.handshake ≡ c.handshake
-    → length (canonical message) + 257 * owed_left held.own (canonical message) c.handshake.owed + 60 * held.more ≤ 257 * one_owed c.handshake.owed + 60 * c.more
-    → budget held ≤ budget c
-offered_budget c held message up none link handshake less = grind (arith, owed_empty, budget_less)
-
 pub held_budget : (role : Role) (c held : EndCore) (turns : List Turn) (what : Holding) → EndStands role c turns → Holds c what held → budget held ≤ budget c
-held_budget role c held turns what stands is = grind (arith, owing_up, short_within, holds_some, some_bytes, offered_budget, up_empty, owed_held, open_up, owed_beside)
+held_budget role c held turns what stands is = grind (arith, short_within)
 
 pub waits_budget : (role : Role) (c t : EndCore) (turns : List Turn) → EndStands role c turns → EndWaits c t → budget t ≤ budget c
 waits_budget role c t turns stands waits = held_budget role c t turns waits.what stands waits.holds
@@ -146,7 +79,7 @@ up_budget held t left h at link is handshake less = grind arith
 
 ready_budget : (role : Role) (held t : EndCore) (turns : List Turn) → EndStands role held turns → held.link.phase ≡ phase.OwesRdx → t.link ≡ behind_ready held.link
     → t.handshake ≡ handshake_up held.handshake → t.more ≤ held.more → budget t + 1 ≤ budget held
-ready_budget role held t turns stands at link handshake more = grind (arith, up_none, owed_few)
+ready_budget role held t turns stands at link handshake more = grind arith
 
 last_budget : (held t : EndCore) (turns : List Turn) (packet : List ℕ) (h : Handshake) → held.link.phase ≡ phase.Established → t.link ≡ behind_part held.link
     → SaysLast held.link turns packet → t.handshake ≡ h

@@ -144,7 +144,7 @@ mode_told turns packet rest sound says =
 
 number_told : (turns : List Turn) (packet : List ℕ) (rest : Option Cause) → first_fault packet ≡ None → Says turns packet rest
     → Says turns packet (number_cause (is_numbered packet) (counts_next (count_heard turns)) (seqid_at packet) rest)
-number_told turns packet rest sound says = grind (arith, says_if, both_true, other_number, not_true)
+number_told turns packet rest sound says = grind arith
 
 fault_told : (turns : List Turn) (packet : List ℕ) (fault : Option PacketFault) (rest : Option Cause) → first_fault packet ≡ fault → (first_fault packet ≡ None → Says turns packet rest)
     → Says turns packet (fault_cause fault rest)

@@ -24,8 +24,8 @@ use Rattle.channel_model.specs.WireLog.{lossy_behind}
 use Rattle.channel_laws.proofs.Budgets.{anew_budget, budget_small, says_budget, stays_budget, waits_budget}
 use Rattle.channel_laws.proofs.EndCases.{PutControl, PutMore, PutOwn, PutReady, PutHandshake, PutWhat, end_put, end_took}
 use Rattle.channel_laws.proofs.EndStanding.{held_stands, stands_step}
-use Rattle.channel_laws.proofs.FewLost.{below_turn, few_begins, few_lost, few_lower, few_peer_lost, few_peer_put, few_peer_took, few_put, few_took, first_length, first_unnumbered, live_lower, live_puts_few, live_small, live_takes_few, unnumbered-append, up_budget, up_puts, up_takes}
-use Rattle.channel_laws.proofs.LinkCases.{ControlPut, ControlTaken, LinkHeard, behind_part, canonical_is, part_loud, put_quiet, ready_loud, taken_quiet}
+use Rattle.channel_laws.proofs.FewLost.{below_turn, few_begins, few_lost, few_lower, few_peer_lost, few_peer_put, few_peer_took, few_put, few_took, first_length, first_unnumbered, live_lower, live_small, unnumbered-append, up_budget, up_puts, up_takes}
+use Rattle.channel_laws.proofs.LinkCases.{ControlPut, LinkHeard, behind_part, canonical_is, put_quiet, ready_loud}
 use Rattle.channel_laws.proofs.TurnCases.{SaysPart}
 use Rattle.channel_laws.specs.Budget.{budget}
 use Rattle.channel_laws.specs.Conversing.{AreFew, Converse, controls, live_budget, live_puts, live_takes, puts_left, queue_log, takes_left, unless, unnumbered}
@@ -96,7 +96,7 @@ put_ready held turns packet stands spelled =
     (ready_loud packet Info (canonical_is packet Info held.link.put_next Rdx tt (omega (arith, stands.link.follows.puts), tt) spelled)).0
 
 part_advances : (held t : EndCore) (packet : List ℕ) → t.link ≡ behind_part held.link → SaysPart held.link packet → PutAdvances (is_numbered packet) held.link.phase t.link.phase
-part_advances held t packet link part = grind (arith, numbered_advances, part_loud)
+part_advances held t packet link part = grind arith
 
 put_advances : (held t : EndCore) (turns : List Turn) (packet : List ℕ) (opens : Bool) → EndStands Initiator held turns → PutWhat Initiator held turns packet opens t
     → PutAdvances (is_numbered packet) held.link.phase t.link.phase
@@ -166,20 +166,10 @@ put_converse role s t packet opens up room stands says c =
     }
 
 -- IT TAKES a packet
-record TakeAdvances (has_number : Bool) (before after : LinkPhase) : Type 0 where
-  puts : puts_left after ≤ puts_left before
-  takes : takes_left after + unless has_number 0 ≤ takes_left before
-
-taken_advances : (before next : LinkPhase) (bytes : List ℕ) → IsPhaseOf Initiator before → ControlTaken before bytes next → TakeAdvances false before next
-taken_advances before next bytes of taken = grind arith
-
-heard_advances : (k m : LinkState) (packet : List ℕ) → IsPhaseOf Initiator k.phase → LinkHeard k packet m → TakeAdvances (is_numbered packet) k.phase m.phase
-heard_advances k m packet of heard = grind (arith, taken_quiet, taken_advances, with_number, part_loud)
-
 took_left : (role : Role) (s : Sides) (t : EndCore) (now : LinkState) (packet : List ℕ) → s.mine.state ≡ Up → IsFirst packet s.mine.waiting → IsPhaseOf role s.mine.core.link.phase
     → LinkHeard s.mine.core.link packet now → t.link.phase ≡ now.phase
     → (controls role (took packet t s) + unless (is_numbered packet) 0 ≤ controls role s) × (controls (other role) (swapped (took packet t s)) ≤ controls (other role) (swapped s))
-took_left role s t now packet up first of how same = grind (arith, heard_advances, up_takes, up_puts, first_unnumbered)
+took_left role s t now packet up first of how same = grind arith
 
 past_none : (packets : List (List ℕ)) (lost : ℕ) → lost ≡ 0 → lost_past packets lost ≡ 0
 past_none [] lost none = none
@@ -258,39 +248,25 @@ joined_few : (e peer : ChannelState) (waiting beyond : List (List ℕ)) (lost th
     → AreFew lost (length waiting) (live_budget peer theirs) (length beyond) (live_budget e own) left → theirs ≤ 34000 → new ≤ 1 → now ≤ 2
     → (now ≤ left) ⊎ (e ≡ Up)
     → AreFew (lost_behind e lost) (length (queue_behind e waiting)) (live_budget (peer_behind e peer) theirs) (length (queue_behind e beyond)) new now
-joined_few e peer waiting beyond lost theirs own new left now f small few two or_up = grind (arith, few_begins, live_small, few_lower)
+joined_few e peer waiting beyond lost theirs own new left now f small few two or_up = grind arith
 
 peer_joined_few : (e peer : ChannelState) (waiting beyond : List (List ℕ)) (lost theirs own new left now : ℕ)
     → AreFew lost (length waiting) (live_budget e own) (length beyond) (live_budget peer theirs) left → theirs ≤ 34000 → new ≤ 1 → now ≤ 2
     → (now ≤ left) ⊎ (e ≡ Up)
     → AreFew (lost_behind e lost) (length (queue_behind e waiting)) new (length (queue_behind e beyond)) (live_budget (peer_behind e peer) theirs) now
-peer_joined_few e peer waiting beyond lost theirs own new left now f small few two or_up = grind (arith, few_begins, live_small, few_lower)
+peer_joined_few e peer waiting beyond lost theirs own new left now f small few two or_up = grind arith
 
 -- the packets without a number that are left then: at most two, and as many as before where the end wasn't up
 record LeftBehind (e : ChannelState) (before now : ℕ) : Type 0 where
   two : now ≤ 2
   left : (now ≤ before) ⊎ (e ≡ Up)
 
-takes_behind : (e peer : ChannelState) (ph : LinkPhase) → LeftBehind e (live_takes peer ph) (live_takes (peer_behind e peer) ph)
-takes_behind e peer ph = grind (arith, live_takes_few)
-
-puts_behind : (e peer : ChannelState) (ph : LinkPhase) (waiting : List (List ℕ)) → live_puts peer ph + unnumbered waiting ≤ 2
-    → LeftBehind e (live_puts peer ph + unnumbered waiting) (live_puts (peer_behind e peer) ph + unnumbered (queue_behind e waiting))
-puts_behind e peer ph waiting few = grind (arith, live_puts_few)
-
-own_takes_behind : (e : ChannelState) (ph now : LinkPhase) → live_takes Up now ≡ 2 → LeftBehind e (live_takes e ph) (live_takes Up now)
-own_takes_behind e ph now is = grind arith
-
-own_puts_behind : (e : ChannelState) (ph now : LinkPhase) (waiting : List (List ℕ)) → live_puts Up now ≡ 2 → live_puts e ph + unnumbered waiting ≤ 2
-    → LeftBehind e (live_puts e ph + unnumbered waiting) (live_puts Up now + unnumbered (queue_behind e waiting))
-own_puts_behind e ph now waiting is few = grind arith
-
 record AnewLeft (role : Role) (s : Sides) (t : EndCore) : Type 0 where
   mine : LeftBehind s.mine.state (controls role s) (controls role (anew t s))
   theirs : LeftBehind s.mine.state (controls (other role) (swapped s)) (controls (other role) (swapped (anew t s)))
 
 anew_left : (role : Role) (s : Sides) (t : EndCore) → t.link ≡ fresh_link role → controls role s ≤ 2 → controls (other role) (swapped s) ≤ 2 → AnewLeft role s t
-anew_left role s t link mine theirs = grind (arith, own_takes_behind, own_puts_behind, puts_behind, takes_behind)
+anew_left role s t link mine theirs = grind arith
 
 whole_behind : (e : ChannelState) (lossy : Bool) (lost_mine lost_theirs : ℕ) → (lossy ≡ false → (lost_mine ≡ 0) × (lost_theirs ≡ 0)) → lossy_behind e lossy ≡ false
     → (lost_behind e lost_mine ≡ 0) × (lost_behind e lost_theirs ≡ 0)
@@ -323,7 +299,7 @@ anew_converse role s t peer_stands begins c =
     }
 
 shut_left : (role : Role) (s : Sides) (t : EndCore) → (controls role (shut t s) ≤ 2) × (controls (other role) (swapped (shut t s)) ≤ 2)
-shut_left role s t = grind (arith, live_puts_few, live_takes_few)
+shut_left role s t = grind arith
 
 pub shut_converse : (role : Role) (s : Sides) (t : EndCore) → EndStands (other role) s.theirs.core s.theirs.turns → Converse role s → Converse role (shut t s)
 shut_converse role s t peer_stands c =

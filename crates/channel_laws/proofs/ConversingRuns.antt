@@ -11,7 +11,7 @@ use Rattle.ldc_link.specs.LinkState.{LinkState}
 use Rattle.ldc_link.specs.Taking.{Heard, TakesBytes}
 use Rattle.ldc_queue.specs.QueueEvent.{Take}
 use Rattle.ldc_queue.specs.QueueLog.{lost_past}
-use Rattle.ldc_queue.proofs.Streams.{heard_front, stream_begins, stream_step}
+use Rattle.ldc_queue.proofs.Streams.{heard_front, stream_step}
 use Rattle.ldc_queue.specs.declared.end.ChannelState.{ChannelState}
 use Rattle.ldc_queue.specs.declared.end.ChannelState.TheVariants.{Up}
 use Rattle.ldc_queue.specs.declared.end.End.{End}
@@ -29,7 +29,7 @@ use Rattle.channel_model.specs.Sayings.{heard, said}
 use Rattle.channel_model.specs.TranscriptLog.{TranscriptLog, nothing_said, transcript_of}
 use Rattle.channel_model.specs.WireAt.{IsUp}
 use Rattle.channel_laws.proofs.Conversations.{anew_converse, first_waits, missed_converse, put_converse, shut_converse, stays_converse, swap_converse, took_converse, waits_converse}
-use Rattle.channel_laws.proofs.FewLost.{below_turn, few_begins}
+use Rattle.channel_laws.proofs.FewLost.{below_turn}
 use Rattle.channel_laws.proofs.Lifting.{ActsKeep, CoreHolds, core_run}
 use Rattle.channel_laws.specs.Conversing.{Converse, queue_log}
 use Rattle.channel_laws.specs.LaneCore.{CoreEvent, CoreFits, CoreStep, LaneCore, fresh_core, transcript_behind}
@@ -48,7 +48,7 @@ converse_keeps = record {
 }
 
 pub first_converse : (entries : ℕ) (asks answers : Offer) → entries ≤ 256 → Converse Initiator (sides_of (fresh_core entries asks answers) nothing_said)
-first_converse entries asks answers few = grind (arith, stream_begins, few_begins)
+first_converse entries asks answers few = grind arith
 
 pub converse_run : (entries : ℕ) (asks answers : Offer) (events : List CoreEvent) (s : LaneCore) → CoreFits entries asks answers
     → Run CoreStep (fresh_core entries asks answers) events s → CoreHolds Converse s (transcript_behind events)

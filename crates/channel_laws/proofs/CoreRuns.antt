@@ -1,22 +1,20 @@
 -- What is known of two ends and the wire along every run, in the log of its events.
-use Rattle.std.proofs.Common.{◌≡◌, ℕ, ◌+◌, ◌<◌, ◌≤◌, false, List, [], ◌∷◌, ◌++◌, drop, length, sym, ap, ◌∙◌, subst, arith, length-append, length-drop}
+use Rattle.std.proofs.Common.{◌≡◌, ℕ, ◌+◌, ◌<◌, ◌≤◌, false, List, [], ◌∷◌, ◌++◌, length, sym, ap, ◌∙◌, subst, arith, length-append}
 use Rattle.runs.specs.Lawful.{Lawful, log_of, run_lawful}
 use Rattle.runs.specs.Run.{Run}
 use Rattle.ldc_link.specs.declared.phase.Role.{Role}
 use Rattle.ldc_link.specs.declared.phase.Role.TheVariants.{Initiator}
-use Rattle.ldc_queue.specs.declared.end.ChannelState.{ChannelState}
-use Rattle.ldc_queue.specs.declared.end.ChannelState.TheVariants.{Down, Resetting, Up}
+use Rattle.ldc_queue.specs.declared.end.ChannelState.TheVariants.{Down, Resetting}
 use Rattle.ldc_queue.specs.declared.end.End.{End}
-use Rattle.ldc_queue.specs.Wire.{peer_behind, queue_behind, state_of, upset}
+use Rattle.ldc_queue.specs.Wire.{state_of}
 use Rattle.vio_handshake.specs.declared.session.Offer.{Offer}
 use Rattle.channel_model.specs.TranscriptLog.{nothing_said}
 use Rattle.channel_model.specs.WireEvent.{WireEvent}
 use Rattle.channel_model.specs.WireLog.{WireLog, wire_moved}
-use Rattle.channel_laws.proofs.EndStanding.{fresh_end_stands}
-use Rattle.channel_laws.proofs.EndUttering.{EndSpeaks, fresh_speaks, speaks_step}
+use Rattle.channel_laws.proofs.EndUttering.{EndSpeaks, speaks_step}
 use Rattle.channel_laws.proofs.Lifting.{ActsKeep, CoreHolds, EndsAll, core_step, ends_step}
 use Rattle.channel_laws.specs.CoreLog.{CoreLog, RoomStands, UpStands, after, nothing_yet}
-use Rattle.channel_laws.specs.LaneCore.{CoreEvent, CoreFits, CoreStands, CoreStep, LaneCore, OnChannel, WireStands, end_of, fresh_core, wire_after}
+use Rattle.channel_laws.specs.LaneCore.{CoreEvent, CoreFits, CoreStands, CoreStep, LaneCore, WireStands, end_of, fresh_core, wire_after}
 use Rattle.channel_laws.specs.Sides.{Sides, sides_of}
 
 -- THE QUEUES
@@ -24,40 +22,21 @@ pub record Room (n : ℕ) (w : WireLog) : Type 0 where
   pub to_a : length w.wire.to_a + 1 ≤ n
   pub to_b : length w.wire.to_b + 1 ≤ n
 
-emptied : (n : ℕ) (x : ChannelState) (waiting : List (List ℕ)) → length waiting + 1 ≤ n → length (queue_behind x waiting) + 1 ≤ n
-emptied n x waiting room = grind arith
-
 one_more : (n : ℕ) (waiting : List (List ℕ)) (packet : List ℕ) → length waiting + 1 < n → length (waiting ++ packet ∷ []) + 1 ≤ n
 one_more n waiting packet room = omega (arith, room, length-append waiting (packet ∷ []))
 
-one_less : (n : ℕ) (waiting : List (List ℕ)) → length waiting + 1 ≤ n → length (drop 1 waiting) + 1 ≤ n
-one_less n waiting room = omega (arith, room, length-drop 1 waiting)
-
 room_wire : (n : ℕ) (w : WireLog) (event : WireEvent) → WireStands n w event → Room n w → Room n (wire_moved w event)
-room_wire n w event stands room = grind (arith, emptied, one_less, one_more)
+room_wire n w event stands room = grind (arith, one_more)
 
 pub room_after : (n : ℕ) (w : WireLog) (event : CoreEvent) → 1 ≤ n → CoreStands n w event → Room n w → Room n (wire_after w event)
 room_after n w event some stands room = grind (arith, room_wire)
 
 -- WHO IS UP
-upset_down : (x : ChannelState) → upset x ≡ Down → x ≡ Down
-upset_down x is = grind arith
-
-peer_down : (x y : ChannelState) → peer_behind x y ≡ Down → y ≡ Down
-peer_down x y is = grind (arith, upset_down)
-
-up_down : (x : ChannelState) (X : Type 0) → x ≡ Up → x ≡ Down → X
-up_down x X up down = let wrong : Up ≡ Down = sym up ∙ down in absurd (cc wrong)
-
 abbrev IsShut : End → LaneCore → Type 0
 IsShut e s = state_of e s.wire.wire ≡ Down → (end_of e s).is_open ≡ false
 
-shut_wire : (e : End) (s : LaneCore) (event : WireEvent) (t : LaneCore) → CoreStep s (OnChannel event) t → IsShut e s → state_of e (wire_moved s.wire event).wire ≡ Down
-    → (end_of e t).is_open ≡ false
-shut_wire e s event t step shut down = grind (arith, peer_down, up_down)
-
 shut_step : (e : End) (s : LaneCore) (event : CoreEvent) (t : LaneCore) → CoreStep s event t → IsShut e s → state_of e (wire_after s.wire event).wire ≡ Down → (end_of e t).is_open ≡ false
-shut_step e s event t step shut down = grind (arith, shut_wire, upset_down)
+shut_step e s event t step shut down = grind arith
 
 abbrev NotBoth : WireLog → Type 0
 NotBoth w = w.wire.end_a ≡ Resetting → w.wire.end_b ≡ Resetting → ⊥
@@ -102,7 +81,7 @@ knows_step Holds keep s l event t knows step = record {
 
 first_knows : (Holds : Role → Sides → Type 0) (entries : ℕ) (asks answers : Offer) → CoreFits entries asks answers → Holds Initiator (sides_of (fresh_core entries asks answers) nothing_said)
     → Knows Holds (fresh_core entries asks answers) (nothing_yet entries)
-first_knows Holds entries asks answers fits first = grind (arith, fresh_speaks, fresh_end_stands)
+first_knows Holds entries asks answers fits first = grind arith
 
 -- ALONG EVERY RUN, and what of each event follows
 pub knows_run : (Holds : Role → Sides → Type 0) → ActsKeep Holds → (May : CoreLog → CoreEvent → Type 0)

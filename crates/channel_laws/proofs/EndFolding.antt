@@ -9,9 +9,7 @@ use Rattle.ldc_link.specs.declared.phase.Role.TheVariants.{Initiator, Responder}
 use Rattle.ldc_link.specs.LinkState.{LinkState, is_established, is_up}
 use Rattle.ldc_link.specs.Putting.{phase_behind_put}
 use Rattle.ldc_packet.specs.declared.packet.Body.TheVariants.{Rdx}
-use Rattle.ldc_packet.specs.declared.packet.Subtype.{Subtype}
 use Rattle.ldc_packet.specs.declared.packet.Subtype.TheVariants.{Info}
-use Rattle.ldc_packet.specs.Spelling.{ctrl_at, subtype_at, subtype_code}
 use Rattle.ldc_queue.specs.Fragments.{is_part}
 use Rattle.ldc_queue.specs.Transcript.{Heard as Heard_, Said as Said_, Turn}
 use Rattle.vio_tag.proofs.Deciding.{some_result}
@@ -33,53 +31,40 @@ use Rattle.channel_model.specs.Sayings.{half_heard, half_said, heard}
 use Rattle.channel_model.specs.TranscriptLog.{is_rdx}
 use Rattle.channel_laws.proofs.Apart.{false_is_true, true_is_false}
 use Rattle.channel_laws.proofs.Conversations.{held_phase}
-use Rattle.channel_laws.proofs.EndCases.{EndTook, NoMessage, PutControl, PutMore, PutOwn, PutReady, PutHandshake, PutWhat, Rises, TookHandshake, TookMessage, TookOwn, TookWhat, end_put, end_took, taken_down}
+use Rattle.channel_laws.proofs.EndCases.{EndTook, NoMessage, PutControl, PutMore, PutOwn, PutReady, PutHandshake, PutWhat, Rises, TookHandshake, TookMessage, TookOwn, TookWhat, end_put, end_took}
 use Rattle.channel_laws.proofs.EndResting.{held_handshake}
 use Rattle.channel_laws.proofs.EndStanding.{fresh_end_stands, held_stands, holds_some, stands_step}
 use Rattle.channel_laws.proofs.HandshakeCases.{goes_took, opens_took, row_apart, row_sent}
-use Rattle.channel_laws.proofs.HandshakesPlaced.{envelope_reads, held_offer, own_code}
+use Rattle.channel_laws.proofs.HandshakesPlaced.{envelope_reads, held_offer}
 use Rattle.channel_laws.proofs.Lifting.{EndsAll, ends_run}
-use Rattle.channel_laws.proofs.LinkCases.{ControlPut, ControlTaken, LinkHeard, LinkPut, canonical_is, link_put, put_quiet, ready_loud, taken_quiet}
+use Rattle.channel_laws.proofs.LinkCases.{LinkHeard, LinkPut, canonical_is, link_put, put_quiet, ready_loud}
 use Rattle.channel_laws.proofs.Sids.{loud_rdx, part_rdx, quiet_rdx, row_last, sent_last}
 use Rattle.channel_laws.proofs.TurnCases.{SaysLast, heard_none, heard_some, said_none, said_some}
 use Rattle.channel_laws.specs.Cuts.{Carries}
 use Rattle.channel_laws.specs.EndCore.{Begins, EndCore, EndMove, Fails, Hears, Renews, Says, Stays, Waits, fresh_end}
-use Rattle.channel_laws.specs.EndFold.{EndFolds, behind_decoded, behind_heard, behind_said, decoded_of, down_with, handshake_of, is_of_session, moved_by, or_stays, phase_by, phase_heard, sent_unless, subtype_named, up_if, up_with}
+use Rattle.channel_laws.specs.EndFold.{EndFolds, behind_decoded, behind_heard, behind_said, decoded_of, down_with, handshake_of, is_of_session, moved_by, phase_heard, sent_unless, up_if, up_with}
 use Rattle.channel_laws.specs.EndStep.{EndBegins, EndHears, EndSays, EndStep, IsOfSession}
 use Rattle.channel_laws.specs.LaneCore.{CoreEvent, CoreFits, CoreStep, LaneCore, fresh_core, transcript_behind, turns_after}
 use Rattle.channel_laws.specs.Standing.{EndStands, IsShort, OwedIsShort}
 
 -- WHAT A LINK HEARS moves its phase by the packet's fields
-named_is : (s : Subtype) → subtype_named (subtype_code s) ≡ s
-named_is Info = refl
-named_is _ = refl
-
-subtype_is : (bytes : List ℕ) (s : Subtype) → subtype_at bytes ≡ subtype_code s → subtype_named (subtype_at bytes) ≡ s
-subtype_is bytes s is = ap subtype_named is ∙ named_is s
-
-control_phase : (before : LinkPhase) (bytes : List ℕ) (next : LinkPhase) → ControlTaken before bytes next → next ≡ or_stays before (phase_by (ctrl_at bytes) before bytes)
-control_phase before bytes next taken = grind (arith, subtype_is)
-
 heard_phase : (k m : LinkState) (bytes : List ℕ) → LinkHeard k bytes m → m.phase ≡ phase_heard (is_part bytes) k.phase bytes
-heard_phase k m bytes heard_holds = grind (arith, control_phase, taken_quiet, ready_loud, subtype_is)
+heard_phase k m bytes heard_holds = grind arith
 
 -- and it comes up by RDX alone
 heard_quiet : (k m : LinkState) (bytes : List ℕ) → LinkHeard k bytes m → is_up m ≡ is_up k → is_rdx bytes ≡ false
-heard_quiet k m bytes heard_holds same = grind (arith, quiet_rdx, taken_quiet, true_is_false, part_rdx)
+heard_quiet k m bytes heard_holds same = grind arith
 
 heard_rdx : (k m : LinkState) (bytes : List ℕ) → LinkHeard k bytes m → is_up k ≡ false → is_up m ≡ true → is_rdx bytes ≡ true
-heard_rdx k m bytes heard_holds down up = grind (arith, true_is_false, taken_down, ready_loud, loud_rdx)
+heard_rdx k m bytes heard_holds down up = grind arith
 
 -- WHAT IT PUTS moves it too
-put_phase : (before : LinkPhase) (bytes : List ℕ) (next : LinkPhase) → ControlPut before bytes next → next ≡ phase_behind_put before
-put_phase before bytes next put = grind arith
-
 link_phase_put : (k m : LinkState) (bytes : List ℕ) → LinkPut k bytes m → m.phase ≡ phase_behind_put k.phase
-link_phase_put k m bytes put = grind (arith, put_phase)
+link_phase_put k m bytes put = grind arith
 
 -- A MESSAGE OF THE SESSION, and one that a handshake owes
 own_session : (m : Message) → IsOfSession m.body → is_of_session (canonical m) ≡ true
-own_session m of = grind (arith, envelope_reads, own_code)
+own_session m of = grind (arith, envelope_reads)
 
 owed_session : (m : Message) → IsShort m.body → is_of_session (canonical m) ≡ false
 unfolding canonical
@@ -277,10 +262,10 @@ says_folds role c t turns packet opens stands folds says = record {
 
 -- EACH MOVE
 begins_folds : (role : Role) (c t : EndCore) (turns : List Turn) → EndStands role c turns → EndBegins c t → EndFolds role t []
-begins_folds role c t turns stands begins = grind (arith, same_last, joined_down)
+begins_folds role c t turns stands begins = grind arith
 
 held_folds : (role : Role) (c t : EndCore) (turns : List Turn) → EndFolds role c turns → t.link.phase ≡ c.link.phase → t.handshake ≡ c.handshake → t.offer ≡ c.offer → EndFolds role t turns
-held_folds role c t turns folds link handshake offer = search (same_last)
+held_folds role c t turns folds link handshake offer = search
 
 folds_move : (role : Role) (c : EndCore) (move : EndMove) (t : EndCore) (turns : List Turn) → FoldsSo role c turns → EndStep role c move t → EndFolds role t (turns_after turns move)
 folds_move role c Begins t turns so step = begins_folds role c t turns so.stands step

@@ -1,7 +1,5 @@
 -- Each move of an end leaves its handshake resting on the messages that it heard.
 use Rattle.std.proofs.Common.{◌≡◌, ℕ, Bool, true, false, Option, Some, None, inl, inr, List, [], ◌∷◌, ◌++◌, refl, sym, ap, ◌∙◌, subst, arith}
-use Rattle.std.specs.Prelude.{◌==◌, if◌then◌else◌}
-use Rattle.std.proofs.lemmas.Bool.{eqb-true}
 use Rattle.ldc_link.specs.declared.phase.Role.{Role}
 use Rattle.ldc_link.specs.declared.phase.Role.TheVariants.{Initiator, Responder}
 use Rattle.ldc_queue.specs.Transcript.{Heard, Turn}
@@ -13,15 +11,14 @@ use Rattle.vio_handshake.specs.declared.handshake.Phase.TheVariants.{Attributes,
 use Rattle.vio_handshake.specs.declared.session.Session.{Session}
 use Rattle.vio_handshake.specs.Messages.{ack, info, nack}
 use Rattle.vio_handshake.specs.Rules.{behind_ring, owes, peer_named, handshake_sent, sid_fault}
-use Rattle.vio_handshake.specs.State.{begun, fresh_handshake, joined_handshake, session_in, session_of, handshake_up}
-use Rattle.vio_tag.specs.declared.cause.Cause.TheVariants.{Sid}
+use Rattle.vio_handshake.specs.State.{begun, fresh_handshake, joined_handshake, handshake_up}
 use Rattle.vio_tag.specs.declared.message.Message.{Message}
 use Rattle.vio_tag.specs.declared.message.MsgBody.TheVariants.{DringReg, Ver}
 use Rattle.vio_tag.specs.Form.{IsWellFormed}
 use Rattle.vio_tag.specs.Spelling.{SpellsMessage}
 use Rattle.channel_model.specs.Sayings.{heard}
 use Rattle.channel_laws.proofs.EndCases.{NoMessage, PutControl, PutMore, PutOwn, PutReady, PutHandshake, PutWhat, Rises, TookMessage, TookOwn, TookHandshake, TookWhat, end_put, end_took}
-use Rattle.channel_laws.proofs.EndStanding.{held_stands, opened_phase, stands_step}
+use Rattle.channel_laws.proofs.EndStanding.{held_stands, stands_step}
 use Rattle.channel_laws.proofs.HandshakeCases.{AttributesAgreed, AttributesAsked, AttributesRefused, Declined, OneRingAgreed, Opened, Opens, Owes, OwnReadyFollows, PeerAgreed, ReadyAgreed, ReadyAsked, ReadyFollows, RingAgreed, RingAsked, RingFollows, RingRefused, RowSent, RowTaken, VersionAgreed, VersionAsked, VersionRefused, row_sent}
 use Rattle.channel_laws.specs.EndCore.{Begins, EndCore, EndMove, Fails, Hears, Renews, Says, Stays, Waits}
 use Rattle.channel_laws.specs.EndStep.{EndBegins, EndHears, EndSays, EndStep, Holding, Holds}
@@ -80,12 +77,8 @@ same_rests : (role : Role) (p q : Phase) (h : Handshake) (owed : Option Message)
 same_rests role p q h owed now at sid version own named rests = grind arith
 
 -- the sid is the one that is known
-same_sid : (b : Bool) (one other : ℕ) → (one == other) ≡ b → (if b then None else Some (Sid one other)) ≡ None → one ≡ other
-same_sid true one other test is = eqb-true one other test
-same_sid false one other test is = absurd (cc is)
-
 pub of_sid : (h : Handshake) (sid : ℕ) → sid_fault h.sid sid ≡ None → h.sid ≡ Some h.draft.sid → sid ≡ h.draft.sid
-of_sid h sid fine known = grind (arith, same_sid)
+of_sid h sid fine known = grind arith
 
 among_is : (message other : Message) (now : List (List ℕ)) → message ≡ other → Among message now → Among other now
 among_is message other now is among = subst (λ (x : Message). Among x now) is among
@@ -94,7 +87,7 @@ among_is message other now is among = subst (λ (x : Message). Among x now) is a
 ring_rests : (role : Role) (both : Bool) (h : Handshake) (message : Message) (owed : Message) (ident slots slot_size options count : ℕ) (cookies : List Cookie) (now : List (List ℕ))
     → h.offer.both_rings ≡ both → RestsIn role PeerRing h now → message ≡ info message.sid (DringReg ident slots slot_size options count cookies)
     → message.sid ≡ h.draft.sid → Among message now → RestsOn role (owes (behind_ring both) owed (peer_named h message.sid slots count cookies)) now
-ring_rests role both h message owed ident slots slot_size options count cookies now has rests m sid among = grind (arith, among_is, when_have)
+ring_rests role both h message owed ident slots slot_size options count cookies now has rests m sid among = grind arith
 
 -- in every phase but the first a sid is known
 knows_there : (role : Role) (p : Phase) (h : Handshake) (now : List (List ℕ)) → knows_sid p role ≡ true → RestsIn role p h now → h.sid ≡ Some h.draft.sid
@@ -293,8 +286,5 @@ pub resting_step : (role : Role) (c : EndCore) (move : EndMove) (t : EndCore) (t
 resting_step role c move t turns all step = record { stands = stands_step role c move t turns all.stands step; rests = rests_step role c move t turns all step }
 
 -- AN OPEN SESSION
-open_session : (h : Handshake) → h.phase ≡ Open → session_of h ≡ Some h.draft
-open_session h is = ap (λ (p : Phase). session_in p h.draft) is
-
 pub open_rests : (role : Role) (c : EndCore) (turns : List Turn) → StandsResting role c turns → c.is_open ≡ true → OpenRests role c.handshake (heard turns)
-open_rests role c turns all is = grind (arith, opened_phase, open_session)
+open_rests role c turns all is = grind arith

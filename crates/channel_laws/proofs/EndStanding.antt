@@ -1,51 +1,48 @@
 -- Each move of an end keeps what always holds of it by itself.
 use Rattle.std.proofs.Common.{◌≡◌, ℕ, ◌≤◌, Bool, true, false, ◌||◌, Some, None, List, [], ◌∷◌, ◌++◌, length, take, drop, refl, sym, ap, ◌∙◌, subst, append_assoc, arith, length-append, length-drop}
-use Rattle.std.specs.Prelude.{◌&&◌, if◌then◌else◌, is_some, nat_le, nat_lt, not}
+use Rattle.std.specs.Prelude.{◌&&◌, is_some, nat_le, nat_lt, not}
 use Rattle.std.proofs.lemmas.Bool.{and_parts, leb-false, leb-true, lt-ltb, ltb-true}
 use Rattle.std.proofs.lemmas.List.{drop_all, length-take, take-append-drop}
-use Rattle.ldc_link.proofs.Coming.{clears_follow, offers_follow}
-use Rattle.ldc_link.proofs.Following.{joins_follow, takes_follow}
+use Rattle.ldc_link.proofs.Coming.{clears_follow}
+use Rattle.ldc_link.proofs.Following.{takes_follow}
 use Rattle.ldc_link.proofs.FollowingPuts.{puts_follow}
 use Rattle.ldc_link.specs.declared.phase.LinkPhase.{LinkPhase}
 use Rattle.ldc_link.specs.declared.phase.LinkPhase.TheVariants as phase
 use Rattle.ldc_link.specs.declared.phase.Role.{Role}
-use Rattle.ldc_link.specs.declared.phase.Role.TheVariants.{Initiator, Responder}
 use Rattle.ldc_link.specs.Following.{Follows}
-use Rattle.ldc_link.specs.LinkState.{LinkState, cleared, first_phase, fresh_link, is_established, is_up, offered}
+use Rattle.ldc_link.specs.LinkState.{LinkState, cleared, fresh_link, is_established, is_up, offered}
 use Rattle.ldc_link.specs.Putting.{owed_in, owes, part_owed}
 use Rattle.ldc_link.specs.Taking.{Heard, TakesBytes}
 use Rattle.ldc_queue.specs.Messages.{is_empty}
 use Rattle.ldc_queue.specs.Transcript.{Heard as Heard_, Said as Said_, Turn}
-use Rattle.ldc_packet.specs.declared.packet.Subtype.{Subtype}
 use Rattle.vio_handshake.specs.declared.handshake.Handshake.{Handshake}
 use Rattle.vio_handshake.specs.declared.handshake.Phase.{Phase}
 use Rattle.vio_handshake.specs.declared.handshake.Phase.TheVariants.{Down, Open}
 use Rattle.vio_handshake.specs.declared.session.Offer.{Offer}
 use Rattle.vio_handshake.specs.declared.session.Session.{Session}
-use Rattle.vio_handshake.specs.Rules.{behind_ring, is_declined, opens_by_put, handshake_sent}
+use Rattle.vio_handshake.specs.Rules.{is_declined, opens_by_put, handshake_sent}
 use Rattle.vio_handshake.specs.State.{begun, joined_handshake, handshake_up}
 use Rattle.vio_tag.specs.declared.message.Message.{Message}
-use Rattle.vio_tag.specs.declared.message.MsgBody.{MsgBody}
 use Rattle.vio_tag.specs.Spelling.{canonical}
 use Rattle.channel_model.specs.Sayings.{half_said}
-use Rattle.channel_laws.proofs.Apart.{false_is_true, none_is_some, not_open, true_is_false}
+use Rattle.channel_laws.proofs.Apart.{false_is_true, none_is_some, true_is_false}
 use Rattle.channel_laws.proofs.EndCases.{EndTook, NoMessage, PutControl, PutMore, PutOwn, PutReady, PutHandshake, PutWhat, Rises, TookOwn, TookHandshake, TookWhat, end_put, end_took, put_down}
 use Rattle.channel_laws.proofs.HandshakeCases.{RowSent, RowTaken, row_sent}
-use Rattle.channel_laws.proofs.LinkCases.{ControlPut, ControlTaken, LinkHeard, behind_part, behind_ready, link_heard}
+use Rattle.channel_laws.proofs.LinkCases.{ControlPut, LinkHeard, behind_part, behind_ready, link_heard}
 use Rattle.channel_laws.proofs.Short.{ComesShort, answered_short, message_comes, said_short, short_within}
 use Rattle.channel_laws.proofs.TurnCases.{SaysLast, SaysMore, SaysNothing}
 use Rattle.channel_laws.specs.Cuts.{Carries, Cuts, HoldsIts}
 use Rattle.channel_laws.specs.EndCore.{Begins, EndCore, EndMove, Fails, Hears, Renews, Says, Stays, Waits, fresh_end, holds}
 use Rattle.channel_laws.specs.EndStep.{EndBegins, EndHears, EndRenews, EndSays, EndStays, EndStep, Holding, Holds, HoldsOn, HoldsOwed, HoldsOwn, KeepsOwn}
 use Rattle.channel_laws.specs.LaneCore.{turns_after}
-use Rattle.channel_laws.specs.Standing.{EndStands, HandshakeStands, IsBelow, IsPhaseOf, IsShort, LinkStands, OwedIsShort, is_open_in}
+use Rattle.channel_laws.specs.Standing.{EndStands, HandshakeStands, IsBelow, IsPhaseOf, LinkStands, OwedIsShort, is_open_in}
 
 -- WHAT IT HOLDS
 pub holds_down : (k : LinkState) → is_up k ≡ false → holds k ≡ true → ⊥
 holds_down k down is = let up = (and_parts (is_up k) (not (is_empty k.to_send)) is).0 in true_is_false (sym up ∙ down)
 
 pub holds_none : (k : LinkState) → k.to_send ≡ [] → holds k ≡ true → ⊥
-holds_none k none is = grind (arith, and_parts, true_is_false)
+holds_none k none is = grind arith
 
 pub holds_some : (k : LinkState) → is_up k ≡ true → 1 ≤ length k.to_send → holds k ≡ true
 holds_some k up some = grind arith
@@ -71,16 +68,9 @@ pub stands_as : (role : Role) (c t : EndCore) (k : LinkState) (h : Handshake) (t
 stands_as role c t k h turns link handshake offer link_stands handshake_stands opened more below carries = grind arith
 
 -- IT BEGINS
-pub first_down : (role : Role) → is_established (first_phase role) ≡ false
-first_down Initiator = refl
-first_down Responder = refl
-
-fresh_stands : (role : Role) → LinkStands role (fresh_link role) []
-fresh_stands role = grind (arith, joins_follow)
-
 anew_stands : (role : Role) (c t : EndCore) (h : Handshake) → t.link ≡ fresh_link role → t.handshake ≡ h → t.offer ≡ c.offer → t.is_open ≡ false → t.more ≡ 0 → h.phase ≡ Down
     → h.owed ≡ None → HandshakeStands role c.offer h → EndStands role t []
-anew_stands role c t h link handshake offer closed more down owed stands = grind (arith, stands_as, fresh_stands, holds_down, first_down)
+anew_stands role c t h link handshake offer closed more down owed stands = grind arith
 
 begins_stands : (role : Role) (c t : EndCore) (turns : List Turn) → EndStands role c turns → EndBegins c t → EndStands role t []
 begins_stands role c t turns stands begins =
@@ -88,14 +78,14 @@ begins_stands role c t turns stands begins =
     (record { role_is = stands.handshake.role_is; offer_is = stands.handshake.offer_is; few = stands.handshake.few; owed = tt })
 
 renews_stands : (role : Role) (c t : EndCore) (turns : List Turn) → EndStands role c turns → EndRenews role c t → EndStands role t []
-renews_stands role c t turns stands renews = grind (arith, anew_stands)
+renews_stands role c t turns stands renews = grind arith
 
 pub fresh_end_stands : (role : Role) (offer : Offer) → offer.count ≤ 14 → EndStands role (fresh_end role offer) []
-fresh_end_stands role offer few = grind (arith, anew_stands)
+fresh_end_stands role offer few = grind arith
 
 -- IT GOES ON
 stays_stands : (role : Role) (c t : EndCore) (turns : List Turn) → EndStands role c turns → EndStays c t → EndStands role t turns
-stays_stands role c t turns stands stays = grind (arith, stands_as)
+stays_stands role c t turns stands stays = grind arith
 
 -- IT HOLDS a message: its link is up, and held nothing
 up_unless : (b : Bool) → (b ≡ false → ⊥) → b ≡ true
@@ -107,15 +97,12 @@ owing_up role c turns message stands owed =
     up_unless (is_up c.link) (λ down. none_is_some (sym (stands.below down).owed ∙ owed))
 
 pub open_up : (role : Role) (c : EndCore) (turns : List Turn) → EndStands role c turns → c.is_open ≡ true → is_up c.link ≡ true
-open_up role c turns stands opened = grind (arith, up_unless, true_is_false)
-
-offered_link : (role : Role) (k : LinkState) (turns : List Turn) (message : List ℕ) → k.to_send ≡ [] → length message ≤ 256 → LinkStands role k turns → LinkStands role (offered message k) turns
-offered_link role k turns message none long stands = grind (arith, offers_follow)
+open_up role c turns stands opened = grind arith
 
 offered_stands : (role : Role) (c held : EndCore) (turns : List Turn) (message : Message) → EndStands role c turns → is_up c.link ≡ true → owes c.link ≡ false
     → length (canonical message) ≤ 256 → held.link ≡ offered (canonical message) c.link → held.handshake ≡ c.handshake → held.offer ≡ c.offer → held.is_open ≡ c.is_open
     → held.more ≤ c.more → (holds held.link ≡ true → Carries held.own c.handshake (canonical message)) → EndStands role held turns
-offered_stands role c held turns message stands up quiet long link handshake offer is_open more carries = grind (arith, up_empty, stands_as, offered_link, true_is_false)
+offered_stands role c held turns message stands up quiet long link handshake offer is_open more carries = grind arith
 
 pub held_stands : (role : Role) (c held : EndCore) (turns : List Turn) (what : Holding) → EndStands role c turns → Holds c what held → EndStands role held turns
 held_stands role c held turns HoldsOn stands is = subst (λ (x : EndCore). EndStands role x turns) (sym is) stands
@@ -144,19 +131,11 @@ hears_sending role c t packet opens hears =
     let same = heard_leaves c.link hears.heard packet hears.takes in
     subst (SameSending c.link) (sym hears.link) (record { left = same.left; begun = same.begun; role = same.role })
 
-by_answer : (b c : Bool) → IsPhaseOf Responder (if b then phase.OwesVersAck else if c then phase.OwesVersNack 0 else phase.OwesVersNack 1)
-by_answer true c = tt
-by_answer false true = tt
-by_answer false false = tt
-
-taken_of : (role : Role) (before next : LinkPhase) (bytes : List ℕ) → IsPhaseOf role before → ControlTaken before bytes next → IsPhaseOf role next
-taken_of role before next bytes of taken = grind (arith, by_answer)
-
 up_of : (role : Role) (m : LinkState) → m.phase ≡ phase.Established → IsPhaseOf role m.phase
 up_of role m is = grind arith
 
 pub heard_of : (role : Role) (k m : LinkState) (bytes : List ℕ) → IsPhaseOf role k.phase → LinkHeard k bytes m → IsPhaseOf role m.phase
-heard_of role k m bytes of heard = grind (arith, taken_of, up_of)
+heard_of role k m bytes of heard = grind arith
 
 heard_link : (role : Role) (k m : LinkState) (turns : List Turn) (bytes : List ℕ) → TakesBytes k bytes (Heard m) → LinkHeard k bytes m → LinkStands role k turns
     → LinkStands role (cleared m) (Heard_ bytes ∷ turns)
@@ -175,33 +154,19 @@ heard_link role k m turns bytes takes how stands =
     }
 
 -- A HANDSHAKE after a message that it took, and once its message was put
-open_stays : (p q : Phase) (opens : Bool) → opens ≡ false → is_open_in p ≡ false → is_open_in q ≡ false → is_open_in q ≡ (opens || is_open_in p)
-open_stays p q opens not before now = now ∙ sym (ap (λ (b : Bool). b || is_open_in p) not ∙ before)
-
-behind_closed : (both : Bool) → is_open_in (behind_ring both) ≡ false
-behind_closed true = refl
-behind_closed false = refl
-
 pub record HandshakeGoes (role : Role) (offer : Offer) (h t : Handshake) (opens : Bool) : Type 0 where
   pub stands : HandshakeStands role offer t
   pub opened : is_open_in t.phase ≡ (opens || is_open_in h.phase)
-
-goes_as : (role : Role) (offer : Offer) (h t x : Handshake) (opens : Bool) → t ≡ x → x.role ≡ h.role → x.offer ≡ h.offer → OwedIsShort x.owed → opens ≡ false
-    → is_open_in h.phase ≡ false → is_open_in x.phase ≡ false → HandshakeStands role offer h → HandshakeGoes role offer h t opens
-goes_as role offer h t x opens is role_is offer_is owed not before now stands = grind (arith, open_stays)
-
-declined_short : (subtype : Subtype) (body : MsgBody) → ComesShort body → is_declined subtype body ≡ true → IsShort body
-declined_short subtype body comes test = grind (arith, false_is_true)
 
 pub few_offered : (role : Role) (offer : Offer) (h : Handshake) → HandshakeStands role offer h → h.offer.count ≤ 14
 few_offered role offer h stands = omega (arith, ap (λ (o : Offer). o.count) stands.offer_is, stands.few)
 
 pub row_goes : (role : Role) (offer : Offer) (h t : Handshake) (message : Message) (opens : Bool) → ComesShort message.body → HandshakeStands role offer h → RowTaken h message t opens
     → HandshakeGoes role offer h t opens
-row_goes role offer h t message opens comes stands taken = grind (arith, declined_short, goes_as, said_short, few_offered, answered_short, behind_closed)
+row_goes role offer h t message opens comes stands taken = grind (arith, said_short, answered_short)
 
 pub sent_goes : (role : Role) (offer : Offer) (h t : Handshake) (opens : Bool) → HandshakeStands role offer h → RowSent h t opens → HandshakeGoes role offer h t opens
-sent_goes role offer h t opens stands sent = grind (arith, goes_as, few_offered)
+sent_goes role offer h t opens stands sent = grind arith
 
 pub up_stands : (role : Role) (offer : Offer) (h : Handshake) → HandshakeStands role offer h → HandshakeStands role offer (handshake_up h) × (is_open_in (handshake_up h).phase ≡ false)
 up_stands role offer h stands = grind arith
@@ -209,7 +174,7 @@ up_stands role offer h stands = grind arith
 -- in an open session it takes nothing but what it declines
 pub open_declines : (h t : Handshake) (message : Message) (opens : Bool) → h.phase ≡ Open → RowTaken h message t opens
     → (t ≡ record h { owed = t.owed }) × (opens ≡ false) × (is_declined message.subtype message.body ≡ true)
-open_declines h t message opens up taken = grind (arith, not_open)
+open_declines h t message opens up taken = grind arith
 
 -- IT HEARS a packet
 -- while the handshake owes nothing the message is one of the session, of the same sid
@@ -229,7 +194,7 @@ keeps_holding k m left up is = ap (λ (b : Bool). b && not (is_empty k.to_send))
 -- what it holds stays, where its handshake stays
 same_carries : (c t : EndCore) (now : LinkState) (turns : List Turn) (packet : List ℕ) → SameSending c.link now → is_up now ≡ is_up c.link → KeepsOwn c t → t.link ≡ cleared now
     → HoldsIts c.own c.link c.handshake turns → HoldsIts t.own (cleared now) c.handshake (Heard_ packet ∷ turns)
-same_carries c t now turns packet same up keeps link carries is = grind (arith, keeps_holding)
+same_carries c t now turns packet same up keeps link carries is = grind arith
 
 hears_stands : (role : Role) (c t : EndCore) (turns : List Turn) (packet : List ℕ) (opens : Bool) → EndStands role c turns → EndHears role c packet opens t
     → EndStands role t (Heard_ packet ∷ turns)

@@ -34,7 +34,7 @@ use Rattle.channel_laws.specs.EndStep.{EndHears, EndSays, EndStep, IsOfSession}
 use Rattle.channel_laws.specs.Grounds.{When, has_named, knows_sid, knows_version}
 use Rattle.channel_laws.specs.LaneCore.{CoreEvent, CoreFits, CoreStep, LaneCore, fresh_core, transcript_behind, turns_after}
 use Rattle.channel_laws.specs.Standing.{EndStands}
-use Rattle.channel_laws.specs.Utterances.{Only, OwesSo, SaysByPhase, SaysBody, SaysBytes, SaysEach, SaysSid, Utters}
+use Rattle.channel_laws.specs.Utterances.{OwesSo, SaysByPhase, SaysBody, SaysBytes, SaysEach, SaysSid, Utters}
 
 -- WHAT A MESSAGE that was said may speak of stays
 record KeepsWords (role : Role) (h t : Handshake) : Type 0 where
@@ -49,17 +49,13 @@ when_keeps b true x m n keeps is =
     let known = keeps refl in
     let here : x ≡ m = subst (λ (d : Bool). When d (x ≡ m)) known.0 is in here ∙ sym known.1
 
-only_keeps : (b c : Bool) (x m n : ℕ) → (b ≡ true → (c ≡ true) × (n ≡ m)) → Only b (x ≡ m) → Only c (x ≡ n)
-only_keeps false c x m n keeps is = absurd is
-only_keeps true c x m n keeps is = let known = keeps refl in subst (λ (d : Bool). Only d (x ≡ n)) (sym known.0) (is ∙ sym known.1)
-
 sid_keeps : (role : Role) (h t : Handshake) (sid : ℕ) → KeepsWords role h t → SaysSid role h.phase h.draft sid → SaysSid role t.phase t.draft sid
 sid_keeps Initiator h t sid keeps says = when_keeps (knows_sid h.phase Initiator) (knows_sid t.phase Initiator) sid h.draft.sid t.draft.sid (keeps.sid refl) says
 sid_keeps Responder h t sid keeps says = tt
 
 body_keeps : (role : Role) (h t : Handshake) (subtype : Subtype) (body : MsgBody) → KeepsWords role h t → SaysBody role h.phase h.offer h.draft subtype body
     → SaysBody role t.phase t.offer t.draft subtype body
-body_keeps role h t subtype body keeps says = grind (arith, only_keeps)
+body_keeps role h t subtype body keeps says = grind arith
 
 says_keep : (role : Role) (h t : Handshake) (message : Message) → KeepsWords role h t → SaysByPhase role h.phase h.offer h.draft message → SaysByPhase role t.phase t.offer t.draft message
 says_keep role h t message keeps says = (sid_keeps role h t message.sid keeps says.0, body_keeps role h t message.subtype message.body keeps says.1)
@@ -256,7 +252,7 @@ row_words role h t message opens messages role_is own utters (Opened r at m is n
 
 -- ONE THAT IS PUT
 sent_words : (role : Role) (h t : Handshake) (opens : Bool) (messages : List (List ℕ)) → h.role ≡ role → Utters role h messages → RowSent h t opens → GoesBehind role h t
-sent_words role h t opens messages role_is utters sent = grind (arith, at_role, same_words, not_taken, goes_to)
+sent_words role h t opens messages role_is utters sent = grind arith
 
 -- ITS LINK COMES UP, or it begins
 begun_utters : (role : Role) (h : Handshake) → Utters role (begun role (joined_handshake h)) []
@@ -267,11 +263,11 @@ up_utters : (role : Role) (h : Handshake) → h.role ≡ role → Utters role (h
 up_utters role h is = subst (λ (r : Role). Utters role (begun r (joined_handshake h)) []) (sym is) (begun_utters role h)
 
 down_utters : (role : Role) (h : Handshake) → h.phase ≡ Down → h.owed ≡ None → Utters role h []
-down_utters role h down none = grind (arith, false_is_true, not_taken)
+down_utters role h down none = grind arith
 
 -- WHAT A LINK HOLDS is said as its handshake has it
 own_says : (role : Role) (h : Handshake) (message : Message) → IsOfSession message.body → message.sid ≡ h.draft.sid → SaysByPhase role h.phase h.offer h.draft message
-own_says role h message of sid = grind (arith, sid_said)
+own_says role h message of sid = grind arith
 
 carried_says : (role : Role) (own : Bool) (h : Handshake) (messages : List (List ℕ)) (bytes : List ℕ) → Utters role h messages → Carries own h bytes
     → SaysBytes role h.phase h.offer h.draft bytes

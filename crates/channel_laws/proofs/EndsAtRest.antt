@@ -28,7 +28,7 @@ both_rest s transcript whole one other = search
 pub two_at_rest_open : (entries : ℕ) (asks answers : Offer) (events : List CoreEvent) (s : LaneCore) → CoreFits entries asks answers → Match asks answers
     → Run CoreStep (fresh_core entries asks answers) events s → s.wire.forged ≡ false → s.wire.lossy ≡ false → IsAtRest A s → IsAtRest B s
     → (s.a.is_open ≡ true) × (s.b.is_open ≡ true)
-two_at_rest_open entries asks answers events s fits matched run clean whole one other = grind (arith, meets_knows, rests_open, both_rest)
+two_at_rest_open entries asks answers events s fits matched run clean whole one other = grind (arith, meets_knows, rests_open)
 
 pub two_at_rest_heard : (entries : ℕ) (asks answers : Offer) (events : List CoreEvent) (s : LaneCore) (e : End) → CoreFits entries asks answers
     → Run CoreStep (fresh_core entries asks answers) events s → s.wire.forged ≡ false → s.wire.lossy ≡ false → IsAtRest A s → IsAtRest B s

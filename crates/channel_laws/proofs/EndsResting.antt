@@ -3,7 +3,6 @@ use Rattle.std.proofs.Common.{List, [], ◌≤◌, arith}
 use Rattle.ldc_link.specs.declared.phase.Role.{Role}
 use Rattle.ldc_queue.specs.Transcript.{Turn}
 use Rattle.vio_handshake.specs.declared.session.Offer.{Offer}
-use Rattle.channel_laws.proofs.EndStanding.{opened_phase}
 use Rattle.channel_laws.proofs.EndUttering.{EndSpeaks, fresh_speaks, speaks_step}
 use Rattle.channel_laws.proofs.HandshakeFitting.{fits_step, fresh_fits}
 use Rattle.channel_laws.specs.EndCore.{EndCore, EndMove, fresh_end}
@@ -13,7 +12,7 @@ use Rattle.channel_laws.specs.HandshakeFits.{HandshakeFits}
 use Rattle.channel_laws.specs.LaneCore.{turns_after}
 
 rests_of : (role : Role) (c : EndCore) (turns : List Turn) → EndSpeaks role c turns → HandshakeFits role c.offer c.handshake → EndRests role c turns
-rests_of role c turns speaks fits = grind (arith, opened_phase)
+rests_of role c turns speaks fits = grind arith
 
 pub fresh_end_rests : (role : Role) (offer : Offer) → offer.count ≤ 14 → EndRests role (fresh_end role offer) []
 fresh_end_rests role offer most = rests_of role (fresh_end role offer) [] (fresh_speaks role offer most) (fresh_fits role offer)

@@ -1,7 +1,6 @@
 -- FEW ARE LOST between two packets with numbers that an end takes: the sums, act by act.
 use Rattle.std.proofs.Common.{◌≡◌, ℕ, ◌+◌, ◌≤◌, ◌<◌, Bool, true, false, List, [], ◌∷◌, ◌++◌, length, drop, ap, ◌∙◌, arith}
 use Rattle.ldc_link.specs.declared.phase.LinkPhase.{LinkPhase}
-use Rattle.ldc_link.specs.declared.phase.LinkPhase.TheVariants as phase
 use Rattle.ldc_queue.specs.declared.end.ChannelState.{ChannelState}
 use Rattle.ldc_queue.specs.declared.end.ChannelState.TheVariants.{Up}
 use Rattle.ldc_queue.specs.Numbered.{is_numbered, kept}
@@ -24,21 +23,6 @@ live_lower e n m lower = grind arith
 
 pub live_small : (e : ChannelState) (n : ℕ) → n ≤ 34000 → live_budget e n ≤ 34000
 live_small e n small = grind arith
-
--- at most two packets without a number are left
-takes_few : (ph : LinkPhase) → takes_left ph ≤ 2
-takes_few phase.OwesVersInfo = omega arith
-takes_few _ = omega arith
-
-puts_few : (ph : LinkPhase) → puts_left ph ≤ 2
-puts_few phase.OwesVersInfo = omega arith
-puts_few _ = omega arith
-
-pub live_takes_few : (e : ChannelState) (ph : LinkPhase) → live_takes e ph ≤ 2
-live_takes_few e ph = grind (arith, takes_few)
-
-pub live_puts_few : (e : ChannelState) (ph : LinkPhase) → live_puts e ph ≤ 2
-live_puts_few e ph = grind (arith, puts_few)
 
 -- what has no number
 unless_more : (b : Bool) (n : ℕ) → unless b n ≡ n + unless b 0

@@ -18,7 +18,7 @@ use Rattle.vio_handshake.specs.declared.handshake.Phase.{Phase}
 use Rattle.vio_handshake.specs.declared.handshake.Phase.TheVariants.{Attributes, Open, OwnReady, OwnRing, PeerReady, PeerReadyTaken, PeerRing, PeerRingTaken, Version}
 use Rattle.vio_handshake.specs.Messages.{ack, info, nack, own_ring}
 use Rattle.vio_handshake.specs.Rules.{Faults, Goes, GoesOpen, HandshakeTake, agrees_minor, answered, asked, behind_ring, fault_or, is_declined, knows, opens_by_put, own_named, owes, peer_named, put_in, refuses_version, ring_asked, row, handshake_hear, handshake_sent, handshake_take, sid_fault}
-use Rattle.channel_laws.proofs.Apart.{roles_differ, true_is_false}
+use Rattle.channel_laws.proofs.Apart.{roles_differ}
 use Rattle.channel_laws.specs.EndStep.{IsOfSession}
 
 -- A MESSAGE THAT WAS TAKEN: what the handshake is after it, and whether its session opens by it
@@ -184,17 +184,14 @@ opens_took h t message is = grind (arith, took_is)
 
 -- only a responder's session opens by one: by the agreement to RDX
 pub opens_row : (h t : Handshake) (message : Message) → RowTaken h message t true → (h.role ≡ Responder) × (message ≡ ack message.sid Rdx)
-opens_row h t message taken = grind (arith, true_is_false)
+opens_row h t message taken = grind arith
 
 pub never_opens : (h t : Handshake) (message : Message) → h.role ≡ Initiator → HandshakeTook h message t true → ⊥
 never_opens h t message role took = roles_differ (sym role ∙ (opens_row h t message took.row).0)
 
 -- it takes none of its session's
-declined_apart : (subtype : Subtype) (body : MsgBody) → is_declined subtype body ≡ true → IsOfSession body → ⊥
-declined_apart subtype body test of = grind arith
-
 pub row_apart : (h t : Handshake) (message : Message) (opens : Bool) → RowTaken h message t opens → IsOfSession message.body → ⊥
-row_apart h t message opened taken of = grind (arith, declined_apart)
+row_apart h t message opened taken of = grind arith
 
 -- ONCE ITS MESSAGE WAS PUT: the next is owed, or an initiator's session opens, or nothing is owed
 abbrev pub NothingFollows : Phase → Type 0

@@ -1,6 +1,5 @@
 -- Each message that a handshake takes, each that it puts, and each move of its end leave it as it always is.
-use Rattle.std.proofs.Common.{◌≡◌, ℕ, Bool, true, false, Option, Some, None, List, refl, sym, ap, ◌∙◌, subst, arith}
-use Rattle.std.proofs.lemmas.Bool.{eqb-true}
+use Rattle.std.proofs.Common.{◌≡◌, ℕ, Bool, true, None, List, refl, sym, ◌∙◌, subst, arith}
 use Rattle.runs.specs.Run.{Run}
 use Rattle.ldc_link.specs.declared.phase.Role.{Role}
 use Rattle.ldc_link.specs.declared.phase.Role.TheVariants.{Initiator, Responder}
@@ -9,28 +8,19 @@ use Rattle.map_table.specs.declared.cookie.Cookie.{Cookie}
 use Rattle.vio_tag.specs.declared.message.Message.{Message}
 use Rattle.vio_handshake.specs.Acceptance.{accepts_ring}
 use Rattle.vio_handshake.specs.declared.handshake.Handshake.{Handshake}
-use Rattle.vio_handshake.specs.declared.handshake.Phase.{Phase}
-use Rattle.vio_handshake.specs.declared.handshake.Phase.TheVariants.{OwnRing}
 use Rattle.vio_handshake.specs.declared.session.Offer.{Offer}
-use Rattle.vio_handshake.specs.Rules.{handshake_sent, opens_by_put}
 use Rattle.vio_handshake.specs.State.{begun, fresh_handshake, handshake_up, joined_handshake}
-use Rattle.channel_laws.proofs.Apart.{false_is_true, true_is_false}
+use Rattle.channel_laws.proofs.Apart.{false_is_true}
 use Rattle.channel_laws.proofs.EndCases.{EndTook, NoMessage, PutWhat, Rises, TookHandshake, TookOwn, TookWhat, end_put, end_took}
 use Rattle.channel_laws.proofs.EndResting.{held_handshake}
 use Rattle.channel_laws.proofs.EndStanding.{fresh_end_stands, held_stands, stands_step}
-use Rattle.channel_laws.proofs.HandshakeCases.{RowSent, RowTaken, row_sent}
+use Rattle.channel_laws.proofs.HandshakeCases.{RowTaken}
 use Rattle.channel_laws.proofs.Lifting.{EndsAll, ends_run}
 use Rattle.channel_laws.specs.EndCore.{Begins, EndCore, EndMove, Fails, Hears, Renews, Says, Stays, Waits}
 use Rattle.channel_laws.specs.EndStep.{EndSays, EndStep}
-use Rattle.channel_laws.specs.Grounds.{has_named}
-use Rattle.channel_laws.specs.HandshakeFits.{HandshakeFits, OwedFits, takes_ring}
+use Rattle.channel_laws.specs.HandshakeFits.{HandshakeFits}
 use Rattle.channel_laws.specs.LaneCore.{CoreEvent, CoreFits, CoreStep, LaneCore, fresh_core, transcript_behind, turns_after}
 use Rattle.channel_laws.specs.Standing.{EndStands}
-
--- what isn't owed fits
-none_fits : (phase : Phase) (owed : Option Message) → owed ≡ None → OwedFits phase owed
-none_fits phase None is = tt
-none_fits phase (Some message) is = absurd (cc is)
 
 -- IT BEGINS: no ring is agreed on
 pub joined_fits : (role : Role) (offer : Offer) (h : Handshake) → HandshakeFits role offer h → HandshakeFits role offer (joined_handshake h)
@@ -49,28 +39,14 @@ up_fits role offer h fits = begun_fits h.role role offer h fits.role_is fits.off
 -- A MESSAGE THAT IT TOOK, where it owed nothing
 accepted_slots : (offer : Offer) (slots slot_size options count : ℕ) (cookies : List Cookie) → accepts_ring offer slots slot_size options count cookies ≡ true → slots ≡ offer.peer_slots
 unfolding accepts_ring
-accepted_slots offer slots slot_size options count cookies is = grind (arith, eqb-true)
-
--- an initiator registers its ring before it takes one, and takes none where it alone has one
-none_named : (role one : Role) → one ≡ role → one ≡ Initiator → has_named role OwnRing ≡ true → ⊥
-none_named role one same is named = true_is_false (sym named ∙ ap (λ (r : Role). has_named r OwnRing) (sym same ∙ is))
-
-none_taken : (role one : Role) (offer other : Offer) → one ≡ role → one ≡ Initiator → other ≡ offer → other.both_rings ≡ false → takes_ring role offer.both_rings ≡ true → ⊥
-none_taken role one offer other same is offers alone takes =
-    true_is_false (sym takes ∙ ap (λ (r : Role). takes_ring r offer.both_rings) (sym same ∙ is) ∙ ap (λ (o : Offer). o.both_rings) (sym offers) ∙ alone)
+accepted_slots offer slots slot_size options count cookies is = grind arith
 
 -- the phase before had agreed to the ring too
 pub row_fits : (role : Role) (offer : Offer) (h t : Handshake) (message : Message) (opens : Bool) → h.owed ≡ None → HandshakeFits role offer h → RowTaken h message t opens
     → HandshakeFits role offer t
-row_fits role offer h t message opens none fits taken = grind (arith, false_is_true, none_named, none_fits, none_taken, accepted_slots)
+row_fits role offer h t message opens none fits taken = grind (arith, accepted_slots)
 
 -- ONE THAT IT PUT
-row_sent_fits : (role : Role) (offer : Offer) (h t : Handshake) (opens : Bool) → HandshakeFits role offer h → RowSent h t opens → HandshakeFits role offer t
-row_sent_fits role offer h t opens fits sent = grind arith
-
-pub sent_fits : (role : Role) (offer : Offer) (h : Handshake) → HandshakeFits role offer h → HandshakeFits role offer (handshake_sent h)
-sent_fits role offer h fits = row_sent_fits role offer h (handshake_sent h) (opens_by_put h.role h.phase) fits (row_sent h)
-
 -- AN END, by its moves
 pub record EndFits (role : Role) (c : EndCore) (turns : List Turn) : Type 0 where
   pub stands : EndStands role c turns
@@ -91,7 +67,7 @@ took_fits role c t turns packet opens none fits took = by_what took.what
 
 put_fits : (role : Role) (offer : Offer) (held t : EndCore) (turns : List Turn) (packet : List ℕ) (opens : Bool) → HandshakeFits role offer held.handshake
     → PutWhat role held turns packet opens t → HandshakeFits role offer t.handshake
-put_fits role offer held t turns packet opens fits what = grind (arith, same_fits, up_fits, sent_fits)
+put_fits role offer held t turns packet opens fits what = grind arith
 
 says_fits : (role : Role) (c t : EndCore) (turns : List Turn) (packet : List ℕ) (opens : Bool) → EndFits role c turns → EndSays role c packet opens t → HandshakeFits role c.offer t.handshake
 says_fits role c t turns packet opens end says =

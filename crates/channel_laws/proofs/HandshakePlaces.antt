@@ -24,7 +24,7 @@ use Rattle.vio_handshake.proofs.MessageWidths.{OfferHasWidths, message_has_width
 use Rattle.vio_handshake.proofs.PlaceRows.{Fits, GoesTo, put_at, take_at}
 use Rattle.vio_handshake.proofs.Places.{AllSaid, AttributesAnswered, AttributesSaid, Deal, IsPlace, PeerReadyAnswered, PeerReadySaid, PeerRingAnswered, PeerRingSaid, Place, ReadyAnswered, ReadySaid, RingAnswered, RingSaid, VersionAnswered, VersionSaid, message_at, next, owed_by, owner, phase_at, handshake_at}
 use Rattle.channel_model.specs.Sayings.{heard, said}
-use Rattle.channel_laws.proofs.Apart.{not_open, some_is_none, some_same}
+use Rattle.channel_laws.proofs.Apart.{some_is_none, some_same}
 use Rattle.channel_laws.proofs.EndStanding.{opened_phase}
 use Rattle.channel_laws.proofs.Script.{PeerSaid, all_before, bytes_at, hears_beyond, hears_next, not_last, other_next, said_at, said_by, says_next, script}
 use Rattle.channel_laws.specs.EndCore.{EndCore}
@@ -153,7 +153,7 @@ owes_not both d Initiator n turn = ap (λ (w : Option Role). owed_by Initiator w
 owes_not both d Responder n turn = ap (λ (w : Option Role). owed_by Responder w (message_at d n)) turn
 
 pub open_at : (both : Bool) (r : Role) (n : Place) → phase_at both r n ≡ Open → n ≡ AllSaid
-open_at both r n is = grind (arith, not_open)
+open_at both r n is = grind arith
 
 pub open_place : (both : Bool) (d : Deal) (r : Role) (c : EndCore) (turns : List Turn) → EndStands r c turns → (at : AtPlace both d r c.handshake turns) → c.is_open ≡ true
     → at.place ≡ AllSaid
@@ -162,12 +162,12 @@ open_place both d r c turns stands at opened =
 
 pub place_open : (both : Bool) (d : Deal) (r : Role) (c : EndCore) (turns : List Turn) → EndStands r c turns → (at : AtPlace both d r c.handshake turns) → at.place ≡ AllSaid
     → c.is_open ≡ true
-place_open both d r c turns stands at last = grind (arith, handshake_at)
+place_open both d r c turns stands at last = grind arith
 
 -- ITS LINK COMES UP: it said and heard nothing
 pub begun_at : (both : Bool) (d : Deal) (r : Role) (h : Handshake) (turns : List Turn) → h.role ≡ r → h.offer ≡ (handshake_at both d r VersionSaid).offer → (r ≡ Responder → h.last_sid ≡ d.last)
     → (r ≡ Initiator → d.sid ≡ next_sid h) → IsPlace both VersionSaid → said turns ≡ [] → heard turns ≡ [] → AtPlace both d r (handshake_up h) turns
-begun_at both d r h turns role offer last sid here said_none heard_none = grind (arith, handshake_at)
+begun_at both d r h turns role offer last sid here said_none heard_none = grind arith
 
 -- IT SAYS the message of its place
 pub says_at : (both : Bool) (d : Deal) (r : Role) (h : Handshake) (turns now : List Turn) (bytes : List ℕ) (message : Message) → (at : AtPlace both d r h turns)

@@ -1,6 +1,6 @@
 -- A message that a handshake refuses says why.
 use Rattle.std.proofs.Common.{◌≡◌, ℕ, Bool, true, false, Option, Some, None, List, refl, sym, arith}
-use Rattle.std.specs.Prelude.{nat_eq, nat_le, ◌==◌, ◌&&◌, if◌then◌else◌, ⊤}
+use Rattle.std.specs.Prelude.{nat_eq, ◌==◌, if◌then◌else◌, ⊤}
 use Rattle.ldc_link.specs.declared.phase.Role.{Role}
 use Rattle.ldc_packet.specs.declared.packet.Subtype.{Subtype}
 use Rattle.vio_bytes.specs.Place.{number_at}
@@ -10,11 +10,9 @@ use Rattle.vio_tag.specs.declared.message.Message.{Message}
 use Rattle.vio_tag.specs.declared.message.MsgBody.{MsgBody}
 use Rattle.vio_tag.specs.Fault.{first_fault}
 use Rattle.vio_tag.specs.Spelling.{SpellsMessage}
-use Rattle.vio_handshake.specs.Attributes.{accepts_answered}
 use Rattle.vio_handshake.specs.declared.handshake.Handshake.{Handshake}
 use Rattle.vio_handshake.specs.declared.handshake.Phase.{Phase}
-use Rattle.vio_handshake.specs.Rules as rules
-use Rattle.vio_handshake.specs.Rules.{Faults, Goes, GoesOpen, HandshakeTake, answered, asked, fault_or, is_declined, row, handshake_hear, handshake_take, sid_fault}
+use Rattle.vio_handshake.specs.Rules.{Faults, Goes, GoesOpen, HandshakeTake, fault_or, is_declined, row, handshake_hear, handshake_take, sid_fault}
 use Rattle.channel_model.specs.ResetSays.{MessageSays}
 use Rattle.channel_laws.proofs.LinkResets.{other_number}
 
@@ -33,20 +31,8 @@ handshake_if : (m : List ℕ) (b : Bool) (one other : HandshakeTake) → Handsha
 handshake_if m true one other why rest = why
 handshake_if m false one other why rest = rest
 
-answered_why : (m : List ℕ) (s : Subtype) (judged : HandshakeTake) → first_fault m ≡ None → HandshakeWhy m judged → HandshakeWhy m (answered s judged)
-answered_why m s judged sound why = grind arith
-
-asked_why : (m : List ℕ) (s : Subtype) (judged : HandshakeTake) → first_fault m ≡ None → HandshakeWhy m judged → HandshakeWhy m (asked s judged)
-asked_why m s judged sound why = grind arith
-
-version_why : (m : List ℕ) (h : Handshake) (sid major minor : ℕ) → first_fault m ≡ None → HandshakeWhy m (rules.version_answered h sid major minor)
-version_why m h sid major minor sound = handshake_if m (major == 1 && nat_le minor h.offer.minor) (Goes _) (Faults the_cause.Refused) tt sound
-
-attributes_why : (m : List ℕ) (h : Handshake) (sid : ℕ) (bytes : List ℕ) → first_fault m ≡ None → HandshakeWhy m (rules.attributes_answered h sid bytes)
-attributes_why m h sid bytes sound = handshake_if m (accepts_answered h.offer h.draft.minor bytes) (Goes _) (Faults the_cause.Refused) tt sound
-
 row_why : (m : List ℕ) (role : Role) (p : Phase) (h : Handshake) (s : Subtype) (sid : ℕ) (b : MsgBody) → first_fault m ≡ None → HandshakeWhy m (row role p h s sid b)
-row_why m role p h s sid b sound = grind (arith, answered_why, version_why, asked_why, attributes_why)
+row_why m role p h s sid b sound = grind arith
 
 abbrev pub FaultWhy : List ℕ → Option Cause → Type 0
 FaultWhy m None = ⊤

@@ -7,12 +7,10 @@ use Rattle.ldc_link.specs.declared.phase.LinkPhase.TheVariants as phase
 use Rattle.ldc_link.specs.declared.phase.Role.{Role}
 use Rattle.ldc_link.specs.declared.phase.Role.TheVariants.{Initiator, Responder}
 use Rattle.ldc_link.specs.LinkState.{LinkState, first_phase, is_established, is_up}
-use Rattle.ldc_packet.specs.declared.packet.Subtype.{Subtype}
 use Rattle.ldc_queue.specs.declared.end.ChannelState.{ChannelState}
 use Rattle.ldc_queue.specs.declared.end.ChannelState.TheVariants.{Up}
 use Rattle.ldc_queue.specs.OneStream.{IsFront}
 use Rattle.ldc_queue.specs.Transcript.{Heard, Said, Turn}
-use Rattle.ldc_queue.specs.Wire.{peer_behind, upset}
 use Rattle.vio_tag.specs.declared.message.Message.{Message}
 use Rattle.vio_tag.specs.declared.message.MsgBody.{MsgBody}
 use Rattle.vio_tag.specs.Form.{HasForm}
@@ -27,10 +25,10 @@ use Rattle.channel_model.specs.Sayings.{half_said, heard, said}
 use Rattle.channel_model.specs.TranscriptLog.{nothing_said}
 use Rattle.channel_laws.proofs.Apart.{false_is_true, none_is_some, roles_differ, true_is_false}
 use Rattle.channel_laws.proofs.Conversations.{held_phase}
-use Rattle.channel_laws.proofs.ConversingRuns.{HeardFrom, converse_keeps, first_converse, hears_next}
+use Rattle.channel_laws.proofs.ConversingRuns.{HeardFrom, converse_keeps, hears_next}
 use Rattle.channel_laws.proofs.EndCases.{EndTook, NoMessage, PutControl, PutMore, PutOwn, PutReady, PutHandshake, PutWhat, Rises, TookOwn, TookHandshake, TookWhat, end_put, end_took, put_down}
 use Rattle.channel_laws.proofs.EndResting.{held_handshake}
-use Rattle.channel_laws.proofs.EndStanding.{first_down, held_stands, holds_some, open_declines, open_up, opened_phase}
+use Rattle.channel_laws.proofs.EndStanding.{held_stands, holds_some, open_declines, open_up, opened_phase}
 use Rattle.channel_laws.proofs.HandshakePlaces.{AtPlace, HandshakesAt, IsOwn, Matches, begun_at, deal, hears_at, hears_own_at, offer_in, open_at, open_place, owes_at, own_heard, peer_said, same_at, says_at, says_own_at, who}
 use Rattle.channel_laws.proofs.Lifting.{ActsKeep, BothStand}
 use Rattle.channel_laws.proofs.LinkPlaced.{first_links, links_keep, ready_at}
@@ -92,23 +90,11 @@ pub held_offer : (c held : EndCore) (what : Holding) → Holds c what held → h
 held_offer c held what is = grind arith
 
 -- IT BEGINS, or is closed
-anew_last : (role : Role) (c t : EndCore) → EndAnew role c t → c.handshake.last_sid ≡ 0 → t.handshake.last_sid ≡ 0
-anew_last role c t begins zero = grind arith
-
-anew_below : (role : Role) (c t : EndCore) (X : Type 0) → EndAnew role c t → is_up t.link ≡ true → X
-anew_below role c t X begins up = true_is_false (sym up ∙ ap is_up begins.link ∙ first_down role)
-
-pub peer_up : (x y : ChannelState) → peer_behind x y ≡ Up → y ≡ Up
-peer_up x y is = grind arith
-
-upset_up : (y : ChannelState) (X : Type 0) → upset y ≡ Up → X
-upset_up y X is = grind arith
-
 anew_handshakes : (asks answers : Offer) (role : Role) (s : Sides) (t : EndCore) → EndAnew role s.mine.core t → HandshakesAt asks answers role s → HandshakesAt asks answers role (anew t s)
-anew_handshakes asks answers role s t begins at = grind (arith, anew_last, anew_below, peer_up)
+anew_handshakes asks answers role s t begins at = grind arith
 
 shut_handshakes : (asks answers : Offer) (role : Role) (s : Sides) (t : EndCore) → EndAnew role s.mine.core t → HandshakesAt asks answers role s → HandshakesAt asks answers role (shut t s)
-shut_handshakes asks answers role s t begins at = grind (arith, anew_last, anew_below, upset_up)
+shut_handshakes asks answers role s t begins at = grind arith
 
 -- an end at a place: its own offer and count of sids
 placed : (asks answers : Offer) (sid : ℕ) (role : Role) (s : Sides) (t : EndCore) (turns : List Turn) → HandshakesAt asks answers role s → t.offer ≡ s.mine.core.offer
@@ -267,13 +253,10 @@ pub own_code : (b : MsgBody) → IsOfSession b → (envelope_code b ≡ 0x0042) 
 own_code b of = grind arith
 
 pub own_envelope : (d : Deal) (bytes : List ℕ) → IsOwn d bytes → 0x0042 ≤ envelope_at bytes
-own_envelope d bytes own = grind (arith, envelope_reads, own_code)
-
-declined_code : (s : Subtype) (b : MsgBody) → HasForm b → is_declined s b ≡ true → envelope_code b ≤ 0x0041
-declined_code s b form is = grind (arith, false_is_true)
+own_envelope d bytes own = grind (arith, envelope_reads)
 
 pub never_declined : (m d : Message) (bytes : List ℕ) → IsOfSession m.body → bytes ≡ canonical m → HasForm d.body → SpellsMessage bytes d → is_declined d.subtype d.body ≡ true → ⊥
-never_declined m d bytes of is form spells declined = grind (arith, envelope_reads, own_code, declined_code)
+never_declined m d bytes of is form spells declined = grind (arith, envelope_reads)
 
 none_after : (xs rest : List (List ℕ)) (bytes : List ℕ) → [] ≡ (xs ++ bytes ∷ []) ++ rest → ⊥
 none_after [] rest bytes is = cc is
@@ -464,4 +447,4 @@ meets_keep asks answers fits = record {
 }
 
 pub first_meets : (entries : ℕ) (asks answers : Offer) → entries ≤ 256 → Meets asks answers Initiator (sides_of (fresh_core entries asks answers) nothing_said)
-first_meets entries asks answers few = grind (arith, first_converse, first_links)
+first_meets entries asks answers few = grind (arith, first_links)

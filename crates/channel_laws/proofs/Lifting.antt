@@ -14,7 +14,7 @@ use Rattle.ldc_queue.specs.Transcript.{Turn}
 use Rattle.vio_handshake.specs.declared.session.Offer.{Offer}
 use Rattle.vio_tag.specs.declared.cause.Cause.{Cause}
 use Rattle.channel_model.specs.TranscriptLog.{TranscriptLog, nothing_said, transcript_of}
-use Rattle.channel_model.specs.WireEvent.{Blocked, ByStep, Giver, Injected, Joined, Lost, Poked, Reset, Sent, Took, giver}
+use Rattle.channel_model.specs.WireEvent.{Blocked, Giver, Injected, Joined, Lost, Poked, Reset, Sent, Took, giver}
 use Rattle.channel_model.specs.WireLog.{WireLog, wire_moved}
 use Rattle.channel_laws.proofs.Apart.{true_is_false}
 use Rattle.channel_laws.proofs.EndStanding.{fresh_end_stands, stands_step}
@@ -25,12 +25,8 @@ use Rattle.channel_laws.specs.Sides.{Sides, anew, goes_on, missed, other, put, s
 use Rattle.channel_laws.specs.Standing.{EndStands}
 
 -- THE TURNS of each end are those of its moves
-reset_turns : (g : Giver) (turns : List Turn) (cause : Cause) (packet : Option (List ℕ)) → turns_after turns (reset_move g cause packet) ≡ []
-reset_turns ByStep turns cause packet = refl
-reset_turns _ turns cause packet = refl
-
 pub transcript_turns : (e : End) (l : TranscriptLog) (event : CoreEvent) → transcript_of e (transcript_after l event) ≡ turns_after (transcript_of e l) (move_of e event)
-transcript_turns e l event = grind (arith, reset_turns)
+transcript_turns e l event = grind arith
 
 -- A LAW OF ONE END, each move keeping it, is one of both ends along every run
 pub record EndsAll (P : Role → EndCore → List Turn → Type 0) (s : LaneCore) (transcript : TranscriptLog) : Type 0 where
@@ -86,7 +82,7 @@ renews_anew Responder c t renews = record { link = renews.link; handshake = inr 
 
 pub resets_anew : (g : Giver) (role : Role) (c t : EndCore) (turns : List Turn) (cause : Cause) (packet : Option (List ℕ)) → EndStands role c turns
     → EndStep role c (reset_move g cause packet) t → EndAnew role c t
-resets_anew g role c t turns cause packet stands step = grind (arith, begins_anew, renews_anew)
+resets_anew g role c t turns cause packet stands step = grind arith
 
 -- both ends and what holds of them, from the side of each
 record Kept (Holds : Role → Sides → Type 0) (n : ℕ) (w : WireLog) (a b : EndCore) (transcript : TranscriptLog) : Type 0 where
@@ -193,7 +189,7 @@ pub record CoreHolds (Holds : Role → Sides → Type 0) (s : LaneCore) (transcr
 
 -- nobody had forged before
 was_clean : (w : WireLog) (event : CoreEvent) → (wire_after w event).forged ≡ false → w.forged ≡ false
-was_clean w event clean = grind (arith, forged_never)
+was_clean w event clean = grind arith
 
 pub core_step : (Holds : Role → Sides → Type 0) → ActsKeep Holds → (s : LaneCore) (transcript : TranscriptLog) (event : CoreEvent) (t : LaneCore) → CoreHolds Holds s transcript → CoreStep s event t
     → CoreHolds Holds t (transcript_after transcript event)

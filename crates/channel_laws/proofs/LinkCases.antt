@@ -16,7 +16,6 @@ use Rattle.ldc_queue.specs.Fragments.{fragment_at, is_part}
 use Rattle.ldc_queue.specs.Messages.{MayCome}
 use Rattle.ldc_queue.specs.Numbered.{is_numbered}
 use Rattle.ldc_link.proofs.Hearing.{heard_step, numbered_rightly}
-use Rattle.ldc_link.proofs.Saying.{same_pair}
 use Rattle.ldc_link.proofs.Spelled.{has_number, has_part, spelled_fragment, spelled_numbered, spelled_part}
 use Rattle.ldc_link.specs.declared.phase.LinkPhase.{LinkPhase}
 use Rattle.ldc_link.specs.declared.phase.LinkPhase.TheVariants as phase
@@ -124,7 +123,7 @@ rtr_heard k m bytes ph s n mode at one spelled is = absurd (not_heard m _ is)
 
 rdx_heard : (k m : LinkState) (bytes : List ℕ) (ph : LinkPhase) (s : Subtype) (n : ℕ) → k.phase ≡ ph → n ≡ k.take_next → IsSpelled bytes s n Rdx
     → count (goes_to k (phase_behind_rdx ph s)) ≡ Heard m → LinkHeard k bytes m
-rdx_heard k m bytes ph s n at next spelled is = grind (arith, packet_of, heard_is, not_heard)
+rdx_heard k m bytes ph s n at next spelled is = grind arith
 
 pub established : (ph : LinkPhase) → is_established ph ≡ true → ph ≡ phase.Established
 established phase.Established up = refl
@@ -167,7 +166,7 @@ record ItPuts (one : Packet) (n : LinkState) (bytes : List ℕ) (m : LinkState) 
   behind : m ≡ n
 
 it_puts : (one p : Packet) (n m : LinkState) (bytes : List ℕ) → ◌≡◌ {A = Option (Packet × LinkState)} (Some (one, n)) (Some (p, m)) → bytes ≡ canonical p → ItPuts one n bytes m
-it_puts one p n m bytes is spelled = grind (arith, same_pair)
+it_puts one p n m bytes is spelled = grind arith
 
 abbrev behind_in : LinkPhase → LinkState → LinkState
 behind_in ph k = record k {
@@ -179,7 +178,7 @@ behind_in ph k = record k {
 
 part_gone : (left : List ℕ) (k m : LinkState) (p : Packet) (bytes : List ℕ) → k.phase ≡ phase.Established → k.to_send ≡ left
     → with_link (part_owed k left) (behind_in phase.Established k) ≡ Some (p, m) → bytes ≡ canonical p → LinkPut k bytes m
-part_gone left k m p bytes at is_holds is spelled = grind (arith, it_puts)
+part_gone left k m p bytes at is_holds is spelled = grind arith
 
 put_in : (ph : LinkPhase) (k m : LinkState) (p : Packet) (bytes : List ℕ) → k.phase ≡ ph → with_link (owed_in ph k) (behind_in ph k) ≡ Some (p, m) → bytes ≡ canonical p
     → LinkPut k bytes m
@@ -210,7 +209,7 @@ link_put k m bytes puts = put_in k.phase k m puts.packet bytes refl puts.next pu
 -- WHAT THE BYTES SAY of it
 pub control_quiet : (bytes : List ℕ) (s : Subtype) (b : Body) → IsPacket bytes s b → has_number b ≡ false → (is_numbered bytes ≡ false) × (is_part bytes ≡ false)
 unfolding has_number has_part
-control_quiet bytes s b packet without = grind (arith, spelled_numbered, spelled_part)
+control_quiet bytes s b packet without = grind arith
 
 pub ready_loud : (bytes : List ℕ) (s : Subtype) → IsPacket bytes s Rdx → (is_numbered bytes ≡ true) × (is_part bytes ≡ false)
 unfolding has_number has_part
@@ -229,7 +228,7 @@ canonical_is bytes s n b form widths is = record {
 
 pub taken_quiet : (before : LinkPhase) (bytes : List ℕ) (next : LinkPhase) → ControlTaken before bytes next → (is_numbered bytes ≡ false) × (is_part bytes ≡ false)
 unfolding has_number
-taken_quiet before bytes next taken = grind (arith, control_quiet)
+taken_quiet before bytes next taken = grind arith
 
 -- what is put is a packet, where a refused version is answered by 1.0 or 0.0
 pub put_quiet : (before : LinkPhase) (bytes : List ℕ) (next : LinkPhase) → OffersLittle before → ControlPut before bytes next → (is_numbered bytes ≡ false) × (is_part bytes ≡ false)

@@ -1,5 +1,5 @@
 -- Each act of an end keeps the two links at one place of their handshake, where nobody forged.
-use Rattle.std.proofs.Common.{◌≡◌, ℕ, ◌≤◌, ◌<◌, Bool, true, false, List, [], ◌∷◌, ◌++◌, drop, length, Some, inl, inr, refl, sym, ap, ◌∙◌, subst, arith, length-append}
+use Rattle.std.proofs.Common.{◌≡◌, ℕ, ◌≤◌, ◌<◌, Bool, true, false, List, [], ◌∷◌, ◌++◌, drop, length, Some, inr, refl, sym, ap, ◌∙◌, subst, arith, length-append}
 use Rattle.std.specs.Prelude.{slice_get}
 use Rattle.ldc_packet.proofs.Reading.{unpacked}
 use Rattle.ldc_packet.specs.declared.packet.Body.TheVariants.{Rdx}
@@ -27,12 +27,11 @@ use Rattle.vio_handshake.specs.declared.session.Offer.{Offer}
 use Rattle.channel_model.specs.TranscriptLog.{nothing_said}
 use Rattle.ldc_queue.specs.Wire.{peer_behind, queue_behind, upset}
 use Rattle.channel_model.specs.WireLog.{lossy_behind}
-use Rattle.channel_laws.proofs.Apart.{links_differ, true_is_false}
 use Rattle.channel_laws.proofs.Conversations.{held_phase}
 use Rattle.channel_laws.proofs.EndCases.{end_took}
 use Rattle.channel_laws.proofs.EndStanding.{held_stands}
 use Rattle.channel_laws.proofs.Lifting.{ActsKeep}
-use Rattle.channel_laws.proofs.LinkCases.{ControlGone, LinkHeard, LinkPut, ModeAnswered as ModeAnswered_, ModeOffered, PartGone, ReadyGone, VersionAnswered as VersionAnswered_, VersionOffered, VersionRefused, canonical_is, link_put, part_loud, put_quiet, ready_loud, taken_quiet}
+use Rattle.channel_laws.proofs.LinkCases.{ControlGone, LinkHeard, LinkPut, ModeAnswered as ModeAnswered_, ModeOffered, PartGone, ReadyGone, VersionAnswered as VersionAnswered_, VersionOffered, VersionRefused, canonical_is, link_put, part_loud, put_quiet, ready_loud}
 use Rattle.channel_laws.proofs.TurnCases.{SaysPart, says_part}
 use Rattle.channel_laws.specs.EndCore.{EndCore}
 use Rattle.channel_laws.specs.EndStep.{EndAnew, EndHears, EndSays}
@@ -54,31 +53,10 @@ at_first : (role : Role) → first_phase role ≡ phase_at role NothingPut
 at_first Initiator = refl
 at_first Responder = refl
 
-none_waits : (role : Role) (lossy : Bool) → Waits role lossy NothingPut []
-none_waits Initiator lossy = refl
-none_waits Responder lossy = refl
-
-none_said : (role : Role) → SaidAt role NothingPut []
-none_said Initiator = refl
-none_said Responder = refl
-
-none_heard : (role : Role) → HeardAt role NothingPut []
-none_heard Initiator = tt
-none_heard Responder = refl
-
--- of an end that is told that the queues were emptied nothing counts any more
-upset_phase : (x : ChannelState) (first now : LinkPhase) → live_phase (upset x) first now ≡ first
-upset_phase Up first now = refl
-upset_phase _ first now = refl
-
-upset_none : (x : ChannelState) (packets : List (List ℕ)) → live (upset x) packets ≡ []
-upset_none Up packets = refl
-upset_none _ packets = refl
-
 -- both begin
 emptied : (role : Role) (s : Sides) (state : ChannelState) (lossy : Bool) (t : EndCore) → live_phase state (first_phase role) t.link.phase ≡ first_phase role
     → LinksAt role (record s { lossy = lossy; mine = record { state = state; waiting = []; core = t; turns = [] }; theirs = record s.theirs { state = upset s.theirs.state; waiting = [] } })
-emptied role s state lossy t first = grind (arith, at_first, upset_phase, none_waits, none_said, upset_none, none_heard)
+emptied role s state lossy t first = grind (arith, at_first)
 
 -- one that wasn't up counted as one that begins
 woken : (role : Role) (s : Sides) (t : EndCore) → t.link.phase ≡ first_phase role → live_phase s.mine.state (first_phase role) s.mine.core.link.phase ≡ first_phase role
@@ -114,24 +92,16 @@ shut_links : (role : Role) (s : Sides) (t : EndCore) → LinksAt role (shut t s)
 shut_links role s t = emptied role s Down false t refl
 
 -- ONE IS LOST
-one_less : (lossy : Bool) (p : Packet) (waiting : List (List ℕ)) → AtMost lossy p waiting → AtMost true p (drop 1 waiting)
-one_less lossy p waiting (inl none) = inl (ap (drop 1) none.0, refl)
-one_less lossy p waiting (inr one) = inl (ap (drop 1) one, refl)
-
 all_less : (waiting : List (List ℕ)) → AllNumbered waiting → AllNumbered (drop 1 waiting)
 all_less [] all = tt
 all_less (one ∷ waiting) all = all.1
 
 waits_less : (role : Role) (lossy : Bool) (place : LinkPlace) (waiting : List (List ℕ)) → Waits role lossy place waiting → Waits role true place (drop 1 waiting)
-waits_less role lossy place waiting most = grind (arith, one_less, all_less)
+waits_less role lossy place waiting most = grind arith
 
 -- the other packet may have been lost as well
-or_lost : (lossy : Bool) (p : Packet) (waiting : List (List ℕ)) → AtMost lossy p waiting → AtMost true p waiting
-or_lost lossy p waiting (inl none) = inl (none.0, refl)
-or_lost lossy p waiting (inr one) = inr one
-
 waits_lossy : (role : Role) (lossy : Bool) (place : LinkPlace) (waiting : List (List ℕ)) → Waits role lossy place waiting → Waits role true place waiting
-waits_lossy role lossy place waiting most = grind (arith, or_lost)
+waits_lossy role lossy place waiting most = grind arith
 
 missed_links : (role : Role) (s : Sides) → LinksAt role s → LinksAt role (missed s)
 missed_links role s at = search (waits_less, waits_lossy)
@@ -157,31 +127,27 @@ parts_more : (packets : List (List ℕ)) (bytes : List ℕ) → EachPart packets
 parts_more [] bytes each one = (one, tt)
 parts_more (packet ∷ packets) bytes each one = (each.0, parts_more packets bytes each.1 one)
 
-ready_more : (packets : List (List ℕ)) (bytes : List ℕ) → ReadyFirst packets → IsPartOf bytes → ReadyFirst (packets ++ bytes ∷ [])
-ready_more [] bytes each one = absurd each
-ready_more (packet ∷ packets) bytes each one = (each.0, parts_more packets bytes each.1 one)
-
 one_waits : (waiting : List (List ℕ)) (bytes : List ℕ) (p : Packet) → waiting ≡ [] → bytes ≡ canonical p → waiting ++ bytes ∷ [] ≡ canonical p ∷ []
 one_waits waiting bytes p none is = ap (λ (q : List (List ℕ)). q ++ bytes ∷ []) none ∙ ap (λ (b : List ℕ). b ∷ []) is
 
 -- the places of a phase in which something is owed
 offers_at : (role : Role) (place : LinkPlace) → phase.OwesVersInfo ≡ phase_at role place → (role ≡ Initiator) × (place ≡ NothingPut)
-offers_at role place is = grind (arith, links_differ)
+offers_at role place is = grind arith
 
 answers_at : (role : Role) (place : LinkPlace) → phase.OwesVersAck ≡ phase_at role place → (role ≡ Responder) × (place ≡ VersionTaken)
-answers_at role place is = grind (arith, links_differ)
+answers_at role place is = grind arith
 
 refuses_at : (role : Role) (place : LinkPlace) (major : ℕ) → phase.OwesVersNack major ≡ phase_at role place → ⊥
-refuses_at role place major is = grind (arith, links_differ)
+refuses_at role place major is = grind arith
 
 asks_mode_at : (role : Role) (place : LinkPlace) → phase.OwesRts ≡ phase_at role place → (role ≡ Initiator) × (place ≡ AnswerTaken)
-asks_mode_at role place is = grind (arith, links_differ)
+asks_mode_at role place is = grind arith
 
 agrees_mode_at : (role : Role) (place : LinkPlace) → phase.OwesRtr ≡ phase_at role place → (role ≡ Responder) × (place ≡ ModeTaken)
-agrees_mode_at role place is = grind (arith, links_differ)
+agrees_mode_at role place is = grind arith
 
 pub ready_at : (role : Role) (place : LinkPlace) → phase.OwesRdx ≡ phase_at role place → (role ≡ Initiator) × (place ≡ ModeAgreed)
-ready_at role place is = grind (arith, links_differ)
+ready_at role place is = grind arith
 
 -- at a role and a place that are known
 put_at : (role r : Role) (place p : LinkPlace) (bytes : List ℕ) (now : LinkPhase) → (role ≡ r) × (place ≡ p) → PutPlace r p bytes now → PutPlace role place bytes now
@@ -258,7 +224,7 @@ ready_put bytes now ready has goes = record {
 
 part_put : (role : Role) (place : LinkPlace) (bytes : List ℕ) (now : LinkPhase) → phase.Established ≡ phase_at role place → IsPartOf bytes → is_numbered bytes ≡ true
     → now ≡ phase.Established → PutPlace role place bytes now
-part_put role place bytes now at part has goes = grind (arith, all_more, loud, ready_more, parts_more, links_differ)
+part_put role place bytes now at part has goes = grind (arith, all_more, parts_more)
 
 -- A PACKET IS PUT
 put_place : (role : Role) (place : LinkPlace) (k m : LinkState) (turns : List Turn) (bytes : List ℕ) → Follows k turns → k.phase ≡ phase_at role place → LinkPut k bytes m
@@ -324,7 +290,7 @@ pub record TheOne (p : Packet) (waiting : List (List ℕ)) (packet : List ℕ) :
   pub rest : drop 1 waiting ≡ []
 
 pub the_one : (lossy : Bool) (p : Packet) (waiting : List (List ℕ)) (packet : List ℕ) → AtMost lossy p waiting → slice_get waiting 0 ≡ Some packet → TheOne p waiting packet
-the_one lossy p waiting packet most first = grind (arith, nothing_first)
+the_one lossy p waiting packet most first = grind arith
 
 pub first_numbered : (waiting : List (List ℕ)) (packet : List ℕ) → AllNumbered waiting → slice_get waiting 0 ≡ Some packet → is_numbered packet ≡ true
 first_numbered [] packet all first = absurd (cc first)
@@ -360,7 +326,7 @@ heard_phase m n is = let same : m ≡ n = cc is in ap (λ (k : LinkState). k.pha
 
 -- one with a number, where the link is up or waits for RDX
 numbered_up : (k m : LinkState) (bytes : List ℕ) → is_numbered bytes ≡ true → LinkHeard k bytes m → m.phase ≡ phase.Established
-numbered_up k m bytes has heard = grind (arith, true_is_false, taken_quiet)
+numbered_up k m bytes has heard = grind arith
 
 one_heard : (packets : List (List ℕ)) (packet : List ℕ) → is_numbered packet ≡ true → 1 ≤ length (packets ++ numbered (packet ∷ []))
 one_heard packets packet is = omega (arith, ap length (loud packet packets is), length-append packets (packet ∷ []))

@@ -1,14 +1,12 @@
 -- A wire is lossy exactly where a packet was lost behind the last event that emptied the queues.
-use Rattle.std.proofs.Common.{◌≡◌, ◌≢◌, ℕ, Bool, true, List, [], ◌∷◌, ◌++◌, sym, ap, ◌∙◌, subst, inl, inr, ◌⊎◌, arith}
+use Rattle.std.proofs.Common.{◌≡◌, ℕ, true, List, [], ◌∷◌, ◌++◌, sym, ap, ◌∙◌, subst, inl, inr, ◌⊎◌, arith}
 use Rattle.runs.specs.Lawful.{Lawful, log_append, log_of}
 use Rattle.runs.specs.Run.{Run}
-use Rattle.ldc_queue.specs.declared.end.ChannelState.{ChannelState}
-use Rattle.ldc_queue.specs.declared.end.ChannelState.TheVariants.{Up}
 use Rattle.ldc_queue.specs.declared.end.End.{End}
-use Rattle.ldc_queue.specs.Wire.{queue_behind, waiting_for}
+use Rattle.ldc_queue.specs.Wire.{waiting_for}
 use Rattle.vio_handshake.specs.declared.session.Offer.{Offer}
 use Rattle.channel_model.specs.WireEvent.{Lost}
-use Rattle.channel_model.specs.WireLog.{WireLog, lossy_behind}
+use Rattle.channel_model.specs.WireLog.{WireLog}
 use Rattle.channel_laws.specs.CoreLog.{CoreLog, after, nothing_yet}
 use Rattle.channel_laws.specs.LaneCore.{CoreEvent, CoreFits, CoreStep, LaneCore, OnChannel, fresh_core}
 use Rattle.channel_laws.specs.LossStands.{Empties, EmptiesNone, LossAmong, LossStands}
@@ -20,17 +18,11 @@ pub record LosesOne (event : CoreEvent) : Type 0 where
   pub packet : List ℕ
   pub is : event ≡ OnChannel (Lost e packet)
 
-begun_lossy : (x : ChannelState) (lossy : Bool) → lossy_behind x lossy ≡ true → (lossy ≡ true) × (x ≢ Up)
-begun_lossy x lossy is = grind arith
-
-still_lossy : (x : ChannelState) (lossy : Bool) → x ≢ Up → lossy ≡ true → lossy_behind x lossy ≡ true
-still_lossy x lossy not is = grind arith
-
 was_lossy : (l : CoreLog) (event : CoreEvent) → (after l event).wire.lossy ≡ true → LosesOne event ⊎ ((l.wire.lossy ≡ true) × EmptiesNone l event)
-was_lossy l event is = grind (arith, begun_lossy)
+was_lossy l event is = grind arith
 
 stays_lossy : (l : CoreLog) (event : CoreEvent) → l.wire.lossy ≡ true → EmptiesNone l event → (after l event).wire.lossy ≡ true
-stays_lossy l event is keeps = grind (arith, still_lossy)
+stays_lossy l event is keeps = grind arith
 
 -- ALL EVENTS
 shifted : (l : CoreLog) (event : CoreEvent) (events : List CoreEvent) → LossAmong (after l event) events → LossAmong l (event ∷ events)
@@ -98,8 +90,5 @@ loss_kept entries asks answers events s fits run loss =
     ap (λ (w : WireLog). w.lossy) (wire_is entries asks answers events s fits run) ∙ lossy_in_log entries events loss
 
 -- what empties the queues
-none_left : (x : ChannelState) (waiting : List (List ℕ)) → x ≡ Up → queue_behind x waiting ≡ []
-none_left x waiting up = grind arith
-
 pub queues_emptied : (l : CoreLog) (event : CoreEvent) (e : End) → Empties l event → waiting_for e (after l event).wire.wire ≡ []
-queues_emptied l event end up = grind (arith, none_left)
+queues_emptied l event end up = grind arith

@@ -37,7 +37,6 @@ use Rattle.channel_model.specs.Sayings.{count_heard, count_said, half_heard, hal
 use Rattle.channel_model.specs.TranscriptLog.{more_if}
 use Rattle.channel_model.specs.WireAt.{IsHeard, IsHeardPart, IsSaid, IsSaidPart, WireHeardAt, WireSaidAt, counts_next}
 use Rattle.channel_model.specs.WireEvent.{WireEvent}
-use Rattle.channel_laws.proofs.Apart.{true_is_false}
 use Rattle.channel_laws.proofs.ConversingRuns.{converse_keeps, first_converse}
 use Rattle.channel_laws.proofs.CoreRuns.{Knows, knows_run}
 use Rattle.channel_laws.proofs.EndStanding.{held_stands}
@@ -73,7 +72,7 @@ number_of false bytes n counts has = absurd (cc has)
 -- WHAT IS SAID: a packet of the link's handshake, RDX, or the next part of a message
 without_part : (turns : List Turn) (bytes : List ℕ) (packet : Packet) → IsWellFormed packet → HasWidths packet → bytes ≡ canonical packet
     → (is_numbered bytes ≡ true → seqid_at bytes ≡ counts_next (count_said turns)) → is_part bytes ≡ false → IsSaid turns bytes
-without_part turns bytes packet form fits is number none = grind (arith, true_is_false)
+without_part turns bytes packet form fits is number none = grind arith
 
 twice : (a b : Bool) → a ≡ not b → not a ≡ b
 twice a true is = ap not is

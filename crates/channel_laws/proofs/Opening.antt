@@ -20,7 +20,7 @@ use Rattle.vio_tag.specs.Spelling.{SpellsMessage, canonical, envelope_code}
 use Rattle.vio_handshake.specs.declared.handshake.Handshake.{Handshake}
 use Rattle.vio_handshake.specs.declared.handshake.Phase.{Phase}
 use Rattle.vio_handshake.specs.declared.handshake.Phase.TheVariants.{Attributes, Down, Open, OwnReady, OwnRing, PeerReady, PeerReadyTaken, PeerRing, PeerRingTaken, Version}
-use Rattle.channel_model.specs.HandshakeOrder.{ComesUpBelow, EndsAs, FollowsRow, Hears, HearsControl, Line, MayEnd, Meets, Says, SaysControl, opening_lines, own_ring_lines, row, sid_in_bytes}
+use Rattle.channel_model.specs.HandshakeOrder.{ComesUpBelow, EndsAs, FollowsRow, Hears, HearsControl, Line, MayEnd, Meets, Says, SaysControl, opening_lines, row, sid_in_bytes}
 use Rattle.channel_model.specs.Sayings.{half_heard, half_said}
 use Rattle.channel_laws.proofs.HandshakeCases.{NothingFollows}
 use Rattle.channel_laws.proofs.TurnCases.{EndsBy}
@@ -157,14 +157,8 @@ pub says_aside : (role : Role) (sid : ℕ) (lines : List Line) (turns : List Tur
 says_aside role sid [] turns bytes up is may follows = absurd up
 says_aside role sid (line ∷ lines) turns bytes up is may follows = inr (inl (up, is, may), follows)
 
-rows_up : (both : Bool) (role : Role) → ComesUpBelow (own_ring_lines both role ++ opening_lines role)
-rows_up true Initiator = tt
-rows_up true Responder = tt
-rows_up false Initiator = tt
-rows_up false Responder = tt
-
 pub comes_up : (both : Bool) (role : Role) (p : Phase) → IsComing both role p → ComesUpBelow (met both role p)
-comes_up both role p coming = grind (arith, rows_up)
+comes_up both role p coming = grind arith
 
 -- A MESSAGE THAT IS HEARD, by its fields
 pub heard_line : (turns : List Turn) (packet bytes : List ℕ) (d : Message) (s : Subtype) (b : MsgBody) (sid : ℕ) → EndsBy turns packet bytes → SpellsMessage bytes d
@@ -211,4 +205,4 @@ may_end false bytes message stop is refusal = absurd (cc stop)
 -- either way the row is followed up to this message, or up to where it was
 pub last_follows : (both : Bool) (role : Role) (p : Phase) (sid : ℕ) (owed : Option Message) (message : Message) (turns : List Turn) (packet : List ℕ) → owed ≡ Some message
     → SaysWhole turns packet message → Comes both role p sid owed turns → FollowsRow role sid (met both role p) (Said packet ∷ turns)
-last_follows both role p sid owed message turns packet is says comes = grind (arith, next_said, says_aside, comes_up, may_end)
+last_follows both role p sid owed message turns packet is says comes = grind (arith, next_said, says_aside, may_end)

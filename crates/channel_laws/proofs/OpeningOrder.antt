@@ -1,5 +1,5 @@
 -- Along every run each session opens in the handshake's order, with one ring and with rings both ways.
-use Rattle.std.proofs.Common.{◌≡◌, ℕ, Bool, true, false, ◌⊎◌, inl, inr, Some, None, List, [], ◌∷◌, ◌++◌, drop, length, refl, sym, ap, ◌∙◌, subst, arith}
+use Rattle.std.proofs.Common.{◌≡◌, ℕ, Bool, true, false, ◌⊎◌, inl, inr, Some, None, List, [], ◌∷◌, ◌++◌, length, refl, sym, ap, ◌∙◌, subst, arith}
 use Rattle.std.specs.Prelude.{if◌then◌else◌, nat_eq}
 use Rattle.std.proofs.lemmas.Bool.{eqb-true, leb-true}
 use Rattle.std.proofs.lemmas.List.{take_all}
@@ -12,7 +12,7 @@ use Rattle.ldc_link.specs.declared.phase.LinkPhase.{LinkPhase}
 use Rattle.ldc_link.specs.declared.phase.LinkPhase.TheVariants as phase
 use Rattle.ldc_link.specs.declared.phase.Role.{Role}
 use Rattle.ldc_link.specs.declared.phase.Role.TheVariants.{Initiator, Responder}
-use Rattle.ldc_link.specs.LinkState.{LinkState, first_phase, fresh_link, is_established, is_up}
+use Rattle.ldc_link.specs.LinkState.{LinkState, fresh_link, is_established, is_up}
 use Rattle.ldc_link.specs.Putting.{control}
 use Rattle.ldc_queue.specs.declared.end.End.{End}
 use Rattle.ldc_queue.specs.declared.end.End.TheVariants.{A, B}
@@ -26,14 +26,14 @@ use Rattle.vio_handshake.specs.declared.handshake.Phase.TheVariants.{Open}
 use Rattle.vio_handshake.specs.declared.session.Offer.{Offer}
 use Rattle.vio_handshake.specs.Rules.{opens_by_put, put_in, handshake_sent, sid_fault}
 use Rattle.vio_handshake.specs.State.{handshake_up}
-use Rattle.channel_model.specs.HandshakeOrder.{ComesUpBelow, Control, FollowsRow, HandshakeOrder, IsControlOf, IsVersNack, RdxGiven, RtrAnswered, RtsAsked, VersAgreed, VersOffer}
+use Rattle.channel_model.specs.HandshakeOrder.{Control, FollowsRow, HandshakeOrder, IsControlOf, IsVersNack, RdxGiven, RtrAnswered, RtsAsked, VersAgreed, VersOffer}
 use Rattle.channel_model.specs.Sayings.{half_said}
 use Rattle.channel_model.specs.TranscriptLog.{transcript_of}
 use Rattle.channel_model.specs.WireEvent.{Sent as Sent_, Took as Took_}
-use Rattle.channel_laws.proofs.Apart.{false_is_true, none_is_some}
+use Rattle.channel_laws.proofs.Apart.{false_is_true}
 use Rattle.channel_laws.proofs.EndCases.{EndTook, NoMessage, PutControl, PutMore, PutOwn, PutReady, PutHandshake, PutWhat, Rises, TookMessage, TookOwn, TookHandshake, TookWhat, end_put, end_took, put_down, taken_down}
 use Rattle.channel_laws.proofs.EndResting.{StandsResting, held_handshake, of_sid, resting_step}
-use Rattle.channel_laws.proofs.EndStanding.{first_down, held_stands, holds_some, open_declines, opened_phase, stands_step}
+use Rattle.channel_laws.proofs.EndStanding.{held_stands, holds_some, open_declines, opened_phase, stands_step}
 use Rattle.channel_laws.proofs.EndUttering.{fresh_speaks}
 use Rattle.channel_laws.proofs.HandshakePlaces.{offer_in}
 use Rattle.channel_laws.proofs.HandshakesPlaced.{held_offer}
@@ -41,7 +41,7 @@ use Rattle.channel_laws.proofs.HandshakeCases.{RowTaken, row_sent}
 use Rattle.channel_laws.proofs.Conversations.{held_phase}
 use Rattle.channel_laws.proofs.Lifting.{EndsAll, ends_run}
 use Rattle.channel_laws.proofs.LinkCases.{behind_part, ControlHeard, ControlPut, ControlTaken, IsPacket, LinkHeard, ModeAgreed, ModeAsked, PartHeard, ReadyHeard, VersionAgreed, VersionAsked, taken_quiet}
-use Rattle.channel_laws.proofs.Opening.{EndCame, HandshakeComes, IsComing, IsNext, SaysWhole, any_sid, comes_up, hears_aside, hears_control, link_met, met, says_aside, sid_of}
+use Rattle.channel_laws.proofs.Opening.{EndCame, HandshakeComes, IsComing, SaysWhole, hears_aside, hears_control, link_met, says_aside}
 use Rattle.channel_laws.proofs.OpeningRows.{Comes_, GoesOn, Opens_, initiator_row, responder_row, sent_row}
 use Rattle.channel_laws.proofs.TurnCases.{SaysLast}
 use Rattle.channel_laws.specs.Cuts.{Carries, CarriesOwed, CarriesOwn}
@@ -98,7 +98,7 @@ control_heard Responder k m turns packet next of follows (ModeAgreed at is goes)
 -- and RDX, with which a responder's link is up
 ready_heard : (k : LinkState) (turns : List Turn) (packet : List ℕ) → k.phase ≡ phase.AwaitsRdx → IsPacket packet Info Rdx → FollowsRow Responder 0 (link_met Responder k.phase) turns
     → FollowsRow Responder 0 (link_met Responder phase.Established) (Heard packet ∷ turns)
-ready_heard k turns packet at is follows = grind (arith, link_met)
+ready_heard k turns packet at is follows = grind arith
 
 -- A CONTROL PACKET that is put
 spelled_control : (bytes : List ℕ) (p : Packet) (one : Control) → bytes ≡ canonical p → IsControlOf one (canonical p) → IsControlOf one bytes
@@ -130,11 +130,11 @@ refuses major = record { control = refl; of_subtype = refl; of_ctrl = refl }
 
 control_put : (role : Role) (k : LinkState) (turns : List Turn) (packet : List ℕ) (next : LinkPhase) → IsPhaseOf role k.phase → FollowsRow role 0 (link_met role k.phase) turns
     → ControlPut k.phase packet next → FollowsRow role 0 (link_met role next) (Said packet ∷ turns)
-control_put role k turns packet next of follows put = grind (arith, link_met, spelled_control, offers, asks_rts, agrees, refuses, answers_rtr, wrong_role)
+control_put role k turns packet next of follows put = grind (arith, offers, asks_rts, agrees, refuses, answers_rtr)
 
 -- THE LINK COMES UP
 up_comes : (role : Role) (h : Handshake) (turns : List Turn) → h.role ≡ role → FollowsRow role 0 (link_met role phase.Established) turns → HandshakeComes role (handshake_up h) turns
-up_comes role h turns is follows = grind (arith, link_met, of_sid, any_sid, sid_of)
+up_comes role h turns is follows = grind arith
 
 -- an initiator knows its sid
 initiator_sid : (both : Bool) (p : Phase) → IsComing both Initiator p → knows_sid p Initiator ≡ true
@@ -160,7 +160,7 @@ stays_down : (role : Role) (t : EndCore) (opens : Bool) (now : List Turn) → is
 stays_down role t opens now down not follows = search (never_now)
 
 goes_up : (role : Role) (t : EndCore) (opens : Bool) (now : List Turn) → is_up t.link ≡ true → opens ≡ false → (t.handshake.phase ≡ Open) ⊎ HandshakeComes role t.handshake now → OnIn role opens t now
-goes_up role t opens now up not comes = grind (arith, never_now)
+goes_up role t opens now up not comes = grind arith
 
 by_on : (role : Role) (t : EndCore) (opens : Bool) (now : List Turn) → is_up t.link ≡ true → GoesOn role t.handshake opens now → OnIn role opens t now
 by_on role t opens now up (Comes_ not comes) = goes_up role t opens now up not (inr comes)
@@ -174,15 +174,12 @@ same_comes role h g turns now is goes (inr comes) = inr (subst (λ (x : Handshak
 
 -- with a packet that stands aside
 heard_comes : (role : Role) (h : Handshake) (turns : List Turn) (packet : List ℕ) → h.owed ≡ None → HandshakeComes role h turns → HandshakeComes role h (Heard packet ∷ turns)
-heard_comes role h turns packet none comes = grind (arith, sid_of, none_is_some, hears_aside, met, comes_up)
+heard_comes role h turns packet none comes = grind (arith, hears_aside)
 
 -- a part that goes on stands aside, also of the message that is owed
-drop_up : (both : Bool) (role : Role) (p : Phase) (sid : ℕ) (message : Message) → IsComing both role p → IsNext (met both role p) sid message → ComesUpBelow (drop 1 (met both role p))
-drop_up both role p sid message coming next = grind (arith, met, comes_up)
-
 part_comes : (role : Role) (h : Handshake) (turns : List Turn) (packet : List ℕ) → is_part packet ≡ true → (fragment_at packet).stop ≡ false → HandshakeComes role h turns
     → HandshakeComes role h (Said packet ∷ turns)
-part_comes role h turns packet part stop comes = grind (arith, sid_of, says_aside, met, drop_up, comes_up)
+part_comes role h turns packet part stop comes = grind (arith, says_aside)
 
 -- an open session's handshake stays open, whatever is said
 open_in : (r : Role) (h : Handshake) → put_in r Open h ≡ record h { owed = None }
@@ -365,15 +362,11 @@ says_order role c t turns packet opens all says = by_what (end_put role c t turn
     by_what (PutHandshake not at link last handshake flag is_open) = put_handshake not at link last handshake flag (above at)
 
 -- EACH MOVE
-first_met : (role : Role) → link_met role (first_phase role) ≡ []
-first_met Initiator = refl
-first_met Responder = refl
-
 anew_came : (role : Role) (t : EndCore) → t.link ≡ fresh_link role → EndCame role t []
-anew_came role t is = grind (arith, link_met, first_met, never_now, first_down)
+anew_came role t is = grind arith
 
 same_came : (role : Role) (c t : EndCore) (turns : List Turn) → t.link.phase ≡ c.link.phase → t.handshake ≡ c.handshake → EndCame role c turns → EndCame role t turns
-same_came role c t turns link handshake came = grind (arith, link_met, same_comes)
+same_came role c t turns link handshake came = grind arith
 
 came_step : (role : Role) (c : EndCore) (move : EndMove) (t : EndCore) (turns : List Turn) → OrderStands role c turns → EndStep role c move t → EndCame role t (turns_after turns move)
 came_step role c Begins t turns all step = anew_came role t (step.link ∙ ap fresh_link all.knows.stands.link.role_is)
@@ -430,7 +423,7 @@ opens_hearing entries asks answers events s B packet t fits run step = end_took_
 -- THE OFFERS stay as they were
 offer_step : (asks answers : Offer) (role : Role) (c : EndCore) (move : EndMove) (t : EndCore) (turns : List Turn) → c.offer ≡ offer_in asks answers role → EndStep role c move t
     → t.offer ≡ offer_in asks answers role
-offer_step asks answers role c move t turns is step = grind (arith, said_offer, held_offer)
+offer_step asks answers role c move t turns is step = grind arith
 
 pub offers_stay : (entries : ℕ) (asks answers : Offer) (events : List CoreEvent) (s : LaneCore) → Run CoreStep (fresh_core entries asks answers) events s
     → (s.a.offer ≡ asks) × (s.b.offer ≡ answers)

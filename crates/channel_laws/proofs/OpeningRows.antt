@@ -18,7 +18,7 @@ use Rattle.vio_handshake.specs.Messages.{ack, info, nack, own_ring}
 use Rattle.vio_handshake.specs.Rules.{behind_ring, own_named}
 use Rattle.channel_model.specs.HandshakeOrder.{EndsAs, FollowsRow, HandshakeOrder, OpensBy, opening_lines, own_ring_lines, row}
 use Rattle.channel_model.specs.Sayings.{half_heard}
-use Rattle.channel_laws.proofs.Apart.{none_is_some, roles_differ}
+use Rattle.channel_laws.proofs.Apart.{roles_differ}
 use Rattle.channel_laws.proofs.HandshakeCases.{AttributesAgreed, AttributesAsked, AttributesRefused, Declined, NothingFollows, OneRingAgreed, Opened, Opens, Owes, OwnReadyFollows, PeerAgreed, ReadyAgreed, ReadyAsked, ReadyFollows, RingAgreed, RingAsked, RingFollows, RingRefused, RowSent, RowTaken, VersionAgreed, VersionAsked, VersionRefused}
 use Rattle.channel_laws.proofs.Opening.{Comes, HandshakeComes, IsComing, IsNext, Owing, SaysWhole, Waiting, any_sid, comes_up, heard_line, hears_aside, last_follows, met, said_line, sid_of}
 use Rattle.channel_laws.proofs.TurnCases.{EndsBy}
@@ -34,7 +34,7 @@ goes_so role t x opens now is not comes = Comes_ not (subst (λ (y : Handshake).
 
 -- where it owes nothing it waits
 waits_so : (role : Role) (h : Handshake) (turns : List Turn) → h.owed ≡ None → HandshakeComes role h turns → Waiting h.offer.both_rings role h.phase (sid_of h) h.owed turns
-waits_so role h turns none comes = grind (arith, sid_of, none_is_some)
+waits_so role h turns none comes = grind arith
 
 -- the facts of a message that it takes
 pub record Took (role : Role) (h : Handshake) (message : Message) (turns : List Turn) (packet : List ℕ) : Type 0 where

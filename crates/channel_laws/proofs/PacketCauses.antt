@@ -9,7 +9,7 @@ use Rattle.ldc_link.specs.declared.phase.Role.TheVariants.{Initiator, Responder}
 use Rattle.ldc_link.specs.Conversing.{IsData, fragment_of}
 use Rattle.ldc_link.specs.Following.{Follows}
 use Rattle.ldc_link.specs.LinkState.{LinkState, is_up}
-use Rattle.ldc_link.specs.Taking.{Heard, LinkTake, TakesBytes, Unheard, count, goes_to, may_come, phase_behind_rdx, phase_behind_rtr, phase_behind_rts, phase_behind_vers, takes_body, takes_decoded, takes_part, whole_of, with_part}
+use Rattle.ldc_link.specs.Taking.{Heard, LinkTake, TakesBytes, Unheard, count, goes_to, may_come, phase_behind_rdx, phase_behind_rtr, phase_behind_rts, phase_behind_vers, takes_body, takes_decoded, takes_part, with_part}
 use Rattle.ldc_link.proofs.Spelled.{has_number, has_part, spelled_fragment, spelled_numbered, spelled_part}
 use Rattle.ldc_packet.proofs.NoFault.{spelled_no_fault}
 use Rattle.ldc_packet.specs.declared.packet.Body.{Body}
@@ -26,20 +26,18 @@ use Rattle.ldc_queue.specs.Fragments.{Fragment, fragment_at, is_part}
 use Rattle.ldc_queue.specs.Numbered.{is_numbered}
 use Rattle.ldc_queue.specs.Transcript.{Turn}
 use Rattle.vio_handshake.specs.declared.handshake.Handshake.{Handshake}
-use Rattle.vio_handshake.specs.declared.handshake.Phase.{Phase}
 use Rattle.vio_handshake.specs.declared.handshake.Phase.TheVariants.{Open}
 use Rattle.vio_handshake.specs.declared.session.Offer.{Offer}
-use Rattle.vio_handshake.specs.Rules.{Faults, Goes, HandshakeTake, handshake_hear, handshake_take, is_declined, row, sid_fault}
+use Rattle.vio_handshake.specs.Rules.{handshake_take, is_declined, sid_fault}
 use Rattle.vio_tag.proofs.Deciding.{some_result}
 use Rattle.vio_tag.proofs.Reading.{one_result}
 use Rattle.vio_tag.specs.declared.cause.Cause.{Cause}
 use Rattle.vio_tag.specs.declared.cause.Cause.TheVariants as the_cause
 use Rattle.vio_tag.specs.declared.message.Message.{Message}
 use Rattle.vio_tag.specs.declared.message.MsgBody.{MsgBody}
-use Rattle.vio_tag.specs.declared.message.MsgBody.TheVariants.{Ver}
 use Rattle.vio_tag.specs.declared.message.TagFault.{TagFault}
 use Rattle.channel_model.proofs.SameSayings.{half_heard_is}
-use Rattle.channel_model.specs.Messages.{ended_by, whole_with}
+use Rattle.channel_model.specs.Messages.{ended_by}
 use Rattle.channel_model.specs.Sayings.{count_heard, half_heard}
 use Rattle.channel_model.specs.TranscriptLog.{transcript_of}
 use Rattle.channel_model.specs.WireAt.{counts_next}
@@ -55,26 +53,13 @@ use Rattle.channel_laws.specs.PacketCauses.{Judges, LinkJudged, WholeJudged, bod
 use Rattle.channel_laws.proofs.LinkCases.{established}
 
 -- THE MESSAGE: an open handshake declines what it takes, and all else is out of order
-open_row : (role : Role) (h : Handshake) (subtype : Subtype) (sid : ℕ) (body : MsgBody) → row role Open h subtype sid body ≡ Faults the_cause.Order
-open_row Initiator h subtype sid (Ver major minor class) = refl
-open_row _ h subtype sid _ = refl
-
-refused_if : (b : Bool) (h : Handshake) (take : HandshakeTake) → take ≡ Faults the_cause.Order → refused_by (if b then Goes h else take) ≡ (if b then None else Some the_cause.Order)
-refused_if true h take is = refl
-refused_if false h take is = ap refused_by is
-
-hear_refused : (h : Handshake) (subtype : Subtype) (sid : ℕ) (body : MsgBody) → h.phase ≡ Open
-    → refused_by (handshake_hear h subtype sid body) ≡ (if is_declined subtype body then None else Some the_cause.Order)
-hear_refused h subtype sid body open_now =
-    refused_if (is_declined subtype body) _ (row h.role h.phase h subtype sid body) (ap (λ (p : Phase). row h.role p h subtype sid body) open_now ∙ open_row h.role h subtype sid body)
-
 pub take_refused : (h : Handshake) (message : Message) → h.phase ≡ Open → sid_fault h.sid message.sid ≡ None
     → refused_by (handshake_take h message) ≡ (if is_declined message.subtype message.body then None else Some the_cause.Order)
-take_refused h message open_now sound = grind (arith, hear_refused)
+take_refused h message open_now sound = grind arith
 
 body_judged : (own : Message → Option Cause) (h : Handshake) (message : Message) (body : MsgBody) → message.body ≡ body → h.phase ≡ Open → sid_fault h.sid message.sid ≡ None
     → judged_body own h message body ≡ body_cause own message body
-body_judged own h message body is open_now sound = grind (arith, take_refused)
+body_judged own h message body is open_now sound = grind arith
 
 -- a sid that is known
 sid_judged : (b : Bool) (sid found : ℕ) (judged_rest rest : Option Cause) → (b ≡ true → judged_rest ≡ rest)
@@ -185,13 +170,9 @@ parted_whole turns packet true true k part is = is
 parted_whole turns packet true false k part is = tt
 parted_whole turns packet false comes k part is = tt
 
-same_whole : (b : Bool) (m : List ℕ) → whole_of b m ≡ whole_with b m
-same_whole true m = refl
-same_whole false m = refl
-
 ends_message : (k : LinkState) (turns : List Turn) (packet : List ℕ) (part : Fragment) → k.half_heard ≡ half_heard turns → is_part packet ≡ true → fragment_at packet ≡ part
     → (with_part k part).whole ≡ ended_by (half_heard turns) packet
-ends_message k turns packet part half is same = search (same_whole)
+ends_message k turns packet part half is same = search
 
 module _ (own : Message → Option Cause) (sid : ℕ) (turns : List Turn) (packet : List ℕ) (k : LinkState) (follows : Follows k turns) (up : is_up k ≡ true) where
   abbrev Holds : LinkTake → Type 0

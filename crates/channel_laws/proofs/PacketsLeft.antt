@@ -6,12 +6,11 @@ use Rattle.ldc_link.specs.declared.phase.LinkPhase.{LinkPhase}
 use Rattle.ldc_link.specs.declared.phase.LinkPhase.TheVariants as phase
 use Rattle.ldc_link.specs.declared.phase.Role.{Role}
 use Rattle.ldc_link.specs.declared.phase.Role.TheVariants.{Initiator, Responder}
-use Rattle.ldc_link.specs.LinkState.{LinkState, first_phase, is_established, offered}
+use Rattle.ldc_link.specs.LinkState.{LinkState, is_established}
 use Rattle.ldc_link.specs.Putting.{owes}
 use Rattle.ldc_queue.specs.Transcript.{Turn}
 use Rattle.vio_handshake.specs.declared.handshake.Handshake.{Handshake}
 use Rattle.vio_handshake.specs.declared.handshake.Phase.{Phase}
-use Rattle.vio_handshake.specs.declared.handshake.Phase.TheVariants.{Open, OwnReady, OwnRing, PeerReadyTaken, PeerRingTaken}
 use Rattle.vio_handshake.specs.Messages.{info, own_ring}
 use Rattle.vio_handshake.specs.Rules.{handshake_sent, opens_by_put}
 use Rattle.vio_handshake.specs.State.{begun, handshake_up, joined_handshake}
@@ -20,22 +19,18 @@ use Rattle.vio_tag.specs.declared.message.Message.{Message}
 use Rattle.vio_tag.specs.declared.message.MsgBody.TheVariants.{Rdx, Ver}
 use Rattle.vio_tag.specs.Spelling.{canonical}
 use Rattle.channel_model.specs.EndPuts.{EndsHandshake, PutKind, put_opens}
-use Rattle.channel_laws.proofs.Apart.{none_is_some, true_is_false}
 use Rattle.channel_laws.proofs.EndCases.{PutControl, PutHandshake, PutMore, PutOwn, PutReady, PutWhat, end_put}
-use Rattle.channel_laws.proofs.EndStanding.{few_offered, held_stands, holds_some, last_none, open_up, owing_up, up_empty}
+use Rattle.channel_laws.proofs.EndStanding.{few_offered, held_stands, holds_some, last_none}
 use Rattle.channel_laws.proofs.HandshakeCases.{RowSent, row_sent}
 use Rattle.channel_laws.proofs.LinkCases.{ControlPut, behind_part, behind_ready}
-use Rattle.channel_laws.proofs.Short.{short_within, some_bytes}
+use Rattle.channel_laws.proofs.Short.{short_within}
 use Rattle.channel_laws.proofs.TurnCases.{SaysLast}
 use Rattle.channel_laws.specs.EndCore.{EndCore, holds}
 use Rattle.channel_laws.specs.EndStep.{EndAnew, EndSays, EndStays, EndWaits, Holding, Holds, HoldsOn, kind_of}
-use Rattle.channel_laws.specs.PacketsLeft.{all_in, all_of, first_packets, held_left, later, later_in, left_in, messages_in, own_in, packets_left, parts, parts_owed}
+use Rattle.channel_laws.specs.PacketsLeft.{all_in, all_of, first_packets, held_left, later_in, left_in, messages_in, own_in, packets_left, parts, parts_owed}
 use Rattle.channel_laws.specs.Standing.{EndStands, HandshakeStands, is_open_in}
 
 -- SUMS
-left_more : (ph : LinkPhase) (all n m more : ℕ) → n ≤ m + more → left_in ph all n ≤ left_in ph all m + more
-left_more ph all n m more less = grind arith
-
 part_less : (xs : List ℕ) → 57 ≤ length xs → parts (length (drop 56 xs)) + 1 ≤ parts (length xs)
 part_less xs long = omega (arith, length-drop 56 xs, long)
 
@@ -56,9 +51,6 @@ held_part : (own : Bool) (xs ys : List ℕ) (owed : Option Message) → 1 ≤ le
 held_part own xs ys owed some more less = grind arith
 
 -- THE HANDSHAKE, as its link comes up
-later_at : (both_rings : Bool) (one other : Role) (at next : Phase) → one ≡ other → at ≡ next → later both_rings one at ≡ later both_rings other next
-later_at both_rings one other at next role phase_is = ap (λ (r : Role). later both_rings r at) role ∙ ap (later both_rings other) phase_is
-
 version_part : (sid major minor class : ℕ) → parts (length (canonical (info sid (Ver major minor class)))) ≡ 1
 version_part sid major minor class = omega (arith, length_canonical (info sid (Ver major minor class)))
 
@@ -67,27 +59,10 @@ ready_part sid = omega (arith, length_canonical (info sid Rdx))
 
 begun_left : (role : Role) (h : Handshake) → h.role ≡ role
     → later_in (begun role (joined_handshake h)) + parts_owed (begun role (joined_handshake h)).owed ≤ all_of h.offer.both_rings role
-begun_left role h is = grind (arith, later_at, version_part)
+begun_left role h is = grind (arith, version_part)
 
 pub up_left : (h : Handshake) → later_in (handshake_up h) + parts_owed (handshake_up h).owed ≤ all_in h
 up_left h = begun_left h.role h refl
-
--- once its message was put, the next one was counted
-ring_follows : (both_rings : Bool) → later both_rings Responder OwnRing + 5 ≤ later both_rings Responder PeerRingTaken
-ring_follows true = omega arith
-ring_follows false = omega arith
-
-ready_follows : (both_rings : Bool) → later both_rings Initiator OwnReady + 1 ≤ later both_rings Initiator PeerRingTaken
-ready_follows true = omega arith
-ready_follows false = omega arith
-
-own_ready_follows : (both_rings : Bool) → later both_rings Responder OwnReady + 1 ≤ later both_rings Responder PeerReadyTaken
-own_ready_follows true = omega arith
-own_ready_follows false = omega arith
-
-opens_last : (both_rings : Bool) → later both_rings Initiator Open ≡ 0
-opens_last true = refl
-opens_last false = refl
 
 ring_parts : (role : Role) (c : EndCore) (turns : List Turn) → EndStands role c turns → parts (length (canonical (info c.handshake.draft.sid (own_ring c.handshake.offer)))) ≤ 5
 ring_parts role c turns stands =
@@ -97,15 +72,11 @@ abbrev SentLeft : Handshake → Handshake → Type 0
 SentLeft h t = later_in t + parts_owed t.owed ≤ later_in h
 
 sent_left : (role : Role) (c : EndCore) (turns : List Turn) (t : Handshake) (opens : Bool) → EndStands role c turns → RowSent c.handshake t opens → SentLeft c.handshake t
-sent_left role c turns t opens stands sent = grind (arith, ready_follows, ready_part, later_at, ring_follows, ring_parts, own_ready_follows, opens_last)
+sent_left role c turns t opens stands sent = grind (arith, ready_part, ring_parts)
 
 -- IT BEGINS
-first_same : (role : Role) (all n : ℕ) → left_in (first_phase role) all n ≡ left_in (first_phase role) all 0
-first_same Initiator all n = refl
-first_same Responder all n = refl
-
 pub anew_packets : (role : Role) (c t : EndCore) → HandshakeStands role c.offer c.handshake → EndAnew role c t → packets_left t ≡ first_packets c.offer.both_rings role
-anew_packets role c t stands begins = grind (arith, first_same)
+anew_packets role c t stands begins = grind arith
 
 -- IT WORKS, or does nothing
 pub stays_packets : (c t : EndCore) → EndStays c t → packets_left t ≡ packets_left c
@@ -117,18 +88,14 @@ own_most HoldsOn = omega arith
 own_most _ = omega arith
 
 pub loud_none : (c held : EndCore) (what : Holding) → owes c.link ≡ true → Holds c what held → own_in what ≡ 0
-loud_none c held what loud holds = grind (arith, true_is_false)
+loud_none c held what loud holds = grind arith
 
 pub owing_none : (c held : EndCore) (message : Message) (what : Holding) → c.handshake.owed ≡ Some message → Holds c what held → own_in what ≡ 0
-owing_none c held message what owed holds = grind (arith, none_is_some)
-
-offered_left : (c held : EndCore) (message : Message) (more : ℕ) → c.link.to_send ≡ [] → held.link ≡ offered (canonical message) c.link → held.handshake ≡ c.handshake
-    → held_left held.own (canonical message) c.handshake.owed ≤ parts_owed c.handshake.owed + more → packets_left held ≤ packets_left c + more
-offered_left c held message more none link handshake less = grind (arith, held_empty, left_more)
+owing_none c held message what owed holds = grind arith
 
 pub held_packets : (role : Role) (c held : EndCore) (turns : List Turn) (what : Holding) → EndStands role c turns → Holds c what held
     → packets_left held ≤ packets_left c + own_in what
-held_packets role c held turns what stands is = grind (arith, owing_up, holds_some, some_bytes, offered_left, up_empty, held_other, open_up, held_own)
+held_packets role c held turns what stands is = grind arith
 
 pub waits_packets : (role : Role) (c t : EndCore) (turns : List Turn) → EndStands role c turns → (waits : EndWaits c t) → packets_left t ≤ packets_left c + own_in waits.what
 waits_packets role c t turns stands waits = held_packets role c t turns waits.what stands waits.holds
@@ -144,7 +111,7 @@ part_left held t left h at link is handshake less = grind arith
 
 ready_left : (role : Role) (held t : EndCore) (turns : List Turn) → EndStands role held turns → held.link.phase ≡ phase.OwesRdx → t.link ≡ behind_ready held.link
     → t.handshake ≡ handshake_up held.handshake → packets_left t + 1 ≤ packets_left held
-ready_left role held t turns stands at link handshake = grind (arith, up_left, held_empty)
+ready_left role held t turns stands at link handshake = grind (arith, up_left)
 
 last_left : (held t : EndCore) (turns : List Turn) (packet : List ℕ) (h : Handshake) → held.link.phase ≡ phase.Established → t.link ≡ behind_part held.link
     → SaysLast held.link turns packet → t.handshake ≡ h → later_in h + parts_owed h.owed + 1 ≤ messages_in held → packets_left t + 1 ≤ packets_left held
@@ -203,7 +170,7 @@ says_packets role c t turns packet opens stands says =
 
 -- WITH THE MESSAGES that it may begin
 held_more : (role : Role) (c held : EndCore) (turns : List Turn) (what : Holding) → EndStands role c turns → Holds c what held → held.more + own_in what ≤ c.more
-held_more role c held turns what stands is = grind (arith, open_up)
+held_more role c held turns what stands is = grind arith
 
 pub waits_left : (role : Role) (c t : EndCore) (turns : List Turn) → EndStands role c turns → EndWaits c t → packets_left t + t.more ≤ packets_left c + c.more
 waits_left role c t turns stands waits =

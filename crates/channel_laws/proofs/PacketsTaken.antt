@@ -1,6 +1,6 @@
 -- How many packets an end has still to put doesn't grow by what it takes, where nobody forged and each ring has at most five cookies.
-use Rattle.std.proofs.Common.{◌≡◌, ℕ, ◌+◌, ◌≤◌, Bool, true, false, Option, Some, List, [], ◌∷◌, ◌++◌, length, refl, sym, ap, ◌∙◌, subst, inl, inr, arith}
-use Rattle.std.specs.Prelude.{if◌then◌else◌, nat_eq, slice_get}
+use Rattle.std.proofs.Common.{◌≡◌, ℕ, ◌+◌, ◌≤◌, Bool, true, false, Some, List, [], ◌∷◌, ◌++◌, length, refl, sym, ap, ◌∙◌, subst, inl, inr, arith}
+use Rattle.std.specs.Prelude.{slice_get}
 use Rattle.std.proofs.lemmas.List.{length-take}
 use Rattle.runs.specs.Lawful.{log_of}
 use Rattle.runs.specs.Run.{Run}
@@ -9,7 +9,6 @@ use Rattle.ldc_link.specs.declared.phase.LinkPhase.TheVariants as phase
 use Rattle.ldc_link.specs.declared.phase.Role.{Role}
 use Rattle.ldc_link.specs.declared.phase.Role.TheVariants.{Initiator, Responder}
 use Rattle.ldc_link.specs.LinkState.{LinkState, first_phase, is_established, is_up}
-use Rattle.ldc_link.specs.Taking.{answer_to}
 use Rattle.ldc_queue.specs.declared.end.ChannelState.{ChannelState}
 use Rattle.ldc_queue.specs.declared.end.ChannelState.TheVariants.{Up}
 use Rattle.ldc_queue.specs.declared.end.End.{End}
@@ -41,7 +40,7 @@ use Rattle.channel_laws.proofs.Apart.{none_is_some, not_turn, true_is_false}
 use Rattle.channel_laws.proofs.ConversingRuns.{HeardFrom, hears_next}
 use Rattle.channel_laws.proofs.CoreRuns.{Knows}
 use Rattle.channel_laws.proofs.EndCases.{EndTook, NoMessage, Rises, TookHandshake, TookMessage, TookOwn, TookWhat, end_took, taken_down}
-use Rattle.channel_laws.proofs.EndStanding.{SameSending, heard_sending, holds_some, open_declines, up_empty}
+use Rattle.channel_laws.proofs.EndStanding.{SameSending, heard_sending, open_declines, up_empty}
 use Rattle.channel_laws.proofs.HandshakeCases.{HandshakeTook}
 use Rattle.channel_laws.proofs.HandshakePlaces.{AtPlace, IsOwn, Matches, deal, deal_fits, goes_alike, message_is, open_place, own_heard, owes_at, peer_said, place_bytes, who}
 use Rattle.channel_laws.proofs.HandshakesPlaced.{Meets, meets_keep, never_declined, peer_place}
@@ -56,7 +55,7 @@ use Rattle.channel_laws.specs.EndStep.{EndHears}
 use Rattle.channel_laws.specs.LaneCore.{CoreEvent, CoreFits, CoreStep, LaneCore, OnChannel, end_of, fresh_core}
 use Rattle.channel_laws.specs.LinkPlaces as link
 use Rattle.channel_laws.specs.LinkPlaces.{LinkPlace, live_phase}
-use Rattle.channel_laws.specs.PacketsLeft.{all_in, held_left, later, later_in, left_in, messages_in, packets_left, parts, parts_owed}
+use Rattle.channel_laws.specs.PacketsLeft.{all_in, later, later_in, left_in, messages_in, packets_left, parts, parts_owed}
 use Rattle.channel_laws.specs.Sides.{Sides, other, sides_of, swapped, took}
 
 -- THE MESSAGES of a handshake: the registration of a ring and its answer take two packets at most, each other one
@@ -121,7 +120,7 @@ next_fewer both d role n few here turn = not_turn turn refl
 -- with the rings that its own offer says
 place_fewer : (both : Bool) (d : Deal) (role : Role) (n : Place) → FewCookies d → (offer_at d role).both_rings ≡ both → IsPlace both n → owner n ≡ Some (other role)
     → later_in (handshake_at both d role (next both n)) + parts_owed (handshake_at both d role (next both n)).owed ≤ later_in (handshake_at both d role n)
-place_fewer both d role n few rings here turn = grind (arith, next_fewer, phase_at, next)
+place_fewer both d role n few rings here turn = grind (arith, next_fewer)
 
 -- THE LINK
 -- no link refuses a version
@@ -132,29 +131,16 @@ refuses _ = false
 never_refuses : (role : Role) (place : LinkPlace) → refuses (link.phase_at role place) ≡ false
 never_refuses role place = grind arith
 
-by_tests : (b c : Bool) (all n : ℕ) → refuses (if b then phase.OwesVersAck else if c then phase.OwesVersNack 0 else phase.OwesVersNack 1) ≡ false
-    → left_in (if b then phase.OwesVersAck else if c then phase.OwesVersNack 0 else phase.OwesVersNack 1) all n ≤ all + 2
-by_tests true c all n fine = omega arith
-by_tests false true all n fine = absurd (cc fine)
-by_tests false false all n fine = absurd (cc fine)
-
-answer_left : (major all n : ℕ) → refuses (answer_to major) ≡ false → left_in (answer_to major) all n ≤ all + 2
-answer_left major all n fine = by_tests (nat_eq major 1) (nat_eq major 0) all n fine
-
 control_taken : (before next : LinkPhase) (bytes : List ℕ) (all n m : ℕ) → ControlTaken before bytes next → refuses next ≡ false → left_in next all n ≤ left_in before all m
-control_taken before next bytes all n m taken fine = grind (arith, answer_left)
+control_taken before next bytes all n m taken fine = grind arith
 
 -- BOTH UP
-held_same : (xs : List ℕ) (one two : Bool) (owed : Option Message) → (1 ≤ length xs → one ≡ two) → held_left one xs owed ≡ held_left two xs owed
-held_same [] one two owed same = refl
-held_same (x ∷ xs) one two owed same = ap (λ (b : Bool). held_left b (x ∷ xs) owed) (same (omega arith))
-
 up_fewer : (c t : EndCore) → c.link.phase ≡ phase.Established → t.link.phase ≡ phase.Established → messages_in t ≤ messages_in c → packets_left t ≤ packets_left c
 up_fewer c t was now less = grind arith
 
 same_fewer : (c t : EndCore) → c.link.phase ≡ phase.Established → t.link.phase ≡ phase.Established → t.link.to_send ≡ c.link.to_send → t.handshake ≡ c.handshake
     → (holds c.link ≡ true → holds t.link ≡ true → t.own ≡ c.own) → packets_left t ≤ packets_left c
-same_fewer c t was now left handshake own = grind (arith, holds_some, up_fewer, held_same)
+same_fewer c t was now left handshake own = grind arith
 
 -- sums over what is left, of numbers alone
 turn_sums : (now held was held_was next owed parts at : ℕ) → next + owed ≤ at → held ≡ parts → now ≡ next → parts ≡ owed → was ≡ at → now + held ≤ was + held_was

@@ -25,7 +25,7 @@ use Rattle.channel_model.specs.WireAt.{IsUp}
 use Rattle.channel_laws.proofs.Apart.{true_is_false}
 use Rattle.channel_laws.proofs.ConversingRuns.{converse_keeps, first_converse, heard_messages, messages_of, unheard}
 use Rattle.channel_laws.proofs.CoreRuns.{Knows, knows_run}
-use Rattle.channel_laws.proofs.EndResting.{StandsResting, open_rests}
+use Rattle.channel_laws.proofs.EndResting.{StandsResting}
 use Rattle.channel_laws.proofs.EndStanding.{open_up}
 use Rattle.channel_laws.proofs.EndUttering.{each_front}
 use Rattle.channel_laws.proofs.HandshakePlaces.{AtPlace, deal, open_place, place_open}
@@ -52,7 +52,7 @@ not_among message [] is among = among
 not_among message (bytes ∷ messages) is among = cc is
 
 pub open_heard : (role : Role) (c : EndCore) (turns : List Turn) → StandsResting role c turns → c.is_open ≡ true → heard turns ≡ [] → ⊥
-open_heard role c turns knows is none = grind (arith, open_rests, not_among)
+open_heard role c turns knows is none = grind arith
 
 -- BOTH ENDS ARE UP
 record Opens (s : LaneCore) : Type 0 where
@@ -178,15 +178,10 @@ open_sessions_begin entries asks answers events s fits matched run clean up open
     initiator_open asks answers s (log_of after (nothing_yet entries) events) (meets_knows entries asks answers events s fits matched run) clean up opened
 
 -- WHAT IS HEARD is as the other end has it
-said_of : (e : End) (s : LaneCore) (l : CoreLog) → Knows Converse s l
-    → SaysEach (role_of e) (end_of e s).handshake.phase (end_of e s).handshake.offer (end_of e s).handshake.draft (said (transcript_of e l.transcript))
-said_of A s l knows = knows.speaks.a.utters.said
-said_of B s l knows = knows.speaks.b.utters.said
-
 pub said_as_held : (entries : ℕ) (asks answers : Offer) (events : List CoreEvent) (s : LaneCore) (e : End) → CoreFits entries asks answers
     → Run CoreStep (fresh_core entries asks answers) events s
     → SaysEach (role_of e) (end_of e s).handshake.phase (end_of e s).handshake.offer (end_of e s).handshake.draft (said (transcript_of e (transcript_behind events)))
-said_as_held entries asks answers events s e fits run = grind (arith, transcript_is, said_of, converse_knows)
+said_as_held entries asks answers events s e fits run = grind (arith, transcript_is, converse_knows)
 
 pub heard_as_said : (entries : ℕ) (asks answers : Offer) (events : List CoreEvent) (s : LaneCore) (e : End) → CoreFits entries asks answers
     → Run CoreStep (fresh_core entries asks answers) events s → s.wire.forged ≡ false → IsUp e s.wire.wire

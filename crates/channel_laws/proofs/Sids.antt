@@ -1,5 +1,5 @@
 -- An initiator's last sid is how often its link came up, modulo 2^32; a responder counts none.
-use Rattle.std.proofs.Common.{◌≡◌, ℕ, ◌+◌, ◌%◌, Bool, true, false, List, [], ◌∷◌, Option, refl, sym, ap, ◌∙◌, arith}
+use Rattle.std.proofs.Common.{◌≡◌, ℕ, ◌+◌, ◌%◌, Bool, true, false, List, [], ◌∷◌, refl, sym, ap, ◌∙◌, arith}
 use Rattle.std.specs.Prelude.{⊤, nat_eq, ◌&&◌}
 use Rattle.std.proofs.lemmas.Bool.{eqb-true}
 use Rattle.runs.specs.Lawful.{log_of, run_lawful}
@@ -17,10 +17,8 @@ use Rattle.vio_handshake.specs.declared.handshake.Handshake.{Handshake}
 use Rattle.vio_handshake.specs.declared.session.Offer.{Offer}
 use Rattle.vio_handshake.specs.Rules.{handshake_sent}
 use Rattle.vio_handshake.specs.State.{handshake_up}
-use Rattle.vio_tag.specs.declared.cause.Cause.{Cause}
 use Rattle.vio_tag.specs.declared.message.Message.{Message}
-use Rattle.channel_model.specs.TranscriptLog.{TranscriptLog, is_rdx, more_if, nothing_said}
-use Rattle.channel_model.specs.WireEvent.{ByStep, Giver}
+use Rattle.channel_model.specs.TranscriptLog.{TranscriptLog, is_rdx, nothing_said}
 use Rattle.channel_laws.proofs.Apart.{roles_differ}
 use Rattle.channel_laws.proofs.EndCases.{EndTook, NoMessage, PutControl, PutMore, PutOwn, PutReady, PutHandshake, PutWhat, Rises, TookOwn, TookHandshake, TookWhat, end_put, end_took}
 use Rattle.channel_laws.proofs.EndResting.{held_handshake}
@@ -31,7 +29,7 @@ use Rattle.channel_laws.proofs.LinkCases.{canonical_is, put_quiet, ready_loud}
 use Rattle.channel_laws.specs.CoreLog.{comings_after}
 use Rattle.channel_laws.specs.EndCore.{EndCore, EndMove, Renews, Says}
 use Rattle.channel_laws.specs.EndStep.{EndHears, EndSays, EndStep}
-use Rattle.channel_laws.specs.LaneCore.{CoreEvent, CoreFits, CoreStep, LaneCore, fresh_core, move_of, reset_move, transcript_after}
+use Rattle.channel_laws.specs.LaneCore.{CoreEvent, CoreFits, CoreStep, LaneCore, fresh_core, move_of, transcript_after}
 use Rattle.channel_laws.specs.Standing.{EndStands}
 
 -- A PACKET that was put is RDX, or isn't
@@ -116,7 +114,7 @@ says_last role c t turns packet opens stands says = by_what (end_put role c t tu
 -- EACH MOVE
 last_step : (role : Role) (c : EndCore) (move : EndMove) (t : EndCore) (turns : List Turn) → EndStands role c turns → EndStep role c move t
     → t.handshake.last_sid ≡ sid_after role move c.handshake.last_sid
-last_step role c move t turns stands step = grind (arith, hears_last, says_last, held_handshake)
+last_step role c move t turns stands step = grind (arith, hears_last, says_last)
 
 zero_step : (c : EndCore) (move : EndMove) (t : EndCore) (turns : List Turn) → EndStands Responder c turns → EndStep Responder c move t → c.handshake.last_sid ≡ 0
     → t.handshake.last_sid ≡ 0
@@ -127,16 +125,8 @@ zero_step c (Says packet opens) t turns stands step zero =
 zero_step c move t turns stands step zero = last_step Responder c move t turns stands step ∙ zero
 
 -- EACH EVENT
-more_mod : (b : Bool) (last n : ℕ) → last ≡ n % 4294967296 → next_if b last ≡ more_if b n % 4294967296
-more_mod true last n is = omega (arith, is)
-more_mod false last n is = is
-
-reset_count : (g : Giver) (cause : Cause) (packet : Option (List ℕ)) (last n : ℕ) → last ≡ n % 4294967296 → sid_after Initiator (reset_move g cause packet) last ≡ n % 4294967296
-reset_count ByStep cause packet last n is = is
-reset_count _ cause packet last n is = is
-
 event_count : (event : CoreEvent) (last n : ℕ) → last ≡ n % 4294967296 → sid_after Initiator (move_of A event) last ≡ comings_after n event % 4294967296
-event_count event last n is = grind (arith, more_mod, reset_count)
+event_count event last n is = grind arith
 
 -- ALONG EVERY RUN
 record SidLog : Type 0 where

@@ -49,7 +49,7 @@ use Rattle.channel_laws.specs.Sides.{Sides, other, sides_of, swapped}
 
 -- A MESSAGE that became whole: the link was up before
 whole_up : (k m : LinkState) (packet bytes : List ℕ) → k.whole ≡ None → m.whole ≡ Some bytes → LinkHeard k packet m → is_up k ≡ true
-whole_up k m packet bytes none whole heard = grind (arith, next, none_is_some)
+whole_up k m packet bytes none whole heard = grind arith
 
 never_refused : (take answer : HandshakeTake) (h : Handshake) (cause : Cause) → take ≡ answer → GoesTo answer h → take ≡ Faults cause → ⊥
 never_refused take answer h cause is (inl goes) refused = let wrong : Goes h ≡ Faults cause = sym goes ∙ sym is ∙ refused in cc wrong

@@ -2,17 +2,14 @@
 -- have said all.
 use Rattle.std.proofs.Common.{◌≡◌, ◌≢◌, ℕ, zero, suc, ◌<◌, ◌≤◌, ◌⊎◌, inl, inr, Bool, true, false, Some, None, List, [], ◌∷◌, ◌++◌, take, length, refl, sym, ap, ◌∙◌, arith, length-append}
 use Rattle.std.specs.Prelude.{is_some}
-use Rattle.std.proofs.lemmas.Bool.{leb-false, leb-true}
-use Rattle.std.proofs.lemmas.List.{length-take}
 use Rattle.ldc_link.specs.declared.phase.Role.{Role}
 use Rattle.ldc_link.specs.declared.phase.Role.TheVariants.{Initiator, Responder}
 use Rattle.ldc_queue.specs.OneStream.{IsFront}
 use Rattle.ldc_queue.specs.Transcript.{Turn}
 use Rattle.vio_handshake.specs.declared.handshake.Handshake.{Handshake}
-use Rattle.vio_handshake.proofs.Places.{AllSaid, AttributesAnswered, Deal, IsPlace, PeerReadySaid, PeerRingSaid, Place, ReadyAnswered, RingAnswered, VersionAnswered, owner}
+use Rattle.vio_handshake.proofs.Places.{AllSaid, Deal, IsPlace, Place, owner}
 use Rattle.channel_model.specs.Sayings.{heard, said}
-use Rattle.channel_laws.proofs.Apart.{none_is_some, true_is_false}
-use Rattle.channel_laws.proofs.HandshakePlaces.{AtPlace, owes_at, owes_none, owes_not, who}
+use Rattle.channel_laws.proofs.HandshakePlaces.{AtPlace}
 use Rattle.channel_laws.proofs.Script.{all_places, before, behind, bytes_at, index, next_at, not_last, one_if, own_role, said_at, said_by, said_by-append, same_next}
 use Rattle.channel_laws.specs.Sides.{other}
 
@@ -24,7 +21,7 @@ past (x ∷ xs) ys n zero less = absurd (omega (arith, less))
 past (x ∷ xs) ys n (suc j) less = let more = past xs ys n j (omega (arith, less)) in (more.0, ap (λ (ps : List Place). x ∷ ps) more.1)
 
 before_long : (both : Bool) (n : Place) → IsPlace both n → n ≢ AllSaid → (length (before both n) ≡ index both n) × (index both n < length (all_places both))
-before_long both n here far = grind (arith, all_places, before, behind, next_at, length-append, length-take, index)
+before_long both n here far = grind arith
 
 all_long : (both : Bool) → index both AllSaid ≡ length (all_places both)
 all_long true = refl
@@ -53,7 +50,7 @@ data Order (n m : ℕ) : Type 0 where
   Later : m < n → Order n m
 
 order : (n m : ℕ) → Order n m
-order n m = grind (arith, leb-false, leb-true)
+order n m = grind arith
 
 -- what an end at a place said and heard, counted
 record Counts (both : Bool) (d : Deal) (mine theirs : Role) (n : Place) (told taken : ℕ) : Type 0 where
@@ -64,46 +61,25 @@ record Counts (both : Bool) (d : Deal) (mine theirs : Role) (n : Place) (told ta
 
 counts : (both : Bool) (d : Deal) (r : Role) (h : Handshake) (turns : List Turn) → (at : AtPlace both d r h turns)
     → Counts both d r (other r) at.place (length (said turns)) (length (heard turns))
-counts both d r h turns at = grind (arith, length-append, said_at)
+counts both d r h turns at = grind arith
 
 -- WHO OWES a message says the next, and who owes none waits for the other or is through
-owes_own : (both : Bool) (d : Deal) (r : Role) (h : Handshake) (turns : List Turn) → (at : AtPlace both d r h turns) → is_some h.owed ≡ true → owner at.place ≡ Some r
-owes_own both d r h turns at owed = grind (arith, who, true_is_false, owes_not, owes_none)
-
 owes_nothing : (both : Bool) (d : Deal) (r : Role) (h : Handshake) (turns : List Turn) → (at : AtPlace both d r h turns) → h.owed ≡ None
     → (owner at.place ≡ Some (other r)) ⊎ (at.place ≡ AllSaid)
-owes_nothing both d r h turns at none = grind (arith, who, none_is_some, owes_at)
+owes_nothing both d r h turns at none = grind arith
 
 both_own : (n m : Place) → n ≡ m → owner n ≡ Some Initiator → owner m ≡ Some Responder → ⊥
 both_own n m same one other = let wrong : Some Initiator ≡ Some Responder = sym one ∙ ap owner same ∙ other in cc wrong
 
-front_less : (xs ys : List (List ℕ)) → IsFront xs ys → length xs ≤ length ys
-front_less xs ys front = omega (arith, ap length front.1, length-append xs front.0)
-
 -- NEVER DO BOTH owe one, where each heard a front of what the other said
 pub never_both : (both : Bool) (d : Deal) (h g : Handshake) (mine theirs : List Turn) → (at : AtPlace both d Initiator h mine) → (there : AtPlace both d Responder g theirs)
     → is_some h.owed ≡ true → (is_some g.owed ≡ true) ⊎ (there.place ≡ AllSaid) → IsFront (heard theirs) (said mine) → IsFront (heard mine) (said theirs) → ⊥
-never_both both d h g mine theirs at there owed owing to_there to_here = grind (arith, order, index, owner, owes_own, not_last, counts, front_less, later, before_last, both_own, same_place)
+never_both both d h g mine theirs at there owed owing to_there to_here = grind arith
 
 -- THE INITIATOR HAS SAID ALL where a responder that heard a front of it has: the last message is the initiator's
-last_asked : (both : Bool) (d : Deal) (n : Place) → IsPlace both n → owner n ≡ Some Responder → length (said_at both d Initiator n) < length (said_at both d Initiator AllSaid)
-last_asked true d VersionAnswered here turn = omega arith
-last_asked true d AttributesAnswered here turn = omega arith
-last_asked true d RingAnswered here turn = omega arith
-last_asked true d PeerRingSaid here turn = omega arith
-last_asked true d ReadyAnswered here turn = omega arith
-last_asked true d PeerReadySaid here turn = omega arith
-last_asked false d VersionAnswered here turn = omega arith
-last_asked false d AttributesAnswered here turn = omega arith
-last_asked false d RingAnswered here turn = omega arith
-last_asked false d PeerRingSaid here turn = absurd here
-last_asked false d ReadyAnswered here turn = omega arith
-last_asked false d PeerReadySaid here turn = omega arith
-last_asked both d _ here turn = absurd (cc turn)
-
 pub initiator_done : (both : Bool) (d : Deal) (h g : Handshake) (mine theirs : List Turn) → (at : AtPlace both d Initiator h mine) → (there : AtPlace both d Responder g theirs)
     → there.place ≡ AllSaid → IsFront (heard theirs) (said mine) → at.place ≡ AllSaid
-initiator_done both d h g mine theirs at there last front = grind (arith, who, later, before_last, not_last, last_asked, said_at, counts, front_less)
+initiator_done both d h g mine theirs at there last front = grind arith
 
 -- BOTH HAVE SAID ALL where neither owes one and each heard all
 pub both_done : (both : Bool) (d : Deal) (h g : Handshake) (mine theirs : List Turn) → (at : AtPlace both d Initiator h mine) → (there : AtPlace both d Responder g theirs)

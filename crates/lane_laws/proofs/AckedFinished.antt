@@ -21,7 +21,6 @@ use Rattle.lane_laws.proofs.Agreeing.{front_sum}
 use Rattle.lane_laws.proofs.LaneCores.{transcript_is}
 use Rattle.lane_laws.proofs.HeardFront.{heard_messages, unheard_client}
 use Rattle.lane_laws.proofs.LaneCounting.{Knows, run_knows}
-use Rattle.channel_laws.proofs.Apart.{some_same}
 use Rattle.channel_laws.proofs.HandshakesPlaced.{up_or}
 use Rattle.lane_laws.specs.Counted.{ServerOrder, acked_of, announced_of, range_sum}
 use Rattle.lane_laws.specs.LaneTranscripts.{transcript_behind}
@@ -33,7 +32,7 @@ pub record SameRanges (o : Option ClientSession) (k : ClientCounts) : Type 0 whe
   pub acked : k.acked ≡ acked_of o
 
 pub same_ranges : (o : Option ClientSession) (done : ℕ) (q : Option ClientCounts) (k : ClientCounts) → q ≡ Some k → ClientAgrees o done q → SameRanges o k
-same_ranges o done q k is agrees = grind (arith, some_same)
+same_ranges o done q k is agrees = grind arith
 
 answered_most : (slots : ℕ) (o : Option ServerSession) (w : Option Work) (q : Option ServerCounts) (transcript : TranscriptLog) (finished descs : ℕ) → ServerOrder slots o q transcript.server → ServerAgrees o w q
     → IfServer q (λ d. (finished ≡ d.finished) × (descs ≡ d.descs)) → range_sum slots 2 (said transcript.server) ≤ finished

@@ -21,7 +21,7 @@ use Rattle.disk_model.specs.DiskEvent.{DiskEvent}
 use Rattle.disk_model.specs.LaneState.{IsShape, LaneState, Shape, fresh}
 use Rattle.disk_model.specs.LaneStep.{LaneStep}
 use Rattle.disk_model.specs.Offering.{client_offer, own_cookies}
-use Rattle.disk_model.specs.ServerState.{ServerSession, SlotRange, Work}
+use Rattle.disk_model.specs.ServerState.{ServerSession, Work}
 use Rattle.lane_laws.proofs.CarriedRuns.{AllStand, all_step, fresh_all}
 use Rattle.lane_laws.proofs.HeardFront.{heard_messages}
 use Rattle.lane_laws.proofs.LaneCounting.{Knows, run_knows}
@@ -30,7 +30,7 @@ use Rattle.lane_laws.proofs.OneSession.{client_in_session, one_session}
 use Rattle.lane_laws.proofs.LaneCores.{transcript_is}
 use Rattle.lane_laws.proofs.RangeSums.{sum_front}
 use Rattle.lane_laws.proofs.RingRuns.{issued_behind}
-use Rattle.lane_laws.specs.Counted.{InServerOrder, RangeStands, ServerOrder, acked_of, announced_of, range_sum}
+use Rattle.lane_laws.specs.Counted.{InServerOrder, ServerOrder, acked_of, announced_of, range_sum}
 use Rattle.lane_laws.specs.LaneTranscripts.{transcript_behind}
 use Rattle.lane_laws.specs.OneSession.{AreOneSession}
 use Rattle.channel_model.specs.Ranges.{wrapped}
@@ -58,7 +58,7 @@ server_open o w q d is agrees = grind arith
 
 order_of : (slots : ℕ) (o : Option ServerSession) (q : Option ServerCounts) (d : ServerCounts) (transcript : TranscriptLog) → q ≡ Some d → is_some o ≡ true → ServerOrder slots o q transcript.server
     → (session : ServerSession) × InServerOrder slots session d transcript.server
-order_of slots o q d transcript is now order = grind (arith, some_same)
+order_of slots o q d transcript is now order = grind arith
 
 record ClientOpen (o : Option ClientSession) (done : ℕ) (q : Option ClientCounts) : Type 0 where
   session : ClientSession
@@ -179,11 +179,6 @@ pub client_offers : (shape : Shape) (events : List DiskEvent) (s : LaneState) �
     → s.client.handshake.offer ≡ client_offer s.client.blocks s.client.slots
 client_offers shape events s sound run = (run_knows shape events s sound run).rests.client.fits.offer_is
 
--- what a server whose end is up has answered
-pub range_answered : (slots : ℕ) (range : Option SlotRange) (d : ServerCounts) → RangeStands slots range d → d.answered ≤ d.asked
-range_answered slots None d stands = omega (arith, stands)
-range_answered slots (Some range) d stands = omega (arith, stands.0)
-
 -- WHAT A SERVER WAS ASKED FOR, where its end is up
 pub record AskedWithin (s : LaneState) (l : DiskLog) (session : ServerSession) : Type 0 where
   pub asked : session.asked ≡ range_sum l.shape.slots 1 (heard l.transcript.server)
@@ -194,7 +189,7 @@ pub record AskedWithin (s : LaneState) (l : DiskLog) (session : ServerSession) :
 
 server_counts_of : (o : Option ServerSession) (w : Option Work) (q : Option ServerCounts) (session : ServerSession) → o ≡ Some session → ServerAgrees o w q
     → (d : ServerCounts) × (q ≡ Some d) × (session.asked ≡ wrapped d.asked)
-server_counts_of o w q session is agrees = grind (arith, some_same)
+server_counts_of o w q session is agrees = grind arith
 
 pub client_some : (o : Option ClientSession) (done : ℕ) (q : Option ClientCounts) (k : ClientCounts) → q ≡ Some k → ClientAgrees o done q → is_some o ≡ true
 client_some o done q k is agrees = grind arith

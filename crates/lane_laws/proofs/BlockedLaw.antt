@@ -24,15 +24,13 @@ use Rattle.lane_laws.specs.Sound.{InOrder}
 use Rattle.lane_laws.specs.WorkLaws.{client_handshake, server_handshake}
 use Rattle.lane_laws.proofs.ClientFolds.{calm_up, sends_some}
 use Rattle.lane_laws.proofs.ClientPutCounting.{OwnInfo, own_info}
-use Rattle.lane_laws.proofs.Counting.{of_client, of_server}
 use Rattle.lane_laws.proofs.EndsFold.{BothAre}
 use Rattle.lane_laws.proofs.RangeLaw.{AreTold}
 use Rattle.lane_laws.proofs.RulesFree.{ServerFree, puts_owe, server_free}
 use Rattle.lane_laws.proofs.Ruling.{client_may}
-use Rattle.lane_laws.proofs.ServerPutCounting.{all_finished}
 use Rattle.lane_laws.proofs.Sharing.{in_order}
 use Rattle.channel_laws.proofs.MessagesHeld.{owed_held}
-use Rattle.lane_laws.proofs.WorkNumbers.{Grounded, in_client, in_server, order_of}
+use Rattle.lane_laws.proofs.WorkNumbers.{Grounded}
 use Rattle.lane_laws.proofs.LaneViews.{at_client, at_server}
 
 -- what is known of both ends
@@ -53,7 +51,7 @@ by_control k false P is owing one other = other (sends_some k (calm_up k is owin
 
 -- THE CLIENT
 more_published : (s : LaneState) (l : DiskLog) (session : ClientSession) → Grounded s l → s.client.session ≡ Some session → session.announced < session.published → HasToPut A l
-more_published s l session grounded is more = grind (arith, of_client, in_client)
+more_published s l session grounded is more = grind arith
 
 client_left : (s : LaneState) (l : DiskLog) (own : Bool) → Told s l → is_announcing s.client.session ≡ own → 1 ≤ length s.client.link.to_send → HasToPut A l
 client_left s l true told own some =
@@ -83,7 +81,7 @@ client_to_put s l held told is = client_puts s l (client.client_rule s.client (a
 -- THE SERVER
 more_answered : (s : LaneState) (l : DiskLog) (session : ServerSession) (range : SlotRange) → Grounded s l → s.server.session ≡ Some session → session.range ≡ Some range
     → session.finished ≡ session.asked → HasToPut B l
-more_answered s l session range grounded is ranged ended = grind (arith, of_server, order_of, in_server, all_finished)
+more_answered s l session range grounded is ranged ended = grind arith
 
 server_left : (s : LaneState) (l : DiskLog) (owed : Option Message) → Told s l → s.server.handshake.owed ≡ owed → 1 ≤ length s.server.link.to_send → HasToPut B l
 server_left s l (Some message) told is some = inr (inl (some_owed s.server.handshake (server_handshake l) message told.are.server is))

@@ -14,7 +14,6 @@ use Rattle.disk_model.specs.LaneStep.{LaneStep}
 use Rattle.disk_model.specs.ServerPutting.{server_holds}
 use Rattle.disk_model.specs.ServerRule as server_rules
 use Rattle.lane_laws.proofs.ClientHolding.{holds_up}
-use Rattle.lane_laws.proofs.IdleRuns.{client_same, server_same}
 use Rattle.lane_laws.proofs.LaneCounting.{knows_step}
 use Rattle.lane_laws.proofs.Ruling.{client_may, server_may}
 use Rattle.lane_laws.proofs.ServerSpeaking.{server_holds_up}
@@ -58,10 +57,10 @@ abbrev pub ServerCalm : LaneState → DiskEvent → LaneState → Type 0
 ServerCalm s event t = ServerRested s event t ⊎ (ServerWaits s t ⊎ ServerOff s t)
 
 pub client_calm : (s : LaneState) (event : DiskEvent) (t : LaneState) → LaneStep s event t → IsCalm A event → ClientCalm s event t
-client_calm s event t step calm = grind (arith, client_same)
+client_calm s event t step calm = grind arith
 
 pub server_calm : (s : LaneState) (event : DiskEvent) (t : LaneState) → LaneStep s event t → IsCalm B event → ServerCalm s event t
-server_calm s event t step calm = grind (arith, server_same)
+server_calm s event t step calm = grind arith
 
 -- THE END IS STILL after it, and the other stays so
 abbrev pub StaysStill : End → LaneState → Type 0
@@ -78,10 +77,10 @@ pub waits_up_b : (s t : LaneState) → ServerWaits s t → s.wire.wire.end_b ≡
 waits_up_b s t waits = server_holds_up s.server (at_server s) (server_rules.server_rule s.server (at_server s)) t.server (server_may s.server (at_server s)) waits.holds
 
 client_still : (s : LaneState) (event : DiskEvent) (t : LaneState) → ClientCalm s event t → StaysStill A t
-client_still s event t calm = grind (arith, at_client, client_may, waits_up_a)
+client_still s event t calm = grind arith
 
 server_still : (s : LaneState) (event : DiskEvent) (t : LaneState) → ServerCalm s event t → ServerStays t
-server_still s event t calm = grind (arith, at_server, server_may, waits_up_b)
+server_still s event t calm = grind arith
 
 client_keeps : (s : LaneState) (event : DiskEvent) (t : LaneState) → ClientCalm s event t → ServerStays s → ServerStays t
 client_keeps s event t (inl rested) still = subst ServerStays (sym rested.same) still

@@ -40,10 +40,6 @@ same_acked : (o : Option ClientSession) → SameButAcked o o
 same_acked None = tt
 same_acked (Some s) = (refl, refl, refl, refl, refl)
 
-heard_agrees : (o p : Option ClientSession) (done n : ℕ) (k : Option ClientCounts) → SameButAcked o p → acked_of p ≡ acked_of o + n → ClientAgrees o done k
-    → ClientAgrees p done (change_client (λ (c : ClientCounts). record c { acked = c.acked + n }) k)
-heard_agrees o p done n k same more agrees = grind arith
-
 -- what is heard after one more packet
 record HeardOf (shape : Shape) (c t : ClientState) (turns : List Turn) (packet : List ℕ) : Type 0 where
   same : SameButAcked c.session t.session
@@ -51,7 +47,7 @@ record HeardOf (shape : Shape) (c t : ClientState) (turns : List Turn) (packet :
 
 hears_agrees : (shape : Shape) (c t : ClientState) (turns : List Turn) (packet : List ℕ) (done : ℕ) (k : Option ClientCounts) → ClientCounted shape c turns done k → HeardOf shape c t turns packet
     → ClientAgrees t.session done (change_client (λ (x : ClientCounts). record x { acked = x.acked + length_in shape.slots (range_ended 2 (half_heard turns) packet) }) k)
-hears_agrees shape c t turns packet done k counted heard_of = grind (arith, heard_agrees, sum_heard)
+hears_agrees shape c t turns packet done k counted heard_of = grind (arith, sum_heard)
 
 abbrev pub acks_more : Shape → List Turn → List ℕ → Option ClientCounts → Option ClientCounts
 acks_more shape turns packet k = change_client (λ (x : ClientCounts). record x { acked = x.acked + length_in shape.slots (range_ended 2 (half_heard turns) packet) }) k

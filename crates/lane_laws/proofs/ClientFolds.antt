@@ -2,7 +2,6 @@
 use Rattle.std.proofs.Common.{◌≡◌, ℕ, ◌+◌, ◌-◌, ◌≤◌, Bool, true, false, Option, Some, None, List, [], length, refl, sym, ap, ◌∙◌, subst, inl, inr, arith}
 use Rattle.std.specs.Prelude.{is_none, is_some, ◌&&◌}
 use Rattle.std.proofs.lemmas.Bool.{ltb-false}
-use Rattle.std.proofs.lemmas.Bool.Decides.{nat_tests}
 use Rattle.std.proofs.lemmas.List.{drop_all, length-append}
 use Rattle.ldc_link.specs.declared.phase.LinkPhase.{LinkPhase}
 use Rattle.ldc_link.specs.declared.phase.LinkPhase.TheVariants as phase
@@ -14,7 +13,6 @@ use Rattle.vio_tag.specs.declared.message.Message.{Message}
 use Rattle.vio_tag.specs.Spelling.{canonical}
 use Rattle.vio_handshake.specs.declared.handshake.Handshake.{Handshake}
 use Rattle.vio_handshake.specs.State.{handshake_up}
-use Rattle.channel_laws.proofs.MessagesHeld.{owed_held}
 use Rattle.lane_laws.specs.BlockLog.{Blockage, Clear, hearing, is_stuck, stuck}
 use Rattle.disk_model.specs.ClientPutting.{announcement, announced, announcing, client_holds, client_kind, holding, is_announcing, session_behind}
 use Rattle.disk_model.specs.ClientRule.{Announces, ClientRule, Puts, Says, client_rule}
@@ -29,7 +27,7 @@ use Rattle.channel_model.specs.Seeing.{Seen}
 use Rattle.lane_laws.proofs.ClientHolding.{info_long}
 use Rattle.lane_laws.proofs.ClientPutCounting.{own_info, put_as}
 use Rattle.lane_laws.proofs.ClientTaken.{ClientTook}
-use Rattle.channel_laws.proofs.Apart.{false_is_true, none_is_some, some_is_none, some_same, true_is_false}
+use Rattle.channel_laws.proofs.Apart.{none_is_some, some_same}
 use Rattle.channel_laws.proofs.PutSayings.{PutSays}
 use Rattle.channel_laws.proofs.EndStanding.{SameSending, open_up, owing_up}
 use Rattle.lane_laws.proofs.RulesFree.{puts_owe}
@@ -58,22 +56,18 @@ ClientIs c blockage = ClientIsBy c.link c.handshake c.session blockage
 pub link_begins : (k : LinkState) → k.to_send ≡ [] → LinkIs k Clear
 link_begins k empty = record { owes = λ never. absurd (cc); left = λ fresh some. absurd (omega (arith, some, ap length empty)) }
 
-hearing_stuck : (b : Blockage) → is_stuck (hearing b) ≡ is_stuck b
-hearing_stuck Clear = refl
-hearing_stuck _ = refl
-
 -- it takes a packet where its end isn't urgent
 pub owes_up : (k : LinkState) → is_up k ≡ true → 1 ≤ length k.to_send → owes k ≡ true
 owes_up k up some = grind arith
 
 pub sends_some : (k : LinkState) → is_up k ≡ true → owes k ≡ true → 1 ≤ length k.to_send
-sends_some k up owing = grind (arith, false_is_true)
+sends_some k up owing = grind arith
 
 pub calm_up : (k : LinkState) → owes_control k ≡ false → owes k ≡ true → is_up k ≡ true
 calm_up k calm owing = grind arith
 
 pub link_hears : (k m : LinkState) (b : Blockage) → SameSending k m → (is_up k ≡ true → is_up m ≡ true) → (is_stuck b ≡ true → owes_control k ≡ false) → LinkIs k b → LinkIs m (hearing b)
-link_hears k m b same stays calm is = grind (arith, hearing_stuck, calm_up, owes_up, sends_some)
+link_hears k m b same stays calm is = grind arith
 
 -- it puts one
 put_left : (k : LinkState) → (is_up k ≡ false → k.to_send ≡ []) → (behind_put k).begun ≡ false → (behind_put k).to_send ≡ []
@@ -96,7 +90,7 @@ link_stuck k b owing = record { owes = λ now. owing; left = λ fresh some. stuc
 
 -- an end whose link owes nothing isn't stuck
 pub not_stuck : (k : LinkState) (b : Blockage) → LinkIs k b → owes k ≡ false → b ≡ Clear
-not_stuck k b is quiet = grind (arith, true_is_false)
+not_stuck k b is quiet = grind arith
 
 -- IT BEGINS ANEW
 pub client_begins : (c : ClientState) → ClientIs (joined_client c) Clear
@@ -143,7 +137,7 @@ none_announced : (session : Option ClientSession) (h : Handshake) → is_announc
 none_announced session h quiet = quiet ∙ sym (and_false (is_some session))
 
 own_ends : (k : LinkState) (own : Bool) → own ≡ true → is_up k ≡ true → length k.to_send ≤ 56 → put_kind k own ≡ EndsOwn
-own_ends k own sure up short = grind (arith, nat_tests)
+own_ends k own sure up short = grind arith
 
 own_length : (c : ClientState) (turns : List Turn) → is_announcing c.session ≡ true → ClientHolds c turns → length c.link.to_send ≤ 56
 own_length c turns own holds =
@@ -188,12 +182,12 @@ client_puts_so turns packet EndsHandshake c at held says =
 -- IT IS BLOCKED
 stuck_again : (o : Option ClientSession) (h : Handshake) (b : Blockage) → Announcing o h b → (is_stuck b ≡ false → is_announcing o ≡ false → (is_some o && is_none h.owed) ≡ false)
     → Announcing o h (stuck b)
-stuck_again o h b is first = grind (arith, and_false)
+stuck_again o h b is first = grind arith
 
 -- what the link has to put is of the handshake, where the client doesn't announce
 first_stuck : (c : ClientState) (turns : List Turn) (o : Option ClientSession) (owed : Option Message) → c.session ≡ o → c.handshake.owed ≡ owed → ClientRests c turns
     → owes c.link ≡ true → is_announcing c.session ≡ false → (is_some o && is_none owed) ≡ false
-first_stuck c turns o owed is owes_is rests owing quiet = grind (arith, open_up, owed_held, sends_some, some_is_none)
+first_stuck c turns o owed is owes_is rests owing quiet = grind arith
 
 says_owes : (k : LinkState) (message : Message) → is_up k ≡ true → owes (offered (canonical message) k) ≡ true
 says_owes k message up = owes_up (offered (canonical message) k) up (some_bytes message)
@@ -202,7 +196,7 @@ held_is : (one other : ClientState) (b : Blockage) → Some one ≡ Some other �
 held_is one other b same is = let mine : one ≡ other = some_same same in subst (λ (x : ClientState). ClientIs x b) mine is
 
 none_stuck : (o : Option ClientSession) (h : Handshake) (b : Blockage) → b ≡ Clear → Announcing o h b → is_announcing o ≡ false
-none_stuck o h b clear is = grind (arith, and_false)
+none_stuck o h b clear is = grind arith
 
 owed_stuck : (o : Option ClientSession) (h : Handshake) (message : Message) (b : Blockage) → b ≡ Clear → h.owed ≡ Some message → Announcing o h b → Announcing o h (stuck b)
 owed_stuck o h message b clear owed is =
@@ -239,14 +233,10 @@ client_blocks_so s at _ t turns b rule may holds known is = none_is_some holds
 pub client_admits_so : (s : ClientState) (event : Admitted) (t : ClientState) (b : Blockage) → ClientAdmits s event t → ClientIs s b → ClientIs t b
 client_admits_so s event t b admits is = grind arith
 
-works_by : (s : ClientState) (next session : ClientSession) (b : Blockage) → s.session ≡ Some session → next.announcing ≡ session.announcing → ClientIs s b
-    → ClientIsBy s.link s.handshake (Some next) b
-works_by s next session b at same is = search
-
 pub client_publishes_so : (s : ClientState) (at : Seen) (memory : List ℕ) (id : ℕ) (t : ClientState) (new : List ℕ) (b : Blockage) → ClientPublishes s at memory id t new → ClientIs s b
     → ClientIs t b
-client_publishes_so s at memory id t new b step is = grind (arith, client_may, works_by)
+client_publishes_so s at memory id t new b step is = grind (arith, client_may)
 
 pub client_completes_so : (s : ClientState) (at : Seen) (memory : List ℕ) (id operation status : ℕ) (bytes : List ℕ) (t : ClientState) (new : List ℕ) (b : Blockage)
     → ClientCompletes s at memory id operation status bytes t new → ClientIs s b → ClientIs t b
-client_completes_so s at memory id operation status bytes t new b step is = grind (arith, client_may, works_by)
+client_completes_so s at memory id operation status bytes t new b step is = grind (arith, client_may)

@@ -1,5 +1,5 @@
 -- A client whose link gets a message to put: what always holds of it holds.
-use Rattle.std.proofs.Common.{◌≡◌, ℕ, ◌≤◌, ◌<◌, Bool, true, false, Some, List, [], length, refl, ap, subst, arith}
+use Rattle.std.proofs.Common.{◌≡◌, ℕ, ◌≤◌, ◌<◌, Bool, true, false, Some, List, [], length, refl, ap, arith}
 use Rattle.ldc_queue.specs.declared.end.ChannelState.TheVariants.{Up}
 use Rattle.vio_tag.proofs.Canonical.{length_canonical}
 use Rattle.vio_tag.specs.declared.message.Message.{Message}
@@ -10,9 +10,7 @@ use Rattle.disk_model.specs.ClientPutting.{announcement, announcing, client_hold
 use Rattle.disk_model.specs.ClientRule.{ClientRule}
 use Rattle.disk_model.specs.ClientState.{ClientSession, ClientState}
 use Rattle.channel_model.specs.Seeing.{Seen}
-use Rattle.channel_laws.proofs.Apart.{none_is_some, some_same}
 use Rattle.channel_laws.proofs.Short.{some_bytes}
-use Rattle.lane_laws.proofs.Sharing.{in_order}
 use Rattle.lane_laws.specs.RuleFacts.{ClientMay}
 use Rattle.lane_laws.specs.Sound.{ClientSound}
 
@@ -30,14 +28,11 @@ says_held s message sound = record { own = λ own. some_bytes message; slots = s
 
 announces_held : (s : ClientState) (session : ClientSession) → ClientSound s → s.session ≡ Some session → session.announced < session.published
     → ClientSound (announcing session (holding (announcement s session) s))
-announces_held s session sound is more = grind (arith, in_order, some_bytes)
-
-held_is : (one other : ClientState) → Some one ≡ Some other → ClientSound one → ClientSound other
-held_is one other is sound = let same : one ≡ other = some_same is in subst ClientSound same sound
+announces_held s session sound is more = grind (arith, some_bytes)
 
 pub client_held : (s : ClientState) (at : Seen) (rule : ClientRule) (held : ClientState) → ClientMay s at rule → client_holds rule s ≡ Some held → ClientSound s → ClientSound held
-client_held s at rule held may is sound = grind (arith, held_is, says_held, announces_held, none_is_some)
+client_held s at rule held may is sound = grind (arith, says_held, announces_held)
 
 -- where the rule puts at all, the end is up
 pub holds_up : (s : ClientState) (at : Seen) (rule : ClientRule) (held : ClientState) → ClientMay s at rule → client_holds rule s ≡ Some held → at.state ≡ Up
-holds_up s at rule held may is = grind (arith, none_is_some)
+holds_up s at rule held may is = grind arith

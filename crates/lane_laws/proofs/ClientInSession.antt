@@ -1,7 +1,7 @@
 -- A client in session, on a lane that nobody forged, hears the answer to the first of its ranges that has none, and goes on.
-use Rattle.std.proofs.Common.{◌≡◌, ℕ, ◌+◌, ◌%◌, ◌^◌, ◌<◌, ◌≤◌, Bool, true, false, Option, Some, None, List, [], ◌∷◌, ◌++◌, refl, sym, ap, ◌∙◌, subst, arith}
+use Rattle.std.proofs.Common.{◌≡◌, ℕ, ◌+◌, ◌%◌, ◌^◌, ◌<◌, ◌≤◌, Bool, true, false, Option, Some, None, List, [], ◌∷◌, ◌++◌, sym, ap, ◌∙◌, subst, arith}
 use Rattle.std.specs.Prelude.{is_some, if◌then◌else◌, Ok}
-use Rattle.std.proofs.lemmas.Bool.{and_from, le-leb, lt-ltb}
+use Rattle.std.proofs.lemmas.Bool.{le-leb}
 use Rattle.std.proofs.lemmas.Nat.{mod_below}
 use Rattle.runs.specs.Lawful.{log_of}
 use Rattle.runs.specs.Run.{Run}
@@ -17,7 +17,7 @@ use Rattle.vio_tag.specs.declared.cause.Cause.TheVariants as the_cause
 use Rattle.vio_tag.specs.declared.message.Message.{Message}
 use Rattle.vio_tag.specs.Spelling.{SpellsMessage}
 use Rattle.vio_handshake.proofs.Agreeable.{same_number}
-use Rattle.vio_handshake.proofs.Places.{AllSaid, Deal, handshake_at}
+use Rattle.vio_handshake.proofs.Places.{AllSaid, Deal}
 use Rattle.vio_handshake.specs.Rules.{sid_fault}
 use Rattle.channel_model.specs.Sayings.{heard, said}
 use Rattle.channel_model.specs.TranscriptLog.{TranscriptLog}
@@ -36,7 +36,7 @@ use Rattle.channel_laws.proofs.Apart.{some_same}
 use Rattle.channel_laws.proofs.EndStanding.{open_up}
 use Rattle.channel_laws.proofs.HandshakePlaces.{AtPlace, deal, open_place}
 use Rattle.channel_laws.specs.Sides.{sides_of}
-use Rattle.lane_laws.proofs.Agreeing.{front_sum, range_answered}
+use Rattle.lane_laws.proofs.Agreeing.{front_sum}
 use Rattle.lane_laws.proofs.LaneCores.{shape_of, transcript_is}
 use Rattle.lane_laws.proofs.DataHeard.{data_spells, decodes_to, read_data}
 use Rattle.lane_laws.proofs.HeardFront.{heard_messages}
@@ -53,14 +53,6 @@ use Rattle.lane_laws.specs.ChannelEnds.{client_core, core_of}
 pub same_is : (one other : ℕ) → one ≡ other → is_other one other ≡ false
 same_is one other is = ap (λ (x : ℕ). is_other one x) (sym is) ∙ ap (λ (b : Bool). if b then false else true) (same_number one)
 
-past : (b : Bool) (x y : ClientTake) → b ≡ false → (if b then x else y) ≡ y
-past true x y is = absurd (cc is)
-past false x y is = refl
-
-at_once : (b : Bool) (x y : ClientTake) → b ≡ true → (if b then x else y) ≡ x
-at_once true x y is = refl
-at_once false x y is = absurd (cc is)
-
 record AckFits (s : ClientState) (session : ClientSession) (n ident start end : ℕ) : Type 0 where
   sid : s.handshake.sid ≡ Some n
   named : s.handshake.draft.ident_own ≡ ident
@@ -70,7 +62,7 @@ record AckFits (s : ClientState) (session : ClientSession) (n ident start end : 
 
 takes_fitting : (s : ClientState) (session : ClientSession) (n ident start end : ℕ) → AckFits s session n ident start end
     → takes_ack s session ident start end ≡ GoesOn (acknowledged s session (range_length s.slots start end))
-takes_fitting s session n ident start end fits = search (past, same_is, at_once, and_from, lt-ltb, le-leb)
+takes_fitting s session n ident start end fits = search (same_is, le-leb)
 
 pub no_fault : (o : Option ℕ) (n : ℕ) → o ≡ Some n → sid_fault o n ≡ None
 no_fault None n is = absurd (cc is)
@@ -98,7 +90,7 @@ goes_on s session n ident start end bytes take is fits spells hears =
 -- WHAT IT MAY HEAR: as many slots as it announced
 pub answered_asked : (slots : ℕ) (o : Option ServerSession) (q : Option ServerCounts) (turns : List Turn) → ServerOrder slots o q turns
     → range_sum slots 2 (said turns) ≤ range_sum slots 1 (heard turns)
-answered_asked slots o q turns order = grind (arith, range_answered)
+answered_asked slots o q turns order = grind arith
 
 -- the next answer of the server is one that the client takes
 ack_fits : (shape : Shape) (d : Deal) (c : ClientState) (session : ClientSession) (turns : List Turn) (bytes : List ℕ)
@@ -106,7 +98,7 @@ ack_fits : (shape : Shape) (d : Deal) (c : ClientState) (session : ClientSession
     → acked_of c.session ≡ range_sum shape.slots 2 (heard turns) → (is : IsData Responder shape.slots d.sid (range_count 2 (heard turns)) (range_sum shape.slots 2 (heard turns)) bytes)
     → range_sum shape.slots 2 (heard turns ++ bytes ∷ []) ≤ session.announced
     → AckFits c session d.sid d.sid (range_sum shape.slots 2 (heard turns) % shape.slots) is.end
-ack_fits shape d c session turns bytes at last open_is slots few acked is most = grind (arith, mod_below, said_range, handshake_at, sum_more)
+ack_fits shape d c session turns bytes at last open_is slots few acked is most = grind (arith, said_range, sum_more)
 
 pub client_hears_in_session : (shape : Shape) (events : List DiskEvent) (s : LaneState) (session : ClientSession) (k : LinkState) (bytes : List ℕ) (take : ClientTake)
     → IsShape shape → Run LaneStep (fresh shape) events s → (log_of after (nothing_yet shape) events).wire.forged ≡ false

@@ -14,21 +14,19 @@ use Rattle.vio_tag.specs.declared.cause.Cause.TheVariants as the_cause
 use Rattle.vio_tag.specs.declared.message.Message.{Message}
 use Rattle.vio_tag.specs.Decoding.{Decodes}
 use Rattle.vio_tag.specs.Spelling.{canonical}
-use Rattle.vio_handshake.specs.declared.handshake.Handshake.{Handshake}
-use Rattle.vio_handshake.specs.Rules.{HandshakeTake, handshake_take}
-use Rattle.disk_model.specs.ClientPutting.{announced, announcement, announcing, client_holds, client_opens, client_put, holding, is_announcing, opened_if, session_behind}
+use Rattle.disk_model.specs.ClientPutting.{announcement, announcing, client_holds, client_opens, client_put, holding, is_announcing, session_behind}
 use Rattle.disk_model.specs.ClientRule.{Announces, ClientRule, Completes, Puts, Says, Takes, client_rule}
 use Rattle.disk_model.specs.ClientState.{ClientSession, ClientState, joined_client}
 use Rattle.disk_model.specs.ClientStep.{ClientAdmits, ClientCompletes, ClientFails, ClientPublishes, ClientSends}
 use Rattle.disk_model.specs.ClientTaking.{ClientTake, ClientTakes, GoesOn, HearsLink, Resets}
 use Rattle.disk_model.specs.DiskEvent.{Admitted}
-use Rattle.channel_model.specs.EndPuts.{PutKind, ending, kind_in, put_opens}
+use Rattle.channel_model.specs.EndPuts.{ending, kind_in}
 use Rattle.disk_model.specs.Offering.{client_offer}
 use Rattle.channel_model.specs.Seeing.{Seen}
 use Rattle.channel_laws.proofs.Apart.{none_is_some, some_same, true_is_false}
 use Rattle.channel_laws.specs.EndCore.{EndCore, holds}
-use Rattle.channel_laws.specs.EndStep.{EndBegins, EndFails, EndHears, EndSays, EndStays, EndWaits, HandshakeTakes, HearsWhole, Holding, Holds, HoldsOn, HoldsOwed, HoldsOwn, KeepsOwn, LinkFails, MayTake, WholeFails}
-use Rattle.lane_laws.proofs.ClientAnswers.{Answers, HandshakesTo, comes_to, goes_by}
+use Rattle.channel_laws.specs.EndStep.{EndBegins, EndFails, EndHears, EndSays, EndStays, EndWaits, HearsWhole, Holding, Holds, HoldsOn, HoldsOwed, HoldsOwn, KeepsOwn, LinkFails, MayTake, WholeFails}
+use Rattle.lane_laws.proofs.ClientAnswers.{Answers, comes_to, goes_by}
 use Rattle.lane_laws.proofs.ClientHolding.{client_held, not_own}
 use Rattle.channel_laws.proofs.EndStanding.{SameSending, heard_leaves, up_empty}
 use Rattle.lane_laws.proofs.RulesFree.{nothing_owed, takes_calm}
@@ -37,7 +35,7 @@ use Rattle.lane_laws.proofs.Sharing.{in_order, infos_few}
 use Rattle.lane_laws.specs.Budget.{infos_left, one_if}
 use Rattle.lane_laws.specs.ChannelEnds.{client_core}
 use Rattle.lane_laws.specs.RuleFacts.{ClientMay}
-use Rattle.lane_laws.specs.Sound.{ClientSound, CountsInOrder, InOrder}
+use Rattle.lane_laws.specs.Sound.{ClientSound, InOrder}
 
 -- IT BEGINS
 pub client_begins : (s t : ClientState) → t ≡ joined_client s → EndBegins (client_core s) (client_core t)
@@ -81,15 +79,8 @@ abbrev Comes : ClientState → LinkState → ClientTake → Type 0
 Comes s k (GoesOn t) = TookTo s (cleared k) t × HearsAs s k.whole t
 Comes s k (Resets cause) = FailsAs s k.whole cause
 
-goes_to : (s : ClientState) (k : LinkState) (message : Message) (opens : Bool) (h : Handshake) → HandshakesTo s.handshake (handshake_take s.handshake message) opens h
-    → HandshakeTakes Initiator (is_some s.session) (handshake_take s.handshake message) false (client_core (record s { link = k; handshake = h }))
-goes_to s k message false h is =
-    subst (λ (x : HandshakeTake). HandshakeTakes Initiator (is_some s.session) x false (client_core (record s { link = k; handshake = h }))) (sym is) (refl, refl, refl)
-goes_to s k message true h is =
-    subst (λ (x : HandshakeTake). HandshakeTakes Initiator (is_some s.session) x false (client_core (record s { link = k; handshake = h }))) (sym is) (refl, refl, refl)
-
 answers : (s : ClientState) (k : LinkState) (bytes : List ℕ) (message : Message) → k.whole ≡ Some bytes → Decodes bytes (Ok message) → Answers s (cleared k) message (Comes s k)
-answers s k bytes message whole decodes = grind (arith, goes_to)
+answers s k bytes message whole decodes = grind arith
 
 pub cleared_is : (k : LinkState) → k.whole ≡ None → k ≡ cleared k
 cleared_is k none = ap (λ (w : Option (List ℕ)). record k { whole = w }) none
@@ -235,18 +226,6 @@ held_open s at held sound is = let to = holds_by s at (client_rule s at) held so
 pub holds_none : (k : LinkState) (xs : List ℕ) (X : Type 0) → k.to_send ≡ xs → length xs ≤ 0 → holds k ≡ true → X
 holds_none k xs X is few up = grind arith
 
--- its session after it
-announced_open : (o : Option ClientSession) → is_some (announced o) ≡ is_some o
-announced_open None = refl
-announced_open (Some s) = refl
-
-opened_if_open : (b : Bool) (c : ClientState) → is_some (opened_if b c) ≡ (b || is_some c.session)
-opened_if_open true c = refl
-opened_if_open false c = refl
-
-behind_open : (kind : PutKind) (c : ClientState) → is_some (session_behind kind c) ≡ (put_opens kind c.handshake || is_some c.session)
-behind_open kind c = grind (arith, announced_open, opened_if_open)
-
 put_own_in : (ph : LinkPhase) (c : ClientState) (last : Bool) → c.link.phase ≡ ph → nat_le (length c.link.to_send) 56 ≡ last → is_up c.link ≡ true → holds (behind_put c.link) ≡ true
     → is_announcing (session_behind (kind_in ph c.link (is_announcing c.session)) c) ≡ is_announcing c.session
 put_own_in phase.Established c true at short up still =
@@ -256,21 +235,6 @@ put_own_in phase.Established c false at long up still =
     ap (λ (b : Bool). is_announcing (session_behind (ending b (is_announcing c.session)) c)) long
 put_own_in _ c last at short up still = true_is_false (sym up ∙ ap is_established at)
 
-infos_announced : (slots pending : ℕ) (open_one : Option ClientSession) → CountsInOrder pending open_one → is_announcing open_one ≡ true
-    → infos_left slots (announced open_one) ≤ infos_left slots open_one
-infos_announced slots pending None counts own = absurd (cc own)
-infos_announced slots pending (Some s) counts own = omega (arith, counts.own own, ap one_if own, counts.acked)
-
-own_ends : (c : ClientState) (last own : Bool) → is_announcing c.session ≡ own → ClientSound c → put_opens (ending last own) c.handshake ≡ false
-    → infos_left c.slots (session_behind (ending last own) c) ≤ infos_left c.slots c.session
-own_ends c true true is sound opens = infos_announced c.slots (length c.pending) c.session sound.counts is
-own_ends c true false is sound opens = omega (arith, ap (λ (b : Bool). infos_left c.slots (opened_if b c)) opens)
-own_ends c false own is sound opens = omega arith
-
-put_infos_in : (ph : LinkPhase) (c : ClientState) → ClientSound c → put_opens (kind_in ph c.link (is_announcing c.session)) c.handshake ≡ false
-    → infos_left c.slots (session_behind (kind_in ph c.link (is_announcing c.session)) c) ≤ infos_left c.slots c.session
-put_infos_in ph c sound opens = grind (arith, own_ends)
-
 record PutsTo (packet : List ℕ) (opens : Bool) (held t : ClientState) : Type 0 where
   handshake : t.handshake ≡ (client_put held).handshake
   is_open : is_some t.session ≡ (opens || is_some held.session)
@@ -279,7 +243,7 @@ record PutsTo (packet : List ℕ) (opens : Bool) (held t : ClientState) : Type 0
   more : opens ≡ false → infos_left t.slots t.session ≤ infos_left held.slots held.session
 
 puts_to : (packet : List ℕ) (opens : Bool) (held : ClientState) → ClientSound held → opens ≡ client_opens held → PutsTo packet opens held (client_put held)
-puts_to packet opens held sound is = grind (arith, behind_open, put_own_in, holds_and, put_infos_in)
+puts_to packet opens held sound is = grind (arith, put_own_in)
 
 pub client_says : (s : ClientState) (at : Seen) (memory packet : List ℕ) (opens : Bool) (t : ClientState) (new : List ℕ) → ClientSound s → ClientSound t
     → ClientSends s at memory packet opens t new → EndSays Initiator (client_core s) packet opens (client_core t)
@@ -308,7 +272,7 @@ pub client_same : (s t : ClientState) → t ≡ s → EndStays (client_core s) (
 client_same s t is = subst (λ (x : ClientState). EndStays (client_core s) (client_core x)) (sym is) (stays s)
 
 pub client_asked : (s : ClientState) (event : Admitted) (t : ClientState) → ClientAdmits s event t → EndStays (client_core s) (client_core t)
-client_asked s event t admits = grind (arith, client_same)
+client_asked s event t admits = grind arith
 
 pub client_published : (s : ClientState) (at : Seen) (memory : List ℕ) (id : ℕ) (t : ClientState) (new : List ℕ) → ClientPublishes s at memory id t new
     → EndStays (client_core s) (client_core t)

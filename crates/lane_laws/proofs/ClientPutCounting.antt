@@ -20,7 +20,6 @@ use Rattle.channel_model.specs.Ranges.{wrapped}
 use Rattle.dring.specs.Slots.{range_length}
 use Rattle.channel_laws.proofs.Apart.{false_is_true, some_same}
 use Rattle.channel_laws.proofs.PutSayings.{SaysWhole, SaysOn}
-use Rattle.channel_laws.proofs.EndStanding.{open_up}
 use Rattle.lane_laws.proofs.RangeSums.{count_more, count_said, sum_more, sum_said}
 use Rattle.lane_laws.proofs.RangeTurns.{range_turns}
 use Rattle.lane_laws.proofs.RangesSaid.{said_one, said_range}
@@ -39,10 +38,6 @@ SameButSaid (Some s) (Some t) = (t.base ≡ s.base) × (t.published ≡ s.publis
 pub same_said : (o : Option ClientSession) → SameButSaid o o
 same_said None = tt
 same_said (Some s) = (refl, refl, refl, refl)
-
-said_agrees : (o p : Option ClientSession) (done n m : ℕ) (k : Option ClientCounts) → SameButSaid o p → announced_of p ≡ announced_of o + n → infos_of p ≡ infos_of o + m → ClientAgrees o done k
-    → ClientAgrees p done (change_client (λ (c : ClientCounts). record c { announced = c.announced + n; infos = c.infos + m }) k)
-said_agrees o p done n m k same more one agrees = grind arith
 
 -- a client after a packet of this kind, and its counts in the log
 abbrev pub put_as : PutKind → ClientState → ClientState
@@ -63,7 +58,7 @@ pub record SaidOf (shape : Shape) (c : ClientState) (p : Option ClientSession) (
 
 pub says_agrees : (shape : Shape) (c : ClientState) (p : Option ClientSession) (turns : List Turn) (packet : List ℕ) (sid done : ℕ) (k : Option ClientCounts) → ClientCounted shape c turns done k
     → SaidOf shape c p turns packet → ClientAgrees p done (counts_as shape false turns packet sid done k)
-says_agrees shape c p turns packet sid done k counted says = grind (arith, said_agrees, sum_said, count_said)
+says_agrees shape c p turns packet sid done k counted says = grind (arith, sum_said, count_said)
 
 -- A PACKET THAT GOES ON
 on_holds : (c : ClientState) (turns : List Turn) (packet : List ℕ) → SaysOn c.link turns packet → ClientHolds c turns → ClientHolds (record c { link = behind_put c.link }) (Said packet ∷ turns)
@@ -87,7 +82,7 @@ goes_counting shape c turns packet sid done k on counted =
 pub comes_counting : (shape : Shape) (c : ClientState) (turns : List Turn) (packet : List ℕ) (sid done : ℕ) (k : Option ClientCounts) → ClientRests c turns → ClientUtters c turns → is_up c.link ≡ false
     → SaysOn c.link turns packet → ClientCounted shape c turns done k
     → ClientCounted shape (put_as ComesUp c) (Said packet ∷ turns) done (counts_as shape false turns packet sid done k)
-comes_counting shape c turns packet sid done k rests utters down on counted = grind (arith, open_up, false_is_true, says_agrees, same_said)
+comes_counting shape c turns packet sid done k rests utters down on counted = grind arith
 
 -- THE LAST PART of its own INFO: all that is published is announced
 pub record OwnInfo (c : ClientState) (bytes : List ℕ) : Type 0 where

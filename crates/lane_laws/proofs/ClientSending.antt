@@ -10,15 +10,8 @@ use Rattle.disk_model.specs.ClientState.{ClientSession, ClientState}
 use Rattle.channel_model.specs.EndPuts.{EndsHandshake, PutKind, ending, kind_in, put_opens}
 use Rattle.lane_laws.specs.Sound.{ClientSound, CountsInOrder}
 
-announced_counts : (pending : ℕ) (open_one : Option ClientSession) → CountsInOrder pending open_one → CountsInOrder pending (announced open_one)
-announced_counts pending open_one counts = grind arith
-
-opened_counts : (b : Bool) (c : ClientState) → CountsInOrder (length c.pending) c.session → CountsInOrder (length c.pending) (opened_if b c)
-opened_counts true c counts = record { completed = omega arith; acked = omega arith; announced = omega arith; published = omega arith; own = λ own. absurd (cc) }
-opened_counts false c counts = counts
-
 behind_counts : (kind : PutKind) (c : ClientState) → CountsInOrder (length c.pending) c.session → CountsInOrder (length c.pending) (session_behind kind c)
-behind_counts kind c counts = grind (arith, announced_counts, opened_counts)
+behind_counts kind c counts = grind arith
 
 -- an INFO that isn't wholly put is still held
 pub not_announcing : (open_one : Option ClientSession) → is_announcing (announced open_one) ≡ false

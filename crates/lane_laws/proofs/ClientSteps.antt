@@ -1,18 +1,17 @@
 -- What each step of a client is to what always holds of it.
-use Rattle.std.proofs.Common.{◌≡◌, ℕ, ◌+◌, ◌≤◌, ◌<◌, Bool, Option, Some, List, [], ◌∷◌, length, sym, subst, arith, length-drop, length-append, ◌++◌}
+use Rattle.std.proofs.Common.{◌≡◌, ℕ, ◌+◌, ◌≤◌, ◌<◌, Bool, Some, List, [], ◌∷◌, length, sym, subst, arith, length-append, ◌++◌}
 use Rattle.std.specs.Prelude.{slice_get}
 use Rattle.vdisk_msg.specs.declared.request.Request.{Request}
 use Rattle.disk_model.specs.ClientPutting.{client_holds}
 use Rattle.disk_model.specs.ClientRule.{client_rule}
-use Rattle.disk_model.specs.ClientState.{ClientSession, ClientState, joined_client}
+use Rattle.disk_model.specs.ClientState.{ClientState, joined_client}
 use Rattle.disk_model.specs.ClientStep.{ClientAdmits, ClientCompletes, ClientPublishes, ClientSends}
 use Rattle.disk_model.specs.DiskEvent.{Admitted}
 use Rattle.channel_model.specs.Seeing.{Seen}
 use Rattle.lane_laws.proofs.ClientHolding.{client_held}
 use Rattle.lane_laws.proofs.ClientSending.{client_put_sound}
 use Rattle.lane_laws.proofs.Ruling.{client_may}
-use Rattle.lane_laws.proofs.Sharing.{in_order}
-use Rattle.lane_laws.specs.Sound.{ClientSound, CountsInOrder}
+use Rattle.lane_laws.specs.Sound.{ClientSound}
 use Rattle.lane_laws.proofs.Requesting.{got_below}
 
 -- it begins
@@ -29,19 +28,16 @@ client_sends s at memory packet opens t new sound sends =
     subst ClientSound (sym sends.is) (client_put_sound sends.held (client_blocked s at sends.held sound sends.holds))
 
 -- it goes on without its link: requests, and the work on them
-more_pending : (pending more : ℕ) (open_one : Option ClientSession) → pending ≤ more → CountsInOrder pending open_one → CountsInOrder more open_one
-more_pending pending more open_one less counts = grind arith
-
 accepted_sound : (s : ClientState) (request : Request) → length s.pending < s.slots → ClientSound s
     → ClientSound (record s { pending = s.pending ++ request ∷ []; next_id = s.next_id + 1 })
-accepted_sound s request room sound = grind (arith, length-append, more_pending)
+accepted_sound s request room sound = grind (arith, length-append)
 
 pub client_admits : (s : ClientState) (event : Admitted) (t : ClientState) → ClientSound s → ClientAdmits s event t → ClientSound t
 client_admits s event t sound admits = grind (arith, accepted_sound)
 
 pub client_publishes : (s : ClientState) (at : Seen) (memory : List ℕ) (id : ℕ) (t : ClientState) (new : List ℕ) → ClientSound s → ClientPublishes s at memory id t new
     → ClientSound t
-client_publishes s at memory id t new sound step = grind (arith, client_may, in_order, got_below)
+client_publishes s at memory id t new sound step = grind (arith, client_may, got_below)
 
 -- one that is done was pending
 pub front_some : (pending : List Request) (request : Request) → slice_get pending 0 ≡ Some request → 1 ≤ length pending
@@ -50,4 +46,4 @@ front_some (one ∷ pending) request is = omega arith
 
 pub client_completes : (s : ClientState) (at : Seen) (memory : List ℕ) (id operation status : ℕ) (bytes : List ℕ) (t : ClientState) (new : List ℕ) → ClientSound s
     → ClientCompletes s at memory id operation status bytes t new → ClientSound t
-client_completes s at memory id operation status bytes t new sound step = grind (arith, client_may, in_order, front_some, length-drop)
+client_completes s at memory id operation status bytes t new sound step = grind (arith, client_may)

@@ -27,7 +27,7 @@ use Rattle.channel_model.specs.Seeing.{Seen}
 use Rattle.lane_laws.proofs.ClientPutCounting.{counts_as, none_left, put_as, same_said, says_agrees}
 use Rattle.channel_laws.proofs.Apart.{false_is_true, none_is_some, some_same}
 use Rattle.channel_laws.proofs.PutSayings.{SaysWhole}
-use Rattle.channel_laws.proofs.EndStanding.{open_up, owing_up, up_empty}
+use Rattle.channel_laws.proofs.EndStanding.{open_up, up_empty}
 use Rattle.lane_laws.proofs.RangeSums.{count_more, sum_more}
 use Rattle.lane_laws.proofs.RangesSaid.{owed_no_range}
 use Rattle.lane_laws.proofs.RulesFree.{publishes_free}
@@ -120,24 +120,17 @@ record Known (c : ClientState) (turns : List Turn) : Type 0 where
   rests : ClientRests c turns
   utters : ClientUtters c turns
 
-free_half : (c : ClientState) (turns : List Turn) → ClientUtters c turns → c.link.to_send ≡ [] → half_said turns ≡ []
-free_half c turns utters empty = utters.half empty
-
 -- a link that holds nothing holds no INFO
 no_own : (c : ClientState) (session : ClientSession) → ClientSound c → c.link.to_send ≡ [] → c.session ≡ Some session → session.announcing ≡ true → ⊥
 no_own c session sound empty is announces = absurd (omega (arith, sound.own (ap is_announcing is ∙ announces), ap length empty))
 
 says_counting : (shape : Shape) (c : ClientState) (turns : List Turn) (message : Message) (done : ℕ) (k : Option ClientCounts) → Known c turns → owes c.link ≡ false → c.handshake.owed ≡ Some message
     → ClientCounted shape c turns done k → ClientCounted shape (holding message c) turns done k
-says_counting shape c turns message done k known free owed counted = grind (arith, up_empty, owing_up, no_own)
-
-announcing_agrees : (o : Option ClientSession) (session : ClientSession) (done : ℕ) (k : Option ClientCounts) → o ≡ Some session → ClientAgrees o done k
-    → ClientAgrees (Some (record session { announcing = true })) done k
-announcing_agrees o session done k is agrees = grind (arith, none_is_some, some_same)
+says_counting shape c turns message done k known free owed counted = grind arith
 
 announces_counting : (shape : Shape) (c : ClientState) (turns : List Turn) (session : ClientSession) (done : ℕ) (k : Option ClientCounts) → Known c turns → owes c.link ≡ false
     → c.session ≡ Some session → ClientCounted shape c turns done k → ClientCounted shape (announcing session (holding (announcement c session) c)) turns done k
-announces_counting shape c turns session done k known free is counted = grind (arith, up_empty, open_up, free_half, announcing_agrees)
+announces_counting shape c turns session done k known free is counted = grind arith
 
 held_is : (shape : Shape) (one other : ClientState) (turns : List Turn) (done : ℕ) (k : Option ClientCounts) → Some one ≡ Some other → ClientCounted shape one turns done k
     → ClientCounted shape other turns done k
@@ -157,7 +150,7 @@ client_holds_counting shape c at _ held turns done k sound rests utters may is c
 -- ITS WORK: it publishes a request
 published_agrees : (o : Option ClientSession) (session : ClientSession) (done : ℕ) (k : Option ClientCounts) → o ≡ Some session → ClientAgrees o done k
     → ClientAgrees (Some (record session { published = session.published + 1 })) done (change_client (λ (c : ClientCounts). record c { published = c.published + 1 }) k)
-published_agrees o session done k is agrees = grind (arith, none_is_some, some_same)
+published_agrees o session done k is agrees = grind arith
 
 pub client_publishes_counting : (shape : Shape) (c : ClientState) (at : Seen) (memory : List ℕ) (id : ℕ) (t : ClientState) (new : List ℕ) (turns : List Turn) (done : ℕ) (k : Option ClientCounts)
     → ClientSound c → ClientRests c turns → ClientPublishes c at memory id t new → ClientCounted shape c turns done k
@@ -178,13 +171,9 @@ client_publishes_counting shape c at memory id t new turns done k sound rests st
     })
 
 -- it completes one
-completed_agrees : (o : Option ClientSession) (session : ClientSession) (done : ℕ) (k : Option ClientCounts) → o ≡ Some session → ClientAgrees o done k
-    → ClientAgrees (Some (record session { completed = session.completed + 1 })) (done + 1) k
-completed_agrees o session done k is agrees = grind (arith, none_is_some, some_same)
-
 pub client_completes_counting : (shape : Shape) (c : ClientState) (at : Seen) (memory : List ℕ) (id operation status : ℕ) (bytes : List ℕ) (t : ClientState) (new : List ℕ) (turns : List Turn)
     (done : ℕ) (k : Option ClientCounts) → ClientCompletes c at memory id operation status bytes t new → ClientCounted shape c turns done k → ClientCounted shape t turns (done + 1) k
-client_completes_counting shape c at memory id operation status bytes t new turns done k step counted = grind (arith, client_may, completed_agrees)
+client_completes_counting shape c at memory id operation status bytes t new turns done k step counted = grind (arith, client_may)
 
 -- and what is asked of it
 pub client_admits_counting : (shape : Shape) (c : ClientState) (event : Admitted) (t : ClientState) (turns : List Turn) (done : ℕ) (k : Option ClientCounts) → ClientAdmits c event t

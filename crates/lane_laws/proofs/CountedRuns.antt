@@ -8,11 +8,10 @@ use Rattle.disk_model.specs.DiskEvent.{DiskEvent}
 use Rattle.disk_model.specs.LaneState.{IsShape, LaneState, Shape, fresh}
 use Rattle.disk_model.specs.LaneStep.{LaneStep}
 use Rattle.lane_laws.proofs.StandingRuns.{once_lawful}
-use Rattle.lane_laws.proofs.StandingSteps.{wired_keeps}
 use Rattle.lane_laws.specs.CompletedIds.{CountsFrom, done_ids, id_in, with_id}
 
 counts_step : (l : DiskLog) (event : DiskEvent) (ids : List ℕ) → OnceAt l event → CountsFrom (after l event).work.done ids → CountsFrom l.work.done (with_id (id_in event) ids)
-counts_step l event ids once rest = grind (arith, wired_keeps)
+counts_step l event ids once rest = grind arith
 
 counts_from : (l : DiskLog) (events : List DiskEvent) → Lawful OnceAt after l events → CountsFrom l.work.done (done_ids events)
 counts_from l [] lawful = tt

@@ -6,7 +6,6 @@ use Rattle.disk_model.specs.ClientState.{ClientSession}
 use Rattle.channel_model.specs.OwnMemory.{IsPowerOfTwo}
 use Rattle.channel_model.specs.Ranges.{wrapped}
 use Rattle.disk_model.specs.ServerState.{ServerSession, Work}
-use Rattle.channel_laws.proofs.Apart.{none_is_some, some_same}
 
 -- a client's session is open in the log too, with its counts
 pub record OfClient (session : ClientSession) (done : ℕ) (k : Option ClientCounts) : Type 0 where
@@ -15,7 +14,7 @@ pub record OfClient (session : ClientSession) (done : ℕ) (k : Option ClientCou
   pub agree : ClientCountsAgree session done counts
 
 pub of_client : (o : Option ClientSession) (session : ClientSession) (done : ℕ) (k : Option ClientCounts) → o ≡ Some session → ClientAgrees o done k → OfClient session done k
-of_client o session done k is agrees = grind (arith, none_is_some, some_same)
+of_client o session done k is agrees = grind arith
 
 -- and a server's, with its work
 pub record OfServer (session : ServerSession) (work : Option Work) (d : Option ServerCounts) : Type 0 where
@@ -25,7 +24,7 @@ pub record OfServer (session : ServerSession) (work : Option Work) (d : Option S
   pub work_agrees : WorkAgrees work counts
 
 pub of_server : (o : Option ServerSession) (session : ServerSession) (work : Option Work) (d : Option ServerCounts) → o ≡ Some session → ServerAgrees o work d → OfServer session work d
-of_server o session work d is agrees = grind (arith, none_is_some, some_same)
+of_server o session work d is agrees = grind arith
 
 -- A RING has 2, 4, 8 slots and so on up to 256, so that a number modulo 2^64 has its slot
 positive : (k : ℕ) → 1 ≤ 2 ^ k

@@ -10,12 +10,12 @@ use Rattle.lane_laws.specs.DiskLog.{after_transcript}
 use Rattle.disk_model.specs.LaneState.{LaneState}
 use Rattle.disk_model.specs.LaneStep.{LaneStep}
 use Rattle.channel_laws.specs.EndStep.{EndHears, EndStep}
-use Rattle.channel_laws.specs.LaneCore.{at_end, move_of, reset_move, transcript_after}
+use Rattle.channel_laws.specs.LaneCore.{move_of, reset_move, transcript_after}
 use Rattle.lane_laws.proofs.ClientMoves.{client_asked, client_begins, client_completed, client_fails, client_hears, client_published, client_same, client_says, client_waits}
 use Rattle.lane_laws.proofs.ServerMoves.{server_begins, server_fails, server_fetched, server_finished, server_hears, server_moved, server_renews, server_same, server_says, server_stored, server_waits}
 use Rattle.lane_laws.specs.ChannelEnds.{client_core, core_event, server_core}
 use Rattle.lane_laws.specs.Sound.{ClientSound}
-use Rattle.lane_laws.proofs.LaneViews.{Beside, ClientActs, ClientAsked, ClientCalled, ClientStays, ClientView, IsApart, IsOwnStep, ServerActs, ServerCalled, ServerRenewed, ServerStays, ServerStopped, ServerView, at_client, at_server, lane_view, reach_of}
+use Rattle.lane_laws.proofs.LaneViews.{Beside, ClientActs, ClientAsked, ClientCalled, ClientStays, ClientView, IsOwnStep, ServerActs, ServerCalled, ServerRenewed, ServerStays, ServerStopped, ServerView, at_client, at_server, lane_view, reach_of}
 use Rattle.channel_laws.specs.EndCore.{EndMove, Stays}
 use Rattle.disk_model.specs.ClientStep.{ClientStep}
 use Rattle.disk_model.specs.ServerStep.{ServerStep}
@@ -26,11 +26,8 @@ pub record Sound (s t : LaneState) : Type 0 where
   pub behind : ClientSound t.client
 
 -- BESIDE AN END an event is no move of it
-apart_stays : (e f : End) (move : EndMove) → IsApart e f → at_end e f move ≡ Stays
-apart_stays e f move apart = grind arith
-
 beside_stays : (e : End) (event : DiskEvent) → Beside e event → move_of e (core_event event) ≡ Stays
-beside_stays e event beside = grind (arith, apart_stays)
+beside_stays e event beside = grind arith
 
 -- ITS CLIENT
 abbrev MovesA : LaneState → LaneState → EndMove → Type 0

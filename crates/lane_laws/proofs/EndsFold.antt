@@ -35,7 +35,7 @@ use Rattle.lane_laws.proofs.ClientFolds.{ClientIs, client_admits_so, client_begi
 use Rattle.channel_laws.proofs.MessagesHeld.{owed_held}
 use Rattle.lane_laws.proofs.Speaking.{client_blocked_rests, client_blocked_utters, server_blocked_rests, server_blocked_utters, server_holds_owed}
 use Rattle.lane_laws.proofs.ClientTaken.{client_took_what}
-use Rattle.channel_laws.proofs.Apart.{false_is_true, none_is_some, some_is_none}
+use Rattle.channel_laws.proofs.Apart.{none_is_some, some_is_none}
 use Rattle.channel_laws.proofs.PutSayings.{put_says}
 use Rattle.channel_laws.proofs.EndStanding.{hears_sending, open_up}
 use Rattle.lane_laws.proofs.LaneViews.{ClientSide, ServerSide, at_client, at_server, client_keeps, reach_of, server_keeps}
@@ -197,13 +197,9 @@ record Left (k : LinkState) (half : List ℕ) (b : Blockage) : Type 0 where
   owes_is : is_stuck b ≡ true → owes k ≡ true
   left : k.begun ≡ false → 1 ≤ length k.to_send → is_stuck b ≡ true
 
-or_true : (x : Bool) → (x || true) ≡ true
-or_true true = refl
-or_true false = refl
-
 -- it has begun a message of which its link holds some, and none of which it holds nothing
 has : (k : LinkState) (half : List ℕ) (b : Blockage) (xs : List ℕ) (y : Bool) → Left k half b → 1 ≤ length k.to_send → half ≡ xs → is_stuck b ≡ y → has_begun half b ≡ true
-has k half b xs y known some at stuck = grind (arith, or_true, false_is_true)
+has k half b xs y known some at stuck = grind arith
 
 has_none : (k : LinkState) (half : List ℕ) (b : Blockage) (y : Bool) → Left k half b → is_up k ≡ true → k.to_send ≡ [] → is_stuck b ≡ y → has_begun half b ≡ false
 has_none k half b false known up none stuck = ap (λ (zs : List ℕ). not (is_empty zs) || is_stuck b) (known.free none) ∙ stuck
@@ -247,7 +243,7 @@ client_owed s l both cuts quiet =
 
 client_left_is : (s : LaneState) (l : DiskLog) (o : Option ClientSession) → BothAre s l → Cuts s.client.link l.transcript.client → s.client.session ≡ o
     → s.client.link.to_send ≡ client_left s.client o (half_said l.transcript.client) l.blocked.client
-client_left_is s l o both cuts is = grind (arith, client_owed, held_left, of_client)
+client_left_is s l o both cuts is = grind (arith, client_owed, held_left)
 
 -- the handshake of each end is what its transcript folds to
 pub client_told : (s : LaneState) (l : DiskLog) → BothAre s l → FoldsSo Initiator (client_core s.client) l.transcript.client → s.client.handshake.last_sid ≡ l.transcript.links % 4294967296
@@ -260,7 +256,7 @@ server_told s l both so sids = search
 
 pub client_end : (s : LaneState) (l : DiskLog) → BothAre s l → FoldsSo Initiator (client_core s.client) l.transcript.client → s.client.handshake.last_sid ≡ l.transcript.links % 4294967296
     → ClientEndAgrees s.client l.shape l.transcript l.blocked.client
-client_end s l both so sids = search (client_told, client_left_is)
+client_end s l both so sids = search (client_left_is)
 
 -- THE SERVER
 pub infos_are : (turns : List Turn) → infos_heard turns ≡ range_count 1 (heard turns)

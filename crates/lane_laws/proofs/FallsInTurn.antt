@@ -1,14 +1,11 @@
 -- A packet that an end takes lowers what remains, after every run of a lane that nobody forged.
-use Rattle.std.proofs.Common.{◌≡◌, ℕ, ◌+◌, ◌-◌, ◌%◌, ◌^◌, ◌<◌, ◌≤◌, Bool, false, List, [], ◌∷◌, ◌++◌, length, map, refl, ap, ◌∙◌, subst, arith}
-use Rattle.std.proofs.lemmas.Nat.{mod_below}
+use Rattle.std.proofs.Common.{◌≡◌, ℕ, ◌+◌, ◌<◌, ◌≤◌, Bool, false, List, [], ◌∷◌, ◌++◌, length, map, refl, ap, ◌∙◌, subst, arith}
 use Rattle.runs.specs.Lawful.{log_append, log_of}
 use Rattle.runs.specs.Run.{Run, run_push}
 use Rattle.ldc_queue.specs.declared.end.ChannelState.TheVariants.{Up}
 use Rattle.ldc_queue.specs.declared.end.End.{End}
 use Rattle.ldc_queue.specs.declared.end.End.TheVariants.{A, B}
 use Rattle.ldc_queue.specs.Transcript.{Heard as Heard_, Turn}
-use Rattle.channel_model.specs.Ranges.{wrapped}
-use Rattle.dring.specs.Slots.{range_length}
 use Rattle.channel_model.specs.Seeing.{seen}
 use Rattle.channel_model.specs.WireAt.{IsUp}
 use Rattle.channel_model.specs.WireEvent.{Took}
@@ -31,7 +28,7 @@ use Rattle.channel_model.specs.WireLog.{WireLog}
 use Rattle.lane_laws.proofs.LaneCounting.{Knows, run_knows}
 use Rattle.lane_laws.proofs.OfferedRing.{four_cookies}
 use Rattle.lane_laws.proofs.RangeSums.{sum_front}
-use Rattle.lane_laws.proofs.RemainingClientPuts.{ClientFalls, ClientSpends, falls_lower, same_spends, session_spends}
+use Rattle.lane_laws.proofs.RemainingClientPuts.{ClientFalls, ClientSpends, falls_lower}
 use Rattle.lane_laws.proofs.RemainingRuns.{steps_fall}
 use Rattle.lane_laws.proofs.RemainingServerTakes.{behind_ask, server_turns}
 use Rattle.lane_laws.proofs.RemainingTakes.{client_took_falls, server_took_falls}
@@ -55,7 +52,7 @@ took_packets shape events s e packet opens t sound run clean step =
 
 -- THE CLIENT
 took_spends : (s t : ClientState) (turns : List Turn) (packet : List ℕ) → ClientTook s turns packet t → ClientSpends 0 0 s t
-took_spends s t turns packet took = grind (arith, same_spends, session_spends)
+took_spends s t turns packet took = grind arith
 
 pub client_takes : (shape : Shape) (events : List DiskEvent) (s : LaneState) (packet : List ℕ) (opens : Bool) (t : LaneState) → IsShape shape → Run LaneStep (fresh shape) events s → s.wire.forged ≡ false
     → LaneStep s (OnWire (Took A packet opens)) t → ClientFalls 0 0 s.client t.client
@@ -75,10 +72,6 @@ client_falls shape events s packet opens t sound run clean step =
     omega (arith, client_took_falls s packet opens t (falls_lower 0 0 s.client t.client (client_takes shape events s packet opens t sound run clean step)) step)
 
 -- THE SERVER
--- it is asked for more
-more_asked : (slots before behind start end : ℕ) → before < 2 ^ 64 → before ≤ behind → behind ≡ wrapped (before + range_length slots start end) → 1 ≤ slots → slots ≤ 256 → before < behind
-more_asked slots before behind start end small less is some few = omega (arith, small, less, is, few, mod_below (end + slots - start % slots) slots some)
-
 abbrev AsksMore : LaneState → LaneState → Type 0
 AsksMore s t = (asked_in s.server.session < asked_in t.server.session) × (asked_in t.server.session ≤ total_at s.wire.wire.end_a s.client)
 
@@ -86,7 +79,7 @@ asks_more : (s t : LaneState) (l next : DiskLog) (turns : List Turn) (packet : L
     → next.shape.slots ≡ l.shape.slots → t.client ≡ s.client → t.wire.wire.end_a ≡ s.wire.wire.end_a → AskedWithin s l asks.info.session
     → AskedWithin t next (behind_ask s.server asks.info.session asks.info.range)
     → AsksMore s t
-asks_more s t l next turns packet opens asks transcript then_transcript shape client wire was now = grind (arith, behind_ask, sum_front, more_asked)
+asks_more s t l next turns packet opens asks transcript then_transcript shape client wire was now = grind (arith, sum_front)
 
 by_asked : (shape : Shape) (events : List DiskEvent) (s : LaneState) (packet : List ℕ) (opens : Bool) (t : LaneState) → IsShape shape → Run LaneStep (fresh shape) events s → s.wire.forged ≡ false → IsUp B s.wire.wire
     → LaneStep s (OnWire (Took B packet opens)) t → ServerAsked s.server (log_of after (nothing_yet shape) events).transcript.server packet t.server opens → AsksMore s t

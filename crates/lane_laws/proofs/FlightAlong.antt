@@ -20,10 +20,8 @@ use Rattle.lane_laws.proofs.FlightClient.{client_admits_flies, falls_fly}
 use Rattle.lane_laws.proofs.FlightRuns.{InFlight, StepKnown, began, client_anew, client_on, client_wire, end_wire, flight_is, knows_at, log_at, server_anew, server_on, server_wire}
 use Rattle.lane_laws.proofs.LaneViews.{at_client, at_server, calm_same}
 use Rattle.lane_laws.proofs.FlightServer.{server_fetches_flies, server_finishes_flies, server_moves_flies, server_stores_flies}
-use Rattle.lane_laws.proofs.FlightSums.{Flight, client_loses, server_closes, server_loses}
-use Rattle.lane_laws.proofs.LaneCounting.{run_knows}
+use Rattle.lane_laws.proofs.FlightSums.{Flight, client_loses, server_loses}
 use Rattle.lane_laws.proofs.RemainingClientPuts.{completes_falls, publishes_falls}
-use Rattle.lane_laws.proofs.RingRuns.{before}
 use Rattle.lane_laws.proofs.RemainingTakes.{first_gone}
 use Rattle.lane_laws.specs.Budget.{infos_begun}
 use Rattle.lane_laws.specs.Counted.{range_count}
@@ -119,7 +117,7 @@ works s Misplaced t turns sound step flight = absurd step
 
 -- STOPS, and what changes nothing
 turns_fly : (s : LaneState) (event : Switched) (t : LaneState) (turns : List Turn) → TurnStep s event t → InFlight s turns → InFlight t turns
-turns_fly s event t turns step flight = grind (arith, flight_is, server_closes)
+turns_fly s event t turns step flight = grind arith
 
 flight_step : (shape : Shape) (events : List DiskEvent) (s : LaneState) (event : DiskEvent) (t : LaneState) → StepKnown shape events s event t → LaneStep s event t
     → InFlight s (log_at shape events).transcript.client → InFlight t (after (log_at shape events) event).transcript.client
@@ -141,7 +139,7 @@ record AlongFlight (shape : Shape) (s : LaneState) (l : DiskLog) : Type 0 where
 
 clean_before : (shape : Shape) (events : List DiskEvent) (s : LaneState) (event : DiskEvent) (t : LaneState) → IsShape shape → Run LaneStep (fresh shape) events s → LaneStep s event t
     → t.wire.forged ≡ false → s.wire.forged ≡ false
-clean_before shape events s event t sound run step clean = grind (arith, log_at, run_knows, before)
+clean_before shape events s event t sound run step clean = grind arith
 
 along_step : (shape : Shape) → IsShape shape → (s : LaneState) (l : DiskLog) (event : DiskEvent) (t : LaneState) → AlongFlight shape s l → LaneStep s event t → ⊤ × AlongFlight shape t (after l event)
 along_step shape sound s l event t along step = (

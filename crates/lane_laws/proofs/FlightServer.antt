@@ -8,12 +8,12 @@ use Rattle.vdisk_msg.specs.Descriptor as slot_says
 use Rattle.vdisk_msg.specs.Pieces.{unit_count}
 use Rattle.channel_model.specs.Seeing.{Seen}
 use Rattle.disk_model.specs.ServerRule.{Fetches}
-use Rattle.disk_model.specs.ServerState.{Progress, ServerSession, ServerState, Work}
+use Rattle.disk_model.specs.ServerState.{ServerSession, ServerState, Work}
 use Rattle.disk_model.specs.ServerStep.{ServerFetches, ServerFinishes, ServerMoves, ServerStores}
 use Rattle.cookie_copy.specs.Reach.{Reach}
 use Rattle.disk_model.specs.ServerWork.{desc_of}
 use Rattle.lane_laws.proofs.RemainingServerPuts.{ServerFalls}
-use Rattle.lane_laws.proofs.RemainingServerSteps.{Less, few_pieces, moves_less, stores_less}
+use Rattle.lane_laws.proofs.RemainingServerSteps.{few_pieces, moves_less, stores_less}
 use Rattle.lane_laws.proofs.Ruling.{server_may}
 use Rattle.lane_laws.proofs.ServerTaken.{ServerTook}
 use Rattle.lane_laws.specs.Budget.{range_left}
@@ -53,20 +53,17 @@ works_flies : (s : ServerState) (session : Option ServerSession) (work : Option 
     → ServerFlies 0 0 s (record s { session = session; work = work })
 works_flies s session work range pieces = grind arith
 
-fewer_pieces : (s : ServerState) (work : Work) (next : Progress) → s.work ≡ Some work → Less work next work.progress → FewPieces s.work → FewPieces (Some (record work { progress = next }))
-fewer_pieces s work next is less few = grind arith
-
 pub server_fetches_flies : (s : ServerState) (at : Seen) (reach : Reach) (slot : ℕ) (bytes : List ℕ) (t : ServerState) (new : List ℕ) → ServerFetches s at reach slot bytes t new → ServerFlies 0 0 s t
 server_fetches_flies s at reach slot bytes t new step =
     let may : ServerMay s at (Fetches step.session) = subst (ServerMay s at) step.rule (server_may s at) in
     subst (ServerFlies 0 0 s) (sym step.is) (works_flies s _ _ (ap range_left (sym may.1)) (λ few. few_pieces (slot_says.disk_desc_of bytes) s.blocks))
 
 pub server_moves_flies : (s : ServerState) (at : Seen) (reach : Reach) (unit : ℕ) (why : Option CopyFault) (t : ServerState) (new : List ℕ) → ServerMoves s at reach unit why t new → ServerFlies 0 0 s t
-server_moves_flies s at reach unit why t new step = grind (arith, server_may, works_flies, fewer_pieces, moves_less)
+server_moves_flies s at reach unit why t new step = grind (arith, server_may, moves_less)
 
 pub server_stores_flies : (s : ServerState) (at : Seen) (operation block count : ℕ) (failed : Bool) (gave : List ℕ) (t : ServerState) → ServerStores s at operation block count failed gave t
     → ServerFlies 0 0 s t
-server_stores_flies s at operation block count failed gave t step = grind (arith, server_may, works_flies, fewer_pieces, stores_less)
+server_stores_flies s at operation block count failed gave t step = grind (arith, server_may, stores_less)
 
 pub server_finishes_flies : (s : ServerState) (at : Seen) (reach : Reach) (slot status : ℕ) (t : ServerState) (new : List ℕ) → ServerFinishes s at reach slot status t new → ServerFlies 0 0 s t
-server_finishes_flies s at reach slot status t new step = grind (arith, server_may, works_flies)
+server_finishes_flies s at reach slot status t new step = grind (arith, server_may)

@@ -2,7 +2,6 @@
 use Rattle.std.proofs.Common.{◌≡◌, ℕ, zero, suc, ◌+◌, ◌-◌, ◌*◌, ◌≤◌, ◌⊎◌, false, Some, List, [], ◌∷◌, drop, take, length, inl, inr, refl, sym, ap, ◌∙◌, subst, arith}
 use Rattle.std.specs.Prelude.{slice_get, ⊤}
 use Rattle.std.proofs.lemmas.List.{drop_all, take-append-le, take_all}
-use Rattle.std.proofs.lemmas.Option.{slice_get_within}
 use Rattle.runs.specs.Lawful.{log_of, run_lawful}
 use Rattle.runs.specs.Run.{Run}
 use Rattle.vdisk_msg.specs.declared.request.Request.{Request}
@@ -15,7 +14,6 @@ use Rattle.disk_model.specs.LaneState.{IsShape, LaneState, Shape, fresh}
 use Rattle.disk_model.specs.LaneStep.{LaneStep}
 use Rattle.lane_laws.proofs.RingClientSteps.{got_at}
 use Rattle.lane_laws.proofs.RingRuns.{before as clean_before}
-use Rattle.lane_laws.proofs.StandingSteps.{wired_keeps}
 use Rattle.lane_laws.specs.Standing.{LaneInvariant, RequestsStand}
 use Rattle.lane_laws.specs.Blocks.{after_requests, block_at}
 use Rattle.lane_laws.specs.Headline.{CompletionShows, HoldsDone, Imaged, ImagedStep, LastWrite, LaterWrite, PendingWrite, ShowsLast, done_content, fresh_image}
@@ -45,14 +43,9 @@ front_content first issued done (request ∷ pending) is some =
     sym (after_append first (take done issued) request) ∙ ap (after_requests first) (sym (take_more issued done request got)) ∙ ap (λ (n : ℕ). after_requests first (take n issued)) (sym next)
 
 -- what an event does to it is what it does to the content
-same_done : (first : List ℕ) (s : LaneState) (l : DiskLog) (event : DiskEvent) → (after l event).work.done ≡ l.work.done → (after l event).work.issued ≡ l.work.issued
-    → content_after s (done_content first l) event ≡ done_content first l → content_after s (done_content first l) event ≡ done_content first (after l event)
-same_done first s l event done issued is =
-    is ∙ ap (λ (n : ℕ). after_requests first (take n l.work.issued)) (sym done) ∙ ap (λ (xs : List Request). after_requests first (take (after l event).work.done xs)) (sym issued)
-
 behind_done : (first : List ℕ) (s : LaneState) (l : DiskLog) (event : DiskEvent) (t : LaneState) → RequestsStand s.client l.work → LaneStep s event t
     → content_after s (done_content first l) event ≡ done_content first (after l event)
-behind_done first s l event t stands step = grind (arith, wired_keeps, same_done, take-append-le, slice_get_within, front_content)
+behind_done first s l event t stands step = grind (arith, take-append-le, front_content)
 
 -- EACH REQUEST that was accepted was admitted
 sound_take : (blocks : ℕ) (requests : List Request) (n : ℕ) → AreSound blocks requests → AreSound blocks (take n requests)
@@ -65,7 +58,7 @@ blocks_are shape s l disk stands = stands.blocks ∙ ap (λ (x : Shape). x.block
 
 sound_behind : (blocks : ℕ) (s : LaneState) (l : DiskLog) (event : DiskEvent) (t : LaneState) → s.client.blocks ≡ blocks → AreSound blocks l.work.issued → LaneStep s event t
     → AreSound blocks (after l event).work.issued
-sound_behind blocks s l event t same sound step = grind (arith, wired_keeps, sound_push)
+sound_behind blocks s l event t same sound step = grind (arith, sound_push)
 
 -- ALONG A RUN with the image
 record AlongImage (shape : Shape) (first : List ℕ) (a : Imaged) (l : DiskLog) : Type 0 where

@@ -23,11 +23,11 @@ with_server s v memory = record s { server = v; memory = memory }
 -- an idle step leaves the lane as it was
 pub client_same : (s : LaneState) (t : LaneState) → EndOnWire A s (Idle A) t → t ≡ s
 unfolding with_client
-client_same s t step = grind (arith, with_client)
+client_same s t step = grind arith
 
 pub server_same : (s : LaneState) (t : LaneState) → EndOnWire B s (Idle B) t → t ≡ s
 unfolding with_server
-server_same s t step = grind (arith, with_server)
+server_same s t step = grind arith
 
 idle_end : (e : End) (s : LaneState) (t : LaneState) → EndOnWire e s (Idle e) t → IdleAgrees t (Some e)
 idle_end A s t step = subst (λ (x : LaneState). IdleAgrees x (Some A)) (sym (client_same s t step)) step.step.0

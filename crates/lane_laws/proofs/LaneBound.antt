@@ -1,5 +1,5 @@
 -- What remains on a lane that nobody forged is at most 36 and 16 for each pending request, and where a packet was lost at most 69 and 32.
-use Rattle.std.proofs.Common.{◌≡◌, ℕ, ◌+◌, ◌-◌, ◌*◌, ◌≤◌, Bool, true, false, Option, Some, None, List, length, refl, arith}
+use Rattle.std.proofs.Common.{◌≡◌, ℕ, ◌+◌, ◌*◌, ◌≤◌, Bool, true, false, Option, Some, None, List, length, refl, arith}
 use Rattle.std.specs.Prelude.{is_some}
 use Rattle.runs.specs.Lawful.{log_of}
 use Rattle.runs.specs.Run.{Run}
@@ -22,7 +22,7 @@ use Rattle.lane_laws.proofs.LifeBound.{RequestsLeft, by_sessions}
 use Rattle.lane_laws.specs.Budget.{infos_begun}
 use Rattle.lane_laws.specs.Counted.{one_where, range_count}
 use Rattle.lane_laws.specs.LaneTranscripts.{transcript_behind}
-use Rattle.lane_laws.specs.Remaining.{absent, asked_by, asked_in, client_left, client_packets, life, remaining, second_life, server_left, server_packets, serving_left}
+use Rattle.lane_laws.specs.Remaining.{absent, asked_by, client_left, client_packets, life, remaining, second_life, server_left, server_packets}
 use Rattle.lane_laws.proofs.HeardFront.{unheard_client, unheard_server}
 use Rattle.channel_laws.proofs.Sessions.{not_among}
 
@@ -52,29 +52,11 @@ record Facts (x y : ChannelState) (a b : ℕ) (lossy : Bool) (c : ClientState) (
   server : y ≡ Up → (x ≡ Up → ⊥) → v.session ≡ None
   both : x ≡ Up → y ≡ Up → RequestsLeft c.session v.session v.work (length c.pending) answers
 
-one_at_most : (lossy : Bool) → one_where lossy ≤ 1
-one_at_most true = omega arith
-one_at_most false = omega arith
-
 abbrev Most : ChannelState → ChannelState → ℕ → ℕ → Bool → ClientState → ServerState → Type 0
 Most x y a b lossy c v = absent x + absent y + a + b + client_left x (asked_by y v) c + server_left y v + 3 * one_where lossy ≤ 36 + 16 * length c.pending
 
-both_up : (a b : ℕ) (lossy : Bool) (c : ClientState) (v : ServerState) (answers : ℕ) → Facts Up Up a b lossy c v answers → Most Up Up a b lossy c v
-both_up a b lossy c v answers facts = grind (arith, one_at_most)
-
-client_up : (a b : ℕ) (lossy : Bool) (c : ClientState) (answers : ℕ) → c.session ≡ None → a + b + client_packets c + 8 + answers + one_where lossy ≤ 17 + infos_begun c.session
-    → 0 + 1 + a + b + client_left Up 0 c + 16 + 3 * one_where lossy ≤ 36 + 16 * length c.pending
-client_up a b lossy c answers none few = grind (arith, one_at_most)
-
-server_up : (a b : ℕ) (lossy : Bool) (c : ClientState) (v : ServerState) → v.session ≡ None → a + b + 9 + server_packets v + 0 + one_where lossy ≤ 17 + 0
-    → 1 + 0 + a + b + (18 + 4 * length c.pending + 12 * (length c.pending - asked_in v.session)) + (2 * server_packets v + serving_left v.work v.session) + 3 * one_where lossy ≤ 36 + 16 * length c.pending
-server_up a b lossy c v none few = grind (arith, one_at_most)
-
-none_up : (a b lost pending : ℕ) → a + b + 9 + 8 + 0 + lost ≤ 17 + 0 → 1 + 1 + a + b + (18 + 4 * pending + 12 * (pending - 0)) + 16 + 3 * lost ≤ 36 + 16 * pending
-none_up a b lost pending few = omega (arith, few)
-
 most_in : (x y : ChannelState) (a b : ℕ) (lossy : Bool) (c : ClientState) (v : ServerState) (answers : ℕ) → Facts x y a b lossy c v answers → Most x y a b lossy c v
-most_in x y a b lossy c v answers facts = grind (arith, both_up, client_up, server_up, none_up)
+most_in x y a b lossy c v answers facts = grind arith
 
 life_most : (shape : Shape) (events : List DiskEvent) (s : LaneState) → IsShape shape → Run LaneStep (fresh shape) events s → s.wire.forged ≡ false
     → life s.wire.wire s.client s.server + 3 * one_where s.wire.lossy ≤ 36 + 16 * length s.client.pending

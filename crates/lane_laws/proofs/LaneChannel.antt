@@ -160,11 +160,8 @@ lane_meets_other shape events s sound run clean =
     }
 
 -- THE CLIENT'S LAST SID is how often its link came up
-wire_coming : (event : WireEvent) (l : TranscriptLog) → comings_after l.links (core_event (OnWire event)) ≡ (after_transcript l (OnWire event)).links
-wire_coming event l = grind arith
-
 coming : (event : DiskEvent) (l : TranscriptLog) → comings_after l.links (core_event event) ≡ (after_transcript l event).links
-coming event l = grind (arith, wire_coming)
+coming event l = grind arith
 
 comings : (l : DiskLog) (events : List DiskEvent) → log_of comings_after l.transcript.links (map core_event events) ≡ (log_of after l events).transcript.links
 comings l [] = refl

@@ -1,8 +1,8 @@
 -- What the packets of a client leave of its session's places, and what those of a server leave of its descriptor in work.
-use Rattle.std.proofs.Common.{◌≡◌, ℕ, ◌+◌, Bool, true, false, Option, Some, None, List, inl, inr, refl, sym, ap, ◌∙◌, subst, arith}
+use Rattle.std.proofs.Common.{◌≡◌, ℕ, Bool, true, false, Option, Some, None, List, inl, inr, refl, sym, ap, ◌∙◌, subst, arith}
 use Rattle.ldc_link.specs.Following.{Follows}
 use Rattle.ldc_queue.specs.Transcript.{Turn}
-use Rattle.disk_model.specs.ClientPutting.{announced, client_holds, client_kind, opened_if, session_behind}
+use Rattle.disk_model.specs.ClientPutting.{client_holds, client_kind, opened_if, session_behind}
 use Rattle.disk_model.specs.ClientRule as client
 use Rattle.disk_model.specs.ClientState.{ClientSession, ClientState, first_id, opened_session}
 use Rattle.disk_model.specs.ClientStep.{ClientSends}
@@ -14,7 +14,6 @@ use Rattle.disk_model.specs.ServerRule as server
 use Rattle.disk_model.specs.ServerState.{ServerState}
 use Rattle.disk_model.specs.ServerStep.{ServerSends}
 use Rattle.disk_model.specs.ServerTaking.{ServerTakes, GoesOn as ServerGoesOn}
-use Rattle.channel_laws.proofs.Apart.{none_is_some, some_same}
 use Rattle.lane_laws.proofs.ServerSpeaking.{server_holds_link}
 use Rattle.lane_laws.proofs.ClientTaken.{ClientTook, client_took_what}
 use Rattle.lane_laws.proofs.Ruling.{client_may}
@@ -26,21 +25,14 @@ use Rattle.lane_laws.proofs.Changes.{Keeps}
 pub keeps_same : (before now : Option ClientSession) → now ≡ before → Keeps before now
 keeps_same before now same = λ session is. record { was = session; there = sym same ∙ is; completed = refl; published = refl }
 
-pub keeps_none : (before : Option ClientSession) → Keeps before None
-keeps_none before = λ session is. absurd (cc is)
-
 pub keeps_some : (before : Option ClientSession) (one other : ClientSession) → before ≡ Some one → other.completed ≡ one.completed → other.published ≡ one.published → Keeps before (Some other)
-keeps_some before one other there completed published = grind (arith, some_same)
+keeps_some before one other there completed published = grind arith
 
 pub keeps_both : (before middle now : Option ClientSession) → Keeps before middle → Keeps middle now → Keeps before now
 keeps_both before middle now first second = λ session is.
     let late = second session is in
     let early = first late.was late.there in
     record { was = early.was; there = early.there; completed = late.completed ∙ early.completed; published = late.published ∙ early.published }
-
-keeps_announced : (session : Option ClientSession) → Keeps session (announced session)
-keeps_announced None = keeps_none None
-keeps_announced (Some session) = keeps_some (Some session) session (record session { announced = session.published; infos = session.infos + 1; announcing = false }) refl refl refl
 
 -- THE CLIENT
 pub record ClientLeaves (c t : ClientState) : Type 0 where
@@ -63,18 +55,11 @@ took_leaves c turns packet t (inr (inr acked)) = record {
 pub client_took : (c : ClientState) (turns : List Turn) (packet : List ℕ) (t : ClientState) → Follows c.link turns → c.link.whole ≡ None → ClientTakes c packet (GoesOn t) → ClientLeaves c t
 client_took c turns packet t follows none takes = took_leaves c turns packet t (client_took_what c turns packet t follows none takes)
 
-held_is : (c one other : ClientState) → Some one ≡ Some other → ClientLeaves c one → ClientLeaves c other
-held_is c one other is leaves = let same : one ≡ other = some_same is in subst (λ (x : ClientState). ClientLeaves c x) same leaves
-
 pub held_leaves : (c : ClientState) (at : Seen) (rule : client.ClientRule) (held : ClientState) → ClientMay c at rule → client_holds rule c ≡ Some held → ClientLeaves c held
-held_leaves c at rule held may is = grind (arith, held_is, leaves_same, keeps_same, keeps_some, none_is_some)
-
-opened_not : (b : Bool) (c : ClientState) → b ≡ false → Keeps c.session (opened_if b c)
-opened_not false c is = keeps_same c.session c.session refl
-opened_not true c is = absurd (cc is)
+held_leaves c at rule held may is = grind arith
 
 put_keeps : (kind : PutKind) (c : ClientState) → put_opens kind c.handshake ≡ false → Keeps c.session (session_behind kind c)
-put_keeps kind c is = grind (arith, keeps_announced, keeps_same, opened_not)
+put_keeps kind c is = grind arith
 
 pub client_sent : (c : ClientState) (at : Seen) (memory packet : List ℕ) (t : ClientState) (new : List ℕ) → ClientSends c at memory packet false t new → ClientLeaves c t
 client_sent c at memory packet t new sends =

@@ -4,7 +4,6 @@ use Rattle.ldc_queue.specs.declared.end.ChannelState.{ChannelState}
 use Rattle.ldc_queue.specs.declared.end.ChannelState.TheVariants.{Down, Resetting, Up}
 use Rattle.ldc_queue.specs.Wire.{peer_behind}
 use Rattle.lane_laws.specs.WorkLog.{ClientCounts, ServerCounts, change_client, change_server}
-use Rattle.lane_laws.proofs.SlotsStepping.{upset_not}
 
 -- the counts of a server whose end is up
 abbrev pub counts_while : ChannelState → Option ServerCounts → Option ServerCounts
@@ -45,4 +44,4 @@ not_up x q not = grind arith
 
 -- after an end that was configured the other isn't up, or stays as it was
 pub peer_not_live : (x y : ChannelState) (q : Option ServerCounts) → ((d : ServerCounts) → y ≡ Up → q ≡ Some d → x ≡ Up) → counts_while (peer_behind x y) q ≡ None
-peer_not_live x y q alive = grind (arith, not_up, upset_not, not_live)
+peer_not_live x y q alive = grind arith

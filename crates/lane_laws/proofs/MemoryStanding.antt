@@ -59,4 +59,4 @@ published_long blocks slots slot id request memory none below long =
 -- what a read gives is within it too
 pub given_within : (blocks slots slot : ℕ) (request : Request) (memory : List ℕ) → defect blocks request ≡ None → slot < slots → length memory ≡ memory_long slots
     → buffer_place slots slot + given_count request ≤ length memory
-given_within blocks slots slot request memory none below long = grind (arith, admitted_size)
+given_within blocks slots slot request memory none below long = grind arith

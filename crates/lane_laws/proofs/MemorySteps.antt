@@ -1,5 +1,5 @@
 -- Each event of a lane keeps the length of the client's memory, and what is pending sound.
-use Rattle.std.proofs.Common.{◌≡◌, ℕ, ◌-◌, ◌*◌, ◌<◌, Bool, true, false, Option, Some, None, List, [], ◌∷◌, ◌++◌, length, drop, refl, sym, ap, ◌∙◌, subst, arith, inl, inr}
+use Rattle.std.proofs.Common.{◌≡◌, ℕ, ◌-◌, ◌*◌, ◌<◌, Bool, true, false, Option, Some, None, List, [], ◌∷◌, ◌++◌, length, refl, sym, ap, ◌∙◌, subst, arith, inl, inr}
 use Rattle.std.specs.Prelude.{slice_get, zero, suc, if◌then◌else◌}
 use Rattle.std.proofs.lemmas.Nat.{mod_below}
 use Rattle.cookie_copy.specs.declared.fault.CopyFault.{CopyFault}
@@ -31,9 +31,9 @@ use Rattle.cookie_copy.specs.Reach.{Reach}
 use Rattle.disk_model.specs.ServerWork.{EndFails, MovesIn, data_cookies, given_memory, header_of, slot_at, with_done, with_status}
 use Rattle.vdisk_msg.specs.Requested as asks_for
 use Rattle.lane_laws.proofs.MemoryStanding.{cleared_long, freed_long, given_within, moved_long, published_long, word_long}
-use Rattle.lane_laws.proofs.Requesting.{KeepsRequests, held_kept, published_kept}
+use Rattle.lane_laws.proofs.Requesting.{held_kept}
 use Rattle.lane_laws.proofs.LaneViews.{ClientView, MemoryView, at_client, at_server, lane_view, reach_of}
-use Rattle.lane_laws.proofs.StandingSteps.{client_kept, joined_client_kept, same_client}
+use Rattle.lane_laws.proofs.StandingSteps.{client_kept}
 use Rattle.lane_laws.proofs.Ruling.{client_may}
 use Rattle.lane_laws.specs.MemoryStands.{MemoryStands, memory_long}
 use Rattle.lane_laws.specs.RuleFacts.{ClientMay}
@@ -129,33 +129,26 @@ carried_if false blocks slots slot request memory none below long = refl
 
 pub carried_long : (s : LaneState) (id operation status : ℕ) (bytes : List ℕ) (t : ClientState) (new : List ℕ) → MemoryStands s
     → (step : ClientCompletes s.client (seen A s.shape.entries s.wire.wire) s.memory id operation status bytes t new) → length bytes ≡ carried_count status step.request
-carried_long s id operation status bytes t new stands step = grind (arith, carried_if, got_sound, mod_below)
+carried_long s id operation status bytes t new stands step = grind (arith, carried_if)
 
 -- REQUESTS that stay, and one more
 record KeepsSound (c t : ClientState) : Type 0 where
   sound : AreSound t.blocks t.pending
   slots : t.slots ≡ c.slots
 
-kept_sound : (c t : ClientState) → AreSound c.blocks c.pending → KeepsRequests c t → KeepsSound c t
-kept_sound c t sound kept = grind arith
-
 pub sound_push : (blocks : ℕ) (requests : List Request) (request : Request) → AreSound blocks requests → defect blocks request ≡ None → IsRequest request → AreSound blocks (requests ++ request ∷ [])
 sound_push blocks [] request sound admitted fill = (admitted, fill, tt)
 sound_push blocks (first ∷ requests) request sound admitted fill = (sound.0, sound.1, sound_push blocks requests request sound.2 admitted fill)
 
-sound_drop : (blocks : ℕ) (requests : List Request) → AreSound blocks requests → AreSound blocks (drop 1 requests)
-sound_drop blocks [] sound = tt
-sound_drop blocks (first ∷ requests) sound = sound.2
-
 admits_sound : (c : ClientState) (request : Admitted) (t : ClientState) → AreSound c.blocks c.pending → ClientAdmits c request t → KeepsSound c t
-admits_sound c request t sound admits = grind (arith, kept_sound, same_client, sound_push)
+admits_sound c request t sound admits = grind (arith, sound_push)
 
 steps_sound : (s : LaneState) → AreSound s.client.blocks s.client.pending → (event : DiskEvent) (t : ClientState) (new : List ℕ) → ClientStep s.client (at_client s) s.memory event t new
     → KeepsSound s.client t
-steps_sound s sound event t new step = grind (arith, kept_sound, client_kept, published_kept, at_client, sound_drop)
+steps_sound s sound event t new step = grind (arith, client_kept)
 
 pending_sound : (s t : LaneState) (event : DiskEvent) → AreSound s.client.blocks s.client.pending → ClientView s t event → KeepsSound s.client t.client
-pending_sound s t event sound view = grind (arith, steps_sound, admits_sound, kept_sound, joined_client_kept, same_client)
+pending_sound s t event sound view = grind (arith, steps_sound, admits_sound)
 
 pub memory_step : (s : LaneState) (event : DiskEvent) (t : LaneState) → MemoryStands s → LaneStep s event t → MemoryStands t
 memory_step s event t stands step =

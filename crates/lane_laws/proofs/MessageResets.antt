@@ -11,14 +11,13 @@ use Rattle.disk_model.specs.ClientState.{ClientState}
 use Rattle.channel_model.specs.Ranges.{is_other}
 use Rattle.disk_model.specs.ServerState.{ServerState, SlotRange}
 use Rattle.channel_model.specs.ResetSays.{IsOther, MessageSays}
-use Rattle.channel_laws.proofs.LinkResets.{other_number}
 use Rattle.channel_laws.proofs.HandshakeResets.{Spelled}
 use Rattle.lane_laws.proofs.ClientAnswers as client
 use Rattle.lane_laws.proofs.ServerAnswers as server
 
 -- what is another than was expected
 is_other_why : (expected found there : ℕ) → is_other expected found ≡ true → found ≡ there → IsOther expected found there
-is_other_why expected found there is same = grind (arith, other_number)
+is_other_why expected found there is same = grind arith
 
 -- what its bytes say of a range of slots
 record SaysRange (bytes : List ℕ) (seq ident start end state : ℕ) : Type 0 where

@@ -10,9 +10,9 @@ use Rattle.lane_laws.specs.NearLaws.{NearAt, NearInOrder}
 use Rattle.channel_model.specs.WireLog.{WireLog}
 use Rattle.lane_laws.proofs.AlongRuns.{reached_lawful}
 use Rattle.lane_laws.proofs.LaneRuns.{before_of, run_contents}
-use Rattle.lane_laws.proofs.LiveCounts.{counts_while, zero_where}
+use Rattle.lane_laws.proofs.LiveCounts.{counts_while}
 use Rattle.lane_laws.proofs.NearAgreeing.{run_agrees}
-use Rattle.lane_laws.proofs.PlacedViews.{IsLive, live, live_or_not, placed}
+use Rattle.lane_laws.proofs.PlacedViews.{IsLive, live_or_not}
 use Rattle.lane_laws.proofs.ReachedFacts.{all_behind}
 use Rattle.lane_laws.proofs.StandingRuns.{pending_is}
 use Rattle.lane_laws.proofs.Standing.{Before, ever_count}
@@ -22,7 +22,7 @@ use Rattle.lane_laws.specs.NearInLane.{NearInLane}
 -- WHAT IS FINISHED was published
 finished_most : (s : LaneState) (l : DiskLog) → Before s l → (counts_while l.wire.wire.end_b l.work.server ≡ None) ⊎ IsLive l.wire.wire.end_b l.work.server
     → s.near.k ≤ s.client.ever_published - l.work.done
-finished_most s l before is = grind (arith, zero_where, counts_while, live, placed)
+finished_most s l before is = grind arith
 
 before_at : (shape : Shape) (events : List DiskEvent) (s : LaneState) → IsShape shape → Run LaneStep (fresh shape) events s
     → (log_of after (nothing_yet shape) events).wire.forged ≡ false → Before s (log_of after (nothing_yet shape) events)

@@ -8,7 +8,6 @@ use Rattle.vio_bytes.proofs.Ranges.{length-range_at, range_at-range_at}
 use Rattle.vio_bytes.specs.Range.{range_at}
 use Rattle.runs.specs.Lawful.{log_of}
 use Rattle.runs.specs.Run.{Run}
-use Rattle.channel_laws.proofs.Apart.{some_same}
 use Rattle.lane_laws.specs.DiskLog.{DiskLog, after, nothing_yet}
 use Rattle.disk_model.specs.ClientStep.{given_bytes}
 use Rattle.disk_model.specs.DiskEvent.{DiskEvent, Misplaced, Stored, Works}
@@ -97,7 +96,7 @@ run_near shape events s event t content image next sound run step unforged well 
 
 -- WHAT A COMPLETION SHOWS
 front_puts : (block count : ℕ) (behind : List Request) (m b : ℕ) (bytes : List ℕ) → PendingPuts (Read block count ∷ behind) 0 m b bytes → PendingPuts behind 0 (m - 1) b bytes
-front_puts block count behind m b bytes puts = grind (arith, some_same)
+front_puts block count behind m b bytes puts = grind arith
 
 front_block : (content : List ℕ) (block count : ℕ) (behind : List Request) (m b : ℕ) (bytes : List ℕ) → Shows content (Read block count ∷ behind) 0 m b bytes
     → (bytes ≡ block_at b content) ⊎ PendingPuts behind 0 (m - 1) b bytes

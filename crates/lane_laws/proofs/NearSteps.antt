@@ -11,12 +11,11 @@ use Rattle.vdisk_msg.specs.Requests.{AreSound, after_request, written}
 use Rattle.vio_bytes.proofs.Ranges.{length-range_at, range_at-range_at}
 use Rattle.vio_bytes.specs.Place.{put_at}
 use Rattle.vio_bytes.specs.Range.{range_at}
-use Rattle.channel_laws.proofs.Apart.{some_same}
 use Rattle.lane_laws.proofs.MemorySteps.{got_sound}
 use Rattle.lane_laws.specs.Blocks.{WritesBlock, Reaches, after_requests, block_at}
 use Rattle.lane_laws.specs.Contents.{stored_count}
 use Rattle.lane_laws.specs.NearContent.{IsAmong, NearContent, PendingPuts, PutsIn, Shows}
-use Rattle.lane_laws.proofs.BlockWrites.{after_missed, after_more, after_reached, all_long, block_put_in, block_put_out, in_or_out, puts_reaches, puts_same, reaches_or_not}
+use Rattle.lane_laws.proofs.BlockWrites.{after_missed, after_more, after_reached, all_long, block_put_in, block_put_out, in_or_out, puts_same, reaches_or_not}
 use Rattle.lane_laws.proofs.PendingWrites.{earlier, shows_done, shows_pushed, wider}
 
 -- THE FIRST BLOCKS of a write
@@ -154,7 +153,7 @@ among_reached request u b all among = grind arith
 
 past_one : (pending : List Request) (k m b : ℕ) (bytes : List ℕ) (request : Request) → slice_get pending k ≡ Some request → (Reaches request b → ⊥) → PendingPuts pending k m b bytes
     → PendingPuts pending (k + 1) m b bytes
-past_one pending k m b bytes request is not puts = grind (arith, cases_lt, some_same, puts_reaches)
+past_one pending k m b bytes request is not puts = grind arith
 
 shows_next : (blocks : ℕ) (content : List ℕ) (pending : List Request) (k m b : ℕ) (bytes : List ℕ) (request : Request) → AreSound blocks pending → length content ≡ 512 * blocks
     → slice_get pending k ≡ Some request → (Reaches request b → ⊥) → Shows content pending k m b bytes → Shows content pending (k + 1) m b bytes

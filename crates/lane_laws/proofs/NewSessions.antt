@@ -1,5 +1,5 @@
 -- Behind what ends sessions an end works only in one that opened since: until then it has none while it is up.
-use Rattle.std.proofs.Common.{◌≡◌, true, false, Option, Some, None, List, [], ◌∷◌, ◌++◌, inl, inr, ◌⊎◌, refl, subst, arith}
+use Rattle.std.proofs.Common.{◌≡◌, true, false, Option, Some, None, List, [], ◌∷◌, ◌++◌, inl, inr, ◌⊎◌, refl, arith}
 use Rattle.runs.specs.Lawful.{Lawful, lawful_split, log_of}
 use Rattle.ldc_queue.specs.declared.end.End.{End}
 use Rattle.ldc_queue.specs.declared.end.End.TheVariants.{A, B}
@@ -9,7 +9,6 @@ use Rattle.disk_model.specs.LaneState.{Shape}
 use Rattle.lane_laws.specs.May.{IsLawful, May}
 use Rattle.channel_model.specs.WireAt.{IsUp}
 use Rattle.channel_model.specs.WireEvent.{Injected, Joined, Lost, Reset, Sent, Took}
-use Rattle.lane_laws.specs.WorkLaws.{InClient, InServer}
 use Rattle.lane_laws.specs.WorkLog.{ClientCounts, ServerCounts, WorkLog, change_client, change_server}
 use Rattle.lane_laws.proofs.SlotsStepping.{behind_up, upset_not}
 use Rattle.lane_laws.specs.NewSessions.{EndsSessions, OpensAmong, OpensAt, WorkOf}
@@ -33,7 +32,7 @@ Waits e l = IsUp e l.wire.wire → ClosedIn e l.work
 
 -- what ends the sessions
 ended_waits : (e : End) (l : DiskLog) (ending : DiskEvent) → EndsSessions l ending → Waits e (after l ending)
-ended_waits e l ending was = grind (arith, behind_up, upset_not)
+ended_waits e l ending was = grind arith
 
 -- EACH EVENT opens its session, or it still waits: the client
 client_waits : (l : DiskLog) (event : DiskEvent) → Waits A l → OpensAt A event ⊎ Waits A (after l event)
@@ -77,14 +76,8 @@ goes_on A l event waits = client_waits l event waits
 goes_on B l event waits = server_waits l event waits
 
 -- WHILE IT WAITS it does no work
-no_client : (P : ClientCounts → Type 0) (k : Option ClientCounts) → k ≡ None → InClient k P → ⊥
-no_client P k none holds = subst (λ (o : Option ClientCounts). InClient o P) none holds
-
-no_server : (P : ServerCounts → Type 0) (d : Option ServerCounts) → d ≡ None → InServer d P → ⊥
-no_server P d none holds = subst (λ (o : Option ServerCounts). InServer o P) none holds
-
 never : (e : End) (l : DiskLog) (event : Worked) → Waits e l → May l (Works event) → WorkOf e event → ⊥
-never e l event waits may work = grind (arith, no_client, no_server)
+never e l event waits may work = grind arith
 
 -- AMONG THE EVENTS up to its work its session opens
 or_later : {X Y Z : Type 0} → X ⊎ Y → (Y → Z) → X ⊎ Z

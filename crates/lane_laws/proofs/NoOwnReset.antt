@@ -112,7 +112,7 @@ client_finds_done shape events s session sound run clean rule =
 
 -- THE SERVER fetches a slot through the ring's cookies
 fetched_aligned : (slot : ℕ) (cookies : List Cookie) → list_all is_aligned_cookie cookies ≡ true → is_aligned cookies (128 * slot) 128 ≡ true
-fetched_aligned slot cookies aligned = grind (arith, nat_tests)
+fetched_aligned slot cookies aligned = grind arith
 
 fetch_answered : (s : ServerState) (r : Reach) (pages slots slot : ℕ) → r.both ≡ true → Reaches s r pages slots → slot < slots → fetch_fault s r slot ≡ None
 fetch_answered s r pages slots slot both reaches below =

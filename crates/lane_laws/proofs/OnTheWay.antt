@@ -2,7 +2,6 @@
 -- other, all from the first number on, and what the other heard is the front of it.
 use Rattle.std.proofs.Common.{◌≡◌, ℕ, ◌+◌, ◌%◌, ◌≤◌, Bool, true, false, Option, Some, None, List, [], ◌∷◌, ◌++◌, cond, drop, drop_at, filter, length, inl, inr, refl, sym, ap, ◌∙◌, subst, arith}
 use Rattle.std.specs.Prelude.{is_some}
-use Rattle.std.proofs.lemmas.Nat.{mod_below}
 use Rattle.runs.specs.Lawful.{log_of}
 use Rattle.runs.specs.Run.{Run}
 use Rattle.ldc_link.specs.declared.phase.Role.{Role}
@@ -53,7 +52,7 @@ data_is Initiator slots sid count sum bytes is = ap (is_range 1) is.bytes_are �
 data_is Responder slots sid count sum bytes is = ap (is_range 2) is.bytes_are ∙ is_data 2 sid Ack is.seq sid (sum % slots) is.end is.state refl
 
 data_begins : (r : Role) (slots sid count sum : ℕ) (bytes : List ℕ) → slots ≤ 256 → (is : IsData r slots sid count sum bytes) → start_of bytes ≡ sum % slots
-data_begins r slots sid count sum bytes few is = grind (arith, start_is, subtype_of, mod_below)
+data_begins r slots sid count sum bytes few is = grind (arith, start_is)
 
 data_ends : (r : Role) (slots sid count sum : ℕ) (bytes : List ℕ) → slots ≤ 256 → (is : IsData r slots sid count sum bytes) → end_of bytes ≡ is.end
 data_ends r slots sid count sum bytes few is =
@@ -123,7 +122,7 @@ seqs_said slots count sum (bytes ∷ messages) each =
 
 all_named : (slots : ℕ) (r : Role) (messages : List (List ℕ)) → slots ≤ 256 → EachSaid r slots 0 0 messages
     → NameAll slots 0 (range_sum slots (code_of r) messages) (filter (is_range (code_of r)) messages)
-all_named slots r messages few each = grind (arith, same_names, code_of, names_said)
+all_named slots r messages few each = grind (arith, names_said)
 
 -- BEHIND A FRONT the rest is named
 one_past : (slots subtype from to sum : ℕ) (b : Bool) (bytes : List ℕ) (rest behind : List (List ℕ)) → ((n : ℕ) → NameAll slots n to rest → NameAll slots (n + sum) to behind)

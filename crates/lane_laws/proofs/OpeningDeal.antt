@@ -2,9 +2,7 @@
 use Rattle.std.proofs.Common.{◌≡◌, ℕ, zero, suc, ◌+◌, ◌*◌, ◌%◌, ◌^◌, ◌<◌, ◌≤◌, Bool, true, false, [], ◌∷◌, length, refl, arith, nat_le}
 use Rattle.std.specs.Prelude.{if◌then◌else◌}
 use Rattle.std.proofs.lemmas.Bool.Decides.{nat_tests}
-use Rattle.map_table.proofs.Each.{each_replicate}
 use Rattle.vdisk_msg.specs.Requested.{ring_pages}
-use Rattle.vio_tag.proofs.AttributeBytes.{disk_attr_reads_back}
 use Rattle.vio_handshake.specs.Acceptance.{are_aligned, hold_ring, sizes}
 use Rattle.vio_handshake.specs.Attributes.{blocks_of}
 use Rattle.vio_handshake.specs.Offers.{FitsRing, Match}
@@ -47,7 +45,7 @@ fits_ring : (blocks slots : ℕ) → 1 ≤ slots → slots ≤ 256 → FitsRing 
 fits_ring blocks slots some few = search (some_if, few_cookies, filled_front, holds_if)
 
 blocks_back : (blocks slots : ℕ) → blocks < 2 ^ 64 → blocks_of (client_offer blocks slots) ≡ blocks
-blocks_back blocks slots few = grind (arith, disk_attr_reads_back)
+blocks_back blocks slots few = grind arith
 
 pub offers_match : (blocks slots : ℕ) → 1 ≤ slots → slots ≤ 256 → blocks < 2 ^ 64 → Match (client_offer blocks slots) (server_offer blocks slots)
 offers_match blocks slots some few most = search (fits_ring, blocks_back)
@@ -65,4 +63,4 @@ client_fits blocks slots few = record {
 }
 
 pub server_fits : (blocks slots : ℕ) → OfferFits (server_offer blocks slots)
-server_fits blocks slots = grind (arith, each_replicate)
+server_fits blocks slots = grind arith

@@ -22,10 +22,9 @@ use Rattle.lane_laws.specs.RingAgreed.{OneRing, ring_in}
 use Rattle.lane_laws.specs.RingSlots.{HoldsIssued}
 use Rattle.lane_laws.specs.LaneView.{view_of, work_while}
 use Rattle.lane_laws.proofs.Changes.{Placed}
-use Rattle.lane_laws.proofs.LiveCounts.{KIs, counts_while, zero_where}
-use Rattle.lane_laws.proofs.SlotsStepping.{work_first}
+use Rattle.lane_laws.proofs.LiveCounts.{KIs, counts_while}
 use Rattle.lane_laws.proofs.Standing.{Before}
-use Rattle.channel_laws.proofs.Apart.{some_is_none, some_same}
+use Rattle.channel_laws.proofs.Apart.{some_same}
 
 -- a server that works, or none does
 pub record IsLive (x : ChannelState) (q : Option ServerCounts) : Type 0 where
@@ -46,7 +45,7 @@ k_number x q o done k d c up is open_is kis = grind arith
 
 -- THE CLIENT'S SESSION, by the log's
 client_there : (o : Option ClientSession) (done : ℕ) (q : Option ClientCounts) (k : ClientCounts) → q ≡ Some k → ClientAgrees o done q → (c : ClientSession) × (o ≡ Some c) × ClientCountsAgree c done k
-client_there o done q k is agrees = grind (arith, some_same)
+client_there o done q k is agrees = grind arith
 
 -- WHERE A SERVER WORKS the client's session is open, and the server's count tells what is finished
 pub record Live (s : LaneState) (l : DiskLog) (d : ServerCounts) : Type 0 where
@@ -69,7 +68,7 @@ live s l d before up is =
     }
 
 work_counts : (o : Option ServerSession) (w : Option Work) (q : Option ServerCounts) (work : Work) → w ≡ Some work → ServerAgrees o w q → (v : ServerSession) × (o ≡ Some v)
-work_counts o w q work is agrees = grind (arith, some_is_none)
+work_counts o w q work is agrees = grind arith
 
 -- THE DESCRIPTOR IN WORK is that of the request after those that are finished
 pub record Working (s : LaneState) (l : DiskLog) (work : Work) : Type 0 where
@@ -94,19 +93,6 @@ number_of completed k finished done base counted number = omega arith
 
 below_session : (at finished descs asked published other own : ℕ) → at ≡ finished → descs ≡ finished + 1 → descs ≤ asked → asked ≤ published → published ≡ other → own ≡ other → at < own
 below_session at finished descs asked published other own is single few within same counted = omega arith
-
-none_pending : (k pending : ℕ) → k ≡ 0 → k ≤ pending
-none_pending k pending zero = omega arith
-
-none_published : (k completed acked announced published : ℕ) → k ≡ 0 → completed ≤ acked → acked ≤ announced → announced ≤ published → completed + k ≤ published
-none_published k completed acked announced published zero few fewer more = omega arith
-
-few_published : (k completed finished descs asked published own done base : ℕ) → own ≡ published → done ≡ base + completed → asked ≤ published → descs ≤ asked → base + finished ≡ done + k
-    → finished ≤ descs → completed + k ≤ own
-few_published k completed finished descs asked published own done base counted from within few number first = omega arith
-
-few_pending : (k completed own pending : ℕ) → completed + k ≤ own → own ≤ completed + pending → k ≤ pending
-few_pending k completed own pending few most = omega arith
 
 pub working : (s : LaneState) (l : DiskLog) (work : Work) → Before s l → work_while s.wire.wire.end_b s.server.work ≡ Some work → Working s l work
 working s l work before is =
@@ -156,7 +142,7 @@ record Finished (s : LaneState) (l : DiskLog) : Type 0 where
   published : (session : ClientSession) → s.client.session ≡ Some session → session.completed + s.near.k ≤ session.published
 
 finished_by : (s : LaneState) (l : DiskLog) → Before s l → (counts_while l.wire.wire.end_b l.work.server ≡ None) ⊎ IsLive l.wire.wire.end_b l.work.server → Finished s l
-finished_by s l before is = grind (arith, zero_where, counts_while, none_pending, in_order, none_published, live, few_published, few_pending, some_same, work_first)
+finished_by s l before is = grind arith
 
 below_pending : (k completed own pending : ℕ) → completed + k < own → own ≤ completed + pending → k < pending
 below_pending k completed own pending few most = omega arith

@@ -16,7 +16,7 @@ use Rattle.disk_model.specs.DiskEvent.{OnWire}
 use Rattle.disk_model.specs.ServerStep.{ServerStep}
 use Rattle.lane_laws.proofs.RingLeaves.{OpensNot}
 use Rattle.lane_laws.proofs.Ruling.{client_may}
-use Rattle.lane_laws.proofs.Leaving.{ClientLeaves, client_sent, client_took, held_leaves, keeps_none, leaves_same, server_held, server_sent, server_took}
+use Rattle.lane_laws.proofs.Leaving.{ClientLeaves, client_sent, client_took, held_leaves, leaves_same, server_held, server_sent, server_took}
 
 -- the descriptor in work is dropped by a server that begins anew
 abbrev pub work_on_wire : WireEvent → Option Work → Option Work
@@ -30,7 +30,7 @@ pub record QuietWire (s : LaneState) (event : WireEvent) (t : LaneState) : Type 
   pub work : t.server.work ≡ work_on_wire event s.server.work
 
 joined_leaves : (c t : ClientState) → t ≡ joined_client c → ClientLeaves c t
-joined_leaves c t is = grind (arith, keeps_none)
+joined_leaves c t is = grind arith
 
 -- THE CLIENT's part
 client_leaves : (s : LaneState) (l : DiskLog) (event : WireEvent) (t : ClientState) (new : List ℕ) → Knows s l → OpensNot event

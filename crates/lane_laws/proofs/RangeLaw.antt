@@ -1,9 +1,8 @@
 -- The ranges that an end says and hears. An INFO that is said has the next number, begins where the one before it ended and names all that
 -- was published since; one that is heard is the next too. An ACK that is heard names announced ones alone, and one that is said is that of the
 -- range in work, the last of it finished.
-use Rattle.std.proofs.Common.{◌≡◌, ◌≢◌, ℕ, ◌+◌, ◌-◌, ◌%◌, ◌^◌, ◌<◌, ◌≤◌, Bool, true, false, Option, Some, None, List, ◌∷◌, ◌++◌, drop, length, length-drop, refl, sym, ap, ◌∙◌, subst, arith, inl, inr, ◌⊎◌}
-use Rattle.std.specs.Prelude.{is_none, is_some, ◌==◌, if◌then◌else◌}
-use Rattle.std.proofs.lemmas.Bool.Decides.{nat_tests}
+use Rattle.std.proofs.Common.{◌≡◌, ◌≢◌, ℕ, ◌+◌, ◌-◌, ◌%◌, ◌^◌, ◌<◌, ◌≤◌, Bool, true, Option, Some, None, List, ◌∷◌, ◌++◌, drop, length, length-drop, refl, sym, ap, ◌∙◌, subst, arith, inl, inr, ◌⊎◌}
+use Rattle.std.specs.Prelude.{is_none, is_some}
 use Rattle.std.proofs.lemmas.Nat.{mod_below}
 use Rattle.ldc_packet.specs.declared.packet.Subtype.{Subtype}
 use Rattle.ldc_packet.specs.Spelling.{subtype_code}
@@ -13,7 +12,6 @@ use Rattle.ldc_queue.specs.declared.end.End.TheVariants.{A, B}
 use Rattle.ldc_queue.specs.Transcript as turn
 use Rattle.ldc_queue.specs.Transcript.{Turn}
 use Rattle.vio_bytes.specs.Place.{number_at}
-use Rattle.vio_tag.specs.declared.cause.Cause.TheVariants as the_cause
 use Rattle.vio_tag.specs.declared.message.Message.{Message}
 use Rattle.vio_tag.specs.declared.message.MsgBody.TheVariants.{DringData}
 use Rattle.vio_tag.specs.Spelling.{SpellsBody, canonical, envelope_code, subtype_at}
@@ -44,7 +42,6 @@ use Rattle.channel_model.specs.Ranges.{wrapped}
 use Rattle.dring.specs.Slots.{range_length}
 use Rattle.disk_model.specs.ServerState.{ServerState, SlotRange}
 use Rattle.disk_model.specs.ServerStep.{ServerSends}
-use Rattle.channel_laws.proofs.Apart.{none_is_some, some_same, true_is_false}
 use Rattle.channel_laws.proofs.TurnCases.{heard_none, heard_some, said_none, said_some}
 use Rattle.lane_laws.proofs.ClientFolds.{ClientIs}
 use Rattle.lane_laws.proofs.ClientPuts.{putting}
@@ -112,26 +109,19 @@ pub record AreTold (s : LaneState) (l : DiskLog) : Type 0 where
   pub server : s.server.handshake ≡ server_handshake l
 
 -- it names the ring of its end, whose handshake is the log's
-same_sid : (n : ℕ) → sid_fault (Some n) n ≡ None
-same_sid n =
-    let same : (n == n) ≡ true = grind (arith, nat_tests) in ap (λ (b : Bool). if b then None else Some (the_cause.Sid n n)) same
-
 names_own : (h g : Handshake) (bytes : List ℕ) (named : Handshake → ℕ) → h ≡ g → sid_of bytes ≡ h.draft.sid % 2 ^ 32 → ident_of bytes ≡ named h % 2 ^ 64 → NamesOwn g (named g) bytes
-names_own h g bytes named same sid ident = grind (arith, sid_is, same_sid, ident_is)
+names_own h g bytes named same sid ident = grind arith
 
 client_shaken : (s : ClientState) (rule : client_rules.ClientRule) (held : ClientState) → client_holds rule s ≡ Some held → held.handshake ≡ s.handshake
-client_shaken s rule held is = grind (arith, some_same, none_is_some)
+client_shaken s rule held is = grind arith
 
 server_shaken : (s : ServerState) (rule : server_rules.ServerRule) (held : ServerState) → server_holds rule s ≡ Some held → held.handshake ≡ s.handshake
 server_shaken s rule held is = ap (λ (x : ServerState). x.handshake) (server_holds_link s rule held is)
 
 -- AN INFO THAT IS SAID. A client that isn't blocked announces only once all that is pending is published.
-pub never_own : (s : ClientState) (b : Blockage) (session : ClientSession) → ClientIs s b → b ≡ Clear → s.session ≡ Some session → session.announcing ≡ true → true ≡ false
-never_own s b session stands clear is own = search
-
 holds_all : (s : ClientState) (at : Seen) (rule : client_rules.ClientRule) (held : ClientState) (b : Blockage) (session : ClientSession) → client_rules.client_rule s at ≡ rule
     → client_holds rule s ≡ Some held → ClientIs s b → b ≡ Clear → held.session ≡ Some session → session.announcing ≡ true → PublishedAll held session
-holds_all s at rule held b session is_holds is stands clear now own = grind (arith, some_same, true_is_false, never_own, published_all, none_is_some)
+holds_all s at rule held b session is_holds is stands clear now own = grind (arith, published_all)
 
 record Pending (l : DiskLog) (held : ClientState) : Type 0 where
   pending : held.pending ≡ drop l.work.done l.work.issued
@@ -213,7 +203,7 @@ said_info s l packet opens t new both told sends =
 -- A RANGE THAT IS HEARD names the end's ring
 names_ring : (h g : Handshake) (sid : ℕ) (bytes : List ℕ) (ident : ℕ) → sid ≡ sid_of bytes → h ≡ g → sid_fault h.sid sid ≡ None → ident_of bytes ≡ ident
     → (named : Handshake → ℕ) → ident ≡ named h → NamesRing g.sid (named g) bytes
-names_ring h g sid bytes ident is same known names named own = search (sid_is, ident_is)
+names_ring h g sid bytes ident is same known names named own = search
 
 -- AN ACK THAT IS HEARD
 abbrev HearsAck : DiskLog → List ℕ → Type 0
@@ -224,7 +214,7 @@ IsBody bytes seq ident start end state = SpellsBody bytes (DringData seq ident s
 
 acknowledges : (l : DiskLog) (packet : List ℕ) (s t : ClientState) → s.handshake ≡ client_handshake l → ClientCounted l.shape s l.transcript.client l.work.done l.work.client
     → ClientAcked s l.transcript.client packet t → HearsAck l packet
-acknowledges l packet s t shaken counted acked = grind (arith, of_client, if_some, heard_some, range_is, in_client, names_ring)
+acknowledges l packet s t shaken counted acked = grind (arith, heard_some)
 
 heard_ack : (l : DiskLog) (packet : List ℕ) (s t : ClientState) → s.handshake ≡ client_handshake l → ClientCounted l.shape s l.transcript.client l.work.done l.work.client → ClientTook s l.transcript.client packet t
     → HearsAck l packet

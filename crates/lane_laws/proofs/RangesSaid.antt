@@ -1,9 +1,6 @@
 -- Which messages name a range of slots, and which agree to RDX: by their bytes, as they were heard and as they are said.
-use Rattle.std.proofs.Common.{◌≡◌, ◌≢◌, ℕ, zero, suc, ◌%◌, ◌^◌, ◌<◌, ◌≤◌, ◌⊎◌, Bool, true, false, Some, None, List, ◌∷◌, refl, sym, ap, ◌∙◌, arith}
-use Rattle.std.specs.Int.{byte_at}
+use Rattle.std.proofs.Common.{◌≡◌, ◌≢◌, ℕ, ◌%◌, ◌^◌, ◌<◌, ◌⊎◌, Bool, true, false, Some, None, List, refl, sym, ap, ◌∙◌, arith}
 use Rattle.std.specs.Prelude.{◌==◌, ⊤}
-use Rattle.std.proofs.lemmas.Bool.{eqb-true}
-use Rattle.std.proofs.lemmas.Bool.Decides.{nat_tests}
 use Rattle.ldc_packet.specs.declared.packet.Subtype.{Subtype}
 use Rattle.ldc_packet.specs.Spelling.{subtype_code}
 use Rattle.vio_tag.proofs.Canonical.{canonical_spells}
@@ -41,14 +38,11 @@ abbrev pub IsNoData : MsgBody → Type 0
 IsNoData (DringData seq ident start end state) = ⊥
 IsNoData _ = ⊤
 
-other_code : (b : MsgBody) → IsNoData b → IsNoPlain b → envelope_code b ≢ 0x0042
-other_code b not plain is = grind arith
-
 pub formed_code : (b : MsgBody) → IsNoData b → HasForm b → envelope_code b ≢ 0x0042
 formed_code b not form is = grind arith
 
 unequal : (a b : ℕ) → a ≢ b → (a == b) ≡ false
-unequal a b not = grind (arith, eqb-true)
+unequal a b not = grind arith
 
 no_range : (k : ℕ) (bytes : List ℕ) → is_range k bytes ≡ false → range_in k (Some bytes) ≡ None
 no_range k bytes is = ap (λ (b : Bool). range_if b bytes) is
@@ -57,7 +51,7 @@ pub other_envelope : (k : ℕ) (bytes : List ℕ) → envelope_at bytes ≢ 0x00
 other_envelope k bytes not = no_range k bytes (rw (unequal (envelope_at bytes) 0x0042 not) refl)
 
 pub other_subtype : (k : ℕ) (bytes : List ℕ) → subtype_at bytes ≢ k → range_in k (Some bytes) ≡ None
-other_subtype k bytes not = grind (arith, no_range, unequal)
+other_subtype k bytes not = grind arith
 
 -- a message of the handshake that was heard
 pub heard_no_range : (k : ℕ) (bytes : List ℕ) (m : Message) → SpellsMessage bytes m → IsWellFormed m → IsNoData m.body → range_in k (Some bytes) ≡ None
@@ -84,14 +78,14 @@ data_no_group bytes m seq ident start end state spells body is =
 
 -- what a handshake owes
 owed_in : (phase : Phase) (k n : ℕ) (s : Subtype) (b : MsgBody) → (k ≡ 1) ⊎ (k ≡ 2) → MayOwe phase s b → range_in k (Some (canonical (record { subtype = s; sid = n; body = b }))) ≡ None
-owed_in phase k n s b kind may = grind (arith, other_subtype, subtype_reads, other_envelope, other_code, envelope_reads)
+owed_in phase k n s b kind may = grind (arith, subtype_reads, envelope_reads)
 
 pub owed_no_range : (phase : Phase) (k : ℕ) (m : Message) → (k ≡ 1) ⊎ (k ≡ 2) → MayOwe phase m.subtype m.body → range_in k (Some (canonical m)) ≡ None
 owed_no_range phase k m kind may = owed_in phase k m.sid m.subtype m.body kind may
 
 -- A RANGE, as it was heard
 test_is : (k : ℕ) (bytes : List ℕ) → envelope_at bytes ≡ 0x0042 → subtype_at bytes ≡ k → is_range k bytes ≡ true
-test_is k bytes envelope subtype = grind (arith, nat_tests)
+test_is k bytes envelope subtype = grind arith
 
 pub range_is : (k : ℕ) (bytes : List ℕ) → envelope_at bytes ≡ 0x0042 → subtype_at bytes ≡ k → range_in k (Some bytes) ≡ Some bytes
 range_is k bytes envelope subtype = ap (λ (b : Bool). range_if b bytes) (test_is k bytes envelope subtype)
@@ -99,11 +93,6 @@ range_is k bytes envelope subtype = ap (λ (b : Bool). range_if b bytes) (test_i
 pub heard_range : (slots k : ℕ) (bytes : List ℕ) (m : Message) (seq ident start end state : ℕ) → SpellsMessage bytes m → subtype_code m.subtype ≡ k
     → m.body ≡ DringData seq ident start end state → length_in slots (range_in k (Some bytes)) ≡ range_length slots start end
 heard_range slots k bytes m seq ident start end state spells kind body = grind (arith, range_is)
-
-pub heard_one : (k : ℕ) (bytes : List ℕ) (m : Message) (seq ident start end state : ℕ) → SpellsMessage bytes m → subtype_code m.subtype ≡ k
-    → m.body ≡ DringData seq ident start end state → one_in (range_in k (Some bytes)) ≡ 1
-heard_one k bytes m seq ident start end state spells kind body =
-    ap one_in (range_is k bytes (spells.envelope ∙ ap envelope_code body) (spells.subtype ∙ kind))
 
 -- and as it is said: three of its fields are read back, whatever the others are
 abbrev range_bytes : Subtype → ℕ → ℕ → ℕ → ℕ → ℕ → ℕ → List ℕ
@@ -160,20 +149,6 @@ state_is s n seq ident start end state =
     same_state s n seq ident start end state ∙ sym (state_spells s (state % 256) (omega arith)).body.4
 
 -- the sid and the number of the ring, as many bytes of them as their fields have
-four_bytes : (n : ℕ) → big_bytes 4 n ≡ big_bytes 4 (n % 2 ^ 32)
-four_bytes n = grind arith
-
-more_bytes : (k n : ℕ) → k ≤ 8 → big_bytes k n ≡ big_bytes k (n % 2 ^ 64)
-more_bytes zero n few = refl
-more_bytes (suc k) n few = on (byte_at k n) (byte_at k (n % 2 ^ 64)) (big_bytes k n) (big_bytes k (n % 2 ^ 64)) (same_byte k (omega (arith, few))) (more_bytes k n (omega (arith, few)))
-  where
-    on : (x y : ℕ) (xs ys : List ℕ) → x ≡ y → xs ≡ ys → x ∷ xs ≡ y ∷ ys
-    on x y xs ys one others = cc
-
-    same_byte : (i : ℕ) → i < 8 → byte_at i n ≡ byte_at i (n % 2 ^ 64)
-    same_byte (suc (suc (suc (suc (suc (suc (suc (suc i)))))))) few = absurd (omega (arith, few))
-    same_byte _ few = omega arith
-
 with_names : Subtype → ℕ → ℕ → Message
 with_names s n ident = record { subtype = s; sid = n; body = DringData 0 ident 0 0 0 }
 
@@ -185,18 +160,13 @@ with_ident : (s : Subtype) (n seq ident start end state : ℕ) → ident_of (ran
 unfolding canonical
 with_ident s n seq ident start end state = refl
 
-names_spell : (s : Subtype) (n ident : ℕ) → n < 2 ^ 32 → ident < 2 ^ 64 → SpellsMessage (canonical (with_names s n ident)) (record { subtype = s; sid = n; body = DringData 0 ident 0 0 0 })
-unfolding with_names
-names_spell s n ident small_sid small_ident =
-    canonical_spells (record { subtype = s; sid = n; body = DringData 0 ident 0 0 0 }) tt (small_sid, (omega arith, small_ident, omega arith, omega arith, omega arith))
-
 pub sid_is : (s : Subtype) (n seq ident start end state : ℕ) → sid_of (range_bytes s n seq ident start end state) ≡ n % 2 ^ 32
 unfolding with_names
-sid_is s n seq ident start end state = grind (arith, with_sid, four_bytes, names_spell)
+sid_is s n seq ident start end state = grind (arith, with_sid)
 
 pub ident_is : (s : Subtype) (n seq ident start end state : ℕ) → ident_of (range_bytes s n seq ident start end state) ≡ ident % 2 ^ 64
 unfolding with_names
-ident_is s n seq ident start end state = grind (arith, with_ident, more_bytes, names_spell)
+ident_is s n seq ident start end state = grind (arith, with_ident)
 
 pub is_data : (k n : ℕ) (s : Subtype) (seq ident start end state : ℕ) → subtype_code s ≡ k → is_range k (range_bytes s n seq ident start end state) ≡ true
 is_data k n s seq ident start end state kind = search (test_is, envelope_reads, subtype_reads)

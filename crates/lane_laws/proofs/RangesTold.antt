@@ -2,7 +2,6 @@
 -- where those before it end. So what an end in session hears next is the next of them.
 use Rattle.std.proofs.Common.{◌≡◌, ℕ, ◌+◌, ◌%◌, ◌^◌, ◌<◌, ◌≤◌, ◌⊎◌, inl, inr, true, false, Option, Some, List, [], ◌∷◌, ◌++◌, refl, sym, ap, ◌∙◌, subst, arith}
 use Rattle.std.specs.Prelude.{is_none, is_some, ⊤}
-use Rattle.std.proofs.lemmas.Nat.{mod_below}
 use Rattle.runs.specs.Lawful.{Lawful, log_of}
 use Rattle.runs.specs.Run.{Run}
 use Rattle.ldc_link.specs.declared.phase.Role.{Role}
@@ -39,8 +38,8 @@ use Rattle.disk_model.specs.ServerState.{ServerState, SlotRange}
 use Rattle.channel_laws.proofs.Apart.{some_is_none}
 use Rattle.channel_laws.proofs.Conversations.{held_phase}
 use Rattle.channel_laws.proofs.EndResting.{held_handshake}
-use Rattle.channel_laws.proofs.EndStanding.{held_stands, open_up, owing_up}
-use Rattle.channel_laws.proofs.HandshakePlaces.{AtPlace, IsOwn, deal, open_place, owes_at, owes_none, owes_not, same_at, who}
+use Rattle.channel_laws.proofs.EndStanding.{held_stands, owing_up}
+use Rattle.channel_laws.proofs.HandshakePlaces.{AtPlace, IsOwn, deal, owes_at, owes_none, owes_not, same_at, who}
 use Rattle.channel_laws.proofs.HandshakesPlaced.{next_own, own_envelope}
 use Rattle.channel_laws.specs.EndCore.{EndCore}
 use Rattle.channel_laws.specs.EndStep.{EndWaits}
@@ -177,13 +176,13 @@ owed_apart role d held turns bytes here holds = by_turn (here.at (owing_up role 
         ]
 
 draft_there : (role : Role) (d : Deal) (held : EndCore) (turns : List Turn) → HeldAt role d held turns → held.is_open ≡ true → held.handshake.draft ≡ (handshake_at false d role AllSaid).draft
-draft_there role d held turns here opened = grind (arith, open_up, handshake_at, open_place)
+draft_there role d held turns here opened = grind arith
 
 -- THE CLIENT'S OWN is an INFO
 own_data : (shape : Shape) (d : Deal) (held : ClientState) (turns : List Turn) (l : DiskLog) (bytes : List ℕ) → 1 ≤ shape.slots → HeldAt Initiator d (client_core held) turns
     → ClientCounted shape held turns l.work.done l.work.client → OwnInfo held bytes
     → IsData Initiator shape.slots d.sid (range_count 1 (said turns)) (range_sum shape.slots 1 (said turns)) bytes
-own_data shape d held turns l bytes some here counted info = grind (arith, draft_there, mod_below)
+own_data shape d held turns l bytes some here counted info = grind arith
 
 -- THE SERVER'S is the answer to its range
 answer_data : (shape : Shape) (d : Deal) (held : ServerState) (turns : List Turn) (bytes : List ℕ) (c : ServerCounts) → IsShape shape → HeldAt Responder d (server_core held) turns
@@ -309,7 +308,7 @@ pub record TheyTell (l : DiskLog) : Type 0 where
   pub server : EachSaid Responder l.shape.slots 0 0 (said l.transcript.server)
 
 tells_more : (r : Role) (slots : ℕ) (told now : List (List ℕ)) → Tells r slots told now → EachSaid r slots 0 0 told → EachSaid r slots 0 0 now
-tells_more r slots told now tells each = grind (arith, each_more, same_either)
+tells_more r slots told now tells each = grind (arith, each_more)
 
 wire_told : (l : DiskLog) (event : WireEvent) → WireTellsAt l event → TheyTell l → TheyTell (after l (OnWire event))
 wire_told l event may tell = grind (arith, tells_more)

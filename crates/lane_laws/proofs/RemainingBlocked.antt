@@ -18,7 +18,7 @@ use Rattle.disk_model.specs.ServerState.{ServerState}
 use Rattle.lane_laws.proofs.ClientHolding.{holds_up}
 use Rattle.lane_laws.proofs.LaneCounting.{Knows, run_knows}
 use Rattle.lane_laws.proofs.RemainingClientPuts.{ClientLowers, blocked_falls, falls_lower}
-use Rattle.lane_laws.proofs.RemainingLane.{asked_same, client_falls, left, second_less, server_falls}
+use Rattle.lane_laws.proofs.RemainingLane.{left}
 use Rattle.lane_laws.proofs.LaneViews.{at_client, at_server}
 use Rattle.lane_laws.proofs.RemainingServerPuts as server
 use Rattle.lane_laws.proofs.RemainingServerPuts.{ServerLowers}
@@ -28,11 +28,11 @@ use Rattle.lane_laws.specs.Remaining.{remaining}
 
 -- THE CLIENT
 client_waits : (w : Wire) (lossy : Bool) (c t : ClientState) (v : ServerState) → w.end_a ≡ Up → ClientLowers 0 c t → left w lossy t v ≤ left w lossy c v
-client_waits w lossy c t v up lower = grind (arith, client_falls, second_less)
+client_waits w lossy c t v up lower = grind arith
 
 -- THE SERVER
 server_waits : (w : Wire) (lossy : Bool) (c : ClientState) (v u : ServerState) → w.end_b ≡ Up → ServerLowers 0 v u → left w lossy c u ≤ left w lossy c v
-server_waits w lossy c v u up lower = grind (arith, asked_same, server_falls)
+server_waits w lossy c v u up lower = grind arith
 
 -- THE LANE
 stays_is : (s t u : LaneState) → t ≡ u → remaining u ≤ remaining s → remaining t ≤ remaining s

@@ -1,6 +1,6 @@
 -- What a client has left of its session as it holds a message, puts a packet, publishes or completes a request: with the packets that its end has
 -- still to put, what remains falls.
-use Rattle.std.proofs.Common.{◌≡◌, ℕ, ◌+◌, ◌-◌, ◌*◌, ◌≤◌, ◌<◌, Bool, true, false, Option, Some, None, List, length, drop, refl, sym, ◌∙◌, subst, arith, length-drop}
+use Rattle.std.proofs.Common.{◌≡◌, ℕ, ◌+◌, ◌-◌, ◌*◌, ◌≤◌, Bool, true, false, Option, Some, None, List, length, drop, refl, sym, ◌∙◌, subst, arith, length-drop}
 use Rattle.std.specs.Prelude.{is_some, max}
 use Rattle.ldc_link.specs.declared.phase.LinkPhase.{LinkPhase}
 use Rattle.ldc_link.specs.declared.phase.Role.TheVariants.{Initiator}
@@ -8,20 +8,19 @@ use Rattle.ldc_link.specs.LinkState.{LinkState}
 use Rattle.ldc_queue.specs.declared.end.ChannelState.TheVariants.{Up}
 use Rattle.ldc_queue.specs.Transcript.{Turn}
 use Rattle.vio_handshake.specs.Rules.{opens_by_put}
-use Rattle.disk_model.specs.ClientPutting.{announced, announcement, announcing, client_holds, client_kind, client_put, holding, is_announcing, opened_if, session_behind}
+use Rattle.disk_model.specs.ClientPutting.{announced, client_holds, client_kind, client_put, is_announcing, opened_if, session_behind}
 use Rattle.disk_model.specs.ClientRule.{Announces, ClientRule, Completes, Publishes, client_rule}
 use Rattle.disk_model.specs.ClientState.{ClientSession, ClientState}
 use Rattle.disk_model.specs.ClientStep.{ClientCompletes, ClientPublishes, ClientSends}
-use Rattle.channel_model.specs.EndPuts.{ComesUp, EndsOwn, EndsHandshake, Goes, PutKind, ending, kind_in}
+use Rattle.channel_model.specs.EndPuts.{ComesUp, EndsOwn, EndsHandshake, Goes, PutKind, kind_in}
 use Rattle.channel_model.specs.Seeing.{Seen}
-use Rattle.channel_laws.proofs.Apart.{none_is_some, some_same}
-use Rattle.channel_laws.proofs.EndStanding.{held_stands, open_up, up_empty}
-use Rattle.channel_laws.proofs.PacketsLeft.{loud_none, opening_shut, owing_none, own_most, says_packets, stays_packets, waits_packets}
+use Rattle.channel_laws.proofs.EndStanding.{held_stands}
+use Rattle.channel_laws.proofs.PacketsLeft.{opening_shut, says_packets, stays_packets, waits_packets}
 use Rattle.channel_laws.specs.EndCore.{EndCore}
 use Rattle.channel_laws.specs.EndStep.{Holding, Holds}
 use Rattle.channel_laws.specs.PacketsLeft.{own_in}
 use Rattle.channel_laws.specs.Standing.{EndStands}
-use Rattle.lane_laws.proofs.ClientHolding.{client_held, not_own}
+use Rattle.lane_laws.proofs.ClientHolding.{client_held}
 use Rattle.lane_laws.proofs.ClientMoves.{client_completed, client_published, client_says, client_waits}
 use Rattle.lane_laws.proofs.ClientSteps.{client_sends, front_some}
 use Rattle.lane_laws.proofs.RulesFree.{puts_owe}
@@ -64,7 +63,7 @@ pub session_spends : (own by : ℕ) (s t : ClientState) (open_one : Option Clien
 session_spends own by s t open_one is pending infos left = grind arith
 
 pub same_spends : (s t : ClientState) → t.pending ≡ s.pending → t.session ≡ s.session → ClientSpends 0 0 s t
-same_spends s t pending session = grind (arith, session_spends)
+same_spends s t pending session = grind arith
 
 then_spends : (own : ℕ) (s h t : ClientState) → ClientSpends own 0 s h → ClientSpends 0 0 h t → ClientSpends own 0 s t
 then_spends own s h t first next = grind arith
@@ -74,46 +73,24 @@ abbrev begun_by : ClientRule → ℕ
 begun_by (Announces session) = 1
 begun_by _ = 0
 
-announced_less : (pending completed published few many rest : ℕ) → few + 1 ≤ many → many ≤ pending + completed
-    → ((pending + completed) - published) + 2 * ((pending + completed) - many) + pending + rest + (2 * 1 + 0)
-    ≤ ((pending + completed) - published) + 2 * ((pending + completed) - few) + pending + rest
-announced_less pending completed published few many rest more most = omega (arith, more, most)
-
-announces_spends : (s : ClientState) (session : ClientSession) → s.session ≡ Some session → session.announcing ≡ false → session.announced < session.published
-    → CountsInOrder (length s.pending) s.session → ClientSpends 1 0 s (announcing session (holding (announcement s session) s))
-announces_spends s session is quiet more counts = grind (arith, in_order, session_spends, announced_less)
-
-to_the : (own : ℕ) (s one other : ClientState) → Some one ≡ Some other → ClientSpends own 0 s one → ClientSpends own 0 s other
-to_the own s one other is spends = let same : one ≡ other = some_same is in subst (ClientSpends own 0 s) same spends
-
 holds_spend : (s : ClientState) (at : Seen) (rule : ClientRule) (held : ClientState) (turns : List Turn) → ClientMay s at rule → client_holds rule s ≡ Some held → ClientSound s
     → EndStands Initiator (client_core s) turns → ClientSpends (begun_by rule) 0 s held
-holds_spend s at rule held turns may holds sound stands = grind (arith, to_the, same_spends, up_empty, open_up, not_own, announces_spends, none_is_some)
+holds_spend s at rule held turns may holds sound stands = grind arith
 
 own_begun : (s : ClientState) (at : Seen) (rule : ClientRule) (held : ClientState) (core : EndCore) (what : Holding) → client_rule s at ≡ rule → ClientMay s at rule
     → client_holds rule s ≡ Some held → Holds (client_core s) what core → own_in what ≤ begun_by rule
-own_begun s at rule held core what is_holds may holds is = grind (arith, loud_none, puts_owe, owing_none, own_most, none_is_some)
+own_begun s at rule held core what is_holds may holds is = grind (arith, puts_owe)
 
 -- IT PUTS a packet: all that is published is announced by the last of its INFO, and its session may open by one of its handshake
-ends_own : (b own : Bool) → ending b own ≡ EndsOwn → own ≡ true
-ends_own true true is = refl
-ends_own true false is = absurd (cc is)
-ends_own false own is = absurd (cc is)
-
 own_in_kind : (ph : LinkPhase) (k : LinkState) (own : Bool) → kind_in ph k own ≡ EndsOwn → own ≡ true
-own_in_kind ph k own is = grind (arith, ends_own)
+own_in_kind ph k own is = grind arith
 
 abbrev behind : ClientState → Option ClientSession → ClientState
 behind c session = record (client_put c) { session = session }
 
-fewer_left : (pending completed published few rest : ℕ) → few ≤ published
-    → ((pending + completed) - published) + 2 * ((pending + completed) - (published + 0)) + pending + rest + (2 * 0 + 0)
-    ≤ ((pending + completed) - published) + 2 * ((pending + completed) - few) + pending + rest
-fewer_left pending completed published few rest less = omega (arith, less)
-
 announced_spends : (c : ClientState) (open_one : Option ClientSession) → c.session ≡ open_one → is_announcing open_one ≡ true → CountsInOrder (length c.pending) open_one
     → ClientSpends 0 0 c (behind c (announced open_one))
-announced_spends c open_one is own counts = grind (arith, session_spends, fewer_left)
+announced_spends c open_one is own counts = grind arith
 
 opened_spends : (b : Bool) (c : ClientState) → (b ≡ true → c.session ≡ None) → ClientSpends 0 0 c (behind c (opened_if b c))
 opened_spends true c closed = session_spends 0 0 c (behind c (opened_if true c)) None (closed refl) (omega arith) refl (λ asked. omega arith)

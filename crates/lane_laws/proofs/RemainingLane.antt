@@ -1,8 +1,8 @@
 -- What remains on a lane falls by each step of an end that takes nothing.
-use Rattle.std.proofs.Common.{◌≡◌, ◌≢◌, ℕ, ◌+◌, ◌≤◌, Bool, true, false, Option, List, length, refl, sym, subst, arith, length-append}
+use Rattle.std.proofs.Common.{◌≡◌, ◌≢◌, ℕ, ◌+◌, ◌≤◌, Bool, Option, List, length, refl, sym, subst, arith, length-append}
 use Rattle.ldc_link.specs.declared.phase.Role.TheVariants.{Initiator, Responder}
 use Rattle.ldc_queue.specs.declared.end.ChannelState.{ChannelState}
-use Rattle.ldc_queue.specs.declared.end.ChannelState.TheVariants.{Down, Up}
+use Rattle.ldc_queue.specs.declared.end.ChannelState.TheVariants.{Up}
 use Rattle.ldc_queue.specs.declared.end.End.TheVariants.{A, B}
 use Rattle.ldc_queue.specs.Transcript.{Turn}
 use Rattle.ldc_queue.specs.Wire.{Wire, configured, peer_behind, put_for, queue_behind}
@@ -15,23 +15,19 @@ use Rattle.disk_model.specs.LaneState.{LaneState}
 use Rattle.disk_model.specs.LaneStep.{ClientWorks, LaneStep, ServerWorks, WorkStep, near_worked}
 use Rattle.disk_model.specs.ServerRule as server_rules
 use Rattle.disk_model.specs.ServerState.{ServerSession, ServerState, Work, joined_server}
-use Rattle.channel_laws.proofs.Lifting.{begins_anew}
-use Rattle.channel_laws.proofs.PacketsLeft.{anew_packets}
 use Rattle.channel_laws.specs.Standing.{EndStands}
 use Rattle.lane_laws.proofs.ClientHolding.{holds_up}
-use Rattle.lane_laws.proofs.ClientMoves.{client_begins}
 use Rattle.lane_laws.proofs.LaneCounting.{Knows}
 use Rattle.lane_laws.proofs.RemainingClientPuts.{ClientLowers, completes_falls, falls_lower, publishes_falls, sends_falls}
 use Rattle.lane_laws.proofs.RemainingServerPuts.{ServerLowers}
 use Rattle.lane_laws.proofs.RemainingServerPuts as server
 use Rattle.lane_laws.proofs.RemainingServerSteps.{fetches_lowers, finishes_lowers, moves_lowers, stores_lowers}
 use Rattle.lane_laws.proofs.Ruling.{client_may, server_may}
-use Rattle.lane_laws.proofs.ServerMoves.{server_begins}
 use Rattle.lane_laws.proofs.ServerSpeaking.{server_holds_up}
 use Rattle.lane_laws.specs.Agreement.{ServerAgrees}
 use Rattle.lane_laws.specs.ChannelEnds.{client_core, server_core}
 use Rattle.lane_laws.specs.DiskLog.{DiskLog}
-use Rattle.lane_laws.specs.Remaining.{absent, asked_by, asked_in, client_left, client_packets, life, remaining, second_life, server_left, server_packets}
+use Rattle.lane_laws.specs.Remaining.{life, remaining, second_life, server_left, server_packets}
 use Rattle.lane_laws.specs.RemainingSteps.{CountsFit, IsPutOrJoined, IsWork, TakesNothing}
 use Rattle.lane_laws.specs.RuleFacts.{ClientMay, ServerMay}
 use Rattle.lane_laws.specs.WorkLog.{ServerCounts}
@@ -41,54 +37,27 @@ use Rattle.lane_laws.proofs.LaneViews.{at_client, at_server}
 abbrev pub left : Wire → Bool → ClientState → ServerState → ℕ
 left w lossy c v = life w c v + second_life lossy (length c.pending)
 
--- a second life is longer with more requests
-pub second_less : (lossy : Bool) (n m : ℕ) → n ≤ m → second_life lossy n ≤ second_life lossy m
-second_less true n m less = omega (arith, less)
-second_less false n m less = omega arith
-
 -- ONE END goes on
-pub client_falls : (e : ChannelState) (asked : ℕ) (c t : ClientState) (by : ℕ) → e ≡ Up → ClientLowers by c t → client_left e asked t + by ≤ client_left e asked c
-client_falls e asked c t by up lower = subst (λ (x : ChannelState). client_left x asked t + by ≤ client_left x asked c) (sym up) (lower.lowers asked)
-
-pub server_falls : (e : ChannelState) (v u : ServerState) (by : ℕ) → e ≡ Up → ServerLowers by v u → server_left e u + by ≤ server_left e v
-server_falls e v u by up lower = subst (λ (x : ChannelState). server_left x u + by ≤ server_left x v) (sym up) lower.lowers
-
-pub asked_same : (e : ChannelState) (v u : ServerState) → asked_in u.session ≡ asked_in v.session → asked_by e u ≡ asked_by e v
-asked_same e v u is = grind arith
-
 client_goes : (w : Wire) (lossy : Bool) (c t : ClientState) (v : ServerState) → w.end_a ≡ Up → ClientLowers 1 c t → left w lossy t v + 1 ≤ left w lossy c v
-client_goes w lossy c t v up lower = grind (arith, client_falls, second_less)
+client_goes w lossy c t v up lower = grind arith
 
 client_puts_one : (w : Wire) (lossy : Bool) (c t : ClientState) (v : ServerState) (packet : List ℕ) → w.end_a ≡ Up → ClientLowers 2 c t
     → left (put_for B packet w) lossy t v + 1 ≤ left w lossy c v
-client_puts_one w lossy c t v packet up lower = grind (arith, client_falls, second_less, length-append)
+client_puts_one w lossy c t v packet up lower = grind (arith, length-append)
 
 server_goes : (w : Wire) (lossy : Bool) (c : ClientState) (v u : ServerState) → w.end_b ≡ Up → ServerLowers 1 v u → left w lossy c u + 1 ≤ left w lossy c v
-server_goes w lossy c v u up lower = grind (arith, server_falls, asked_same)
+server_goes w lossy c v u up lower = grind arith
 
 server_puts_one : (w : Wire) (lossy : Bool) (c : ClientState) (v u : ServerState) (packet : List ℕ) → w.end_b ≡ Up → ServerLowers 2 v u
     → left (put_for A packet w) lossy c u + 1 ≤ left w lossy c v
-server_puts_one w lossy c v u packet up lower = grind (arith, server_falls, asked_same, length-append)
+server_puts_one w lossy c v u packet up lower = grind (arith, length-append)
 
 -- AN END JOINS: one that isn't up counts as one that begins
-pub begun_packets : (c : ClientState) (turns : List Turn) → EndStands Initiator (client_core c) turns → client_packets (joined_client c) ≡ 9
-begun_packets c turns stands = grind (arith, anew_packets, begins_anew, client_begins)
-
-pub begun_client : (c : ClientState) (turns : List Turn) (asked : ℕ) → EndStands Initiator (client_core c) turns → client_left Up asked (joined_client c) ≡ client_left Down asked c
-begun_client c turns asked stands = omega (arith, begun_packets c turns stands)
-
 pub begun_answers : (v : ServerState) (turns : List Turn) → EndStands Responder (server_core v) turns → server_packets (joined_server v) ≡ 8
-begun_answers v turns stands = search (server_begins, anew_packets, begins_anew)
+begun_answers v turns stands = search
 
 pub begun_server : (v : ServerState) (turns : List Turn) → EndStands Responder (server_core v) turns → server_left Up (joined_server v) ≡ 16
 begun_server v turns stands = omega (arith, begun_answers v turns stands)
-
-joins_sum : (away there waits more joined was other second : ℕ) → away ≡ 1 → joined ≡ was → 0 + there + waits + more + joined + other + second + 1 ≤ away + there + waits + more + was + other + second
-joins_sum away there waits more joined was other second one same = omega (arith, one, same)
-
-joins_down : (w : Wire) (lossy : Bool) (c : ClientState) (v : ServerState) (turns : List Turn) → EndStands Initiator (client_core c) turns → absent w.end_a ≡ 1
-    → client_left w.end_a (asked_by w.end_b v) c ≡ client_left Down (asked_by w.end_b v) c → left (record w { end_a = Up }) lossy (joined_client c) v + 1 ≤ left w lossy c v
-joins_down w lossy c v turns stands away counts = grind (arith, joins_sum, begun_client)
 
 abbrev pub joined_a : ChannelState → Wire → Wire
 joined_a x w = record { end_a = Up; end_b = peer_behind x w.end_b; to_a = queue_behind x w.to_a; to_b = queue_behind x w.to_b }
@@ -98,19 +67,11 @@ joined_b x w = record { end_a = peer_behind x w.end_a; end_b = Up; to_a = queue_
 
 client_joins : (e : ChannelState) (w : Wire) (lossy : Bool) (c : ClientState) (v : ServerState) (turns : List Turn) → EndStands Initiator (client_core c) turns → w.end_a ≡ e → w.end_a ≢ Up
     → left (joined_a w.end_a w) (lossy_behind w.end_a lossy) (joined_client c) v + 1 ≤ left w lossy c v
-client_joins e w lossy c v turns stands is down = grind (arith, joins_down)
-
-serves_sum : (there away waits more one other joined was second : ℕ) → away ≡ 1 → one ≡ other → joined ≡ was
-    → there + 0 + waits + more + one + joined + second + 1 ≤ there + away + waits + more + other + was + second
-serves_sum there away waits more one other joined was second present same counts = omega (arith, present, same, counts)
-
-serves_down : (w : Wire) (lossy : Bool) (c : ClientState) (v : ServerState) (turns : List Turn) → EndStands Responder (server_core v) turns → absent w.end_b ≡ 1 → asked_by w.end_b v ≡ 0 → server_left w.end_b v ≡ 16
-    → left (record w { end_b = Up }) lossy c (joined_server v) + 1 ≤ left w lossy c v
-serves_down w lossy c v turns stands away none counts = grind (arith, serves_sum, begun_server)
+client_joins e w lossy c v turns stands is down = grind arith
 
 server_joins : (e : ChannelState) (w : Wire) (lossy : Bool) (c : ClientState) (v : ServerState) (turns : List Turn) → EndStands Responder (server_core v) turns → w.end_b ≡ e → w.end_b ≢ Up
     → left (joined_b w.end_b w) (lossy_behind w.end_b lossy) c (joined_server v) + 1 ≤ left w lossy c v
-server_joins e w lossy c v turns stands is down = grind (arith, serves_down)
+server_joins e w lossy c v turns stands is down = grind arith
 
 -- THE EVENTS
 counts_fit : (o : Option ServerSession) (work : Option Work) (counts : Option ServerCounts) → ServerAgrees o work counts → CountsFit o

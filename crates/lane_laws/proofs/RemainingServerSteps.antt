@@ -1,7 +1,7 @@
 -- The work of a server: what remains falls.
 use Rattle.std.proofs.Common.{◌≡◌, ◌≢◌, ℕ, ◌^◌, ◌+◌, ◌-◌, ◌*◌, ◌%◌, ◌≤◌, ◌<◌, Bool, true, false, Option, Some, None, List, refl, sym, subst, arith}
-use Rattle.std.specs.Prelude.{not, nat_lt, ◌&&◌, ◌||◌, ◌==◌, if◌then◌else◌}
-use Rattle.std.proofs.lemmas.Bool.{eqb-false, leb-true, ltb-true}
+use Rattle.std.specs.Prelude.{nat_lt, ◌==◌, if◌then◌else◌}
+use Rattle.std.proofs.lemmas.Bool.{eqb-false, ltb-true}
 use Rattle.cookie_copy.specs.declared.fault.CopyFault.{CopyFault}
 use Rattle.vdisk_msg.specs.Check.{first_defect, moves_data}
 use Rattle.vdisk_msg.specs.declared.desc.DescFault.{DescFault}
@@ -11,10 +11,10 @@ use Rattle.vdisk_msg.specs.Pieces.{unit_count}
 use Rattle.channel_model.specs.Ranges.{wrapped}
 use Rattle.channel_model.specs.Seeing.{Seen}
 use Rattle.disk_model.specs.ServerRule.{Fetches, Serves, server_rule}
-use Rattle.disk_model.specs.ServerState.{Ends, Flushes, Gathers, Gives, Progress, Reads, ServerSession, ServerState, Work}
+use Rattle.disk_model.specs.ServerState.{Ends, Gathers, Gives, Progress, Reads, ServerSession, ServerState, Work}
 use Rattle.disk_model.specs.ServerStep.{ServerFetches, ServerFinishes, ServerMoves, ServerStores}
 use Rattle.cookie_copy.specs.Reach.{Reach}
-use Rattle.disk_model.specs.ServerWork.{MovesIn, StoresIn, checked_progress, desc_of, first_progress, gathered, given, or_ends}
+use Rattle.disk_model.specs.ServerWork.{MovesIn, StoresIn, checked_progress, desc_of, first_progress, gathered, given}
 use Rattle.lane_laws.proofs.RemainingServerPuts.{ServerLowers}
 use Rattle.lane_laws.proofs.RulesFree.{ServerFree, server_free}
 use Rattle.lane_laws.proofs.RuleTests.{ServesFree}
@@ -67,13 +67,9 @@ moves_less (Gives u bytes) work reach unit why next new moves = subst (λ (x : P
 moves_less (Gathers u) work reach unit why next new moves = subst (λ (x : Progress). Less work x (Gathers u)) (sym moves.2) (gathered_less why work reach u)
 moves_less _ work reach unit why next new moves = absurd moves
 
-or_ends_less : (failed : Bool) (work : Work) (next progress : Progress) → Less work next progress → Less work (Ends 5) progress → Less work (or_ends failed next) progress
-or_ends_less true work next progress less fails = fails
-or_ends_less false work next progress less fails = less
-
 pub stores_less : (progress : Progress) (work : Work) (operation block count : ℕ) (failed : Bool) (gave : List ℕ) (next : Progress)
     → StoresIn progress work operation block count failed gave next → Less work next progress
-stores_less progress work operation block count failed gave next stores = grind (arith, or_ends_less, gathers_less)
+stores_less progress work operation block count failed gave next stores = grind (arith, gathers_less)
 
 progress_lowers : (s : ServerState) (at : Seen) (session : ServerSession) (work : Work) (next : Progress) → server_rule s at ≡ Serves session work → Less work next work.progress
     → ServerLowers 1 s (record s { work = Some (record work { progress = next }) })
@@ -95,33 +91,11 @@ stores_lowers s at operation block count failed gave t step =
     (progress_lowers s at step.session step.work step.next step.rule (stores_less step.work.progress step.work operation block count failed gave step.next step.stores))
 
 -- WHAT IS FETCHED has at most eight pieces
-no_defect : (b : Bool) (why : DescFault) (rest : Option DescFault) → (if b then Some why else rest) ≡ None → (b ≡ false) × (rest ≡ None)
-no_defect true why rest is = absurd (cc)
-no_defect false why rest is = (refl, is)
-
-not_false : (b : Bool) → not b ≡ false → b ≡ true
-not_false true is = refl
-not_false false is = absurd (cc)
-
-middle_true : (a b c : Bool) → (a && b && c) ≡ true → b ≡ true
-middle_true true true c is = refl
-middle_true false true c is = refl
-middle_true true false c is = absurd (cc)
-middle_true false false c is = absurd (cc)
-
 sound_size : (desc : DiskDesc) (blocks : ℕ) → moves_data desc.operation ≡ true → first_defect desc blocks 0x0e ≡ None → desc.size ≤ 32768
-sound_size desc blocks moves sound = grind (arith, no_defect, leb-true, middle_true, not_false)
-
-few_units : (size : ℕ) → size ≤ 32768 → unit_count size ≤ 4
-few_units size most = omega (arith, most)
-
-few_of : (reads writes : Bool) (units : ℕ) → ((reads || writes) ≡ true → units ≤ 4) → pieces_left units (if reads then Reads 0 else if writes then Gathers 0 else Flushes) ≤ 8
-few_of true writes units few = omega (arith, few refl)
-few_of false true units few = omega (arith, few refl)
-few_of false false units few = omega arith
+sound_size desc blocks moves sound = grind arith
 
 few_checked : (defect : Option DescFault) (desc : DiskDesc) (blocks : ℕ) → first_defect desc blocks 0x0e ≡ defect → pieces_left (unit_count desc.size) (checked_progress defect desc) ≤ 8
-few_checked defect desc blocks is = grind (arith, few_of, few_units, sound_size)
+few_checked defect desc blocks is = grind (arith, sound_size)
 
 pub few_pieces : (desc : DiskDesc) (blocks : ℕ) → pieces_left (unit_count desc.size) (first_progress blocks desc) ≤ 8
 few_pieces desc blocks = few_checked (first_defect desc blocks 0x0e) desc blocks refl

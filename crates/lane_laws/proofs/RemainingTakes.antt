@@ -1,8 +1,7 @@
 -- A packet that is taken lowers what remains, where the end that takes it has no more to put than before, and a server is asked for what
 -- its client announced.
-use Rattle.std.proofs.Common.{◌≡◌, ℕ, ◌+◌, ◌*◌, ◌≤◌, Bool, Some, List, [], ◌∷◌, length, drop, ap, subst, arith, inl, inr, length-drop}
+use Rattle.std.proofs.Common.{◌≡◌, ℕ, ◌+◌, ◌≤◌, Bool, Some, List, [], ◌∷◌, length, drop, subst, arith, inl, inr, length-drop}
 use Rattle.std.specs.Prelude.{slice_get}
-use Rattle.ldc_queue.specs.declared.end.ChannelState.{ChannelState}
 use Rattle.ldc_queue.specs.declared.end.ChannelState.TheVariants.{Up}
 use Rattle.ldc_queue.specs.declared.end.End.TheVariants.{A, B}
 use Rattle.ldc_queue.specs.Wire.{Wire, taken_for}
@@ -16,10 +15,10 @@ use Rattle.disk_model.specs.LaneStep.{LaneStep}
 use Rattle.disk_model.specs.ServerRule as server_rules
 use Rattle.disk_model.specs.ServerState.{ServerState}
 use Rattle.lane_laws.proofs.RemainingClientPuts.{ClientLowers}
-use Rattle.lane_laws.proofs.RemainingLane.{asked_same, client_falls, falls_is, left, second_less}
+use Rattle.lane_laws.proofs.RemainingLane.{falls_is, left}
 use Rattle.lane_laws.proofs.LaneViews.{at_client, at_server}
 use Rattle.lane_laws.proofs.Ruling.{client_may, server_may}
-use Rattle.lane_laws.specs.Remaining.{asked_by, asked_in, client_left, remaining, server_left, server_packets, serving_left}
+use Rattle.lane_laws.specs.Remaining.{remaining}
 use Rattle.lane_laws.specs.RemainingSteps.{ServerHears, ServerIsAsked, ServerTurn, total_at}
 use Rattle.lane_laws.specs.RuleFacts.{ClientMay, ServerMay}
 
@@ -31,25 +30,16 @@ first_gone packet (one ∷ packets) is = omega (arith, length-drop 1 (one ∷ pa
 -- THE CLIENT
 client_took : (w : Wire) (lossy : Bool) (c t : ClientState) (v : ServerState) (packet : List ℕ) → w.end_a ≡ Up → slice_get w.to_a 0 ≡ Some packet → ClientLowers 0 c t
     → left (taken_for A w) lossy t v + 1 ≤ left w lossy c v
-client_took w lossy c t v packet up first lower = grind (arith, first_gone, client_falls, second_less)
+client_took w lossy c t v packet up first lower = grind arith
 
 -- THE SERVER
-asked_more : (e : ChannelState) (c : ClientState) (before behind count : ℕ) → behind ≡ before + count → behind ≤ total_at e c → client_left e behind c + 12 * count ≤ client_left e before c
-asked_more e c before behind count is within = grind arith
-
-asked_up : (e : ChannelState) (v : ServerState) → e ≡ Up → asked_by e v ≡ asked_in v.session
-asked_up e v up = ap (λ (x : ChannelState). asked_by x v) up
-
-served_up : (e : ChannelState) (v : ServerState) → e ≡ Up → server_left e v ≡ 2 * server_packets v + serving_left v.work v.session
-served_up e v up = ap (λ (x : ChannelState). server_left x v) up
-
 server_hears : (w : Wire) (lossy : Bool) (c : ClientState) (v u : ServerState) (packet : List ℕ) → w.end_b ≡ Up → slice_get w.to_b 0 ≡ Some packet → ServerHears v u
     → left (taken_for B w) lossy c u + 1 ≤ left w lossy c v
-server_hears w lossy c v u packet up first hears = grind (arith, first_gone, asked_same, served_up)
+server_hears w lossy c v u packet up first hears = grind arith
 
 server_is_asked : (w : Wire) (lossy : Bool) (c : ClientState) (v u : ServerState) (packet : List ℕ) (count : ℕ) → w.end_b ≡ Up → slice_get w.to_b 0 ≡ Some packet
     → ServerIsAsked (total_at w.end_a c) count v u → left (taken_for B w) lossy c u + 1 ≤ left w lossy c v
-server_is_asked w lossy c v u packet count up first asks = grind (arith, asked_up, asked_more, first_gone, served_up)
+server_is_asked w lossy c v u packet count up first asks = grind arith
 
 server_took : (w : Wire) (lossy : Bool) (c : ClientState) (v u : ServerState) (packet : List ℕ) → w.end_b ≡ Up → slice_get w.to_b 0 ≡ Some packet
     → ServerTurn (total_at w.end_a c) v u → left (taken_for B w) lossy c u + 1 ≤ left w lossy c v

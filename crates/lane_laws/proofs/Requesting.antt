@@ -1,14 +1,13 @@
 -- What a client's step does to its requests.
-use Rattle.std.proofs.Common.{◌≡◌, ℕ, ◌+◌, ◌<◌, Bool, true, false, Option, Some, None, List, [], ◌∷◌, ◌++◌, length, drop, refl, sym, ap, ◌∙◌, subst, arith, length-drop, length-append}
+use Rattle.std.proofs.Common.{◌≡◌, ℕ, ◌+◌, ◌<◌, Bool, Some, List, [], ◌∷◌, ◌++◌, length, drop, refl, sym, ap, ◌∙◌, subst, arith, length-drop, length-append}
 use Rattle.std.specs.Prelude.{zero, suc, slice_get}
 use Rattle.std.proofs.lemmas.List.{drop-append-le, drop-drop}
 use Rattle.vdisk_msg.specs.declared.request.Request.{Request}
 use Rattle.vdisk_msg.specs.Requests.{operation_of}
-use Rattle.channel_laws.proofs.Apart.{none_is_some, some_same}
 use Rattle.lane_laws.specs.WorkLog.{WorkLog}
-use Rattle.disk_model.specs.ClientPutting.{announced, announcement, announcing, client_holds, client_kind, client_put, holding, opened_if, session_behind}
+use Rattle.disk_model.specs.ClientPutting.{client_holds, client_kind, client_put, session_behind}
 use Rattle.disk_model.specs.ClientRule.{ClientRule, Completes, client_rule}
-use Rattle.disk_model.specs.ClientState.{ClientSession, ClientState, first_id, joined_client}
+use Rattle.disk_model.specs.ClientState.{ClientState, first_id, joined_client}
 use Rattle.disk_model.specs.ClientStep.{ClientCompletes, ClientPublishes, ClientSends}
 use Rattle.disk_model.specs.ClientTaking.{ClientTakes, GoesOn}
 use Rattle.channel_model.specs.EndPuts.{PutKind}
@@ -38,29 +37,12 @@ took_kept c packet t takes =
     record { pending = by.pending; next = by.next; blocks = by.blocks; slots = by.slots; session = λ done first stands. by.keeps done stands }
 
 -- a session after a packet that was put
-announced_stands : (done : ℕ) (session : Option ClientSession) → SessionStands done session → SessionStands done (announced session)
-announced_stands done None stands = tt
-announced_stands done (Some s) stands = stands
-
-opened_stands : (b : Bool) (c : ClientState) (done : ℕ) → done ≡ first_id c → SessionStands done c.session → SessionStands done (opened_if b c)
-opened_stands true c done first stands = omega (arith, first)
-opened_stands false c done first stands = stands
-
-behind_stands : (kind : PutKind) (c : ClientState) (done : ℕ) → done ≡ first_id c → SessionStands done c.session → SessionStands done (session_behind kind c)
-behind_stands kind c done first stands = grind (arith, announced_stands, opened_stands)
-
 put_kept : (c : ClientState) (kind : PutKind) (t : ClientState) → t.session ≡ session_behind kind c → t.pending ≡ c.pending → t.next_id ≡ c.next_id
     → t.blocks ≡ c.blocks → t.slots ≡ c.slots → KeepsRequests c t
-put_kept c kind t session pending next blocks slots = grind (arith, behind_stands)
-
-held_is : (c one other : ClientState) → Some one ≡ Some other → KeepsRequests c one → KeepsRequests c other
-held_is c one other is kept = let same : one ≡ other = some_same is in subst (λ (x : ClientState). KeepsRequests c x) same kept
-
-announcing_kept : (c : ClientState) (session : ClientSession) → c.session ≡ Some session → KeepsRequests c (announcing session (holding (announcement c session) c))
-announcing_kept c session is = grind arith
+put_kept c kind t session pending next blocks slots = grind arith
 
 pub held_kept : (c : ClientState) (at : Seen) (rule : ClientRule) (held : ClientState) → ClientMay c at rule → client_holds rule c ≡ Some held → KeepsRequests c held
-held_kept c at rule held may is = grind (arith, held_is, stays_kept, announcing_kept, none_is_some)
+held_kept c at rule held may is = grind arith
 
 -- one after the other
 both_kept : (c m t : ClientState) → KeepsRequests c m → KeepsRequests m t → KeepsRequests c t

@@ -1,7 +1,6 @@
 -- What a client's work does to the ring in session: a request is READY in the next slot, and the slot of a done one is FREE.
 use Rattle.std.proofs.Common.{◌≡◌, ◌≢◌, ℕ, ◌+◌, ◌-◌, ◌*◌, ◌%◌, ◌^◌, ◌<◌, ◌≤◌, List, [], ◌∷◌, length, drop, set, Option, Some, None, refl, sym, ap, ◌∙◌, subst, arith}
 use Rattle.std.specs.Prelude.{slice_get, slice_index, zero, suc}
-use Rattle.std.proofs.lemmas.Bool.{cases_lt}
 use Rattle.std.proofs.lemmas.Nat.{mod_below}
 use Rattle.std.proofs.lemmas.Option.{slice_get_within}
 use Rattle.dring.specs.Slots.{OneSlot, done_state, free_state, slot_bytes}
@@ -60,7 +59,7 @@ in_order s l session known is = subst (CountsInOrder (length s.client.pending)) 
 pub publishing : (s : LaneState) (l : DiskLog) (id : ℕ) (session : ClientSession) (request : Request) → Known s l → s.client.session ≡ Some session
     → (k : OfClient session l.work.done l.work.client) → id ≡ session.base + session.published → slice_get s.client.pending (session.published - session.completed) ≡ Some request
     → Publishing s l id session k.counts request
-publishing s l id session request known is k id_is_number next = grind (arith, in_order, slice_get_within, got_at, got_sound, slots_are)
+publishing s l id session request known is k id_is_number next = grind (arith, slice_get_within, got_at, got_sound)
 
 -- the session after it, and what of ids stays
 abbrev one_more : ClientCounts → ClientCounts
@@ -192,7 +191,7 @@ base_of None = 0
 base_of (Some k) = k.base
 
 ids_fewer : (slots done : ℕ) (k : ClientCounts) (slot : ℕ) → slot ≢ (done - k.base) % slots → (id : ℕ) → IdStands slots done k slot id → IdStands slots (done + 1) k slot id
-ids_fewer slots done k slot other id stands = grind (arith, cases_lt)
+ids_fewer slots done k slot other id stands = grind arith
 
 pub completed_in_ring : (s : LaneState) (l : DiskLog) (id operation status : ℕ) (bytes : List ℕ) (t : LaneState) → Known s l → WorkStep s (Done id operation status bytes) t
     → InRing t (after l (Works (Done id operation status bytes)))

@@ -49,7 +49,7 @@ pub record RingBytes (slots : ℕ) (cookies : List Cookie) : Type 0 where
   pub aligned : list_all is_aligned_cookie cookies ≡ true
 
 one_aligned : (slots : ℕ) → list_all is_aligned_cookie (record { address = 0; size = 128 * slots } ∷ []) ≡ true
-one_aligned slots = grind (arith, even_word)
+one_aligned slots = grind arith
 
 ring_bytes_if : (b : Bool) (slots : ℕ) → RingBytes slots (if b then page_cookies 0 (ring_pages slots) else record { address = 0; size = 128 * slots } ∷ [])
 ring_bytes_if true slots =

@@ -1,5 +1,5 @@
 -- The log of the ring after an event that leaves its slots as they are: what is known of bytes, numbers and work carries over.
-use Rattle.std.proofs.Common.{◌≡◌, ℕ, ◌+◌, Bool, true, false, List, Option, Some, None, ◌⊎◌, inl, inr, refl, sym, subst, arith}
+use Rattle.std.proofs.Common.{◌≡◌, ℕ, false, List, Option, Some, None, ◌⊎◌, inl, inr, sym, subst, arith}
 use Rattle.std.specs.Prelude.{⊤}
 use Rattle.ldc_queue.specs.declared.end.ChannelState.TheVariants.{Up}
 use Rattle.ldc_queue.specs.declared.end.End.TheVariants.{A}
@@ -7,14 +7,12 @@ use Rattle.channel_model.specs.WireEvent.{Sent, Took, WireEvent}
 use Rattle.vdisk_msg.specs.declared.request.Request.{Request}
 use Rattle.lane_laws.specs.DiskLog.{DiskLog, after}
 use Rattle.lane_laws.specs.RingLog.{SlotLog}
-use Rattle.lane_laws.specs.WorkLog.{ClientCounts, ServerCounts, change_client, change_server, opened_counts}
+use Rattle.lane_laws.specs.WorkLog.{ClientCounts, ServerCounts}
 use Rattle.disk_model.specs.LaneState.{LaneState}
-use Rattle.lane_laws.proofs.StandingSteps.{wired_keeps}
 use Rattle.disk_model.specs.DiskEvent.{Accepted as Accepted_, Asks, Desc, DiskEvent, Done, Finished, OnWire, Published, Works}
 use Rattle.lane_laws.proofs.RingTable.{map_stands, same_holds}
 use Rattle.lane_laws.specs.RingAgreed.{InRing, ring_in}
-use Rattle.lane_laws.specs.RingSlots.{IdStands, IdsStand, InWork, RingHolds, RingOf, SameSlots, WorkStands}
-use Rattle.channel_laws.proofs.HandshakesPlaced.{peer_up}
+use Rattle.lane_laws.specs.RingSlots.{IdStands, IdsStand, RingHolds, RingOf, SameSlots, WorkStands}
 
 -- the client's ids stay, or its session is gone
 abbrev pub KeepsIds : Option ClientCounts → Option ClientCounts → Type 0
@@ -53,11 +51,8 @@ ids_kept slots done ring (Some c) None keeps stand = tt
 ids_kept slots done ring None (Some d) keeps stand = absurd keeps
 ids_kept slots done ring (Some c) (Some d) keeps stand = λ slot is got. map_stands slots done done c d slot (same_ids slots done c d slot keeps.0 keeps.1) is (stand slot is got)
 
-work_same : (r : RingOf) (ring : List SlotLog) (c d : ServerCounts) → SameWork c d → (c.descs ≡ c.finished + 1 → InWork r ring c) → d.descs ≡ d.finished + 1 → InWork r ring d
-work_same r ring c d same stands one = grind arith
-
 work_kept : (r : RingOf) (ring : List SlotLog) (o q : Option ServerCounts) → KeepsWork o q → WorkStands r ring o → WorkStands r ring q
-work_kept r ring o q keeps stand = grind (arith, work_same)
+work_kept r ring o q keeps stand = grind arith
 
 -- where the server's end is up after it
 work_live : (r : RingOf) (ring : List SlotLog) (o q : Option ServerCounts) (up : Type 0) → KeepsWork o q → (up → WorkStands r ring o) → up ⊎ (q ≡ None) → WorkStands r ring q
@@ -80,37 +75,6 @@ leaves_stand s l event t leaves same ring = record {
 }
 
 -- EACH KIND of change
-pub ids_gone : (o : Option ClientCounts) → KeepsIds o None
-ids_gone None = tt
-ids_gone (Some c) = tt
-
-pub ids_stay : (o : Option ClientCounts) → KeepsIds o o
-ids_stay None = tt
-ids_stay (Some c) = (refl, refl)
-
-pub ids_changed : (f : ClientCounts → ClientCounts) (o : Option ClientCounts) → ((c : ClientCounts) → (f c).base ≡ c.base) → ((c : ClientCounts) → (f c).published ≡ c.published)
-    → KeepsIds o (change_client f o)
-ids_changed f None base published = tt
-ids_changed f (Some c) base published = (base c, published c)
-
-pub work_gone : (o : Option ServerCounts) → KeepsWork o None
-work_gone None = tt
-work_gone (Some c) = tt
-
-pub work_stays : (o : Option ServerCounts) → KeepsWork o o
-work_stays None = tt
-work_stays (Some c) = inr (record { descs = refl; finished = refl; desc = refl })
-
-pub work_changed : (f : ServerCounts → ServerCounts) (o : Option ServerCounts) → ((c : ServerCounts) → SameWork c (f c)) → KeepsWork o (change_server f o)
-work_changed f None same = tt
-work_changed f (Some c) same = inr (same c)
-
-pub work_opened : (b : Bool) (sid : ℕ) (f : ServerCounts → ServerCounts) (o : Option ServerCounts) → ((c : ServerCounts) → SameWork c (f c))
-    → KeepsWork o (opened_counts b sid (change_server f o))
-work_opened true sid f None same = refl
-work_opened true sid f (Some c) same = inl refl
-work_opened false sid f o same = work_changed f o same
-
 -- EVENTS that leave the ring: no packet by which the client's session opens, no request, and of the work only pieces
 abbrev pub OpensNot : WireEvent → Type 0
 OpensNot (Sent A packet opens) = opens ≡ false
@@ -126,19 +90,12 @@ Leaves (Works (Desc slot bytes)) = ⊥
 Leaves (Works (Finished slot status)) = ⊥
 Leaves _ = ⊤
 
--- the slots, and the requests
-log_left : (l : DiskLog) (event : DiskEvent) → Leaves event → ((after l event).ring ≡ l.ring) × ((after l event).work.issued ≡ l.work.issued) × ((after l event).work.done ≡ l.work.done)
-log_left l event leaves = grind (arith, wired_keeps)
-
 -- the counts of both ends
 ids_left : (l : DiskLog) (event : DiskEvent) → Leaves event → KeepsIds l.work.client (after l event).work.client
-ids_left l event leaves = grind (arith, ids_gone, ids_changed, ids_stay)
+ids_left l event leaves = grind arith
 
 work_left : (l : DiskLog) (event : DiskEvent) → Leaves event → KeepsWork l.work.server (after l event).work.server
-work_left l event leaves = grind (arith, work_gone, work_opened, work_changed, work_stays)
-
-live_left : (l : DiskLog) (event : DiskEvent) → (after l event).wire.wire.end_b ≡ Up → (l.wire.wire.end_b ≡ Up) ⊎ ((after l event).work.server ≡ None)
-live_left l event up = grind (arith, peer_up)
+work_left l event leaves = grind arith
 
 pub event_leaves : (l : DiskLog) (event : DiskEvent) → Leaves event → LeavesRing l event
-event_leaves l event leaves = grind (arith, log_left, ids_left, work_left, live_left)
+event_leaves l event leaves = grind (arith, ids_left, work_left)

@@ -11,16 +11,15 @@ use Rattle.dring.specs.Slots.{slot_bytes}
 use Rattle.map_table.specs.declared.table.Entry.{Entry}
 use Rattle.vdisk_msg.specs.Check.{first_defect}
 use Rattle.vdisk_msg.specs.declared.desc.DescFault.{DescFault}
-use Rattle.vdisk_msg.specs.declared.desc.DescFault.TheVariants.{Operation}
 use Rattle.vdisk_msg.specs.declared.desc.DiskDesc.{DiskDesc}
-use Rattle.vdisk_msg.specs.Pieces.{Finishes, Moves, Piece, Stores, checked_pieces, pieces, read_pieces, refusal_status, write_pieces}
+use Rattle.vdisk_msg.specs.Pieces.{Finishes, Moves, Piece, Stores, checked_pieces, pieces, read_pieces, write_pieces}
 use Rattle.channel_model.specs.TranscriptLog.{TranscriptLog}
 use Rattle.channel_model.specs.WireEvent.{WireEvent}
 use Rattle.channel_laws.proofs.Apart.{some_same}
 use Rattle.lane_laws.specs.Agreement.{RingAgrees, SlotAgrees}
 use Rattle.lane_laws.specs.DiskLog.{DiskLog, after, nothing_yet}
 use Rattle.lane_laws.specs.RingLog.{SlotLog, Zeros, no_ring}
-use Rattle.lane_laws.specs.WorkLog.{ServerCounts, WorkLog, change_server, moved_rest, opened_counts, rest_of, stored_rest, work_wired}
+use Rattle.lane_laws.specs.WorkLog.{ServerCounts, WorkLog, change_server, moved_rest, rest_of, stored_rest, work_wired}
 use Rattle.disk_model.specs.DiskEvent.{Accepted, Admitted, Asks, Desc, DiskEvent, Finished, Moved, OnWire, Stopped, Stored, Switches, Works}
 use Rattle.disk_model.specs.LaneState.{IsShape, LaneState, Shape, fresh, pages_of}
 use Rattle.disk_model.specs.LaneStep.{LaneStep}
@@ -28,7 +27,6 @@ use Rattle.lane_laws.proofs.CarriedRuns.{AllStand}
 use Rattle.lane_laws.proofs.RingPages.{few_pages, own_is_identity, same_pages}
 use Rattle.lane_laws.proofs.RingSteps.{event_in_ring}
 use Rattle.lane_laws.proofs.RingWork.{Known}
-use Rattle.lane_laws.proofs.StandingSteps.{wired_keeps}
 use Rattle.lane_laws.specs.RingAgreed.{RingStands, SessionsAgree, ring_in}
 use Rattle.lane_laws.specs.RingSlots.{OwesStatus, RingHolds, RingOf, SlotHolds, StatusStands}
 use Rattle.lane_laws.specs.Standing.{LaneInvariant}
@@ -64,12 +62,8 @@ operation_status true write units = read_status 0 units
 operation_status false true units = write_status 0 units
 operation_status false false units = tt
 
-refused_status : (fault : DescFault) → refusal_status fault < 2 ^ 32
-refused_status Operation = omega arith
-refused_status _ = omega arith
-
 checked_status : (fault : Option DescFault) (desc : DiskDesc) → OwesStatus (checked_pieces fault desc)
-checked_status fault desc = grind (arith, end_status, operation_status, refused_status)
+checked_status fault desc = grind (arith, end_status, operation_status)
 
 pieces_status : (desc : DiskDesc) (blocks mask : ℕ) → OwesStatus (pieces desc blocks mask)
 unfolding pieces
@@ -79,12 +73,8 @@ changed_status : (f : ServerCounts → ServerCounts) (o : Option ServerCounts) �
 changed_status f None keeps stands = tt
 changed_status f (Some c) keeps stands = keeps c stands
 
-opened_status : (b : Bool) (sid : ℕ) (o : Option ServerCounts) → StatusStands o → StatusStands (opened_counts b sid o)
-opened_status true sid o stands = tt
-opened_status false sid o stands = stands
-
 wire_status : (slots : ℕ) (transcript : TranscriptLog) (w : WorkLog) (event : WireEvent) → StatusStands w.server → StatusStands (work_wired slots transcript w event).server
-wire_status slots transcript w event stands = grind (arith, opened_status, changed_status)
+wire_status slots transcript w event stands = grind arith
 
 statuses : (l : DiskLog) (event : DiskEvent) → StatusStands l.work.server → StatusStands (after l event).work.server
 statuses l (OnWire event) stands = wire_status l.shape.slots l.transcript l.work event stands
@@ -97,16 +87,13 @@ statuses l (Switches Stopped) stands = tt
 statuses l _ stands = stands
 
 -- THE IDS are below 2^64
-issued_wired : (slots : ℕ) (transcript : TranscriptLog) (w : WorkLog) (event : WireEvent) → length w.issued < 2 ^ 64 → length (work_wired slots transcript w event).issued < 2 ^ 64
-issued_wired slots transcript w event few = omega (arith, ap length (wired_keeps slots transcript w event).issued, few)
-
 issued_asked : (s : LaneState) (l : DiskLog) (event : Admitted) (t : LaneState) → LaneInvariant s l → length l.work.issued < 2 ^ 64 → LaneStep s (Asks event) t
     → length (after l (Asks event)).work.issued < 2 ^ 64
 issued_asked s l event t stands few step = grind (arith, length-append)
 
 pub issued_behind : (s : LaneState) (l : DiskLog) (event : DiskEvent) (t : LaneState) → LaneInvariant s l → length l.work.issued < 2 ^ 64 → LaneStep s event t
     → length (after l event).work.issued < 2 ^ 64
-issued_behind s l event t stands few step = grind (arith, issued_wired, issued_asked)
+issued_behind s l event t stands few step = grind (arith, issued_asked)
 
 -- where nobody forged after an event, nobody had before it
 pub before : (l : DiskLog) (event : DiskEvent) → (after l event).wire.forged ≡ false → l.wire.forged ≡ false
@@ -114,7 +101,7 @@ before l event not = grind arith
 
 -- EACH EVENT
 pub known_of : (s : LaneState) (l : DiskLog) → AllStand s l → RingStands s l → SessionsAgree s l → l.wire.forged ≡ false → Known s l
-known_of s l all ring agree not = grind (arith, statuses)
+known_of s l all ring agree not = grind arith
 
 pub ring_step : (s : LaneState) (l : DiskLog) (event : DiskEvent) (t : LaneState) → AllStand s l → (l.wire.forged ≡ false → SessionsAgree s l)
     → ((after l event).wire.forged ≡ false → SessionsAgree t (after l event)) → RingStands s l → LaneStep s event t → RingStands t (after l event)

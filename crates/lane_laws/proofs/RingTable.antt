@@ -1,13 +1,11 @@
 -- One slot of the ring's table and of its memory changes, and all others stay; the id in a slot is the one whose number stands there.
 use Rattle.std.proofs.Common.{◌≡◌, ◌≢◌, ℕ, ◌+◌, ◌-◌, ◌%◌, ◌<◌, ◌≤◌, ◌⊎◌, List, [], ◌∷◌, ◌++◌, length, set, refl, sym, ap, ◌∙◌, subst, arith, Option, Some, None}
 use Rattle.std.specs.Prelude.{slice_get, slice_index, zero, suc, replicate}
-use Rattle.std.proofs.lemmas.Bool.{cases_lt}
 use Rattle.std.proofs.lemmas.List.{length-set}
 use Rattle.std.proofs.lemmas.Option.{slice_get_within}
 use Rattle.dring.proofs.Turning.{one_turn}
 use Rattle.dring.specs.Slots.{OneSlot, free_state, slot_bytes}
 use Rattle.vdisk_msg.specs.declared.request.Request.{Request}
-use Rattle.channel_laws.proofs.Apart.{some_same}
 use Rattle.lane_laws.specs.RingLog.{Free, SlotLog}
 use Rattle.lane_laws.specs.WorkLog.{ClientCounts, ServerCounts}
 use Rattle.lane_laws.proofs.SlotBytes.{more_holds}
@@ -27,7 +25,7 @@ got_other (x ∷ ring) (suc k) zero e other = refl
 got_other (x ∷ ring) (suc k) (suc j) e other = got_other ring k j e (λ same. other (ap suc same))
 
 pub same_or_other : (a b : ℕ) → (a ≡ b) ⊎ (a ≢ b)
-same_or_other a b = grind (arith, cases_lt)
+same_or_other a b = grind arith
 
 pub some_entry : (ring : List SlotLog) (k : ℕ) → k < length ring → (is : SlotLog) × (slice_get ring k ≡ Some is)
 some_entry [] k below = absurd (omega (arith, below))
@@ -38,7 +36,7 @@ some_entry (x ∷ ring) (suc k) below = some_entry ring k (omega (arith, below))
 each_if : (P : ℕ → SlotLog → Type 0) (ring : List SlotLog) (k : ℕ) (e : SlotLog) → k < length ring
     → ((j : ℕ) (is : SlotLog) → j ≢ k → slice_get ring j ≡ Some is → P j is) → P k e
     → (j : ℕ) (is : SlotLog) → slice_get (set ring k e) j ≡ Some is → (j ≡ k) ⊎ (j ≢ k) → P j is
-each_if P ring k e below others here j is got is_holds = grind (arith, got_same, some_same, got_other)
+each_if P ring k e below others here j is got is_holds = grind (arith, got_same, got_other)
 
 pub each_set : (P : ℕ → SlotLog → Type 0) (ring : List SlotLog) (k : ℕ) (e : SlotLog) → k < length ring
     → ((j : ℕ) (is : SlotLog) → j ≢ k → slice_get ring j ≡ Some is → P j is) → P k e
@@ -101,7 +99,7 @@ free_ids slots done (Some c) = λ slot is got. subst (SlotStands slots done c sl
 -- THE NUMBERS
 id_below : (slots done : ℕ) (c : ClientCounts) (slot id j : ℕ) → IdStands slots done c slot id → done ≤ c.base + j → j < c.published → c.base + c.published ≤ done + slots
     → slot ≡ j % slots → id - c.base ≡ j
-id_below slots done c slot id j stands since below turn is = grind (arith, cases_lt, one_turn)
+id_below slots done c slot id j stands since below turn is = grind (arith, one_turn)
 
 -- the id in the slot of a number is that number's
 pub id_is : (slots done : ℕ) (c : ClientCounts) (slot id j : ℕ) → IdStands slots done c slot id → done ≤ c.base + j → j < c.published → c.base + c.published ≤ done + slots
@@ -110,7 +108,7 @@ id_is slots done c slot id j stands since below turn is = grind (arith, id_below
 
 -- the next number to publish has a slot in which no id stands
 pub none_next : (slots done : ℕ) (c : ClientCounts) (slot id : ℕ) → IdStands slots done c slot id → c.base + c.published < done + slots → slot ≢ c.published % slots
-none_next slots done c slot id stands turn is = grind (arith, one_turn)
+none_next slots done c slot id stands turn is = grind arith
 
 pub map_stands : (slots done done2 : ℕ) (c c2 : ClientCounts) (slot : ℕ) → ((id : ℕ) → IdStands slots done c slot id → IdStands slots done2 c2 slot id) → (is : SlotLog)
     → SlotStands slots done c slot is → SlotStands slots done2 c2 slot is

@@ -7,7 +7,7 @@ use Rattle.ldc_queue.specs.declared.end.End.{End}
 use Rattle.ldc_queue.specs.declared.end.End.TheVariants.{A, B}
 use Rattle.vio_bytes.specs.Place.{put_at}
 use Rattle.vio_tag.specs.declared.cause.Cause.{Cause}
-use Rattle.channel_model.specs.WireEvent.{Sent, Took, WireEvent}
+use Rattle.channel_model.specs.WireEvent.{Sent, WireEvent}
 use Rattle.lane_laws.specs.DiskLog.{DiskLog, after}
 use Rattle.lane_laws.specs.RingLog.{Free}
 use Rattle.lane_laws.specs.WorkLog.{ClientCounts, ServerCounts}
@@ -96,11 +96,11 @@ rule_same rule s l cause packet new known may fails = grind (arith, fails_same)
 
 -- EACH EVENT that opens no session of the client leaves the memory
 client_same : (s : LaneState) (event : WireEvent) (t : ClientState) (new : List ℕ) → OpensNot event → ClientStep s.client (at_client s) s.memory (OnWire event) t new → new ≡ s.memory
-client_same s event t new not step = grind (arith, sent_clears)
+client_same s event t new not step = grind arith
 
 server_same : (s : LaneState) (l : DiskLog) (event : WireEvent) (gave : List ℕ) (t : ServerState) (new : List ℕ) → Known s l
     → ServerStep s.server (at_server s) (reach_of s) gave (OnWire event) t new → new ≡ s.memory
-server_same s l event gave t new known step = grind (arith, rule_same, at_server, server_may)
+server_same s l event gave t new known step = grind (arith, rule_same, server_may)
 
 pub wire_same : (s : LaneState) (l : DiskLog) (event : WireEvent) (t : LaneState) → OpensNot event → Known s l → WireStep s event t → (after l (OnWire event)).wire.forged ≡ false
     → t.memory ≡ s.memory
@@ -123,11 +123,6 @@ sent_in_ring s l A packet true t known agree step unforged = opened_in_ring s l 
 sent_in_ring s l A packet false t known agree step unforged = quiet_in_ring s l (Sent A packet false) t refl known step unforged
 sent_in_ring s l B packet opens t known agree step unforged = quiet_in_ring s l (Sent B packet opens) t tt known step unforged
 
-took_in_ring : (s : LaneState) (l : DiskLog) (e : End) (packet : List ℕ) (opens : Bool) (t : LaneState) → Known s l → WireStep s (Took e packet opens) t
-    → (after l (OnWire (Took e packet opens))).wire.forged ≡ false → InRing t (after l (OnWire (Took e packet opens)))
-took_in_ring s l A packet opens t known step unforged = quiet_in_ring s l (Took A packet opens) t step.step.2 known step unforged
-took_in_ring s l B packet opens t known step unforged = quiet_in_ring s l (Took B packet opens) t tt known step unforged
-
 pub wire_in_ring : (s : LaneState) (l : DiskLog) (event : WireEvent) (t : LaneState) → Known s l → SessionsAgree t (after l (OnWire event)) → WireStep s event t
     → (after l (OnWire event)).wire.forged ≡ false → InRing t (after l (OnWire event))
-wire_in_ring s l event t known agree step unforged = grind (arith, sent_in_ring, took_in_ring, quiet_in_ring)
+wire_in_ring s l event t known agree step unforged = grind (arith, sent_in_ring, quiet_in_ring)

@@ -1,7 +1,6 @@
 -- What the writes of the two ends do to the slots of the ring: the client's own, and the server's through the ring's cookies and those of
 -- a request's buffer, over a table that grants each page of the memory at its own index.
 use Rattle.std.proofs.Common.{◌≡◌, ℕ, ◌+◌, ◌*◌, ◌%◌, ◌<◌, ◌≤◌, List, length, take, drop, Bool, true, refl, sym, ap, ◌∙◌, subst, arith, Option, Some, None, inl}
-use Rattle.std.proofs.lemmas.Bool.Decides.{nat_tests}
 use Rattle.std.specs.List.{list_all}
 use Rattle.cookie_copy.proofs.OwnPages.{copied_in_range, copied_out_range, no_fault_range, own_moved_in, own_moved_out}
 use Rattle.cookie_copy.specs.declared.fault.Access.TheVariants as access
@@ -74,7 +73,7 @@ ring_fetched s r pages slots slot identity cookies below room fault =
 
 -- no such write is refused while both ends are up
 even_aligned : (slot at : ℕ) (cookies : List Cookie) → at % 8 ≡ 0 → list_all is_aligned_cookie cookies ≡ true → is_aligned cookies (128 * slot + at) 8 ≡ true
-even_aligned slot at cookies even aligned = grind (arith, nat_tests)
+even_aligned slot at cookies even aligned = grind arith
 
 pub ring_word_answered : (s : ServerState) (r : Reach) (pages slots slot at : ℕ) → r.both ≡ true → IsIdentity r.table pages → slots_cookies s ≡ own_cookies slots → slot < slots
     → at + 8 ≤ 128 → at % 8 ≡ 0 → ring_pages slots ≤ pages → word_fault s r slot at ≡ None

@@ -1,17 +1,17 @@
 -- WHICH RULE IS AN END'S NEXT STEP: all that was tested on the way to it, by one walk down each end's rules.
-use Rattle.std.proofs.Common.{◌≡◌, ◌≢◌, ℕ, ◌-◌, ◌<◌, ◌⊎◌, Bool, true, false, Option, Some, None, List, inl, inr, refl, sym, ap, ◌∙◌, subst, arith}
-use Rattle.std.specs.Prelude.{◌&&◌, ◌||◌, ◌==◌, if◌then◌else◌, is_none, is_some, nat_lt, slice_get}
-use Rattle.std.proofs.lemmas.Bool.{eqb-true, ltb-true}
-use Rattle.channel_laws.proofs.Apart.{none_is_some, some_same, true_is_false}
+use Rattle.std.proofs.Common.{◌≡◌, ◌≢◌, ℕ, ◌-◌, ◌<◌, ◌⊎◌, Bool, true, false, Option, Some, None, List, inl, inr, refl, sym, ◌∙◌, subst, arith}
+use Rattle.std.specs.Prelude.{◌==◌, if◌then◌else◌, is_some, nat_lt, slice_get}
+use Rattle.std.proofs.lemmas.Bool.{ltb-true}
+use Rattle.channel_laws.proofs.Apart.{none_is_some, some_same}
 use Rattle.channel_model.specs.Seeing.{Seen}
 use Rattle.cookie_copy.specs.Faults.{is_up}
 use Rattle.disk_model.specs.ClientRule as client
 use Rattle.disk_model.specs.ClientState.{ClientSession, ClientState}
 use Rattle.disk_model.specs.ServerRule as server
-use Rattle.disk_model.specs.ServerState.{ServerSession, ServerState, SlotRange, Work}
+use Rattle.disk_model.specs.ServerState.{ServerSession, ServerState, SlotRange}
 use Rattle.ldc_link.specs.declared.phase.LinkPhase.{LinkPhase}
 use Rattle.ldc_link.specs.LinkState.{LinkState}
-use Rattle.ldc_link.specs.Putting.{owed_in, owes, owes_control, owes_in}
+use Rattle.ldc_link.specs.Putting.{owed_in, owes, owes_in}
 use Rattle.ldc_queue.specs.declared.end.ChannelState.{ChannelState}
 use Rattle.ldc_queue.specs.declared.end.ChannelState.TheVariants.{Up}
 use Rattle.vdisk_msg.specs.declared.request.Request.{Request}
@@ -27,17 +27,6 @@ not_up _ down up = absurd (cc)
 -- a packet of the link's handshake is one that is owed
 pub control_in : (ph : LinkPhase) (k : LinkState) → owes_in ph ≡ true → is_some (owed_in ph k) ≡ true
 control_in ph k is = grind arith
-
-not_owing : (a b c d : Bool) → (a ≡ true → c ≡ true) → c ≡ false → b ≡ false → (a || b || (d && c)) ≡ false
-not_owing true b c d owes free none = true_is_false (sym (owes refl) ∙ free)
-not_owing false false false true owes free none = refl
-not_owing false false false false owes free none = refl
-not_owing false true c d owes free none = absurd (cc)
-not_owing false false true d owes free none = absurd (cc)
-
-not_urgent : (s : ClientState) → owes s.link ≡ false → s.handshake.owed ≡ None → client.is_urgent s ≡ false
-not_urgent s free none =
-    not_owing (owes_control s.link) (is_some s.handshake.owed) (owes s.link) (is_none s.session) (control_in s.link.phase s.link) free (ap is_some none)
 
 -- THE CLIENT: all that is acknowledged is completed, and all that is pending published
 abbrev pub CompletedAll : ClientState → Type 0
@@ -98,7 +87,7 @@ session_tested s at None rests is = record { rests = rests; session = λ session
 session_tested s at (Some session) rests is = publishes_tested s at session (slice_get s.pending (session.published - session.completed)) rests is refl
 
 nothing_first : (s : ClientState) (at : Seen) → PutsNow s at → owes s.link ≡ false → s.handshake.owed ≡ None → at.first ≡ None
-nothing_first s at now free none = grind (arith, true_is_false, not_urgent)
+nothing_first s at now free none = grind arith
 
 says_tested : (s : ClientState) (at : Seen) (owed : Option Message) → PutsNow s at → owes s.link ≡ false → s.handshake.owed ≡ owed → ClientTested s at (client.says s owed)
 says_tested s at None now free is =
@@ -174,22 +163,9 @@ first_served : (s : ServerState) (at : Seen) (first : Option (List ℕ)) → at.
 first_served s at None up free is = (up, free, is)
 first_served s at (Some packet) up free is = (up, free, is)
 
-work_served : (s : ServerState) (at : Seen) (session : ServerSession) (work : Option Work) → at.state ≡ Up → ServesFree s session → s.work ≡ work → ServerTested s at (server.serves session work)
-work_served s at session None up free is = (up, free, is)
-work_served s at session (Some work) up free is = (up, free, is)
-
-range_served : (s : ServerState) (at : Seen) (session : ServerSession) (range : SlotRange) (b : Bool) → at.state ≡ Up → owes s.link ≡ false → s.handshake.owed ≡ None → s.session ≡ Some session
-    → session.range ≡ Some range → (session.finished == session.asked) ≡ b → ServerTested s at (if b then server.Says (server.answer s range) else server.serves session s.work)
-range_served s at session range true up free none is ranged test = (
-  up,
-  free,
-  inr (record { session = session; range = range; owed = none; session_is = is; range_is = ranged; finished = eqb-true session.finished session.asked test; message_is = refl }),
-)
-range_served s at session range false up free none is ranged test = work_served s at session s.work up (record { free = free; owed = none; session_is = is; unfinished = test }) refl
-
 ranges_served : (s : ServerState) (at : Seen) (session : ServerSession) (range : Option SlotRange) → at.state ≡ Up → owes s.link ≡ false → s.handshake.owed ≡ None → s.session ≡ Some session
     → session.range ≡ range → ServerTested s at (server.in_range s session range at)
-ranges_served s at session range up free none is ranged = grind (arith, first_served, some_same, range_served)
+ranges_served s at session range up free none is ranged = grind arith
 
 session_served : (s : ServerState) (at : Seen) (open_one : Option ServerSession) → at.state ≡ Up → owes s.link ≡ false → s.handshake.owed ≡ None → s.session ≡ open_one
     → ServerTested s at (server.in_session s open_one at)

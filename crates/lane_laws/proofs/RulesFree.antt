@@ -10,8 +10,7 @@ use Rattle.disk_model.specs.ClientState.{ClientSession, ClientState}
 use Rattle.channel_model.specs.Seeing.{Seen}
 use Rattle.disk_model.specs.ServerRule as server
 use Rattle.disk_model.specs.ServerState.{ServerState}
-use Rattle.channel_laws.proofs.Apart.{none_is_some, true_is_false}
-use Rattle.lane_laws.proofs.RuleTests.{AnswersFree, ClientTested, ServerTested, ServesFree, TakesFree, client_test, client_tested, server_tested}
+use Rattle.lane_laws.proofs.RuleTests.{AnswersFree, ServerTested, ServesFree, TakesFree, client_test, server_tested}
 
 -- THE CLIENT publishes only where its link holds nothing, puts a packet where it owes one, and takes one where nothing is urgent
 pub publishes_free : (s : ClientState) (at : Seen) (session : ClientSession) (request : Request) → client.client_rule s at ≡ client.Publishes session request → owes s.link ≡ false
@@ -24,12 +23,8 @@ pub takes_calm : (s : ClientState) (at : Seen) (packet : List ℕ) → client.cl
 takes_calm s at packet rule = (client_test s at (client.Takes packet) rule).2
 
 -- where nothing is urgent, a client puts only where nothing waits for it
-pub urgent_or_none : (s : ClientState) (at : Seen) (rule : client.ClientRule) (held : ClientState) → client_holds rule s ≡ Some held → ClientTested s at rule
-    → (client.is_urgent s ≡ true) ⊎ (at.first ≡ None)
-urgent_or_none s at rule held is test = grind (arith, none_is_some)
-
 pub puts_calm : (s : ClientState) (at : Seen) (held : ClientState) → client_holds (client.client_rule s at) s ≡ Some held → client.is_urgent s ≡ false → at.first ≡ None
-puts_calm s at held is calm = grind (arith, urgent_or_none, client_tested, true_is_false)
+puts_calm s at held is calm = grind arith
 
 middle_false : (a b c : Bool) → (a || b || c) ≡ false → b ≡ false
 middle_false true b c is = absurd (cc is)

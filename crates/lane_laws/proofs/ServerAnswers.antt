@@ -19,7 +19,7 @@ use Rattle.channel_laws.specs.EndStep.{IsOfSession, IsOwn}
 use Rattle.channel_model.specs.EndPuts.{handshake_risen}
 use Rattle.channel_model.specs.Ranges.{is_other}
 use Rattle.disk_model.specs.ServerState.{ServerSession, ServerState, SlotRange, opened_server}
-use Rattle.disk_model.specs.ServerTaking.{GoesOn, HearsLink, HearsWhole, Resets, ServerTake, ServerTakes, asked, by_handshake, hears_message, in_session, place_of, reads, sid_first, takes_info}
+use Rattle.disk_model.specs.ServerTaking.{GoesOn, HearsLink, HearsWhole, Resets, ServerTake, ServerTakes, asked, by_handshake, hears_message, in_session, place_of, reads, takes_info}
 use Rattle.lane_laws.proofs.ClientAnswers.{HandshakesTo, is_the}
 
 abbrev pub opened_or : Bool → Option ServerSession → Option ServerSession
@@ -120,13 +120,9 @@ by_session s message T session Info (DringData seq ident start end state) answer
     by_info s message T session ident (record { seq = seq; start = start; end = end; state = state }) answers is sid kind body
 by_session s message T session _ _ answers is sid kind body = by_take s message T (handshake_take s.handshake message) answers refl
 
-by_sid : (T : ServerTake → Type 0) (fault : Option Cause) (rest : ServerTake) → ((cause : Cause) → fault ≡ Some cause → T (Resets cause)) → (fault ≡ None → T rest) → T (sid_first fault rest)
-by_sid T None rest other same = same refl
-by_sid T (Some cause) rest other same = other cause refl
-
 by_message : (s : ServerState) (message : Message) (T : ServerTake → Type 0) (open_one : Option ServerSession) → Answers s message T → s.session ≡ open_one
     → T (hears_message s open_one message)
-by_message s message T open_one answers is = grind (arith, by_take, by_sid, by_session)
+by_message s message T open_one answers is = grind (arith, by_take, by_session)
 
 -- A PACKET
 by_decoded : (s : ServerState) (k : LinkState) (T : ServerTake → Type 0) (bytes : List ℕ) (d : Result Message TagFault) → Hearings s k T → k.whole ≡ Some bytes → Decodes bytes d

@@ -28,14 +28,14 @@ use Rattle.lane_laws.proofs.BehindRing.{ring_end}
 use Rattle.lane_laws.proofs.Changes.{Gathered, Given}
 use Rattle.lane_laws.proofs.PlacedViews.{Working, working}
 use Rattle.lane_laws.proofs.Standing.{Before}
-use Rattle.lane_laws.proofs.WireChanges.{Changed, view_is}
+use Rattle.lane_laws.proofs.WireChanges.{Changed}
 use Rattle.lane_laws.proofs.WorkSteps.{unit_within}
 use Rattle.lane_laws.proofs.WorkUnits.{UnitFacts, answered, copied_in, copied_out, unit_facts}
 
 -- THE VIEW after a server's work
 pub server_view : (s t : LaneState) (work : Option Work) (k u : ℕ) (buffers : List ℕ) → t.client ≡ s.client → t.wire ≡ s.wire → s.wire.wire.end_b ≡ Up → t.server.work ≡ work → t.near.k ≡ k
     → t.near.m ≡ s.near.m → t.near.u ≡ u → drop (ring_end s.client.slots) t.memory ≡ buffers → view_of t ≡ record (view_of s) { work = work; k = k; u = u; buffers = buffers }
-server_view s t work k u buffers client wire up work_is k_is m_is u_is buffers_are = search (view_is, ring_end)
+server_view s t work k u buffers client wire up work_is k_is m_is u_is buffers_are = search
 
 -- the server serves
 pub record ServesNow (s : LaneState) (l : DiskLog) (work : Work) : Type 0 where

@@ -1,32 +1,30 @@
 -- A packet that a server takes leaves its session counting what it said and heard.
-use Rattle.std.proofs.Common.{◌%◌, ◌≡◌, ℕ, ◌+◌, ◌<◌, inl, inr, Bool, true, false, Option, Some, None, List, [], ◌∷◌, ◌++◌, length, refl, sym, ap, ◌∙◌, subst, arith}
+use Rattle.std.proofs.Common.{◌≡◌, ℕ, ◌+◌, inl, inr, Bool, true, false, Option, Some, None, List, [], ◌∷◌, ◌++◌, length, refl, sym, ap, ◌∙◌, subst, arith}
 use Rattle.std.specs.Prelude.{is_some}
-use Rattle.std.proofs.lemmas.Nat.{mod_below}
 use Rattle.ldc_link.specs.declared.phase.Role.TheVariants.{Responder}
 use Rattle.ldc_link.specs.LinkState.{LinkState, is_up}
 use Rattle.ldc_queue.specs.Transcript.{Heard as Heard_, Turn}
 use Rattle.vio_handshake.specs.declared.handshake.Handshake.{Handshake}
 use Rattle.vio_handshake.specs.declared.handshake.Phase.{Phase}
 use Rattle.vio_handshake.specs.declared.handshake.Phase.TheVariants.{Open}
-use Rattle.channel_model.specs.Sayings.{half_heard, half_said, heard, said}
+use Rattle.channel_model.specs.Sayings.{half_heard, half_said, heard}
 use Rattle.lane_laws.specs.Agreement.{ServerAgrees, WorkAgrees}
 use Rattle.channel_model.specs.Messages.{range_ended}
 use Rattle.lane_laws.specs.WorkLog.{ServerCounts, change_server, length_in, opened_counts}
 use Rattle.channel_model.specs.EndPuts.{handshake_risen}
 use Rattle.disk_model.specs.LaneState.{Shape}
 use Rattle.channel_model.specs.Ranges.{wrapped}
-use Rattle.dring.specs.Slots.{range_length}
-use Rattle.disk_model.specs.ServerState.{ServerSession, ServerState, SlotRange, Work, joined_server, restarted_server}
-use Rattle.channel_laws.proofs.Apart.{none_is_some, some_same, true_is_false}
+use Rattle.disk_model.specs.ServerState.{ServerSession, ServerState, Work, joined_server, restarted_server}
+use Rattle.channel_laws.proofs.Apart.{true_is_false}
 use Rattle.channel_laws.specs.Grounds.{has_named}
 use Rattle.lane_laws.proofs.ClientTaken.{HearsMessage}
 use Rattle.channel_laws.proofs.EndStanding.{open_declines, up_empty}
 use Rattle.channel_laws.proofs.HandshakeCases.{HandshakeTook}
 use Rattle.lane_laws.proofs.RangeSums.{count_more, sum_heard, sum_more}
-use Rattle.lane_laws.proofs.RangesSaid.{IsNoData, heard_no_range, heard_one, heard_range, no_data}
+use Rattle.lane_laws.proofs.RangesSaid.{IsNoData, heard_no_range, no_data}
 use Rattle.lane_laws.proofs.RuleTests.{TakesFree}
 use Rattle.lane_laws.proofs.ServerTaken.{ServerAsked, ServerHearsPart, ServerHandshakes, ServerTook, still}
-use Rattle.lane_laws.specs.Counted.{NothingAsked, RangeStands, ServerCounted, ServerHolds, ServerOrder, range_count, range_sum}
+use Rattle.lane_laws.specs.Counted.{NothingAsked, ServerCounted, ServerHolds, ServerOrder, range_count, range_sum}
 use Rattle.vio_tag.specs.declared.message.Message.{Message}
 use Rattle.lane_laws.specs.LaneRests.{ServerRests, ServerUtters}
 
@@ -42,23 +40,15 @@ abbrev asks_more : Shape → List Turn → List ℕ → Option ServerCounts → 
 asks_more shape turns packet d = change_server (λ (c : ServerCounts). record c { asked = c.asked + length_in shape.slots (range_ended 1 (half_heard turns) packet) }) d
 
 -- where no range is heard
-range_same : (slots n : ℕ) (range : Option SlotRange) (c : ServerCounts) → n ≡ 0 → RangeStands slots range c → RangeStands slots range (record c { asked = c.asked + n })
-range_same slots n None c none stands = omega (arith, none, stands)
-range_same slots n (Some range) c none stands = (omega (arith, none, stands.0), stands.1, stands.2, stands.3, stands.4)
-
 order_same : (shape : Shape) (o : Option ServerSession) (d : Option ServerCounts) (turns : List Turn) (packet : List ℕ)
     → range_sum shape.slots 1 (heard (Heard_ packet ∷ turns)) ≡ range_sum shape.slots 1 (heard turns)
     → range_count 1 (heard (Heard_ packet ∷ turns)) ≡ range_count 1 (heard turns) → ServerOrder shape.slots o d turns
     → ServerOrder shape.slots o (asks_more shape turns packet d) (Heard_ packet ∷ turns)
-order_same shape o d turns packet same as_many order = grind (arith, sum_heard, range_same)
-
-work_same : (w : Option Work) (c : ServerCounts) (n : ℕ) → WorkAgrees w c → WorkAgrees w (record c { asked = c.asked + n })
-work_same None c n agrees = agrees
-work_same (Some work) c n agrees = agrees
+order_same shape o d turns packet same as_many order = grind (arith, sum_heard)
 
 agrees_same : (o : Option ServerSession) (w : Option Work) (d : Option ServerCounts) (n : ℕ) → n ≡ 0 → ServerAgrees o w d
     → ServerAgrees o w (change_server (λ (c : ServerCounts). record c { asked = c.asked + n }) d)
-agrees_same o w d n none agrees = grind (arith, work_same)
+agrees_same o w d n none agrees = grind arith
 
 abbrev Behind : Shape → List Turn → List ℕ → ℕ → Option ServerCounts → Bool → ServerState → Type 0
 Behind shape turns packet sid d opens t = ServerCounted shape t (Heard_ packet ∷ turns) (opened_counts opens sid (asks_more shape turns packet d))
@@ -119,7 +109,7 @@ opened_work (Some work) sid is = absurd (cc is)
 -- a message of the handshake is no INFO
 no_more_infos : (turns : List Turn) (packet : List ℕ) (message : Message) → (hears : HearsMessage turns packet message) → IsNoData message.body
     → range_count 1 (heard (Heard_ packet ∷ turns)) ≡ range_count 1 (heard turns)
-no_more_infos turns packet message hears apart = grind (arith, count_more, heard_no_range)
+no_more_infos turns packet message hears apart = grind (arith, count_more)
 
 takes_handshake : (opens : Bool) (shape : Shape) (v t : ServerState) (turns : List Turn) (packet : List ℕ) (sid : ℕ) (d : Option ServerCounts) → ServerRests v turns → TakesFree v
     → ServerCounted shape v turns d → ServerHandshakes v turns packet t opens → Behind shape turns packet sid d opens t
@@ -178,27 +168,6 @@ takes_handshake true shape v t turns packet sid d rests free counted handshakes 
 pub wraps_more : (a b n : ℕ) → a ≡ wrapped b → wrapped (a + n) ≡ wrapped (b + n)
 wraps_more a b n is = omega (arith, is)
 
-record AsksOf (slots : ℕ) (session : ServerSession) (range : SlotRange) (n : ℕ) (added : ℕ) : Type 0 where
-  none : session.range ≡ None
-  adds : added ≡ n
-  length_is : n ≡ range_length slots range.start range.end
-  begins : range.start < slots
-  ends : range.end < slots
-  place : range.start ≡ session.asked % slots
-  next : range.seq ≡ session.seq
-
-asked_order : (slots added n : ℕ) (o : Option ServerSession) (d : Option ServerCounts) (turns behind : List Turn) (session next : ServerSession) (range : SlotRange) → o ≡ Some session
-    → next ≡ record session { asked = wrapped (session.asked + n); seq = wrapped (session.seq + 1); range = Some range } → AsksOf slots session range n added
-    → range_sum slots 1 (heard behind) ≡ range_sum slots 1 (heard turns) + added → range_sum slots 2 (said behind) ≡ range_sum slots 2 (said turns)
-    → range_count 1 (heard behind) ≡ range_count 1 (heard turns) + 1 → range_count 2 (said behind) ≡ range_count 2 (said turns) → (w : Option Work) → ServerAgrees o w d → ServerOrder slots o d turns
-    → ServerOrder slots (Some next) (change_server (λ (c : ServerCounts). record c { asked = c.asked + added }) d) behind
-asked_order slots added n o d turns behind session next range is same asks heard_is said_is one_more same_said w agrees order = grind (arith, none_is_some, some_same, wraps_more)
-
-asked_agrees : (o : Option ServerSession) (w : Option Work) (d : Option ServerCounts) (session next : ServerSession) (range : SlotRange) (n added : ℕ) → o ≡ Some session
-    → next ≡ record session { asked = wrapped (session.asked + n); seq = wrapped (session.seq + 1); range = Some range } → added ≡ n → ServerAgrees o w d
-    → ServerAgrees (Some next) w (change_server (λ (c : ServerCounts). record c { asked = c.asked + added }) d)
-asked_agrees o w d session next range n added is same adds agrees = grind (arith, none_is_some, some_same, wraps_more, work_same)
-
 -- in session the server's ring has as many slots as the lane's
 pub own_slots : (shape : Shape) (v : ServerState) (turns : List Turn) (d : Option ServerCounts) → ServerRests v turns → is_some v.session ≡ true → ServerCounted shape v turns d
     → v.handshake.draft.peer_slots ≡ shape.slots
@@ -207,7 +176,7 @@ own_slots shape v turns d rests now counted =
 
 takes_ask : (shape : Shape) (v t : ServerState) (turns : List Turn) (packet : List ℕ) (sid : ℕ) (d : Option ServerCounts) (opens : Bool) → ServerRests v turns → TakesFree v
     → ServerCounted shape v turns d → ServerAsked v turns packet t opens → Behind shape turns packet sid d opens t
-takes_ask shape v t turns packet sid d opens rests free counted asks = grind (arith, up_empty, own_slots, heard_range, sum_heard, sum_more, mod_below, count_more, heard_one, asked_order, asked_agrees)
+takes_ask shape v t turns packet sid d opens rests free counted asks = grind (arith, sum_heard, sum_more, count_more)
 
 pub server_takes_counting : (shape : Shape) (v t : ServerState) (turns : List Turn) (packet : List ℕ) (sid : ℕ) (d : Option ServerCounts) (opens : Bool) → ServerRests v turns → ServerUtters v turns
     → TakesFree v → ServerCounted shape v turns d → ServerTook v turns packet t opens
@@ -218,4 +187,4 @@ server_takes_counting shape v t turns packet sid d opens rests utters free count
 
 -- its session opens where it had none
 pub opens_new : (v t : ServerState) (turns : List Turn) (packet : List ℕ) → ServerRests v turns → ServerTook v turns packet t true → v.session ≡ None
-opens_new v t turns packet rests took = grind (arith, true_is_false, closed, opens_closed)
+opens_new v t turns packet rests took = grind arith

@@ -13,7 +13,7 @@ use Rattle.channel_model.specs.Ranges.{wrapped}
 use Rattle.channel_model.specs.Seeing.{Seen}
 use Rattle.disk_model.specs.ServerPutting.{server_kind}
 use Rattle.disk_model.specs.ServerRule.{Fetches, server_rule}
-use Rattle.disk_model.specs.ServerState.{Ends, ServerSession, ServerState, SlotRange, Work}
+use Rattle.disk_model.specs.ServerState.{ServerSession, ServerState, SlotRange, Work}
 use Rattle.disk_model.specs.ServerStep.{ServerFetches, ServerFinishes, ServerSends}
 use Rattle.cookie_copy.specs.Reach.{Reach}
 use Rattle.disk_model.specs.ServerWork.{first_progress}
@@ -98,20 +98,10 @@ server_fetches_counting shape v at reach slot bytes t new turns d rests step cou
 abbrev pub finished_log : ServerCounts → ServerCounts
 finished_log c = record c { finished = c.finished + 1; owed = rest_of c.owed }
 
-range_finished : (slots : ℕ) (range : Option SlotRange) (c : ServerCounts) → RangeStands slots range c → RangeStands slots range (finished_log c)
-range_finished slots None c stands = stands
-range_finished slots (Some range) c stands = stands
-
-finished_both : (slots : ℕ) (o : Option ServerSession) (w : Option Work) (d : Option ServerCounts) (turns : List Turn) (session : ServerSession) (work : Work) (status : ℕ)
-    → o ≡ Some session → w ≡ Some work → work.progress ≡ Ends status → ServerOrder slots o d turns → ServerAgrees o w d
-    → ServerOrder slots (Some (record session { finished = wrapped (session.finished + 1) })) (change_server finished_log d) turns
-    × ServerAgrees (Some (record session { finished = wrapped (session.finished + 1) })) None (change_server finished_log d)
-finished_both slots o w d turns session work status is works ends order agrees = grind (arith, none_is_some, some_same, range_finished, wraps_one)
-
 pub server_finishes_counting : (shape : Shape) (v : ServerState) (at : Seen) (reach : Reach) (slot status : ℕ) (t : ServerState) (new : List ℕ) (turns : List Turn)
     (d : Option ServerCounts) → ServerRests v turns → ServerFinishes v at reach slot status t new → ServerCounted shape v turns d
     → ServerCounted shape t turns (change_server (λ (c : ServerCounts). record c { finished = c.finished + 1; owed = rest_of c.owed }) d)
-server_finishes_counting shape v at reach slot status t new turns d rests step counted = grind (arith, server_free, finished_both, holds_none)
+server_finishes_counting shape v at reach slot status t new turns d rests step counted = grind (arith, server_free)
 
 -- EACH PACKET that it puts; its session never opens by one
 put_counting : (kind : PutKind) (shape : Shape) (v : ServerState) (turns : List Turn) (packet : List ℕ) (d : Option ServerCounts) → shape.slots ≤ 256 → ServerRests v turns → ServerUtters v turns

@@ -23,8 +23,8 @@ use Rattle.disk_model.specs.ServerRule.{Fetches, Puts, Says, ServerRule}
 use Rattle.disk_model.specs.ServerState.{ServerSession, ServerState, SlotRange, joined_server, restarted_server}
 use Rattle.disk_model.specs.ServerStep.{ServerFetches, ServerFinishes, ServerMoves, ServerStores}
 use Rattle.cookie_copy.specs.Reach.{Reach}
-use Rattle.lane_laws.proofs.ClientFolds.{LinkIs, link_begins, link_hears, link_puts, link_stuck, owes_up}
-use Rattle.channel_laws.proofs.Apart.{none_is_some, some_same, true_is_false}
+use Rattle.lane_laws.proofs.ClientFolds.{LinkIs, link_begins, link_puts, link_stuck, owes_up}
+use Rattle.channel_laws.proofs.Apart.{none_is_some, some_same}
 use Rattle.channel_laws.proofs.PutSayings.{PutSays}
 use Rattle.channel_laws.proofs.EndStanding.{SameSending, open_up, owing_up}
 use Rattle.channel_laws.proofs.TurnCases.{heard_none, heard_some, said_none, said_some}
@@ -85,7 +85,7 @@ opened_none false o new = refl
 -- a server that takes owes nothing, so it isn't stuck
 takes_by : (s t : ServerState) (turns : List Turn) (packet : List ℕ) (b : Blockage) → Taking s t → ServerIs s turns b → (is_up s.link ≡ true → is_up t.link ≡ true)
     → ranged t.session ≡ range_in_work (Heard_ packet ∷ turns) → ServerIs t (Heard_ packet ∷ turns) (hearing b)
-takes_by s t turns packet b taking is stays range = grind (arith, link_hears, true_is_false)
+takes_by s t turns packet b taking is stays range = grind arith
 
 pub server_takes_so : (s t : ServerState) (turns : List Turn) (packet : List ℕ) (opens : Bool) (b : Blockage) → Taking s t → ServerRests s turns → ServerIs s turns b
     → ServerTook s turns packet t opens → ServerIs t (Heard_ packet ∷ turns) (hearing b)
@@ -191,4 +191,4 @@ server_stores_so s t at operation block count failed gave turns b step is = subs
 
 pub server_finishes_so : (s : ServerState) (at : Seen) (reach : Reach) (slot status : ℕ) (t : ServerState) (new : List ℕ) (turns : List Turn) (b : Blockage)
     → ServerFinishes s at reach slot status t new → ServerIs s turns b → ServerIs t turns b
-server_finishes_so s at reach slot status t new turns b step is = grind (arith, server_free, session_same)
+server_finishes_so s at reach slot status t new turns b step is = grind (arith, server_free)

@@ -1,6 +1,6 @@
 -- A server in session, on a lane that nobody forged, hears the next range of the client, and goes on.
-use Rattle.std.proofs.Common.{◌≡◌, ℕ, ◌+◌, ◌%◌, ◌^◌, ◌<◌, ◌≤◌, Bool, true, false, Option, Some, List, [], ◌∷◌, ◌++◌, refl, sym, ap, ◌∙◌, subst, arith}
-use Rattle.std.specs.Prelude.{is_some, if◌then◌else◌, Ok}
+use Rattle.std.proofs.Common.{◌≡◌, ℕ, ◌+◌, ◌%◌, ◌^◌, ◌<◌, ◌≤◌, true, false, Option, Some, List, [], ◌∷◌, ◌++◌, refl, sym, ap, ◌∙◌, subst, arith}
+use Rattle.std.specs.Prelude.{is_some, Ok}
 use Rattle.std.proofs.lemmas.Bool.{lt-leb}
 use Rattle.std.proofs.lemmas.Nat.{mod_below}
 use Rattle.runs.specs.Lawful.{log_of}
@@ -14,7 +14,7 @@ use Rattle.ldc_queue.specs.Transcript.{Turn}
 use Rattle.vio_bytes.specs.Place.{number_at}
 use Rattle.vio_tag.specs.declared.message.Message.{Message}
 use Rattle.vio_tag.specs.Spelling.{SpellsMessage}
-use Rattle.vio_handshake.proofs.Places.{AllSaid, Deal, handshake_at}
+use Rattle.vio_handshake.proofs.Places.{AllSaid, Deal}
 use Rattle.vio_handshake.specs.declared.handshake.Handshake.{Handshake}
 use Rattle.channel_model.specs.Sayings.{heard, said}
 use Rattle.channel_model.specs.WireLog.{WireLog}
@@ -27,7 +27,6 @@ use Rattle.disk_model.specs.LaneStep.{LaneStep}
 use Rattle.channel_model.specs.Ranges.{wrapped}
 use Rattle.disk_model.specs.ServerState.{ServerSession, ServerState, SlotRange}
 use Rattle.disk_model.specs.ServerTaking.{GoesOn, HearsWhole, ServerTake, asked, hears_message, place_of, reads, takes_info}
-use Rattle.channel_laws.proofs.Apart.{some_same}
 use Rattle.channel_laws.proofs.EndStanding.{open_up}
 use Rattle.channel_laws.proofs.HandshakePlaces.{AtPlace, deal, open_place}
 use Rattle.channel_laws.specs.Sides.{sides_of, swapped}
@@ -43,10 +42,6 @@ use Rattle.lane_laws.specs.Counted.{ServerOrder, range_count, range_sum}
 use Rattle.lane_laws.specs.ChannelEnds.{core_of, server_core}
 
 -- IT TAKES an INFO that names the ring of the session, has the next number, and begins where the range before ended
-past : (b : Bool) (x y : ServerTake) → b ≡ false → (if b then x else y) ≡ y
-past true x y is = absurd (cc is)
-past false x y is = refl
-
 record InfoFits (s : ServerState) (session : ServerSession) (n ident : ℕ) (range : SlotRange) : Type 0 where
   sid : s.handshake.sid ≡ Some n
   named : s.handshake.draft.ident_peer ≡ ident
@@ -56,7 +51,7 @@ record InfoFits (s : ServerState) (session : ServerSession) (n ident : ℕ) (ran
 
 takes_fitting : (s : ServerState) (session : ServerSession) (n ident : ℕ) (range : SlotRange) → InfoFits s session n ident range
     → takes_info s session ident range ≡ GoesOn (asked s session range) false
-takes_fitting s session n ident range fits = search (past, same_is, lt-leb)
+takes_fitting s session n ident range fits = search (same_is, lt-leb)
 
 -- the range that the bytes name
 abbrev range_read : ℕ → ℕ → List ℕ → SlotRange
@@ -83,7 +78,7 @@ goes_on s session n ident start end bytes take is fits spells hears =
 -- the number that it waits for
 number_of : (slots : ℕ) (o : Option ServerSession) (q : Option ServerCounts) (turns : List Turn) (session : ServerSession) → o ≡ Some session → ServerOrder slots o q turns
     → session.seq ≡ wrapped (range_count 1 (heard turns) + 1)
-number_of slots o q turns session is order = grind (arith, some_same)
+number_of slots o q turns session is order = grind arith
 
 -- the next range of the client is one that the server takes
 info_fits : (shape : Shape) (d : Deal) (v : ServerState) (session : ServerSession) (turns : List Turn) (bytes : List ℕ)
@@ -91,7 +86,7 @@ info_fits : (shape : Shape) (d : Deal) (v : ServerState) (session : ServerSessio
     → session.seq ≡ wrapped (range_count 1 (heard turns) + 1) → session.asked ≡ range_sum shape.slots 1 (heard turns)
     → (is : IsData Initiator shape.slots d.sid (range_count 1 (heard turns)) (range_sum shape.slots 1 (heard turns)) bytes)
     → InfoFits v session d.sid d.sid (range_read (range_sum shape.slots 1 (heard turns) % shape.slots) is.end bytes)
-info_fits shape d v session turns bytes at last offered few small number same is = grind (arith, mod_below, seq_reads, handshake_at)
+info_fits shape d v session turns bytes at last offered few small number same is = grind (arith, seq_reads)
 
 pub server_hears_in_session : (shape : Shape) (events : List DiskEvent) (s : LaneState) (session : ServerSession) (k : LinkState) (bytes : List ℕ) (take : ServerTake)
     → IsShape shape → Run LaneStep (fresh shape) events s → (log_of after (nothing_yet shape) events).wire.forged ≡ false

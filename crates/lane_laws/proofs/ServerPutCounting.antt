@@ -1,7 +1,6 @@
 -- A message that a server holds, and a packet that it puts, leave its session counting what it said and heard.
-use Rattle.std.proofs.Common.{◌≡◌, ℕ, ◌+◌, ◌%◌, ◌<◌, ◌≤◌, ◌⊎◌, inl, inr, true, false, Option, Some, None, List, [], ◌∷◌, ◌++◌, length, refl, sym, ap, ◌∙◌, ◌-◌, subst, arith}
+use Rattle.std.proofs.Common.{◌≡◌, ℕ, ◌+◌, ◌<◌, ◌≤◌, ◌⊎◌, inl, inr, true, false, Option, Some, None, List, [], ◌∷◌, ◌++◌, length, refl, sym, ap, ◌∙◌, subst, arith}
 use Rattle.std.specs.Prelude.{is_none, is_some}
-use Rattle.std.proofs.lemmas.Nat.{mod_below}
 use Rattle.ldc_link.specs.declared.phase.Role.TheVariants.{Responder}
 use Rattle.ldc_link.specs.LinkState.{LinkState, is_up, offered}
 use Rattle.ldc_link.specs.Putting.{behind_put}
@@ -16,7 +15,6 @@ use Rattle.channel_model.specs.Messages.{range_ended, range_in}
 use Rattle.lane_laws.specs.WorkLog.{ServerCounts, change_server, length_in, one_in}
 use Rattle.channel_model.specs.EndPuts.{ComesUp, EndsOwn, EndsHandshake, Goes, PutKind, handshake_behind}
 use Rattle.disk_model.specs.LaneState.{Shape}
-use Rattle.channel_model.specs.Ranges.{wrapped}
 use Rattle.dring.specs.Slots.{range_length}
 use Rattle.disk_model.specs.ServerPutting.{answered, server_holds, session_behind}
 use Rattle.disk_model.specs.ServerRule.{Puts, Says, ServerRule}
@@ -40,7 +38,7 @@ answer_with v k bytes a = search
 -- IT HOLDS a message
 says_answer : (v : ServerState) (turns : List Turn) (message : Message) → half_said turns ≡ [] → (v.handshake.owed ≡ Some message) ⊎ AnswersFree v message → v.handshake.owed ≡ None
     → HoldsAnswer v (half_said turns ++ canonical message)
-says_answer v turns message half is none = grind (arith, none_is_some)
+says_answer v turns message half is none = grind arith
 
 says_up : (v : ServerState) (turns : List Turn) (message : Message) → ServerRests v turns → (v.handshake.owed ≡ Some message) ⊎ AnswersFree v message → is_up v.link ≡ true
 says_up v turns message rests (inl owed) = owing_up Responder (server_core v) turns message rests.stands owed
@@ -70,21 +68,14 @@ abbrev pub answers_more : Shape → List Turn → List ℕ → Option ServerCoun
 answers_more shape turns packet d = change_server (λ (c : ServerCounts). record c { answered = c.answered + length_in shape.slots (range_ended 2 (half_said turns) packet) }) d
 
 -- where no range is said
-range_same : (slots n : ℕ) (range : Option SlotRange) (c : ServerCounts) → n ≡ 0 → RangeStands slots range c → RangeStands slots range (record c { answered = c.answered + n })
-range_same slots n range c none stands = grind arith
-
 order_same : (shape : Shape) (o : Option ServerSession) (d : Option ServerCounts) (turns : List Turn) (packet : List ℕ)
     → range_sum shape.slots 2 (said (Said packet ∷ turns)) ≡ range_sum shape.slots 2 (said turns) → ServerOrder shape.slots o d turns
     → ServerOrder shape.slots o (answers_more shape turns packet d) (Said packet ∷ turns)
-order_same shape o d turns packet same order = grind (arith, sum_said, range_same, count_said)
-
-work_same : (w : Option Work) (c : ServerCounts) (n : ℕ) → WorkAgrees w c → WorkAgrees w (record c { answered = c.answered + n })
-work_same None c n agrees = agrees
-work_same (Some work) c n agrees = agrees
+order_same shape o d turns packet same order = grind (arith, sum_said, count_said)
 
 agrees_same : (o : Option ServerSession) (w : Option Work) (d : Option ServerCounts) (n : ℕ) → n ≡ 0 → ServerAgrees o w d
     → ServerAgrees o w (change_server (λ (c : ServerCounts). record c { answered = c.answered + n }) d)
-agrees_same o w d n none agrees = grind (arith, work_same)
+agrees_same o w d n none agrees = grind arith
 
 -- a server after a packet of this kind
 abbrev pub put_as : PutKind → ServerState → ServerState
@@ -108,7 +99,7 @@ goes_counting shape v turns packet d on counted =
 
 pub comes_counting : (shape : Shape) (v : ServerState) (turns : List Turn) (packet : List ℕ) (d : Option ServerCounts) → ServerUtters v turns → is_up v.link ≡ false → SaysOn v.link turns packet
     → ServerCounted shape v turns d → ServerCounted shape (put_as ComesUp v) (Said packet ∷ turns) (answers_more shape turns packet d)
-comes_counting shape v turns packet d utters down on counted = grind (arith, sum_said, order_same, agrees_same)
+comes_counting shape v turns packet d utters down on counted = grind arith
 
 -- A MESSAGE OF THE HANDSHAKE is put whole
 pub handshake_counting : (shape : Shape) (v : ServerState) (turns : List Turn) (packet : List ℕ) (d : Option ServerCounts) → ServerRests v turns → is_none v.handshake.owed ≡ false → SaysWhole v.link turns packet
@@ -145,24 +136,17 @@ pub work_most : (w : Option Work) (c : ServerCounts) → WorkAgrees w c → c.fi
 work_most None c agrees = omega (arith, agrees.1)
 work_most (Some work) c agrees = omega (arith, agrees.2)
 
--- counts that are as many modulo 2^64, and nearer than that, are as many
-same_wrapped : (slots a b c : ℕ) (n : ℕ) → slots ≤ 256 → wrapped a ≡ wrapped b → a ≤ b → c ≤ a → b ≡ c + n → n ≤ slots → a ≡ b
-same_wrapped slots a b c n few is most least sum short = omega (arith, few, is, most, least, sum, short)
-
-length_most : (slots start end : ℕ) → 1 ≤ slots → range_length slots start end ≤ slots
-length_most slots start end some = omega (arith, mod_below (end + slots - start % slots) slots some)
-
 -- a range whose last descriptor is finished: as many are as were asked for, counted without bound
 pub all_finished : (slots : ℕ) (s : ServerSession) (w : Option Work) (c : ServerCounts) (turns : List Turn) (range : SlotRange) → slots ≤ 256 → s.finished ≡ s.asked
     → RangeStands slots (Some range) c → InServerOrder slots s c turns → ServerCountsAgree s c → WorkAgrees w c → c.finished ≡ c.asked
-all_finished slots s w c turns range few ended stands order counts work = grind (arith, same_wrapped, work_most, length_most)
+all_finished slots s w c turns range few ended stands order counts work = grind arith
 
 answered_order : (slots n : ℕ) (o : Option ServerSession) (w : Option Work) (d : Option ServerCounts) (turns behind : List Turn) (session : ServerSession) (range : SlotRange) → slots ≤ 256
     → o ≡ Some session → Answered slots session range n → range_sum slots 2 (said behind) ≡ range_sum slots 2 (said turns) + n
     → (1 ≤ n → range_count 2 (said behind) ≡ range_count 2 (said turns) + 1) → heard behind ≡ heard turns → ServerOrder slots o d turns → ServerAgrees o w d
     → ServerOrder slots (answered o) (change_server (λ (c : ServerCounts). record c { answered = c.answered + n }) d) behind
     × ServerAgrees (answered o) w (change_server (λ (c : ServerCounts). record c { answered = c.answered + n }) d)
-answered_order slots n o w d turns behind session range few is answers said_is counted heard_is order agrees = grind (arith, none_is_some, some_same, all_finished, work_same)
+answered_order slots n o w d turns behind session range few is answers said_is counted heard_is order agrees = grind arith
 
 pub own_counting : (shape : Shape) (v : ServerState) (turns : List Turn) (packet : List ℕ) (d : Option ServerCounts) → shape.slots ≤ 256 → is_none v.handshake.owed ≡ true → SaysWhole v.link turns packet
     → ServerCounted shape v turns d → ServerCounted shape (put_as EndsOwn v) (Said packet ∷ turns) (answers_more shape turns packet d)

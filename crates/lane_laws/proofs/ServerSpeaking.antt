@@ -5,7 +5,6 @@ use Rattle.channel_model.specs.Seeing.{Seen}
 use Rattle.disk_model.specs.ServerPutting.{server_holds}
 use Rattle.disk_model.specs.ServerRule.{ServerRule}
 use Rattle.disk_model.specs.ServerState.{ServerSession, ServerState, SlotRange}
-use Rattle.channel_laws.proofs.Apart.{none_is_some, some_same}
 use Rattle.lane_laws.specs.Budget.{one_range, range_left}
 use Rattle.lane_laws.specs.RuleFacts.{ServerMay}
 
@@ -18,8 +17,8 @@ range_few None = omega arith
 range_few (Some s) = range_one s.range
 
 pub server_holds_up : (s : ServerState) (at : Seen) (rule : ServerRule) (held : ServerState) → ServerMay s at rule → server_holds rule s ≡ Some held → at.state ≡ Up
-server_holds_up s at rule held may is = grind (arith, none_is_some)
+server_holds_up s at rule held may is = grind arith
 
 -- what it holds stands in its link alone
 pub server_holds_link : (s : ServerState) (rule : ServerRule) (held : ServerState) → server_holds rule s ≡ Some held → held ≡ record s { link = held.link }
-server_holds_link s rule held is = grind (arith, some_same, none_is_some)
+server_holds_link s rule held is = grind arith

@@ -10,19 +10,17 @@ use Rattle.vdisk_msg.specs.declared.desc.DescFault.{DescFault}
 use Rattle.vdisk_msg.specs.declared.desc.DescFault.TheVariants.{Cookies, Operation, Range, Size}
 use Rattle.vdisk_msg.specs.declared.desc.DiskDesc.{DiskDesc}
 use Rattle.vdisk_msg.specs.Pieces.{Finishes, Piece, Stores, checked_pieces, pieces, read_pieces, unit_count, write_pieces}
-use Rattle.lane_laws.specs.Agreement.{ServerAgrees, owed_of}
+use Rattle.lane_laws.specs.Agreement.{owed_of}
 use Rattle.lane_laws.specs.WorkLog.{ServerCounts, change_server, moved_rest, rest_of, stored_rest}
 use Rattle.disk_model.specs.LaneState.{Shape}
 use Rattle.channel_model.specs.Seeing.{Seen}
-use Rattle.disk_model.specs.ServerState.{Ends, Flushes, Gathers, Gives, Progress, Reads, ServerSession, ServerState, SlotRange, Work, Writes}
-use Rattle.disk_model.specs.ServerStep.{ServerMoves, ServerStores, with_progress}
+use Rattle.disk_model.specs.ServerState.{Ends, Flushes, Gathers, Gives, Progress, Reads, ServerState, Work, Writes}
+use Rattle.disk_model.specs.ServerStep.{ServerMoves, ServerStores}
 use Rattle.disk_model.specs.ServerWork as server_work
 use Rattle.cookie_copy.specs.Reach.{Reach}
 use Rattle.disk_model.specs.ServerWork.{MovesIn, StoresIn, desc_of, first_progress, gathers_next, or_ends}
-use Rattle.channel_laws.proofs.EndStanding.{open_up, up_empty}
 use Rattle.lane_laws.proofs.RulesFree.{server_free}
-use Rattle.lane_laws.proofs.RuleTests.{ServesFree}
-use Rattle.lane_laws.specs.Counted.{RangeStands, ServerCounted, ServerHolds, ServerOrder, UnitFits, UnitIn}
+use Rattle.lane_laws.specs.Counted.{ServerCounted, ServerHolds, UnitIn}
 use Rattle.lane_laws.specs.LaneRests.{ServerRests}
 
 -- WHAT IS OWED of a descriptor: it begins
@@ -57,7 +55,7 @@ sized true true true false w is moves = absurd (cc)
 sized true true true true w is moves = refl
 
 some_size : (size : ℕ) → has_size size ≡ true → 0 < unit_count size
-some_size size is = grind (arith, ltb-true)
+some_size size is = grind arith
 
 first_unit_if : (read write : Bool) (units : ℕ) → ((read || write) ≡ true → 0 < units) → UnitIn units (if read then Reads 0 else if write then Gathers 0 else Flushes)
 first_unit_if true write units some = some refl
@@ -144,37 +142,16 @@ stores_on Flushes work operation block count failed gave next stores below =
 stores_on _ work operation block count failed gave next stores below = absurd stores
 
 -- THE LOG after a piece
-range_owed : (slots : ℕ) (range : Option SlotRange) (c : ServerCounts) (owed : List Piece) → RangeStands slots range c → RangeStands slots range (record c { owed = owed })
-range_owed slots None c owed stands = stands
-range_owed slots (Some range) c owed stands = stands
-
-order_owed : (slots : ℕ) (o : Option ServerSession) (d : Option ServerCounts) (turns : List Turn) (f : List Piece → List Piece) → ServerOrder slots o d turns
-    → ServerOrder slots o (change_server (λ (c : ServerCounts). record c { owed = f c.owed }) d) turns
-order_owed slots o d turns f order = grind (arith, range_owed)
-
-agrees_owed : (o : Option ServerSession) (w : Option Work) (work : Work) (d : Option ServerCounts) (next : Progress) (f : List Piece → List Piece) → w ≡ Some work
-    → f (owed_of (desc_of work) work.progress) ≡ owed_of (desc_of work) next → is_some o ≡ true → ServerAgrees o w d
-    → ServerAgrees o (Some (record work { progress = next })) (change_server (λ (c : ServerCounts). record c { owed = f c.owed }) d)
-agrees_owed o w work d next f is owed open_one agrees = grind arith
-
-unit_of : (w : Option Work) (work : Work) → w ≡ Some work → UnitFits w → UnitIn (unit_count (desc_of work).size) work.progress
-unit_of w work is fits = subst UnitFits is fits
-
 -- a server whose session is open and whose link owes nothing holds nothing
 pub holds_none : (v t : ServerState) (turns : List Turn) → ServerRests v turns → is_some v.session ≡ true → owes v.link ≡ false → t.link ≡ v.link → ServerHolds t turns
-holds_none v t turns rests now free same = grind (arith, up_empty, open_up)
-
-piece_counting : (shape : Shape) (v : ServerState) (turns : List Turn) (d : Option ServerCounts) (session : ServerSession) (work : Work) (next : Progress) (f : List Piece → List Piece)
-    → ServerRests v turns → ServesFree v session → v.work ≡ Some work → GoesOn (desc_of work) (f (owed_of (desc_of work) work.progress)) next → ServerCounted shape v turns d
-    → ServerCounted shape (with_progress v work next) turns (change_server (λ (c : ServerCounts). record c { owed = f c.owed }) d)
-piece_counting shape v turns d session work next f rests free is goes counted = grind (arith, holds_none, order_owed, agrees_owed)
+holds_none v t turns rests now free same = grind arith
 
 pub server_moves_counting : (shape : Shape) (v : ServerState) (at : Seen) (reach : Reach) (unit : ℕ) (fault : Option CopyFault) (t : ServerState) (new : List ℕ) (turns : List Turn)
     (d : Option ServerCounts) → ServerRests v turns → ServerMoves v at reach unit fault t new → ServerCounted shape v turns d
     → ServerCounted shape t turns (change_server (λ (c : ServerCounts). record c { owed = moved_rest fault c.owed }) d)
-server_moves_counting shape v at reach unit fault t new turns d rests step counted = grind (arith, server_free, piece_counting, moves_on, unit_of)
+server_moves_counting shape v at reach unit fault t new turns d rests step counted = grind (arith, server_free, moves_on)
 
 pub server_stores_counting : (shape : Shape) (v : ServerState) (at : Seen) (operation block count : ℕ) (failed : Bool) (gave : List ℕ) (t : ServerState) (turns : List Turn)
     (d : Option ServerCounts) → ServerRests v turns → ServerStores v at operation block count failed gave t → ServerCounted shape v turns d
     → ServerCounted shape t turns (change_server (λ (c : ServerCounts). record c { owed = stored_rest failed c.owed }) d)
-server_stores_counting shape v at operation block count failed gave t turns d rests step counted = grind (arith, server_free, piece_counting, stores_on, unit_of)
+server_stores_counting shape v at operation block count failed gave t turns d rests step counted = grind (arith, server_free, stores_on)

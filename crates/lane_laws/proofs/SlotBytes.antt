@@ -6,7 +6,7 @@ use Rattle.vdisk_msg.proofs.Written.{is_admitted, requested_has_widths, state_ha
 use Rattle.vdisk_msg.specs.declared.desc.DiskDesc.{DiskDesc}
 use Rattle.vdisk_msg.specs.declared.request.Request.{Request}
 use Rattle.vdisk_msg.specs.Descriptor.{HasWidths, canonical, disk_desc_of}
-use Rattle.vdisk_msg.specs.Requested.{buffer_cookies, buffer_place, cookie_count, descriptor_of, header, size_of, status_word}
+use Rattle.vdisk_msg.specs.Requested.{buffer_cookies, buffer_place, cookie_count, descriptor_of, size_of, status_word}
 use Rattle.vio_bytes.specs.Place.{put_at}
 use Rattle.lane_laws.specs.RingLog.{Done, Ready, SlotLog}
 use Rattle.disk_model.specs.ServerWork.{header_of}
@@ -25,20 +25,8 @@ published_is id request slot slots = refl
 state_of_ready : (desc : DiskDesc) (status : ℕ) → slice_index (canonical (record desc { state = 2; status = status })) 0 ≡ 2
 state_of_ready desc status = refl
 
-state_of_accepted : (desc : DiskDesc) (status : ℕ) → slice_index (canonical (record desc { state = 3; status = status })) 0 ≡ 3
-state_of_accepted desc status = refl
-
-state_of_done : (desc : DiskDesc) (status : ℕ) → slice_index (canonical (record desc { state = 4; status = status })) 0 ≡ 4
-state_of_done desc status = refl
-
 pub ready_byte : (r : RingOf) (slot id status : ℕ) (bytes : List ℕ) → HoldsIssued r slot id 2 status bytes → slice_index bytes 0 ≡ 2
 ready_byte r slot id status bytes holds = ap (λ (bs : List ℕ). slice_index bs 0) holds.bytes_are ∙ state_of_ready (descriptor_of id holds.request slot r.slots) status
-
-pub accepted_byte : (r : RingOf) (slot id status : ℕ) (bytes : List ℕ) → HoldsIssued r slot id 3 status bytes → slice_index bytes 0 ≡ 3
-accepted_byte r slot id status bytes holds = ap (λ (bs : List ℕ). slice_index bs 0) holds.bytes_are ∙ state_of_accepted (descriptor_of id holds.request slot r.slots) status
-
-pub done_byte : (r : RingOf) (slot id status : ℕ) (bytes : List ℕ) → HoldsIssued r slot id 4 status bytes → slice_index bytes 0 ≡ 4
-done_byte r slot id status bytes holds = ap (λ (bs : List ℕ). slice_index bs 0) holds.bytes_are ∙ state_of_done (descriptor_of id holds.request slot r.slots) status
 
 -- a slot whose state is READY is that of a published request; one that is DONE, of one that got its status
 pub record IsReadySlot (r : RingOf) (slot : ℕ) (is : SlotLog) (bytes : List ℕ) : Type 0 where
@@ -47,7 +35,7 @@ pub record IsReadySlot (r : RingOf) (slot : ℕ) (is : SlotLog) (bytes : List �
   pub holds : HoldsIssued r slot id 2 0 bytes
 
 pub ready_slot : (r : RingOf) (slot : ℕ) (is : SlotLog) (bytes : List ℕ) → SlotHolds r slot is bytes → slice_index bytes 0 ≡ 2 → IsReadySlot r slot is bytes
-ready_slot r slot is bytes holds state = grind (arith, accepted_byte, done_byte)
+ready_slot r slot is bytes holds state = grind arith
 
 pub record IsDoneSlot (r : RingOf) (slot : ℕ) (is : SlotLog) (bytes : List ℕ) : Type 0 where
   pub id : ℕ
@@ -56,7 +44,7 @@ pub record IsDoneSlot (r : RingOf) (slot : ℕ) (is : SlotLog) (bytes : List ℕ
   pub holds : HoldsIssued r slot id 4 status bytes
 
 pub done_slot : (r : RingOf) (slot : ℕ) (is : SlotLog) (bytes : List ℕ) → SlotHolds r slot is bytes → slice_index bytes 0 ≡ 4 → IsDoneSlot r slot is bytes
-done_slot r slot is bytes holds state = grind (arith, ready_byte, accepted_byte)
+done_slot r slot is bytes holds state = grind arith
 
 -- THE DESCRIPTOR READS BACK
 pub record Sizes (r : RingOf) (slot : ℕ) : Type 0 where
@@ -75,28 +63,16 @@ reads_back r slot id state status bytes sizes small holds =
     ap disk_desc_of holds.bytes_are ∙ canonical_reads_back (stated id holds.request slot r.slots state status) fits
 
 -- THE MARK: ACCEPTED after READY
-marked_bytes : (desc : DiskDesc) (old state status : ℕ) → put_at 0 (header state desc.ack) (canonical (record desc { state = old; status = status })) ≡ canonical (record desc { state = state; status = status })
-marked_bytes desc old state status = refl
-
-header_is : (r : RingOf) (slot id state status : ℕ) (bytes : List ℕ) (next : ℕ) → Sizes r slot → state < 2 ^ 8 → (holds : HoldsIssued r slot id state status bytes)
-    → header_of next bytes ≡ header next (descriptor_of id holds.request slot r.slots).ack
-header_is r slot id state status bytes next sizes small holds =
-    ap (λ (d : DiskDesc). header next d.ack) (reads_back r slot id state status bytes sizes small holds)
-
 pub marked_holds : (r : RingOf) (slot id : ℕ) (bytes : List ℕ) → Sizes r slot → HoldsIssued r slot id 2 0 bytes → HoldsIssued r slot id 3 0 (put_at 0 (header_of 3 bytes) bytes)
-marked_holds r slot id bytes sizes holds = grind (arith, header_is, marked_bytes)
+marked_holds r slot id bytes sizes holds = grind arith
 
 -- THE END: the status, and then DONE
-ended_bytes : (desc : DiskDesc) (status : ℕ) → put_at 0 (header 4 desc.ack) (put_at 16 (status_word (canonical (record desc { state = 2; status = 0 })) status) (canonical (record desc { state = 3; status = 0 })))
-    ≡ canonical (record desc { state = 4; status = status })
-ended_bytes desc status = refl
-
 pub same_request : (issued : List Request) (id : ℕ) (one other : Request) → slice_get issued id ≡ Some one → slice_get issued id ≡ Some other → one ≡ other
 same_request issued id one other is also = let both : Some one ≡ Some other = sym is ∙ also in cc both
 
 pub ended_holds : (r : RingOf) (slot id status : ℕ) (fetched bytes : List ℕ) → Sizes r slot → status < 2 ^ 32 → HoldsIssued r slot id 2 0 fetched → HoldsIssued r slot id 3 0 bytes
     → HoldsIssued r slot id 4 status (put_at 0 (header_of 4 fetched) (put_at 16 (status_word fetched status) bytes))
-ended_holds r slot id status fetched bytes sizes small from holds = grind (arith, same_request, header_is, ended_bytes)
+ended_holds r slot id status fetched bytes sizes small from holds = grind arith
 
 -- THE BUFFER that a fetched descriptor names
 named_by : (id : ℕ) (request : Request) (slot slots state status : ℕ) → take (stated id request slot slots state status).count (stated id request slot slots state status).cookies

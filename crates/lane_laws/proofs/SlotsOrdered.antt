@@ -1,10 +1,8 @@
 -- A slot that changes leaves the others in their order.
 use Rattle.std.proofs.Common.{◌≡◌, ◌≢◌, ℕ, ◌+◌, ◌-◌, ◌%◌, ◌<◌, ◌≤◌, inl, inr, List, length, set, replicate, Some, sym, ap, ◌∙◌, subst, arith}
 use Rattle.std.specs.Prelude.{slice_get}
-use Rattle.std.proofs.lemmas.Bool.{cases_lt}
 use Rattle.std.proofs.lemmas.Nat.{mod_below}
 use Rattle.std.proofs.Math.Nat.{add-mod_right}
-use Rattle.dring.proofs.Turning.{one_turn}
 use Rattle.channel_laws.proofs.Apart.{some_same}
 use Rattle.lane_laws.specs.RingLog.{Accepted, Done, Free, Ready, SlotLog}
 use Rattle.lane_laws.proofs.RingTable.{free_entry, got_other, got_same, same_or_other}
@@ -12,7 +10,7 @@ use Rattle.lane_laws.specs.SlotsInOrder.{SlotOf, SlotsOf}
 
 -- two numbers of one turn in one slot are one
 pub same_number : (n lo a b : ℕ) → lo ≤ a → a < lo + n → lo ≤ b → b < lo + n → a % n ≡ b % n → a ≡ b
-same_number n lo a b la ua lb ub same = grind (arith, cases_lt, one_turn)
+same_number n lo a b la ua lb ub same = grind arith
 
 entry_is : (ring : List SlotLog) (k : ℕ) (e is : SlotLog) → k < length ring → slice_get (set ring k e) k ≡ Some is → is ≡ e
 entry_is ring k e is below got = let both : Some e ≡ Some is = sym (got_same ring k e below) ∙ got in let here : e ≡ is = some_same both in sym here
@@ -57,7 +55,7 @@ published_slots n done base announced published finished descs id ring long base
 -- ANNOUNCED: the published ones up to a number
 announce_of : (base announced published finished descs more j : ℕ) (is : SlotLog) → announced ≤ more → more ≤ published → descs ≤ announced → SlotOf base announced published finished descs j is
     → SlotOf base more published finished descs j is
-announce_of base announced published finished descs more j is least most fetched of = grind (arith, cases_lt)
+announce_of base announced published finished descs more j is least most fetched of = grind arith
 
 pub announced_slots : (n done base announced published finished descs more : ℕ) (ring : List SlotLog) → announced ≤ more → more ≤ published
     → SlotsOf n done base announced published finished descs ring → SlotsOf n done base more published finished descs ring
@@ -114,11 +112,8 @@ finished_slots n done base announced published finished id status ring long base
     }
 
 -- COMPLETED: the first slot becomes the last
-not_done : (base j id status : ℕ) (is : SlotLog) → is ≡ Done id status → is ≡ Ready (base + j) → ⊥
-not_done base j id status is done ready = let never : Ready (base + j) ≡ Done id status = sym ready ∙ done in absurd (cc)
-
 pub finished_more : (base announced published finished descs j id status : ℕ) (is : SlotLog) → is ≡ Done id status → SlotOf base announced published finished descs j is → j < finished
-finished_more base announced published finished descs j id status is done of = grind (arith, cases_lt, not_done)
+finished_more base announced published finished descs j id status is done of = grind arith
 
 freed : (base announced published finished descs j : ℕ) → finished ≤ descs → descs ≤ announced → announced ≤ published → published ≤ j → SlotOf base announced published finished descs j Free
 freed base announced published finished descs j first fetched told past = grind arith
@@ -147,4 +142,4 @@ completed_slots n done base announced published finished descs ring long some ba
 
 -- CLEARED
 pub cleared_slots : (n done : ℕ) → SlotsOf n done done 0 0 0 0 (replicate n Free)
-cleared_slots n done = grind (arith, free_entry, freed)
+cleared_slots n done = grind (arith, free_entry)

@@ -3,7 +3,7 @@ use Rattle.std.proofs.Common.{◌≡◌, ℕ, ◌+◌, ◌-◌, ◌%◌, ◌<◌
 use Rattle.ldc_queue.specs.declared.end.ChannelState.{ChannelState}
 use Rattle.ldc_queue.specs.declared.end.ChannelState.TheVariants.{Up}
 use Rattle.ldc_queue.specs.declared.end.End.TheVariants.{A, B}
-use Rattle.ldc_queue.specs.Wire.{Wire, closed, configured, peer_behind, upset}
+use Rattle.ldc_queue.specs.Wire.{Wire, configured, peer_behind, upset}
 use Rattle.channel_model.specs.WireEvent.{Injected, Joined, Lost, Reset, Sent, Took, WireEvent}
 use Rattle.lane_laws.specs.Agreement.{ServerAgrees, WorkAgrees}
 use Rattle.lane_laws.specs.DiskLog.{DiskLog, after}
@@ -71,31 +71,19 @@ keep_server : (n : ℕ) (w x : WorkLog) (wire next : Wire) (ring : List SlotLog)
     → ((finished descs : ℕ) → ServerAt wire w.server finished descs → ServerAt next x.server finished descs) → SlotsIn n w wire ring o → SlotsIn n x next ring o
 keep_server n w x wire next ring o done at slots = grind arith
 
-none_changed : (g : ServerCounts → ServerCounts) (q : Option ServerCounts) → change_server g q ≡ None → q ≡ None
-none_changed g None is = refl
-none_changed g (Some d) is = absurd (cc is)
-
-works_changed : (g : ServerCounts → ServerCounts) (q : Option ServerCounts) (finished descs : ℕ) → ((d : ServerCounts) → ((g d).finished ≡ d.finished) × ((g d).descs ≡ d.descs))
-    → IfServer q (λ d. (finished ≡ d.finished) × (descs ≡ d.descs)) → IfServer (change_server g q) (λ d. (finished ≡ d.finished) × (descs ≡ d.descs))
-works_changed g None finished descs same works = tt
-works_changed g (Some d) finished descs same works = (works.0 ∙ sym (same d).0, works.1 ∙ sym (same d).1)
-
 at_changed : (wire : Wire) (q : Option ServerCounts) (g : ServerCounts → ServerCounts) (finished descs : ℕ) → ((d : ServerCounts) → ((g d).finished ≡ d.finished) × ((g d).descs ≡ d.descs))
     → ServerAt wire q finished descs → ServerAt wire (change_server g q) finished descs
-at_changed wire q g finished descs same at = grind (arith, works_changed, none_changed)
+at_changed wire q g finished descs same at = grind arith
 
 pub upset_not : (x : ChannelState) → upset x ≡ Up → ⊥
 upset_not Up is = absurd (cc)
 upset_not _ is = absurd (cc)
 
 pub behind_up : (x y : ChannelState) → peer_behind x y ≡ Up → (y ≡ Up) × (x ≡ Up → ⊥)
-behind_up x y is = grind (arith, upset_not)
+behind_up x y is = grind arith
 
 at_begun : (wire : Wire) (q : Option ServerCounts) (finished descs : ℕ) → ServerAt wire q finished descs → ServerAt (configured B wire) None finished descs
-at_begun wire q finished descs at = grind (arith, behind_up)
-
-at_closed : (wire : Wire) (finished descs : ℕ) → ServerAt (closed B wire) None finished descs
-at_closed wire finished descs = record { works = λ up. tt; rests = λ up none. absurd (upset_not wire.end_a up) }
+at_begun wire q finished descs at = grind arith
 
 same_at : (wire next : Wire) (q : Option ServerCounts) (finished descs : ℕ) → next.end_a ≡ wire.end_a → next.end_b ≡ wire.end_b → ServerAt wire q finished descs → ServerAt next q finished descs
 same_at wire next q finished descs a b at = record { works = λ up. at.works (sym b ∙ up); rests = λ up none. at.rests (sym a ∙ up) (λ now. none (b ∙ now)) }
@@ -110,7 +98,7 @@ opens_at_rest : (wire : Wire) (q : Option ServerCounts) → ((d : ServerCounts) 
 opens_at_rest wire q nothing = grind arith
 
 pub work_first : (o : Option ServerSession) (w : Option Work) (q : Option ServerCounts) (d : ServerCounts) → q ≡ Some d → ServerAgrees o w q → d.finished ≤ d.descs
-work_first o w q d is agrees = grind (arith, some_same)
+work_first o w q d is agrees = grind arith
 
 pub if_server : (P : ServerCounts → Type 0) (q : Option ServerCounts) (d : ServerCounts) → q ≡ Some d → IfServer q P → P d
 if_server P q d is holds = subst (λ (x : Option ServerCounts). IfServer x P) is holds
@@ -327,4 +315,4 @@ work_slots s l Misplaced t step facts slots = absurd step
 
 -- EACH EVENT
 pub event_slots : (s : LaneState) (l : DiskLog) (event : DiskEvent) (t : LaneState) → LaneStep s event t → StepFacts s l event t → SlotsInOrder l → SlotsInOrder (after l event)
-event_slots s l event t step facts slots = grind (arith, wire_slots, keep_server, work_slots, at_closed)
+event_slots s l event t step facts slots = grind (arith, wire_slots, work_slots)

@@ -22,7 +22,6 @@ use Rattle.channel_model.specs.TranscriptLog.{TranscriptLog, nothing_said}
 use Rattle.channel_laws.proofs.EndResting.{open_rests}
 use Rattle.channel_laws.proofs.EndsResting.{fresh_end_rests, rests_move, utters_of}
 use Rattle.channel_laws.proofs.Lifting.{transcript_turns}
-use Rattle.channel_laws.proofs.MessagesHeld.{owed_held}
 use Rattle.channel_laws.specs.Cuts.{CarriesOwed}
 use Rattle.channel_laws.specs.EndCore.{Waits}
 use Rattle.channel_laws.specs.Grounds.{OpenRests}
@@ -42,7 +41,7 @@ use Rattle.lane_laws.specs.Sound.{ClientSound}
 -- WHAT A SERVER HOLDS, where that isn't of its session, is what its handshake owes
 pub server_holds_owed : (v : ServerState) (turns : List Turn) → EndStands Responder (server_core v) turns → is_none v.handshake.owed ≡ false → 1 ≤ length v.link.to_send
     → CarriesOwed v.handshake.owed (half_said turns ++ v.link.to_send)
-server_holds_owed v turns stands is some = grind (arith, owed_held)
+server_holds_owed v turns stands is some = grind arith
 
 -- IT HOLDS a message
 pub client_blocked_rests : (s : ClientState) (at : Seen) (t : ClientState) (turns : List Turn) → ClientSound s → client_holds (client_rule s at) s ≡ Some t → ClientRests s turns → ClientRests t turns

@@ -14,16 +14,13 @@ use Rattle.disk_model.specs.DiskEvent.{Accepted, Admitted, Asks, DiskEvent, Done
 use Rattle.disk_model.specs.LaneState.{IsShape, LaneState, Shape, fresh}
 use Rattle.disk_model.specs.LaneStep.{LaneStep}
 use Rattle.lane_laws.proofs.Requesting.{KeepsRequests, accepted_stand, completed_next, kept_stand, published_kept, same_stand}
-use Rattle.lane_laws.proofs.StandingSteps.{client_kept, joined_client_kept, same_client, wire_turn, wired_keeps}
+use Rattle.lane_laws.proofs.StandingSteps.{client_kept, joined_client_kept, same_client, wired_keeps}
 use Rattle.lane_laws.proofs.LaneViews.{Beside, ClientActs, ClientAsked, ClientCalled, ClientStays, ClientView, after_stopped, at_client, lane_view}
 use Rattle.lane_laws.specs.Standing.{LaneInvariant, MayOfRequests, RequestsStand}
 
 -- what is pending is counted by the log too
 pub pending_is : (c : ClientState) (w : WorkLog) → RequestsStand c w → length c.pending ≡ length w.issued - w.done
 pending_is c w stand = ap length stand.pending ∙ length-drop w.done w.issued
-
-blocks_is : (s : LaneState) (l : DiskLog) → LaneInvariant s l → s.client.blocks ≡ l.shape.blocks
-blocks_is s l stands = stands.blocks ∙ ap (λ (y : Shape). y.blocks) stands.shape
 
 pub slots_is : (s : LaneState) (l : DiskLog) → LaneInvariant s l → s.client.slots ≡ l.shape.slots
 slots_is s l stands = stands.slots ∙ ap (λ (y : Shape). y.slots) stands.shape
@@ -60,7 +57,7 @@ asks_behind c l (Accepted id request) t stand admits = record {
 
 -- an event beside it completes and accepts nothing
 beside_keeps : (l : DiskLog) (event : DiskEvent) → Beside A event → ((after l event).work.issued ≡ l.work.issued) × ((after l event).work.done ≡ l.work.done)
-beside_keeps l event beside = grind (arith, wired_keeps)
+beside_keeps l event beside = grind arith
 
 client_behind : (s t : LaneState) (l : DiskLog) (event : DiskEvent) → RequestsStand s.client l.work → ClientView s t event → ClientBehind s.client t.client (after l event).work
 client_behind s t l _ stand (ClientActs event own does) = steps_behind s l stand event t.client t.memory does
@@ -72,7 +69,7 @@ client_behind s t l _ stand (ClientStays event beside is) =
 
 -- WHETHER THE SERVER is stopped, by the log
 stopped_behind : (l : DiskLog) (event : DiskEvent) → after_stopped l.work.stopped event ≡ (after l event).work.stopped
-stopped_behind l event = grind (arith, wired_keeps)
+stopped_behind l event = grind arith
 
 invariant_step : (s : LaneState) (l : DiskLog) (event : DiskEvent) (t : LaneState) → LaneInvariant s l → LaneStep s event t → LaneInvariant t (after l event)
 invariant_step s l event t stands step =
@@ -90,7 +87,7 @@ invariant_step s l event t stands step =
 
 -- WHERE AN EVENT MAY STAND: what comes of a request, completions, and turns
 asks_may : (s : LaneState) (l : DiskLog) (request : Admitted) (t : ClientState) → LaneInvariant s l → ClientAdmits s.client request t → Admits l request
-asks_may s l request t stands admits = grind (arith, blocks_is, pending_is, slots_is)
+asks_may s l request t stands admits = grind (arith, pending_is)
 
 admission_at : (s : LaneState) (l : DiskLog) (event : DiskEvent) (t : LaneState) → LaneInvariant s l → LaneStep s event t → AdmissionAt l event
 admission_at s l (Asks request) t stands step = asks_may s l request t.client stands step.0
@@ -103,7 +100,7 @@ once_at s l (Works (Done id operation status bytes)) t stands step =
 once_at s l _ t stands step = tt
 
 turns_at : (s : LaneState) (l : DiskLog) (event : DiskEvent) (t : LaneState) → LaneInvariant s l → LaneStep s event t → TurnsAt l event
-turns_at s l event t stands step = grind (arith, wire_turn)
+turns_at s l event t stands step = grind arith
 
 -- EACH EVENT: where it may stand, and what it keeps
 pub record Behind (s : LaneState) (l : DiskLog) (event : DiskEvent) (t : LaneState) : Type 0 where

@@ -1,17 +1,14 @@
 -- Each event of a lane may stand where the conditions on requests say, and keeps what its requests and its log are to each other.
-use Rattle.std.proofs.Common.{◌≡◌, ℕ, Option, List, sym, ap, ◌∙◌, subst, arith}
-use Rattle.ldc_queue.specs.declared.end.End.{End}
-use Rattle.ldc_queue.specs.declared.end.End.TheVariants.{A, B}
-use Rattle.vio_tag.specs.declared.cause.Cause.{Cause}
+use Rattle.std.proofs.Common.{◌≡◌, ℕ, List, sym, ap, subst, arith}
+use Rattle.ldc_queue.specs.declared.end.End.TheVariants.{A}
 use Rattle.channel_model.specs.TranscriptLog.{TranscriptLog}
-use Rattle.channel_model.specs.WireEvent.{Blocked, Giver, Idle, Joined, Reset, Sent, Took, WireEvent}
+use Rattle.channel_model.specs.WireEvent.{Blocked, Idle, Joined, Reset, Sent, Took, WireEvent}
 use Rattle.channel_model.specs.WireLog.{wire_moved}
-use Rattle.lane_laws.specs.RequestLaws.{TurnOfEnd, TurnOfReset, TurnOfWire}
 use Rattle.lane_laws.specs.WorkLog.{WorkLog, work_wired}
 use Rattle.disk_model.specs.ClientState.{ClientState, joined_client}
 use Rattle.disk_model.specs.DiskEvent.{OnWire}
 use Rattle.disk_model.specs.LaneState.{LaneState}
-use Rattle.disk_model.specs.LaneStep.{EndOnWire, ResetBy, WireStep}
+use Rattle.disk_model.specs.LaneStep.{WireStep}
 use Rattle.lane_laws.proofs.LaneViews.{ClientActs, ClientCalled, ClientStays, ClientView, at_client, lane_view}
 use Rattle.disk_model.specs.ClientStep.{ClientStep}
 use Rattle.lane_laws.proofs.Requesting.{KeepsRequests, held_kept, joined_kept, sent_kept, stays_kept, took_kept}
@@ -56,13 +53,3 @@ wire_only s event t step = let view = lane_view s (OnWire event) t step in recor
     by event (ClientStays _ beside is) = same_client s.client t.client is
 
 -- TURNS: only a server that runs makes a step
-end_turn : (e : End) (s : LaneState) (w : WorkLog) (event : WireEvent) (t : LaneState) → s.stopped ≡ w.stopped → EndOnWire e s event t → TurnOfEnd e w
-end_turn A s w event t stopped step = tt
-end_turn B s w event t stopped step = sym stopped ∙ step.1.step.0
-
-reset_turn : (by : Giver) (e : End) (s : LaneState) (w : WorkLog) (cause : Cause) (packet : Option (List ℕ)) (lost : ℕ) (t : LaneState) → s.stopped ≡ w.stopped
-    → ResetBy by e s cause packet lost t → TurnOfReset by e w
-reset_turn by e s w cause packet lost t stopped step = grind (arith, end_turn)
-
-pub wire_turn : (s : LaneState) (w : WorkLog) (event : WireEvent) (t : LaneState) → s.stopped ≡ w.stopped → WireStep s event t → TurnOfWire w event
-wire_turn s w event t stopped step = grind (arith, end_turn, reset_turn)

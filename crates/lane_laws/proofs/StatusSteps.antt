@@ -93,7 +93,7 @@ front_named sid messages all front named = subst (IsNamed sid) (sym front.1) (mo
 
 -- so both ends have one sid
 pub one_name : (sid other : ℕ) (messages : List (List ℕ)) → IsNamed sid messages → IsNamed other messages → sid ≡ other
-one_name sid other messages named also = search (some_same)
+one_name sid other messages named also = search
 
 -- ONE SLOT of the ring changes
 abbrev IsNotDone : SlotLog → Type 0
@@ -107,11 +107,8 @@ set_or (y ∷ ring) zero (suc j) e x is = inr is
 set_or (y ∷ ring) (suc k) zero e x is = inr is
 set_or (y ∷ ring) (suc k) (suc j) e x is = set_or ring k j e x is
 
-done_not : (e : SlotLog) (id status : ℕ) → IsNotDone e → Done id status ≡ e → ⊥
-done_not e id status not is = subst IsNotDone (sym is) not
-
 set_keeps : (ring : List SlotLog) (opened : List Opened) (k : ClientCounts) (slot : ℕ) (e : SlotLog) → IsNotDone e → KeepsStatus ring opened k → KeepsStatus (set ring slot e) opened k
-set_keeps ring opened k slot e not keeps = grind (arith, set_or, done_not)
+set_keeps ring opened k slot e not keeps = grind (arith, set_or)
 
 pub published_keeps : (slots : ℕ) (o : Option ClientCounts) (id : ℕ) (ring : List SlotLog) (opened : List Opened) → IfClient o (KeepsStatus ring opened)
     → IfClient (change_client (λ (c : ClientCounts). record c { published = c.published + 1 }) o) (KeepsStatus (published_at slots o id ring) opened)

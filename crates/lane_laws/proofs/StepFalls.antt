@@ -6,23 +6,15 @@ use Rattle.ldc_queue.specs.declared.end.End.TheVariants.{A, B}
 use Rattle.vio_tag.specs.declared.cause.Cause.{Cause}
 use Rattle.channel_model.specs.WireAt.{IsUp}
 use Rattle.channel_model.specs.WireEvent.{Blocked, ByStep, Giver, Idle, Joined, Reset, Sent, Took, WireEvent, giver}
-use Rattle.disk_model.specs.ClientRule as client_rules
-use Rattle.disk_model.specs.ClientState.{ClientState}
-use Rattle.disk_model.specs.ClientStep.{ClientFails}
 use Rattle.disk_model.specs.DiskEvent.{DiskEvent, Misplaced, Off, OnWire, Switches, Works}
 use Rattle.disk_model.specs.LaneState.{IsShape, LaneState, Shape, fresh}
-use Rattle.disk_model.specs.LaneStep.{EndOnWire, LaneStep, ResetBy, reach}
-use Rattle.disk_model.specs.ServerRule as server_rules
-use Rattle.disk_model.specs.ServerStep.{ServerFails}
+use Rattle.disk_model.specs.LaneStep.{EndOnWire, LaneStep, ResetBy}
 use Rattle.lane_laws.proofs.FallsInTurn.{took_falls}
 use Rattle.lane_laws.proofs.IdleRuns.{client_same, server_same}
 use Rattle.lane_laws.proofs.RemainingBlocked.{blocked_stays}
 use Rattle.lane_laws.proofs.RemainingRuns.{resets_fall, steps_fall}
-use Rattle.lane_laws.proofs.Ruling.{client_may, server_may}
 use Rattle.lane_laws.specs.Remaining.{remaining}
-use Rattle.lane_laws.specs.RuleFacts.{ClientMay, ServerMay}
 use Rattle.lane_laws.proofs.OwnResets.{own_reset}
-use Rattle.lane_laws.proofs.LaneViews.{at_client, at_server}
 use Rattle.lane_laws.specs.CalmEnds.{IsCalm, IsStep, IsWireStep}
 
 -- it does nothing and leaves what remains, or lowers it
@@ -37,16 +29,8 @@ idles A s t step = client_same s t step
 idles B s t step = server_same s t step
 
 -- AN END THAT RESETS ITSELF is up
-client_fails_up : (c : ClientState) (s : LaneState) (rule : client_rules.ClientRule) (cause : Cause) (packet : Option (List ℕ)) → ClientMay c (at_client s) rule → ClientFails rule c s.memory cause packet
-    → IsUp A s.wire.wire
-client_fails_up c s rule cause packet may fails = grind arith
-
-server_fails_up : (s : LaneState) (rule : server_rules.ServerRule) (cause : Cause) (packet : Option (List ℕ)) (new : List ℕ) → ServerMay s.server (at_server s) rule
-    → ServerFails rule s.server (reach s (at_server s).both) cause packet new → IsUp B s.wire.wire
-server_fails_up s rule cause packet new may fails = grind arith
-
 resets_up : (e : End) (s : LaneState) (cause : Cause) (packet : Option (List ℕ)) (lost : ℕ) (t : LaneState) → EndOnWire e s (Reset e cause packet lost) t → IsUp e s.wire.wire
-resets_up e s cause packet lost t step = grind (arith, client_fails_up, at_client, client_may, server_fails_up, at_server, server_may)
+resets_up e s cause packet lost t step = grind arith
 
 own_falls : (shape : Shape) (events : List DiskEvent) (s : LaneState) (e : End) (cause : Cause) (packet : Option (List ℕ)) (lost : ℕ) (t : LaneState) → IsShape shape → Run LaneStep (fresh shape) events s
     → s.wire.forged ≡ false → giver cause ≡ ByStep → LaneStep s (OnWire (Reset e cause packet lost)) t → remaining t < remaining s

@@ -1,9 +1,6 @@
 -- A step of an end neither forges nor loses a packet, and neither stops nor starts the server.
-use Rattle.std.proofs.Common.{◌≡◌, Bool, false, ap, arith}
-use Rattle.ldc_queue.specs.declared.end.ChannelState.{ChannelState}
+use Rattle.std.proofs.Common.{◌≡◌, ap, arith}
 use Rattle.ldc_queue.specs.declared.end.End.{End}
-use Rattle.channel_model.specs.WireEvent.{Joined}
-use Rattle.channel_model.specs.WireLog.{lossy_behind, wire_moved}
 use Rattle.disk_model.specs.DiskEvent.{DiskEvent}
 use Rattle.disk_model.specs.LaneState.{LaneState}
 use Rattle.disk_model.specs.LaneStep.{LaneStep}
@@ -11,16 +8,9 @@ use Rattle.lane_laws.specs.DiskLog.{after_wire}
 use Rattle.lane_laws.proofs.LaneViews.{after_stopped, lane_view}
 use Rattle.lane_laws.specs.CalmEnds.{IsStep, StepKeeps}
 
--- a configured end empties its queues or leaves them
-still_whole : (x : ChannelState) (lossy : Bool) → lossy ≡ false → lossy_behind x lossy ≡ false
-still_whole x lossy whole = grind arith
-
-begun_lane : (e : End) (s t : LaneState) → t.wire ≡ wire_moved s.wire (Joined e 0) → t.stopped ≡ s.stopped → StepKeeps s t
-begun_lane e s t wire stopped = grind (arith, still_whole)
-
 -- EACH STEP, by the wire after it
 moved_keeps : (s : LaneState) (e : End) (event : DiskEvent) (t : LaneState) → t.wire ≡ after_wire s.wire event → t.stopped ≡ after_stopped s.stopped event → IsStep e event → StepKeeps s t
-moved_keeps s e event t wire stopped own = grind (arith, begun_lane)
+moved_keeps s e event t wire stopped own = grind arith
 
 pub step_keeps : (s : LaneState) (e : End) (event : DiskEvent) (t : LaneState) → LaneStep s event t → IsStep e event → StepKeeps s t
 step_keeps s e event t step own =

@@ -9,16 +9,15 @@ use Rattle.ldc_queue.specs.declared.end.End.{End}
 use Rattle.ldc_queue.specs.declared.end.End.TheVariants.{A, B}
 use Rattle.ldc_queue.specs.Wire.{waiting_for}
 use Rattle.vio_tag.specs.declared.cause.Cause.{Cause}
-use Rattle.channel_model.specs.WireAt.{DeclinesAt, IsUp, MayCarry, MayReset, Sizes, WireAnswersAt, WireTableAt}
-use Rattle.channel_model.specs.WireEvent.{Blocked, Declined, Declines, Giver, Idle, Joined, PokeRefused, Poked, Reset, Sent, Took, WireEvent, giver}
+use Rattle.channel_model.specs.WireAt.{IsUp, MayCarry, MayReset, WireAnswersAt, WireTableAt}
+use Rattle.channel_model.specs.WireEvent.{Blocked, Declines, Giver, Idle, Joined, Reset, Sent, Took, WireEvent}
 use Rattle.channel_model.specs.WireLog.{WireLog}
 use Rattle.lane_laws.specs.DiskLog.{DiskLog, after, after_wire, nothing_yet}
-use Rattle.lane_laws.specs.May.{sizes_in}
 use Rattle.disk_model.specs.ClientRule as client_rules
 use Rattle.disk_model.specs.ClientStep.{ClientFails, ClientStep}
 use Rattle.disk_model.specs.DiskEvent.{DiskEvent, OnWire, Stopped, Switches}
 use Rattle.disk_model.specs.LaneState.{IsShape, LaneState, Shape, fresh}
-use Rattle.disk_model.specs.LaneStep.{EndOnWire, LaneStep, ResetBy, WireStep, sizes_of}
+use Rattle.disk_model.specs.LaneStep.{EndOnWire, LaneStep, WireStep, sizes_of}
 use Rattle.disk_model.specs.ServerRule as server_rules
 use Rattle.disk_model.specs.ServerStep.{ServerFails, ServerStep}
 use Rattle.cookie_copy.specs.Reach.{Reach}
@@ -29,16 +28,13 @@ use Rattle.disk_model.specs.ClientState.{ClientState}
 use Rattle.disk_model.specs.ServerState.{ServerState}
 use Rattle.lane_laws.proofs.IdleRules.{client_idles, server_idles}
 use Rattle.lane_laws.proofs.Ruling.{client_may, server_may}
-use Rattle.lane_laws.proofs.ServerSpeaking.{server_holds_up}
 use Rattle.lane_laws.proofs.StandingRuns.{lawful_by}
-use Rattle.lane_laws.specs.MemoryStands.{MemoryStands}
 use Rattle.lane_laws.specs.RuleFacts.{ClientMay, ServerMay}
-use Rattle.lane_laws.specs.Standing.{LaneInvariant}
 use Rattle.lane_laws.specs.TableStands.{AnswersAt, IdleNone, MayOfTable, TableAt}
 use Rattle.lane_laws.specs.ChannelEnds.{core_event}
 use Rattle.channel_laws.proofs.CoreRuns.{Room, room_after}
 use Rattle.channel_laws.proofs.EndsAtRest.{none_waits}
-use Rattle.channel_laws.specs.LaneCore.{AnswerStands, CoreStands, WireStands, wire_after}
+use Rattle.channel_laws.specs.LaneCore.{CoreStands, wire_after}
 
 -- what a rule tells of the end
 pub client_known : (s : LaneState) (rule : client_rules.ClientRule) → client_rules.client_rule s.client (at_client s) ≡ rule → ClientMay s.client (at_client s) rule
@@ -55,16 +51,13 @@ full n entries most none = omega (arith, most, ltb-false (n + 1) entries none)
 abbrev CarriedAt : Option (List ℕ) → End → LaneState → Type 0
 CarriedAt packet e s = IsUp e s.wire.wire × MayCarry packet e s.wire.wire
 
-carries : (e : End) (s : LaneState) (packet other : Option (List ℕ)) → packet ≡ other → CarriedAt other e s → CarriedAt packet e s
-carries e s packet other is carried = subst (λ (p : Option (List ℕ)). CarriedAt p e s) (sym is) carried
-
 client_carries : (s : LaneState) (rule : client_rules.ClientRule) (memory : List ℕ) (cause : Cause) (packet : Option (List ℕ)) → ClientMay s.client (at_client s) rule
     → ClientFails rule s.client memory cause packet → CarriedAt packet A s
-client_carries s rule memory cause packet may fails = grind (arith, carries)
+client_carries s rule memory cause packet may fails = grind arith
 
 server_carries : (s : LaneState) (rule : server_rules.ServerRule) (r : Reach) (cause : Cause) (packet : Option (List ℕ)) (new : List ℕ) → ServerMay s.server (at_server s) rule
     → ServerFails rule s.server r cause packet new → CarriedAt packet B s
-server_carries s rule r cause packet new may fails = grind (arith, carries)
+server_carries s rule r cause packet new may fails = grind arith
 
 -- THE TABLE, by the end that makes the step
 client_table : (s : LaneState) (event : WireEvent) (t : ClientState) (new : List ℕ) → Room s.shape.entries s.wire → IsOwnStep (OnWire event)
@@ -87,22 +80,14 @@ client_table s _ t new room own step = absurd step
 
 server_table : (s : LaneState) (event : WireEvent) (gave : List ℕ) (t : ServerState) (new : List ℕ) → Room s.shape.entries s.wire → IsOwnStep (OnWire event)
     → ServerStep s.server (at_server s) (reach_of s) gave (OnWire event) t new → WireTableAt (sizes_of s) s.wire event
-server_table s event gave t new room own step = grind (arith, server_known, server_holds_up, at_server, server_may, ltb-true, full, server_carries, reach_of)
+server_table s event gave t new room own step = grind (arith, server_may, server_carries)
 
 end_table : (e : End) (s : LaneState) (event : WireEvent) (t : LaneState) → Room s.shape.entries s.wire → IsOwnStep (OnWire event) → EndOnWire e s event t → WireTableAt (sizes_of s) s.wire event
 end_table A s event t room own step = client_table s event t.client t.memory room own step.step
 end_table B s event t room own step = server_table s event step.0 t.server t.memory room own step.1.step.1
 
-reset_table : (g : Giver) (e : End) (s : LaneState) (cause : Cause) (packet : Option (List ℕ)) (lost : ℕ) (t : LaneState) → Room s.shape.entries s.wire → giver cause ≡ g
-    → ResetBy g e s cause packet lost t → MayReset g packet e s.wire.wire
-reset_table g e s cause packet lost t room by step = grind (arith, end_table)
-
-poked_table : (e : End) (s : LaneState) (at : ℕ) (bytes : List ℕ) (t : LaneState) → WireStep s (Poked e at bytes) t → at + length bytes ≤ length s.memory
-poked_table A s at bytes t step = step.0
-poked_table B s at bytes t step = absurd step
-
 table : (s : LaneState) (event : WireEvent) (t : LaneState) → Room s.shape.entries s.wire → WireStep s event t → WireTableAt (sizes_of s) s.wire event
-table s event t room step = grind (arith, end_table, reset_table, poked_table)
+table s event t room step = grind (arith, end_table)
 
 answers : (s : LaneState) (event : WireEvent) (t : LaneState) → WireStep s event t → WireAnswersAt (sizes_of s) s.wire event
 answers s (Declines d) t step = step.0
@@ -122,15 +107,8 @@ pub wire_same : (l : WireLog) (event : DiskEvent) → after_wire l event ≡ wir
 wire_same l (Switches Stopped) = refl
 wire_same l _ = refl
 
-answer_stands : (n : Sizes) (l : WireLog) (d : Declined) → DeclinesAt n l d → AnswerStands n.entries l d
-answer_stands n l (PokeRefused e at count) answers = tt
-answer_stands n l _ answers = answers
-
-wire_stands : (n : Sizes) (l : WireLog) (event : WireEvent) → WireTableAt n l event → WireAnswersAt n l event → IdleNone l event → WireStands n.entries l event
-wire_stands n l event table answers none = grind (arith, answer_stands)
-
 pub core_stands : (l : DiskLog) (event : DiskEvent) → MayOfTable l event → CoreStands l.shape.entries l.wire (core_event event)
-core_stands l event may = grind (arith, wire_stands)
+core_stands l event may = grind arith
 
 -- ROOM in the queues is what two ends on a channel have
 room_moved : (l : DiskLog) (event : DiskEvent) → MayOfTable l event → Room l.shape.entries l.wire → Room l.shape.entries (after_wire l.wire event)
@@ -143,18 +121,8 @@ pub record QueuesStand (s : LaneState) (l : DiskLog) : Type 0 where
   pub all : AllStand s l
   pub room : Room l.shape.entries l.wire
 
-sizes_same : (s : LaneState) (l : DiskLog) → LaneInvariant s l → MemoryStands s → sizes_of s ≡ sizes_in l
-sizes_same s l stands memory = search
-
--- the law at the state is the law at the log
-at_log : (P : Sizes → WireLog → Type 0) (s : LaneState) (l : DiskLog) → sizes_of s ≡ sizes_in l → s.wire ≡ l.wire → P (sizes_of s) s.wire → P (sizes_in l) l.wire
-at_log P s l sizes wire holds = subst (λ (n : Sizes). P n l.wire) sizes (subst (P (sizes_of s)) wire holds)
-
-at_state : (P : Sizes → WireLog → Type 0) (s : LaneState) (l : DiskLog) → sizes_of s ≡ sizes_in l → s.wire ≡ l.wire → P (sizes_in l) l.wire → P (sizes_of s) s.wire
-at_state P s l sizes wire holds = subst (λ (n : Sizes). P n s.wire) (sym sizes) (subst (P (sizes_in l)) (sym wire) holds)
-
 wire_step : (s : LaneState) (l : DiskLog) (event : WireEvent) (t : LaneState) → QueuesStand s l → WireStep s event t → MayOfTable l (OnWire event)
-wire_step s l event t stands step = grind (arith, sizes_same, at_state, table, at_log, answers, none_waits, idle_none)
+wire_step s l event t stands step = grind (arith, table, idle_none)
 
 may_step : (s : LaneState) (l : DiskLog) (event : DiskEvent) (t : LaneState) → QueuesStand s l → LaneStep s event t → MayOfTable l event
 may_step s l (OnWire event) t stands step = wire_step s l event t stands step

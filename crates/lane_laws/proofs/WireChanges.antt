@@ -16,15 +16,14 @@ use Rattle.disk_model.specs.LaneStep.{WireStep, near_on_wire}
 use Rattle.disk_model.specs.ServerState.{Work}
 use Rattle.lane_laws.proofs.RingLeaves.{OpensNot}
 use Rattle.lane_laws.proofs.RingWire.{wire_same}
-use Rattle.lane_laws.proofs.SlotsStepping.{StepFacts, upset_not}
+use Rattle.lane_laws.proofs.SlotsStepping.{StepFacts}
 use Rattle.lane_laws.proofs.StandingSteps.{wire_only}
 use Rattle.lane_laws.specs.Contents.{ContentsStand}
 use Rattle.lane_laws.specs.ImageStep.{content_after}
 use Rattle.lane_laws.specs.LaneView.{View, view_of, work_while}
 use Rattle.lane_laws.proofs.BehindRing.{ring_end}
 use Rattle.lane_laws.proofs.Changes.{Disturbed, ImageChange, IsChange, Keeps, Kind, Rested, content_behind}
-use Rattle.lane_laws.proofs.LiveCounts.{counts_while, zero_where}
-use Rattle.lane_laws.proofs.PlacedViews.{live, live_or_not, placed, working}
+use Rattle.lane_laws.proofs.PlacedViews.{working}
 use Rattle.lane_laws.proofs.QuietWire.{wire_quiet, work_on_wire}
 use Rattle.lane_laws.proofs.Standing.{Before, ever_count}
 use Rattle.lane_laws.proofs.LaneViews.{calm_same as calm}
@@ -60,12 +59,6 @@ pub buffers_same : (s t : LaneState) → t.client.slots ≡ s.client.slots → d
 buffers_same s t slots same = ap (λ (n : ℕ). drop (ring_end n) t.memory) slots ∙ same
 
 -- NO DESCRIPTOR is in work while the client's end isn't up
-peer_same : (x y : ChannelState) → x ≢ Up → peer_behind x y ≡ y
-peer_same x y not = grind arith
-
-dropped : (x : ChannelState) (w : Option Work) → x ≢ Up → work_while x w ≡ None
-dropped x w not = grind arith
-
 idle_by : (s : LaneState) (l : DiskLog) (o : Option Work) → Before s l → work_while s.wire.wire.end_b s.server.work ≡ o → s.wire.wire.end_a ≢ Up → o ≡ None
 idle_by s l None before is not = refl
 idle_by s l (Some work) before is not =
@@ -77,16 +70,13 @@ idle_while : (s : LaneState) (l : DiskLog) → Before s l → s.wire.wire.end_a 
 idle_while s l before not = idle_by s l (work_while s.wire.wire.end_b s.server.work) before refl not
 
 -- EVENTS OF THE WIRE that disturb nothing leave it
-not_up_here : (s : LaneState) (l : DiskLog) → Before s l → (end : Wire → ChannelState) → end l.wire.wire ≢ Up → end s.wire.wire ≢ Up
-not_up_here s l before end not = λ up. not (subst (λ (w : WireLog). end w.wire ≡ Up) before.known.stands.wire up)
-
 abbrev pub Undisturbed : WireEvent → Type 0
 Undisturbed (Reset e cause packet lost) = ⊥
 Undisturbed _ = Unit {0}
 
 pub work_quiet : (s : LaneState) (l : DiskLog) (event : WireEvent) (t : LaneState) → Before s l → StepFacts s l (OnWire event) t → Undisturbed event
     → work_while (wire_moved s.wire event).wire.end_b (work_on_wire event s.server.work) ≡ work_while s.wire.wire.end_b s.server.work
-work_quiet s l event t before facts calm = grind (arith, peer_same, not_up_here, dropped)
+work_quiet s l event t before facts calm = grind arith
 
 pub near_quiet : (s : LaneState) (event : WireEvent) → Undisturbed event → near_on_wire s event ≡ s.near
 near_quiet s (Reset e cause packet lost) calm = absurd calm
@@ -115,7 +105,7 @@ wire_rests s l event t before facts clean not calm step =
 
 -- A RESET, and a stop, drop the descriptor in work
 k_below : (s : LaneState) (l : DiskLog) → Before s l → s.near.k ≤ s.client.ever_published - l.work.done
-k_below s l before = grind (arith, live_or_not, counts_while, zero_where, live, placed)
+k_below s l before = grind arith
 
 u_below : (s : LaneState) (l : DiskLog) (o : Option Work) → Before s l → ContentsStand (view_of s) → work_while s.wire.wire.end_b s.server.work ≡ o
     → (s.near.u ≡ 0) ⊎ (s.near.k < s.client.ever_published - l.work.done)
@@ -155,7 +145,7 @@ disturbed s l event t before contents content pending slots memory work near kee
     by_u (inr below) = let count = ever_count s l before.known.stands in inr (omega (arith, below, count))
 
 peer_idle : (s : LaneState) (l : DiskLog) → Before s l → work_while (peer_behind s.wire.wire.end_a s.wire.wire.end_b) s.server.work ≡ None
-peer_idle s l before = grind (arith, dropped, upset_not, idle_while)
+peer_idle s l before = grind (arith, idle_while)
 
 -- a server that has no work serves none
 pub none_works : (x : ChannelState) → work_while x None ≡ None

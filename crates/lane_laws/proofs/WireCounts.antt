@@ -28,13 +28,9 @@ use Rattle.lane_laws.proofs.Standing.{Before, EverStands, NearStands, ever_count
 use Rattle.lane_laws.proofs.RingWire.{published_of}
 
 -- A SERVER'S SESSION opens: what is done was done before it
-opened_k : (x : ChannelState) (d : ServerCounts) (o : Option ClientCounts) (done k : ℕ) → d.finished ≡ 0 → ((c : ClientCounts) → o ≡ Some c → c.base ≡ done) → k ≡ 0 → KIs (counts_while x (Some d)) o done k
-opened_k Up d (Some c) done k first based none = omega (arith, first, based c refl, none)
-opened_k _ d _ done k first based none = none
-
 took_opens : (s : LaneState) (l : DiskLog) (packet : List ℕ) (t : LaneState) → Before s l → StepFacts s l (OnWire (Took B packet true)) t
     → KIs (counts_while (after l (OnWire (Took B packet true))).wire.wire.end_b (after l (OnWire (Took B packet true))).work.server) l.work.client l.work.done s.near.k
-took_opens s l packet t before facts = grind (arith, counts_while, opened_k, some_same, turn_in, zero_where)
+took_opens s l packet t before facts = grind arith
 
 -- EACH EVENT of the wire that opens no session of the client
 k_quiet : (s : LaneState) (l : DiskLog) (event : WireEvent) (t : LaneState) → Before s l → StepFacts s l (OnWire event) t → OpensNot event

@@ -20,7 +20,7 @@ use Rattle.disk_model.specs.LaneStep.{LaneStep, RestStep, TurnStep, WorkStep}
 use Rattle.channel_model.specs.Seeing.{seen}
 use Rattle.lane_laws.proofs.RingClientSteps.{completes_slot, in_order, publishing, since_base}
 use Rattle.lane_laws.proofs.RingSessions.{of_client}
-use Rattle.lane_laws.proofs.RingWork.{at_work, some_slots, turn_in}
+use Rattle.lane_laws.proofs.RingWork.{some_slots, turn_in}
 use Rattle.lane_laws.proofs.Ruling.{client_may, server_may}
 use Rattle.lane_laws.proofs.SlotsOrdered.{finished_more}
 use Rattle.lane_laws.specs.RuleFacts.{ClientMay}
@@ -34,7 +34,7 @@ use Rattle.lane_laws.proofs.LaneViews.{calm_same}
 by_server : (s : LaneState) (l : DiskLog) (event : DiskEvent) (t : LaneState) (g : ServerCounts → ServerCounts) → Before s l → (after l event).wire ≡ l.wire → (after l event).work.client ≡ l.work.client
     → (after l event).work.done ≡ l.work.done → (after l event).work.server ≡ change_server g l.work.server → ((d : ServerCounts) → (g d).finished ≡ d.finished) → t.client ≡ s.client
     → t.near.k ≡ s.near.k → t.near.m ≡ s.near.m → NearStands t (after l event)
-by_server s l event t g before wire client done server same client_same k m = grind (arith, counts_while, kis_server)
+by_server s l event t g before wire client done server same client_same k m = grind (arith, kis_server)
 
 -- A REQUEST IS PUBLISHED
 published_near : (s : LaneState) (l : DiskLog) (id : ℕ) (t : LaneState) → Before s l → WorkStep s (Published id) t → NearStands t (after l (Works (Published id)))
@@ -151,12 +151,8 @@ completed_near s l id operation status bytes t before step =
     }
 
 -- A DESCRIPTOR GETS ITS STATUS
-finished_k : (x : ChannelState) (q : Option ServerCounts) (o : Option ClientCounts) (g : ServerCounts → ServerCounts) (d : ServerCounts) (c : ClientCounts) (done k : ℕ) → x ≡ Up → q ≡ Some d → o ≡ Some c
-    → (g d).finished ≡ d.finished + 1 → KIs (counts_while x q) o done k → KIs (counts_while x (change_server g q)) o done (k + 1)
-finished_k x q o g d c done k up there open_is more is = grind arith
-
 finished_near : (s : LaneState) (l : DiskLog) (slot status : ℕ) (t : LaneState) → Before s l → WorkStep s (Finished slot status) t → NearStands t (after l (Works (Finished slot status)))
-finished_near s l slot status t before step = grind (arith, server_may, at_work, placed, counts_while, finished_k)
+finished_near s l slot status t before step = grind (arith, server_may, placed)
 
 pub near_work : (s : LaneState) (l : DiskLog) (event : Worked) (t : LaneState) → Before s l → WorkStep s event t → NearStands t (after l (Works event))
 near_work s l (Published id) t before step = published_near s l id t before step
@@ -173,13 +169,13 @@ near_work s l Misplaced t before step = absurd step
 
 -- REQUESTS, turns, and what changes nothing
 same_near : (s t : LaneState) (l n : DiskLog) → Before s l → t ≡ s → n.wire.wire ≡ l.wire.wire → n.work.server ≡ l.work.server → n.work.client ≡ l.work.client → n.work.done ≡ l.work.done → NearStands t n
-same_near s t l n before is wire server client done = grind (arith, counts_while)
+same_near s t l n before is wire server client done = grind arith
 
 pub near_asked : (s : LaneState) (l : DiskLog) (event : Admitted) (t : LaneState) → Before s l → LaneStep s (Asks event) t → NearStands t (after l (Asks event))
-near_asked s l event t before step = grind (arith, same_near, counts_while)
+near_asked s l event t before step = grind arith
 
 pub near_turned : (s : LaneState) (l : DiskLog) (event : Switched) (t : LaneState) → Before s l → TurnStep s event t → NearStands t (after l (Switches event))
-near_turned s l event t before step = grind (arith, ever_count, counts_while, same_near)
+near_turned s l event t before step = grind (arith, ever_count)
 
 pub near_calm : (s : LaneState) (l : DiskLog) (event : Calm) (t : LaneState) → Before s l → RestStep s event t → NearStands t (after l (Calms event))
 near_calm s l event t before step = same_near s t l (after l (Calms event)) before (calm_same s event t step) refl refl refl refl

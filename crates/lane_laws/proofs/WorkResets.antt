@@ -27,11 +27,10 @@ use Rattle.lane_laws.proofs.Ruling.{client_may}
 use Rattle.lane_laws.proofs.RulesFree.{ServerFree, server_free}
 use Rattle.lane_laws.proofs.RuleTests.{ServesFree}
 use Rattle.lane_laws.specs.RuleFacts.{ClientMay}
-use Rattle.lane_laws.proofs.Counting.{of_client}
 use Rattle.lane_laws.proofs.EndResets.{LiesIn}
 use Rattle.lane_laws.proofs.LaneResets.{by_giver}
 use Rattle.channel_laws.specs.Resetting.{LiesInPacket}
-use Rattle.lane_laws.proofs.WorkNumbers.{Grounded, Serving, fetches_next, in_client, in_server, serving}
+use Rattle.lane_laws.proofs.WorkNumbers.{Grounded, Serving, fetches_next, in_server, serving}
 use Rattle.lane_laws.proofs.LaneViews.{at_client, at_server}
 use Rattle.lane_laws.proofs.NoOwnReset.{below_other}
 
@@ -43,7 +42,7 @@ carried_reset l e _ packet lies = tt
 -- A CLIENT
 client_reset : (s : LaneState) (l : DiskLog) (rule : client.ClientRule) (cause : Cause) (packet : Option (List ℕ)) → Grounded s l → LiesIn packet cause
     → ClientMay s.client (at_client s) rule → ClientFails rule s.client s.memory cause packet → ResetOf l A cause packet
-client_reset s l rule cause packet grounded lies may fails = grind (arith, carried_reset, of_client, in_client)
+client_reset s l rule cause packet grounded lies may fails = grind arith
 
 -- A SERVER
 number_small : (why : CopyFault) → (1 ≤ copy_number why) × (copy_number why ≤ 6)
@@ -76,7 +75,7 @@ still_asked : (l : DiskLog) (slot : ℕ) → Fetching l slot → InServer l.work
 still_asked l slot now = in_server l.work.server now.counts InRange now.is now.in_range
 
 by_ring : (l : DiskLog) (fault : Option CopyFault) (bytes : List ℕ) (slot : ℕ) (why : RingFault) → RefusesFetch fault bytes why → Fetching l slot → OwnReset l B (cause_of slot why)
-by_ring l fault bytes slot why refuses now = grind (arith, by_copy, still_asked, in_server, in_range)
+by_ring l fault bytes slot why refuses now = grind arith
 
 by_fetch : (s : LaneState) (l : DiskLog) (reached : Reach) (slot : ℕ) (cause : Cause) → FetchFails s.server reached slot cause → Fetching l slot → OwnReset l B cause
 by_fetch s l reached slot cause (inl fails) now = subst (λ (c : Cause). OwnReset l B c) (sym fails.2) (by_ring l (fetch_fault s.server reached slot) (slot_fetched s.server reached slot) slot fails.0 fails.1 now)

@@ -31,7 +31,7 @@ use Rattle.lane_laws.proofs.SlotBytes.{same_request as same_got}
 
 -- A DESCRIPTOR IS FETCHED
 first_is : (blocks : ℕ) (request : Request) (u : ℕ) → defect blocks request ≡ None → u ≡ 0 → ProgressIs (first_of request) u request
-first_is blocks request u admitted none = grind (arith, admitted_blocks)
+first_is blocks request u admitted none = grind arith
 
 pub fetches_contents : (blocks : ℕ) (v w : View) → Placed blocks v → Fetches v w → ContentsStand v → ContentsStand w
 fetches_contents blocks v w placed change stand =
@@ -51,7 +51,7 @@ fetches_contents blocks v w placed change stand =
 -- AND GOES ON
 serves_contents : (session : ClientSession) (from to : Progress) (request : Request) (u : ℕ) (buffers : List ℕ) (v w : View) → (change : Serves session from to request u buffers v w)
     → WritesStand (record v { work = Some (record change.work { progress = to }); u = u; buffers = buffers }) → (ProgressIs from v.u request → ProgressIs to u request) → ContentsStand v → ContentsStand w
-serves_contents session from to request u buffers v w change writes goes stand = grind (arith, same_got)
+serves_contents session from to request u buffers v w change writes goes stand = grind arith
 
 -- a write's unit is copied in: its bytes are the write's
 pub unit_within : (count unit : ℕ) → 16 * unit < count → 8192 * unit + unit_length (512 * count) unit ≤ 512 * count
@@ -59,7 +59,7 @@ unit_within count unit more = omega (arith, more)
 
 gathered_bytes : (place count unit : ℕ) (fill : Fill) (buffers : List ℕ) → 16 * unit < count → range_at place (512 * count) buffers ≡ written fill count
     → range_at (place + 8192 * unit) (unit_length (512 * count) unit) buffers ≡ range_at (8192 * unit) (unit_length (512 * count) unit) (written fill count)
-gathered_bytes place count unit fill buffers more holds = grind (arith, range_at-range_at, unit_within)
+gathered_bytes place count unit fill buffers more holds = grind (arith, range_at-range_at)
 
 pub gathering_contents : (blocks : ℕ) (v w : View) → Placed blocks v → Gathering v w → ContentsStand v → ContentsStand w
 gathering_contents blocks v w placed change stand =
@@ -150,7 +150,7 @@ gathers_on false block count unit u fill more last some is = let end = last refl
 
 pub unit_blocks : (count unit : ℕ) (fill : Fill) (bytes : List ℕ) → 16 * unit < count → bytes ≡ range_at (8192 * unit) (unit_length (512 * count) unit) (written fill count)
     → length bytes ≡ 512 * min 16 (count - 16 * unit)
-unit_blocks count unit fill bytes more is = grind (arith, unit_within, length-range_at, length-repeated)
+unit_blocks count unit fill bytes more is = grind (arith, length-range_at, length-repeated)
 
 pub storing_contents : (v w : View) → Storing v w → ContentsStand v → ContentsStand w
 storing_contents v w change stand =
