@@ -1,15 +1,10 @@
 -- What can't be, each a lemma of its own: in place, a tactic would read all that is in scope.
-use Rattle.std.proofs.Common.{◌≡◌, ℕ, Bool, true, false, Option, Some, None, refl, sym, ap, ◌∙◌}
-use Rattle.std.specs.Prelude.{nat_eq}
-use Rattle.std.proofs.lemmas.Bool.{eqb-false}
-use Rattle.ldc_link.specs.declared.phase.LinkPhase.{LinkPhase}
-use Rattle.ldc_link.specs.declared.phase.LinkPhase.TheVariants as link
+use Rattle.std.proofs.Common.{◌≡◌, Bool, true, false, Option, Some, None, refl, sym, ap, ◌∙◌}
 use Rattle.ldc_link.specs.declared.phase.Role.{Role}
 use Rattle.ldc_link.specs.declared.phase.Role.TheVariants.{Initiator, Responder}
 use Rattle.ldc_queue.specs.declared.end.End.TheVariants.{A, B}
 use Rattle.vio_handshake.specs.declared.handshake.Phase.{Phase}
-use Rattle.vio_handshake.specs.declared.handshake.Phase.TheVariants.{Open, PeerRingTaken}
-use Rattle.channel_laws.specs.Standing.{is_open_in}
+use Rattle.vio_handshake.specs.declared.handshake.Phase.TheVariants.{PeerRingTaken}
 
 pub true_is_false : {X : Type 0} → true ≡ false → X
 true_is_false {X} is = absurd (cc is)
@@ -23,31 +18,7 @@ none_is_some {X} {T} {x} is = absurd (cc is)
 pub roles_differ : {X : Type 0} → Initiator ≡ Responder → X
 roles_differ {X} is = absurd (cc is)
 
--- phases of a link, by their numbers
-abbrev pub link_number : LinkPhase → ℕ
-link_number link.OwesVersInfo = 0
-link_number link.AwaitsVersAck = 1
-link_number link.OwesRts = 2
-link_number link.AwaitsRtr = 3
-link_number link.OwesRdx = 4
-link_number link.AwaitsVersInfo = 5
-link_number link.OwesVersAck = 6
-link_number (link.OwesVersNack major) = 7
-link_number link.AwaitsRts = 8
-link_number link.OwesRtr = 9
-link_number link.AwaitsRdx = 10
-link_number link.Established = 11
-
-same_number : (n m : ℕ) → n ≡ m → nat_eq n m ≡ false → ⊥
-same_number n m is not = eqb-false n m not is
-
-pub links_differ : {X : Type 0} {p q : LinkPhase} → p ≡ q → nat_eq (link_number p) (link_number q) ≡ false → X
-links_differ {X} {p} {q} is not = absurd (same_number (link_number p) (link_number q) (ap link_number is) not)
-
 -- phases of a handshake: not the last, and not that in which a ring was taken
-pub not_open : {X : Type 0} {p : Phase} → Open ≡ p → is_open_in p ≡ false → X
-not_open {X} {p} is not = true_is_false (ap is_open_in is ∙ not)
-
 abbrev pub is_ring_taken : Phase → Bool
 is_ring_taken PeerRingTaken = true
 is_ring_taken _ = false

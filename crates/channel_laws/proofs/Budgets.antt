@@ -1,56 +1,28 @@
 -- The budget of an end: it is never above 34,000, doesn't grow but by what the end takes, and falls with each packet that it puts.
-use Rattle.std.proofs.Common.{◌≡◌, ℕ, ◌+◌, ◌*◌, ◌≤◌, Bool, true, false, Option, Some, None, List, [], ◌∷◌, length, drop, refl, sym, ap, ◌∙◌, subst, arith, length-drop}
+use Rattle.std.proofs.Common.{◌≡◌, ℕ, ◌+◌, ◌*◌, ◌≤◌, Bool, true, false, Option, List, [], ◌∷◌, length, drop, refl, sym, ap, ◌∙◌, arith, length-drop}
 use Rattle.std.proofs.lemmas.Bool.{leb-false}
 use Rattle.ldc_link.specs.declared.phase.LinkPhase.{LinkPhase}
 use Rattle.ldc_link.specs.declared.phase.LinkPhase.TheVariants as phase
 use Rattle.ldc_link.specs.declared.phase.Role.{Role}
 use Rattle.ldc_link.specs.declared.phase.Role.TheVariants.{Initiator, Responder}
-use Rattle.ldc_link.specs.LinkState.{LinkState, first_phase, is_established, is_up, offered}
+use Rattle.ldc_link.specs.LinkState.{LinkState, first_phase, is_established}
 use Rattle.ldc_queue.specs.Transcript.{Turn}
 use Rattle.vio_handshake.specs.declared.handshake.Handshake.{Handshake}
-use Rattle.vio_handshake.specs.declared.handshake.Phase.{Phase}
-use Rattle.vio_handshake.specs.declared.handshake.Phase.TheVariants.{Open, OwnReady, OwnRing, PeerReadyTaken, PeerRingTaken, Version}
 use Rattle.vio_handshake.specs.Rules.{opens_by_put, handshake_sent}
-use Rattle.vio_handshake.specs.State.{begun, joined_handshake, handshake_up}
+use Rattle.vio_handshake.specs.State.{handshake_up}
 use Rattle.vio_tag.specs.declared.message.Message.{Message}
-use Rattle.vio_tag.specs.Spelling.{canonical}
 use Rattle.channel_laws.proofs.EndCases.{PutControl, PutMore, PutOwn, PutReady, PutHandshake, PutWhat, end_put}
-use Rattle.channel_laws.proofs.EndStanding.{held_stands, holds_some, last_none, open_up, owing_up, up_empty}
-use Rattle.channel_laws.proofs.HandshakeCases.{Opens, Owes, OwnReadyFollows, ReadyFollows, RingFollows, RowSent, row_sent}
-use Rattle.channel_laws.proofs.LinkCases.{ControlPut, ModeAnswered, ModeOffered, VersionAnswered, VersionOffered, VersionRefused, behind_part, behind_ready}
-use Rattle.channel_laws.proofs.Short.{short_within, some_bytes}
+use Rattle.channel_laws.proofs.EndStanding.{held_stands, holds_some, last_none}
+use Rattle.channel_laws.proofs.HandshakeCases.{RowSent, row_sent}
+use Rattle.channel_laws.proofs.LinkCases.{ControlPut, behind_part, behind_ready}
+use Rattle.channel_laws.proofs.Short.{short_within}
 use Rattle.channel_laws.proofs.TurnCases.{SaysLast}
 use Rattle.channel_laws.specs.Budget.{budget, budget_in, messages_left, one_more, one_owed, opening_left, owed_left}
 use Rattle.channel_laws.specs.EndCore.{EndCore, holds}
-use Rattle.channel_laws.specs.EndStep.{EndAnew, EndSays, EndStays, EndWaits, Holding, Holds, HoldsOn, HoldsOwed, HoldsOwn}
-use Rattle.channel_laws.specs.Standing.{EndStands, OwedIsShort}
+use Rattle.channel_laws.specs.EndStep.{EndAnew, EndSays, EndStays, EndWaits, Holding, Holds}
+use Rattle.channel_laws.specs.Standing.{EndStands}
 
 -- SUMS
-budget_less : (ph : LinkPhase) (n m : ℕ) → n ≤ m → budget_in ph n ≤ budget_in ph m
-budget_less phase.Established n m less = less
-budget_less phase.OwesRdx n m less = omega (arith, less)
-budget_less phase.OwesVersInfo n m less = omega arith
-budget_less _ n m less = omega arith
-
-budget_most : (ph : LinkPhase) (n : ℕ) → budget_in ph n ≤ n + 515
-budget_most phase.Established n = omega arith
-budget_most phase.OwesRdx n = omega arith
-budget_most phase.OwesVersInfo n = omega arith
-budget_most _ n = omega arith
-
-owed_one : (owed : Option Message) → one_owed owed ≤ 1
-owed_one None = omega arith
-owed_one (Some message) = omega arith
-
-owed_few : (own : Bool) (xs : List ℕ) (owed : Option Message) → owed_left own xs owed ≤ 1
-owed_few own [] owed = owed_one owed
-owed_few true (x ∷ xs) owed = owed_one owed
-owed_few false (x ∷ xs) owed = omega arith
-
-owed_empty : (own : Bool) (xs : List ℕ) (owed : Option Message) → xs ≡ [] → owed_left own xs owed ≡ one_owed owed
-owed_empty own [] owed empty = refl
-owed_empty own (x ∷ xs) owed empty = absurd (cc empty)
-
 owed_held : (xs : List ℕ) (owed : Option Message) → 1 ≤ length xs → owed_left false xs owed ≡ 0
 owed_held [] owed some = absurd (omega (arith, some))
 owed_held (x ∷ xs) owed some = refl
@@ -60,94 +32,19 @@ owed_beside [] owed = refl
 owed_beside (x ∷ xs) owed = refl
 
 owed_same : (own : Bool) (xs ys : List ℕ) (owed : Option Message) → 1 ≤ length xs → 1 ≤ length ys → owed_left own xs owed ≡ owed_left own ys owed
-owed_same own [] ys owed some more = absurd (omega (arith, some))
-owed_same own (x ∷ xs) [] owed some more = absurd (omega (arith, more))
-owed_same true (x ∷ xs) (y ∷ ys) owed some more = refl
-owed_same false (x ∷ xs) (y ∷ ys) owed some more = refl
-
-more_few : (role : Role) (ph : Phase) → one_more role ph ≤ 1
-more_few Initiator PeerRingTaken = omega arith
-more_few Responder PeerRingTaken = omega arith
-more_few Responder PeerReadyTaken = omega arith
-more_few Initiator _ = omega arith
-more_few Responder _ = omega arith
-
-opening_few : (role : Role) (ph : Phase) → opening_left role ph ≤ 256
-opening_few Initiator PeerReadyTaken = omega arith
-opening_few Initiator _ = omega arith
-opening_few Responder _ = omega arith
-
--- what a role owes in a phase
-abbrev HasNone : Phase → Type 0
-HasNone ph = (role : Role) → (one_more role ph ≡ 0) × (opening_left role ph ≡ 0)
-
-version_none : HasNone Version
-version_none Initiator = (refl, refl)
-version_none Responder = (refl, refl)
-
-ready_none : HasNone OwnReady
-ready_none Initiator = (refl, refl)
-ready_none Responder = (refl, refl)
-
-ring_none : HasNone OwnRing
-ring_none Initiator = (refl, refl)
-ring_none Responder = (refl, refl)
-
-open_none : HasNone Open
-open_none Initiator = (refl, refl)
-open_none Responder = (refl, refl)
-
-begun_phase : (role : Role) (h : Handshake) → (begun role (joined_handshake h)).phase ≡ Version
-begun_phase Initiator h = refl
-begun_phase Responder h = refl
-
-up_none : (h : Handshake) → (one_more (handshake_up h).role (handshake_up h).phase ≡ 0) × (opening_left (handshake_up h).role (handshake_up h).phase ≡ 0)
-up_none h =
-    let at = begun_phase h.role h in
-    let none = version_none (handshake_up h).role in
-    (ap (one_more (handshake_up h).role) at ∙ none.0, ap (opening_left (handshake_up h).role) at ∙ none.1)
+owed_same own xs ys owed some more = grind arith
 
 -- once its message was put: the next one was counted, and so were the messages of a session that opens
 record SentLess (h t : Handshake) (opens : Bool) (more now : ℕ) : Type 0 where
   owed : one_owed t.owed + one_more t.role t.phase ≤ one_more h.role h.phase
   opening : opening_left t.role t.phase + now ≤ opening_left h.role h.phase + more
 
-sent_to : (h t x : Handshake) (opens : Bool) (more now : ℕ) → t ≡ x → x.role ≡ h.role → HasNone x.phase → one_owed x.owed ≤ one_more h.role h.phase
-    → now ≤ opening_left h.role h.phase + more → SentLess h t opens more now
-sent_to h t x opens more now is role none owed less =
-    let here = none x.role in
-    subst (λ (y : Handshake). SentLess h y opens more now) (sym is) (record { owed = omega (arith, here.0, owed); opening = omega (arith, here.1, less) })
-
-more_at : (h : Handshake) (role : Role) (ph : Phase) → h.role ≡ role → h.phase ≡ ph → (one_more h.role h.phase ≡ one_more role ph) × (opening_left h.role h.phase ≡ opening_left role ph)
-more_at h role ph is at = (
-  ap (λ (r : Role). one_more r h.phase) is ∙ ap (one_more role) at,
-  ap (λ (r : Role). opening_left r h.phase) is ∙ ap (opening_left role) at,
-)
-
 sent_less : (h t : Handshake) (opens : Bool) (more now : ℕ) → now ≤ 256 → (opens ≡ false → now ≤ more) → RowSent h t opens → SentLess h t opens more now
-sent_less h t opens more now most less (ReadyFollows r at is not) =
-    sent_to h t _ opens more now is refl ready_none (omega (arith, (more_at h Initiator PeerRingTaken r at).0)) (omega (arith, less not))
-sent_less h t opens more now most less (RingFollows r at is not) =
-    sent_to h t _ opens more now is refl ring_none (omega (arith, (more_at h Responder PeerRingTaken r at).0)) (omega (arith, less not))
-sent_less h t opens more now most less (OwnReadyFollows r at is not) =
-    sent_to h t _ opens more now is refl ready_none (omega (arith, (more_at h Responder PeerReadyTaken r at).0)) (omega (arith, less not))
-sent_less h t opens more now most less (Opens r at is yes_one) =
-    sent_to h t _ opens more now is refl open_none (omega arith) (omega (arith, most, (more_at h Initiator PeerReadyTaken r at).1))
-sent_less h t opens more now most less (Owes follows is not) =
-    subst (λ (y : Handshake). SentLess h y opens more now) (sym is) (record { owed = omega arith; opening = omega (arith, less not) })
+sent_less h t opens more now most less sent = grind arith
 
 -- ITS BOUND
 pub budget_small : (role : Role) (c : EndCore) (turns : List Turn) → EndStands role c turns → budget c ≤ 34000
-budget_small role c turns stands =
-    omega (
-      arith,
-      budget_most c.link.phase (messages_left c),
-      stands.link.cuts.most,
-      stands.more,
-      owed_few c.own c.link.to_send c.handshake.owed,
-      more_few c.handshake.role c.handshake.phase,
-      opening_few c.handshake.role c.handshake.phase,
-    )
+budget_small role c turns stands = grind arith
 
 -- IT BEGINS
 first_budget : (role : Role) (n : ℕ) → budget_in (first_phase role) n ≤ 1
@@ -160,109 +57,29 @@ anew_budget role c t anew =
 
 -- IT GOES ON beside the wire, or holds a message
 same_budget : (c t : EndCore) → t.link ≡ c.link → t.handshake ≡ c.handshake → t.own ≡ c.own → t.more ≤ c.more → budget t ≤ budget c
-same_budget c t link handshake own more =
-    let messages : messages_left t ≤ messages_left c =
-    omega (
-      arith,
-      more,
-      ap (λ (k : LinkState). length k.to_send) link,
-      ap (λ (b : Bool). owed_left b t.link.to_send t.handshake.owed) own ∙ ap (λ (k : LinkState). owed_left c.own k.to_send t.handshake.owed) link
-          ∙ ap (λ (h : Handshake). owed_left c.own c.link.to_send h.owed) handshake,
-      ap (λ (h : Handshake). one_more h.role h.phase) handshake,
-      ap (λ (h : Handshake). opening_left h.role h.phase) handshake,
-    ) in
-    omega (arith, ap (λ (k : LinkState). budget_in k.phase (messages_left t)) link, budget_less c.link.phase (messages_left t) (messages_left c) messages)
+same_budget c t link handshake own more = grind arith
 
 pub stays_budget : (c t : EndCore) → EndStays c t → budget t ≤ budget c
 stays_budget c t stays = same_budget c t stays.link stays.handshake stays.own stays.more
 
-offered_budget : (c held : EndCore) (message : Message) → is_up c.link ≡ true → c.link.to_send ≡ [] → held.link ≡ offered (canonical message) c.link → held.handshake ≡ c.handshake
-    → length (canonical message) + 257 * owed_left held.own (canonical message) c.handshake.owed + 60 * held.more ≤ 257 * one_owed c.handshake.owed + 60 * c.more
-    → budget held ≤ budget c
-offered_budget c held message up none link handshake less =
-    let messages : messages_left held ≤ messages_left c =
-    omega (
-      arith,
-      less,
-      ap length none,
-      owed_empty c.own c.link.to_send c.handshake.owed none,
-      ap (λ (k : LinkState). length k.to_send) link,
-      ap (λ (k : LinkState). owed_left held.own k.to_send held.handshake.owed) link ∙ ap (λ (h : Handshake). owed_left held.own (canonical message) h.owed) handshake,
-      ap (λ (h : Handshake). one_more h.role h.phase) handshake,
-      ap (λ (h : Handshake). opening_left h.role h.phase) handshake,
-    ) in
-    omega (arith, ap (λ (k : LinkState). budget_in k.phase (messages_left held)) link, budget_less c.link.phase (messages_left held) (messages_left c) messages)
-
 pub held_budget : (role : Role) (c held : EndCore) (turns : List Turn) (what : Holding) → EndStands role c turns → Holds c what held → budget held ≤ budget c
-held_budget role c held turns HoldsOn stands is = omega (arith, ap budget is)
-held_budget role c held turns (HoldsOwed message) stands offers =
-    let up = owing_up role c turns message stands offers.owed in
-    let long = short_within message (subst OwedIsShort offers.owed stands.handshake.owed) in
-    let own : held.own ≡ false = offers.own (ap holds offers.link ∙ holds_some (offered (canonical message) c.link) up (some_bytes message)) in
-    offered_budget c held message up (up_empty c.link up offers.quiet) offers.link offers.handshake
-    (omega (
-      arith,
-      long,
-      offers.more,
-      ap (λ (b : Bool). owed_left b (canonical message) c.handshake.owed) own ∙ owed_held (canonical message) c.handshake.owed (some_bytes message),
-      ap one_owed offers.owed,
-    ))
-held_budget role c held turns (HoldsOwn message) stands offers =
-    let up = open_up role c turns stands offers.opened in
-    offered_budget c held message up (up_empty c.link up offers.quiet) offers.link offers.handshake
-    (omega (
-      arith,
-      offers.short,
-      offers.more up,
-      ap (λ (b : Bool). owed_left b (canonical message) c.handshake.owed) offers.own ∙ owed_beside (canonical message) c.handshake.owed,
-    ))
+held_budget role c held turns what stands is = grind (arith, short_within)
 
 pub waits_budget : (role : Role) (c t : EndCore) (turns : List Turn) → EndStands role c turns → EndWaits c t → budget t ≤ budget c
 waits_budget role c t turns stands waits = held_budget role c t turns waits.what stands waits.holds
 
 -- IT PUTS a packet
 control_budget : (before next : LinkPhase) (bytes : List ℕ) (n m : ℕ) → ControlPut before bytes next → budget_in next n + 1 ≤ budget_in before m
-control_budget before next bytes n m (VersionOffered at is goes) = omega (arith, ap (λ (p : LinkPhase). budget_in p m) at, ap (λ (p : LinkPhase). budget_in p n) goes)
-control_budget before next bytes n m (VersionAnswered at is goes) = omega (arith, ap (λ (p : LinkPhase). budget_in p m) at, ap (λ (p : LinkPhase). budget_in p n) goes)
-control_budget before next bytes n m (VersionRefused major at is goes) = omega (arith, ap (λ (p : LinkPhase). budget_in p m) at, ap (λ (p : LinkPhase). budget_in p n) goes)
-control_budget before next bytes n m (ModeOffered at is goes) = omega (arith, ap (λ (p : LinkPhase). budget_in p m) at, ap (λ (p : LinkPhase). budget_in p n) goes)
-control_budget before next bytes n m (ModeAnswered at is goes) = omega (arith, ap (λ (p : LinkPhase). budget_in p m) at, ap (λ (p : LinkPhase). budget_in p n) goes)
+control_budget before next bytes n m put = grind arith
 
 -- with the message that is left, the handshake and the messages of the session
 up_budget : (held t : EndCore) (left : List ℕ) (h : Handshake) → held.link.phase ≡ phase.Established → t.link ≡ behind_part held.link → left ≡ drop 56 held.link.to_send → t.handshake ≡ h
     → length left + 257 * (owed_left t.own left h.owed + one_more h.role h.phase) + 60 * (opening_left h.role h.phase + t.more) + 1 ≤ messages_left held → budget t + 1 ≤ budget held
-up_budget held t left h at link is handshake less =
-    omega (
-      arith,
-      less,
-      ap (λ (p : LinkPhase). budget_in p (messages_left held)) at,
-      ap (λ (k : LinkState). budget_in k.phase (messages_left t)) link,
-      ap (λ (p : LinkPhase). budget_in p (messages_left t)) at,
-      ap (λ (k : LinkState). length k.to_send) link,
-      ap length is,
-      ap (λ (k : LinkState). owed_left t.own k.to_send t.handshake.owed) link ∙ ap (λ (xs : List ℕ). owed_left t.own xs t.handshake.owed) (sym is)
-          ∙ ap (λ (x : Handshake). owed_left t.own left x.owed) handshake,
-      ap (λ (x : Handshake). one_more x.role x.phase) handshake,
-      ap (λ (x : Handshake). opening_left x.role x.phase) handshake,
-    )
+up_budget held t left h at link is handshake less = grind arith
 
 ready_budget : (role : Role) (held t : EndCore) (turns : List Turn) → EndStands role held turns → held.link.phase ≡ phase.OwesRdx → t.link ≡ behind_ready held.link
     → t.handshake ≡ handshake_up held.handshake → t.more ≤ held.more → budget t + 1 ≤ budget held
-ready_budget role held t turns stands at link handshake more =
-    let below = stands.below (ap is_established at) in
-    let none = up_none held.handshake in
-    omega (
-      arith,
-      more,
-      none,
-      ap (λ (p : LinkPhase). budget_in p (messages_left held)) at,
-      ap (λ (k : LinkState). budget_in k.phase (messages_left t)) link,
-      ap (λ (k : LinkState). length k.to_send) link,
-      ap length below.left,
-      owed_few t.own t.link.to_send t.handshake.owed,
-      ap (λ (x : Handshake). one_more x.role x.phase) handshake,
-      ap (λ (x : Handshake). opening_left x.role x.phase) handshake,
-    )
+ready_budget role held t turns stands at link handshake more = grind arith
 
 last_budget : (held t : EndCore) (turns : List Turn) (packet : List ℕ) (h : Handshake) → held.link.phase ≡ phase.Established → t.link ≡ behind_part held.link
     → SaysLast held.link turns packet → t.handshake ≡ h

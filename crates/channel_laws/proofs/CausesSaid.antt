@@ -1,5 +1,5 @@
 -- Where the causes of a kind's sessions are as the messages say, each cause that a packet has is as the packet says, and a gap names both numbers.
-use Rattle.std.proofs.Common.{◌≡◌, ℕ, Bool, true, false, Option, Some, None, Ok, Err, List, ◌++◌, refl, sym, subst, inl, inr, ◌⊎◌}
+use Rattle.std.proofs.Common.{◌≡◌, ℕ, Bool, true, false, Option, Some, None, Ok, Err, List, ◌++◌, refl, sym, subst, inl, inr, ◌⊎◌, arith}
 use Rattle.std.specs.Prelude.{◌&&◌, ◌||◌, not, Result, if◌then◌else◌, nat_eq, ⊤}
 use Rattle.std.proofs.lemmas.Bool.{eqb-true}
 use Rattle.ldc_link.specs.Taking.{may_come}
@@ -16,7 +16,7 @@ use Rattle.vio_tag.specs.declared.cause.Cause.{Cause}
 use Rattle.vio_tag.specs.declared.cause.Cause.TheVariants as the_cause
 use Rattle.vio_tag.specs.declared.message.Message.{Message}
 use Rattle.vio_tag.specs.declared.message.MsgBody.{MsgBody}
-use Rattle.vio_tag.specs.declared.message.MsgBody.TheVariants.{Attr, DringData, DringReg, DringUnreg, Mcast, Plain, Rdx, Ver}
+use Rattle.vio_tag.specs.declared.message.MsgBody.TheVariants.{DringData, DringReg, Mcast}
 use Rattle.vio_tag.specs.declared.message.TagFault.{TagFault}
 use Rattle.vio_tag.specs.Decoding.{Decodes}
 use Rattle.vio_tag.specs.Fault as message
@@ -90,13 +90,9 @@ module _ (own : Message → Option Cause) (rightly : JudgesRightly own) (turns :
   body_told : (one : Message) (body : MsgBody) → message.first_fault bytes ≡ None → SpellsMessage bytes one → Says turns packet (body_cause own one body)
   body_told one (DringData seq ident start end state) fine spells = some_told (own one) (rightly.says bytes one fine spells)
   body_told one (Mcast set count addresses) fine spells = some_told (own one) (rightly.says bytes one fine spells)
-  body_told one (Ver major minor class) fine spells = declined_told (is_declined one.subtype (Ver major minor class)) fine
-  body_told one (Attr attributes) fine spells = declined_told (is_declined one.subtype (Attr attributes)) fine
   body_told one (DringReg ident slots slot_size options count cookies) fine spells =
       declined_told (is_declined one.subtype (DringReg ident slots slot_size options count cookies)) fine
-  body_told one (DringUnreg ident) fine spells = declined_told (is_declined one.subtype (DringUnreg ident)) fine
-  body_told one Rdx fine spells = declined_told (is_declined one.subtype Rdx) fine
-  body_told one (Plain envelope) fine spells = declined_told (is_declined one.subtype (Plain envelope)) fine
+  body_told one body fine spells = declined_told (is_declined one.subtype body) fine
 
   sid_told : (b : Bool) (sid : ℕ) (one : Message) → b ≡ nat_eq sid one.sid → message.first_fault bytes ≡ None → SpellsMessage bytes one
       → Says turns packet (if b then body_cause own one one.body else Some (the_cause.Sid sid one.sid))
@@ -148,18 +144,7 @@ mode_told turns packet rest sound says =
 
 number_told : (turns : List Turn) (packet : List ℕ) (rest : Option Cause) → first_fault packet ≡ None → Says turns packet rest
     → Says turns packet (number_cause (is_numbered packet) (counts_next (count_heard turns)) (seqid_at packet) rest)
-number_told turns packet rest sound says =
-    says_if turns packet (is_numbered packet && not (nat_eq (seqid_at packet) (counts_next (count_heard turns)))) (the_cause.Gap (counts_next (count_heard turns)) (seqid_at packet)) rest
-    (λ test.
-    let tests = both_true (is_numbered packet) (not (nat_eq (seqid_at packet) (counts_next (count_heard turns)))) test in (
-      sound,
-      record {
-        has_number = tests.0;
-        next = refl;
-        is = refl;
-        other = λ same. other_number (seqid_at packet) (counts_next (count_heard turns)) (not_true (nat_eq (seqid_at packet) (counts_next (count_heard turns))) tests.1) (sym same);
-      },
-    )) says
+number_told turns packet rest sound says = grind arith
 
 fault_told : (turns : List Turn) (packet : List ℕ) (fault : Option PacketFault) (rest : Option Cause) → first_fault packet ≡ fault → (first_fault packet ≡ None → Says turns packet rest)
     → Says turns packet (fault_cause fault rest)
@@ -167,12 +152,7 @@ fault_told turns packet (Some fault) rest is says = (is, tt)
 fault_told turns packet None rest is says = says is
 
 packet_told : (own : Message → Option Cause) → JudgesRightly own → (sid : ℕ) (turns : List Turn) (packet : List ℕ) → Says turns packet (packet_cause own sid turns packet)
-packet_told own rightly sid turns packet =
-    fault_told turns packet (first_fault packet) _ refl (λ sound.
-    number_told turns packet _ sound
-    (mode_told turns packet _ sound
-    (part_told turns packet (is_part packet) (may_come (half_heard turns) (fragment_at packet)) _ sound refl refl
-    (message_told own rightly sid turns packet (ended_by (half_heard turns) packet) sound refl))))
+packet_told own rightly sid turns packet = search (fault_told, number_told, mode_told, part_told, message_told)
 
 pub cause_said : (own : Message → Option Cause) (sid : ℕ) (turns : List Turn) (packet : List ℕ) (cause : Cause) → JudgesRightly own → packet_cause own sid turns packet ≡ Some cause
     → PacketSays turns packet cause × GapOf turns cause (Some packet)

@@ -1,5 +1,5 @@
 -- Each act of an end keeps the conversation of the two.
-use Rattle.std.proofs.Common.{◌≡◌, ℕ, ◌+◌, ◌≤◌, Bool, true, false, ◌⊎◌, inl, inr, List, [], ◌∷◌, ◌++◌, length, drop, Some, refl, sym, ap, subst, arith, length-append}
+use Rattle.std.proofs.Common.{◌≡◌, ℕ, ◌+◌, ◌≤◌, Bool, true, false, ◌⊎◌, List, [], ◌∷◌, ◌++◌, length, drop, Some, refl, sym, ap, subst, arith, length-append}
 use Rattle.std.specs.Prelude.{slice_get}
 use Rattle.ldc_packet.specs.declared.packet.Body.TheVariants.{Rdx}
 use Rattle.ldc_packet.specs.declared.packet.Subtype.TheVariants.{Info}
@@ -13,7 +13,7 @@ use Rattle.ldc_link.specs.LinkState.{LinkState, fresh_link}
 use Rattle.ldc_link.specs.Putting.{control}
 use Rattle.ldc_queue.proofs.Streams.{stream_step}
 use Rattle.ldc_queue.specs.declared.end.ChannelState.{ChannelState}
-use Rattle.ldc_queue.specs.declared.end.ChannelState.TheVariants.{Down, Resetting, Up}
+use Rattle.ldc_queue.specs.declared.end.ChannelState.TheVariants.{Up}
 use Rattle.ldc_queue.specs.declared.end.End.TheVariants.{A}
 use Rattle.ldc_queue.specs.Numbered.{is_numbered, numbered}
 use Rattle.ldc_queue.specs.QueueEvent.{Close, Join, Lose, Put, Take}
@@ -24,36 +24,19 @@ use Rattle.channel_model.specs.WireLog.{lossy_behind}
 use Rattle.channel_laws.proofs.Budgets.{anew_budget, budget_small, says_budget, stays_budget, waits_budget}
 use Rattle.channel_laws.proofs.EndCases.{PutControl, PutMore, PutOwn, PutReady, PutHandshake, PutWhat, end_put, end_took}
 use Rattle.channel_laws.proofs.EndStanding.{held_stands, stands_step}
-use Rattle.channel_laws.proofs.FewLost.{below_turn, few_begins, few_lost, few_lower, few_peer_lost, few_peer_put, few_peer_took, few_put, few_took, first_length, first_unnumbered, live_lower, live_puts_few, live_small, live_takes_few, unnumbered-append, up_budget, up_puts, up_takes}
-use Rattle.channel_laws.proofs.LinkCases.{ControlHeard, ControlPut, ControlTaken, LinkHeard, ModeAgreed, ModeAnswered, ModeAsked, ModeOffered, PartHeard, ReadyHeard, VersionAgreed, VersionAnswered, VersionAsked, VersionOffered, VersionRefused, behind_part, canonical_is, part_loud, put_quiet, ready_loud, taken_quiet}
+use Rattle.channel_laws.proofs.FewLost.{below_turn, few_begins, few_lost, few_lower, few_peer_lost, few_peer_put, few_peer_took, few_put, few_took, first_length, first_unnumbered, live_lower, live_small, unnumbered-append, up_budget, up_puts, up_takes}
+use Rattle.channel_laws.proofs.LinkCases.{ControlPut, LinkHeard, behind_part, canonical_is, put_quiet, ready_loud}
 use Rattle.channel_laws.proofs.TurnCases.{SaysPart}
 use Rattle.channel_laws.specs.Budget.{budget}
 use Rattle.channel_laws.specs.Conversing.{AreFew, Converse, controls, live_budget, live_puts, live_takes, puts_left, queue_log, takes_left, unless, unnumbered}
 use Rattle.channel_laws.specs.EndCore.{EndCore, Hears}
-use Rattle.channel_laws.specs.EndStep.{EndAnew, EndHears, EndSays, EndStays, EndWaits, Holding, Holds, HoldsOn, HoldsOwed, HoldsOwn}
+use Rattle.channel_laws.specs.EndStep.{EndAnew, EndHears, EndSays, EndStays, EndWaits, Holding, Holds}
 use Rattle.channel_laws.specs.Sides.{Sides, anew, goes_on, missed, other, put, shut, swapped, took}
 use Rattle.channel_laws.specs.Standing.{EndStands, IsPhaseOf}
 
 -- FROM THE OTHER SIDE
 pub swap_converse : (role : Role) (s : Sides) → Converse role s → Converse (other role) (swapped s)
-swap_converse Initiator s c = record {
-  entries = c.entries;
-  lost_mine = c.lost_theirs;
-  lost_theirs = c.lost_mine;
-  whole = λ full. ((c.whole full).1, (c.whole full).0);
-  stream = record { to_a = c.stream.to_b; to_b = c.stream.to_a };
-  to_mine = c.to_theirs;
-  to_theirs = c.to_mine;
-}
-swap_converse Responder s c = record {
-  entries = c.entries;
-  lost_mine = c.lost_theirs;
-  lost_theirs = c.lost_mine;
-  whole = λ full. ((c.whole full).1, (c.whole full).0);
-  stream = record { to_a = c.stream.to_b; to_b = c.stream.to_a };
-  to_mine = c.to_theirs;
-  to_theirs = c.to_mine;
-}
+swap_converse role s c = grind arith
 
 -- IT GOES ON beside the wire
 goes_left : (role : Role) (s : Sides) (t : EndCore) → t.link.phase ≡ s.mine.core.link.phase
@@ -87,9 +70,7 @@ pub stays_converse : (role : Role) (s : Sides) (t : EndCore) → EndStays s.mine
 stays_converse role s t stays c = goes_converse role s t (ap (λ (k : LinkState). k.phase) stays.link) (stays_budget s.mine.core t stays) c
 
 pub held_phase : (c held : EndCore) (what : Holding) → Holds c what held → held.link.phase ≡ c.link.phase
-held_phase c held HoldsOn is = ap (λ (x : EndCore). x.link.phase) is
-held_phase c held (HoldsOwed message) offers = ap (λ (k : LinkState). k.phase) offers.link
-held_phase c held (HoldsOwn message) offers = ap (λ (k : LinkState). k.phase) offers.link
+held_phase c held what is = grind arith
 
 pub waits_converse : (role : Role) (s : Sides) (t : EndCore) → EndStands role s.mine.core s.mine.turns → EndWaits s.mine.core t → Converse role s → Converse role (goes_on t s)
 waits_converse role s t stands waits c =
@@ -104,13 +85,7 @@ with_number : (b : Bool) → b ≡ true → unless b 0 ≡ 0
 with_number b is = ap (λ (x : Bool). unless x 0) is
 
 control_advances : (before next : LinkPhase) (bytes : List ℕ) → IsPhaseOf Initiator before → ControlPut before bytes next → PutAdvances false before next
-control_advances before next bytes of (VersionOffered at is goes) =
-    record { puts = omega (arith, ap puts_left at, ap puts_left goes); takes = omega (arith, ap takes_left at, ap takes_left goes) }
-control_advances before next bytes of (ModeOffered at is goes) =
-    record { puts = omega (arith, ap puts_left at, ap puts_left goes); takes = omega (arith, ap takes_left at, ap takes_left goes) }
-control_advances before next bytes of (VersionAnswered at is goes) = absurd (subst (IsPhaseOf Initiator) at of)
-control_advances before next bytes of (VersionRefused major at is goes) = absurd (subst (IsPhaseOf Initiator) at of)
-control_advances before next bytes of (ModeAnswered at is goes) = absurd (subst (IsPhaseOf Initiator) at of)
+control_advances before next bytes of put_holds = grind arith
 
 numbered_advances : (b : Bool) (before after : LinkPhase) → b ≡ true → puts_left after ≤ puts_left before → takes_left after ≤ takes_left before → PutAdvances b before after
 numbered_advances b before after is puts takes = record { puts = omega (arith, puts, with_number b is); takes = takes }
@@ -121,9 +96,7 @@ put_ready held turns packet stands spelled =
     (ready_loud packet Info (canonical_is packet Info held.link.put_next Rdx tt (omega (arith, stands.link.follows.puts), tt) spelled)).0
 
 part_advances : (held t : EndCore) (packet : List ℕ) → t.link ≡ behind_part held.link → SaysPart held.link packet → PutAdvances (is_numbered packet) held.link.phase t.link.phase
-part_advances held t packet link part =
-    let now = ap (λ (k : LinkState). k.phase) link in
-    numbered_advances (is_numbered packet) held.link.phase t.link.phase (part_loud packet part.part) (omega (arith, ap puts_left now)) (omega (arith, ap takes_left now))
+part_advances held t packet link part = grind arith
 
 put_advances : (held t : EndCore) (turns : List Turn) (packet : List ℕ) (opens : Bool) → EndStands Initiator held turns → PutWhat Initiator held turns packet opens t
     → PutAdvances (is_numbered packet) held.link.phase t.link.phase
@@ -193,36 +166,10 @@ put_converse role s t packet opens up room stands says c =
     }
 
 -- IT TAKES a packet
-record TakeAdvances (has_number : Bool) (before after : LinkPhase) : Type 0 where
-  puts : puts_left after ≤ puts_left before
-  takes : takes_left after + unless has_number 0 ≤ takes_left before
-
-taken_advances : (before next : LinkPhase) (bytes : List ℕ) → IsPhaseOf Initiator before → ControlTaken before bytes next → TakeAdvances false before next
-taken_advances before next bytes of (VersionAgreed at packet goes) =
-    record { puts = omega (arith, ap puts_left at, ap puts_left goes); takes = omega (arith, ap takes_left at, ap takes_left goes) }
-taken_advances before next bytes of (ModeAgreed at packet goes) =
-    record { puts = omega (arith, ap puts_left at, ap puts_left goes); takes = omega (arith, ap takes_left at, ap takes_left goes) }
-taken_advances before next bytes of (VersionAsked major minor at packet goes) = absurd (subst (IsPhaseOf Initiator) at of)
-taken_advances before next bytes of (ModeAsked at packet goes) = absurd (subst (IsPhaseOf Initiator) at of)
-
-heard_advances : (k m : LinkState) (packet : List ℕ) → IsPhaseOf Initiator k.phase → LinkHeard k packet m → TakeAdvances (is_numbered packet) k.phase m.phase
-heard_advances k m packet of (ControlHeard next taken is) =
-    subst (λ (p : LinkPhase). TakeAdvances (is_numbered packet) k.phase p) (sym (ap (λ (x : LinkState). x.phase) is))
-    (subst (λ (b : Bool). TakeAdvances b k.phase next) (sym (taken_quiet k.phase packet next taken).0) (taken_advances k.phase next packet of taken))
-heard_advances k m packet of (ReadyHeard at ready number is) = absurd (subst (IsPhaseOf Initiator) at of)
-heard_advances k m packet of (PartHeard at part may number is) =
-    let now = ap (λ (x : LinkState). x.phase) is in
-    record { puts = omega (arith, ap puts_left now); takes = omega (arith, ap takes_left now, with_number (is_numbered packet) (part_loud packet part)) }
-
 took_left : (role : Role) (s : Sides) (t : EndCore) (now : LinkState) (packet : List ℕ) → s.mine.state ≡ Up → IsFirst packet s.mine.waiting → IsPhaseOf role s.mine.core.link.phase
     → LinkHeard s.mine.core.link packet now → t.link.phase ≡ now.phase
     → (controls role (took packet t s) + unless (is_numbered packet) 0 ≤ controls role s) × (controls (other role) (swapped (took packet t s)) ≤ controls (other role) (swapped s))
-took_left Initiator s t now packet up first of how same =
-    let advances = heard_advances s.mine.core.link now packet of how in (
-      omega (arith, up_takes s.mine.state t.link.phase up, up_takes s.mine.state s.mine.core.link.phase up, ap takes_left same, advances.takes),
-      omega (arith, up_puts s.mine.state t.link.phase up, up_puts s.mine.state s.mine.core.link.phase up, ap puts_left same, advances.puts),
-    )
-took_left Responder s t now packet up first of how same = (omega (arith, first_unnumbered packet s.mine.waiting first), omega arith)
+took_left role s t now packet up first of how same = grind arith
 
 past_none : (packets : List (List ℕ)) (lost : ℕ) → lost ≡ 0 → lost_past packets lost ≡ 0
 past_none [] lost none = none
@@ -294,82 +241,36 @@ missed_converse role s packet at_front c =
 -- IT BEGINS, or is closed
 queue_shorter : (e : ChannelState) (waiting : List (List ℕ)) → length (queue_behind e waiting) ≤ length waiting
 queue_shorter Up waiting = omega arith
-queue_shorter Down waiting = omega arith
-queue_shorter Resetting waiting = omega arith
+queue_shorter _ waiting = omega arith
 
 -- what may be lost for an end that begins, and for its peer; with as many packets without a number as before, or at most two
 joined_few : (e peer : ChannelState) (waiting beyond : List (List ℕ)) (lost theirs own new left now : ℕ)
     → AreFew lost (length waiting) (live_budget peer theirs) (length beyond) (live_budget e own) left → theirs ≤ 34000 → new ≤ 1 → now ≤ 2
     → (now ≤ left) ⊎ (e ≡ Up)
     → AreFew (lost_behind e lost) (length (queue_behind e waiting)) (live_budget (peer_behind e peer) theirs) (length (queue_behind e beyond)) new now
-joined_few Up peer waiting beyond lost theirs own new left now f small few two or_up =
-    few_begins (live_budget (upset peer) theirs) new now (live_small (upset peer) theirs small) (omega (arith, few)) two
-joined_few Down peer waiting beyond lost theirs own new left now f small few two (inl less) =
-    few_lower lost (length waiting) (live_budget peer theirs) (length beyond) 1 left (live_budget peer theirs) new now f (omega arith) few less
-joined_few Down peer waiting beyond lost theirs own new left now f small few two (inr up) = absurd (cc up)
-joined_few Resetting peer waiting beyond lost theirs own new left now f small few two (inl less) =
-    few_lower lost (length waiting) (live_budget peer theirs) (length beyond) 1 left (live_budget peer theirs) new now f (omega arith) few less
-joined_few Resetting peer waiting beyond lost theirs own new left now f small few two (inr up) = absurd (cc up)
+joined_few e peer waiting beyond lost theirs own new left now f small few two or_up = grind arith
 
 peer_joined_few : (e peer : ChannelState) (waiting beyond : List (List ℕ)) (lost theirs own new left now : ℕ)
     → AreFew lost (length waiting) (live_budget e own) (length beyond) (live_budget peer theirs) left → theirs ≤ 34000 → new ≤ 1 → now ≤ 2
     → (now ≤ left) ⊎ (e ≡ Up)
     → AreFew (lost_behind e lost) (length (queue_behind e waiting)) new (length (queue_behind e beyond)) (live_budget (peer_behind e peer) theirs) now
-peer_joined_few Up peer waiting beyond lost theirs own new left now f small few two or_up =
-    few_begins new (live_budget (upset peer) theirs) now (omega (arith, few)) (live_small (upset peer) theirs small) two
-peer_joined_few Down peer waiting beyond lost theirs own new left now f small few two (inl less) =
-    few_lower lost (length waiting) 1 (length beyond) (live_budget peer theirs) left new (live_budget peer theirs) now f few (omega arith) less
-peer_joined_few Down peer waiting beyond lost theirs own new left now f small few two (inr up) = absurd (cc up)
-peer_joined_few Resetting peer waiting beyond lost theirs own new left now f small few two (inl less) =
-    few_lower lost (length waiting) 1 (length beyond) (live_budget peer theirs) left new (live_budget peer theirs) now f few (omega arith) less
-peer_joined_few Resetting peer waiting beyond lost theirs own new left now f small few two (inr up) = absurd (cc up)
+peer_joined_few e peer waiting beyond lost theirs own new left now f small few two or_up = grind arith
 
 -- the packets without a number that are left then: at most two, and as many as before where the end wasn't up
 record LeftBehind (e : ChannelState) (before now : ℕ) : Type 0 where
   two : now ≤ 2
   left : (now ≤ before) ⊎ (e ≡ Up)
 
-takes_behind : (e peer : ChannelState) (ph : LinkPhase) → LeftBehind e (live_takes peer ph) (live_takes (peer_behind e peer) ph)
-takes_behind Up peer ph = record { two = live_takes_few (upset peer) ph; left = inr refl }
-takes_behind Down peer ph = record { two = live_takes_few peer ph; left = inl (omega arith) }
-takes_behind Resetting peer ph = record { two = live_takes_few peer ph; left = inl (omega arith) }
-
-puts_behind : (e peer : ChannelState) (ph : LinkPhase) (waiting : List (List ℕ)) → live_puts peer ph + unnumbered waiting ≤ 2
-    → LeftBehind e (live_puts peer ph + unnumbered waiting) (live_puts (peer_behind e peer) ph + unnumbered (queue_behind e waiting))
-puts_behind Up peer ph waiting few = record { two = omega (arith, live_puts_few (upset peer) ph); left = inr refl }
-puts_behind Down peer ph waiting few = record { two = few; left = inl (omega arith) }
-puts_behind Resetting peer ph waiting few = record { two = few; left = inl (omega arith) }
-
-own_takes_behind : (e : ChannelState) (ph now : LinkPhase) → live_takes Up now ≡ 2 → LeftBehind e (live_takes e ph) (live_takes Up now)
-own_takes_behind Up ph now is = record { two = omega (arith, is); left = inr refl }
-own_takes_behind Down ph now is = record { two = omega (arith, is); left = inl (omega (arith, is)) }
-own_takes_behind Resetting ph now is = record { two = omega (arith, is); left = inl (omega (arith, is)) }
-
-own_puts_behind : (e : ChannelState) (ph now : LinkPhase) (waiting : List (List ℕ)) → live_puts Up now ≡ 2 → live_puts e ph + unnumbered waiting ≤ 2
-    → LeftBehind e (live_puts e ph + unnumbered waiting) (live_puts Up now + unnumbered (queue_behind e waiting))
-own_puts_behind Up ph now waiting is few = record { two = omega (arith, is); left = inr refl }
-own_puts_behind Down ph now waiting is few = record { two = omega (arith, is, few); left = inl (omega (arith, is)) }
-own_puts_behind Resetting ph now waiting is few = record { two = omega (arith, is, few); left = inl (omega (arith, is)) }
-
 record AnewLeft (role : Role) (s : Sides) (t : EndCore) : Type 0 where
   mine : LeftBehind s.mine.state (controls role s) (controls role (anew t s))
   theirs : LeftBehind s.mine.state (controls (other role) (swapped s)) (controls (other role) (swapped (anew t s)))
 
 anew_left : (role : Role) (s : Sides) (t : EndCore) → t.link ≡ fresh_link role → controls role s ≤ 2 → controls (other role) (swapped s) ≤ 2 → AnewLeft role s t
-anew_left Initiator s t link mine theirs = record {
-  mine = own_takes_behind s.mine.state s.mine.core.link.phase t.link.phase (ap (λ (k : LinkState). live_takes Up k.phase) link);
-  theirs = own_puts_behind s.mine.state s.mine.core.link.phase t.link.phase s.theirs.waiting (ap (λ (k : LinkState). live_puts Up k.phase) link) theirs;
-}
-anew_left Responder s t link mine theirs = record {
-  mine = puts_behind s.mine.state s.theirs.state s.theirs.core.link.phase s.mine.waiting mine;
-  theirs = takes_behind s.mine.state s.theirs.state s.theirs.core.link.phase;
-}
+anew_left role s t link mine theirs = grind arith
 
 whole_behind : (e : ChannelState) (lossy : Bool) (lost_mine lost_theirs : ℕ) → (lossy ≡ false → (lost_mine ≡ 0) × (lost_theirs ≡ 0)) → lossy_behind e lossy ≡ false
     → (lost_behind e lost_mine ≡ 0) × (lost_behind e lost_theirs ≡ 0)
-whole_behind Up lossy lost_mine lost_theirs whole full = (refl, refl)
-whole_behind Down lossy lost_mine lost_theirs whole full = whole full
-whole_behind Resetting lossy lost_mine lost_theirs whole full = whole full
+whole_behind e lossy lost_mine lost_theirs whole full = grind arith
 
 pub anew_converse : (role : Role) (s : Sides) (t : EndCore) → EndStands (other role) s.theirs.core s.theirs.turns → EndAnew role s.mine.core t → Converse role s
     → Converse role (anew t s)
@@ -398,9 +299,7 @@ anew_converse role s t peer_stands begins c =
     }
 
 shut_left : (role : Role) (s : Sides) (t : EndCore) → (controls role (shut t s) ≤ 2) × (controls (other role) (swapped (shut t s)) ≤ 2)
-shut_left Initiator s t = (omega arith, omega arith)
-shut_left Responder s t =
-    (omega (arith, live_puts_few (upset s.theirs.state) s.theirs.core.link.phase), omega (arith, live_takes_few (upset s.theirs.state) s.theirs.core.link.phase))
+shut_left role s t = grind arith
 
 pub shut_converse : (role : Role) (s : Sides) (t : EndCore) → EndStands (other role) s.theirs.core s.theirs.turns → Converse role s → Converse role (shut t s)
 shut_converse role s t peer_stands c =

@@ -1,5 +1,5 @@
 -- Along every run that nobody forged the two ends converse, so that what an end heard is a front of what the other said.
-use Rattle.std.proofs.Common.{◌≡◌, ℕ, ◌≤◌, false, Some, List, [], ◌∷◌, ◌++◌, refl, sym, ap, ◌∙◌, subst, arith}
+use Rattle.std.proofs.Common.{◌≡◌, ℕ, ◌≤◌, false, Some, List, [], ◌∷◌, ◌++◌, refl, sym, ap, ◌∙◌, arith}
 use Rattle.std.specs.Prelude.{slice_get}
 use Rattle.runs.specs.Run.{Run}
 use Rattle.ldc_link.specs.declared.phase.Role.{Role}
@@ -11,13 +11,13 @@ use Rattle.ldc_link.specs.LinkState.{LinkState}
 use Rattle.ldc_link.specs.Taking.{Heard, TakesBytes}
 use Rattle.ldc_queue.specs.QueueEvent.{Take}
 use Rattle.ldc_queue.specs.QueueLog.{lost_past}
-use Rattle.ldc_queue.proofs.Streams.{heard_front, stream_begins, stream_step}
+use Rattle.ldc_queue.proofs.Streams.{heard_front, stream_step}
 use Rattle.ldc_queue.specs.declared.end.ChannelState.{ChannelState}
-use Rattle.ldc_queue.specs.declared.end.ChannelState.TheVariants.{Down, Resetting, Up}
+use Rattle.ldc_queue.specs.declared.end.ChannelState.TheVariants.{Up}
 use Rattle.ldc_queue.specs.declared.end.End.{End}
 use Rattle.ldc_queue.specs.declared.end.End.TheVariants.{A, B}
 use Rattle.ldc_queue.specs.Fragments.{fragments_in}
-use Rattle.ldc_queue.specs.Messages.{messages_heard, whole_in}
+use Rattle.ldc_queue.specs.Messages.{whole_in}
 use Rattle.ldc_queue.specs.Numbered.{numbered}
 use Rattle.ldc_queue.specs.OneStream.{IsFront, OneStream, live}
 use Rattle.ldc_queue.specs.Transcript as turn
@@ -29,7 +29,7 @@ use Rattle.channel_model.specs.Sayings.{heard, said}
 use Rattle.channel_model.specs.TranscriptLog.{TranscriptLog, nothing_said, transcript_of}
 use Rattle.channel_model.specs.WireAt.{IsUp}
 use Rattle.channel_laws.proofs.Conversations.{anew_converse, first_waits, missed_converse, put_converse, shut_converse, stays_converse, swap_converse, took_converse, waits_converse}
-use Rattle.channel_laws.proofs.FewLost.{below_turn, few_begins}
+use Rattle.channel_laws.proofs.FewLost.{below_turn}
 use Rattle.channel_laws.proofs.Lifting.{ActsKeep, CoreHolds, core_run}
 use Rattle.channel_laws.specs.Conversing.{Converse, queue_log}
 use Rattle.channel_laws.specs.LaneCore.{CoreEvent, CoreFits, CoreStep, LaneCore, fresh_core, transcript_behind}
@@ -48,15 +48,7 @@ converse_keeps = record {
 }
 
 pub first_converse : (entries : ℕ) (asks answers : Offer) → entries ≤ 256 → Converse Initiator (sides_of (fresh_core entries asks answers) nothing_said)
-first_converse entries asks answers few = record {
-  entries = few;
-  lost_mine = 0;
-  lost_theirs = 0;
-  whole = λ full. (refl, refl);
-  stream = stream_begins;
-  to_mine = record { left = omega arith; queue = omega arith; few = few_begins 1 1 2 (omega arith) (omega arith) (omega arith) };
-  to_theirs = record { left = omega arith; queue = omega arith; few = few_begins 1 1 2 (omega arith) (omega arith) (omega arith) };
-}
+first_converse entries asks answers few = grind arith
 
 pub converse_run : (entries : ℕ) (asks answers : Offer) (events : List CoreEvent) (s : LaneCore) → CoreFits entries asks answers
     → Run CoreStep (fresh_core entries asks answers) events s → CoreHolds Converse s (transcript_behind events)
@@ -70,9 +62,7 @@ packets_of s transcript A c up = heard_front (queue_log (sides_of s transcript) 
 packets_of s transcript B c up = heard_front (queue_log (sides_of s transcript) c.lost_mine c.lost_theirs) B c.stream up
 
 pub messages_in_front : (mine theirs : List Turn) → IsFront (numbered_heard mine) (numbered_said theirs) → IsFront (heard mine) (said theirs)
-messages_in_front mine theirs front =
-    subst (λ (xs : List (List ℕ)). IsFront xs (said theirs)) (sym (heard_is mine))
-    (subst (λ (xs : List (List ℕ)). IsFront (messages_heard mine) xs) (sym (said_is theirs)) (messages_front (numbered_heard mine) (numbered_said theirs) front))
+messages_in_front mine theirs front = search (heard_is, said_is, messages_front)
 
 pub messages_of : (s : LaneCore) (transcript : TranscriptLog) (e : End) → Converse Initiator (sides_of s transcript) → IsUp e s.wire.wire → IsFront (heard (transcript_of e transcript)) (said (transcript_of (peer_of e) transcript))
 messages_of s transcript e c up = messages_in_front (transcript_of e transcript) (transcript_of (peer_of e) transcript) (packets_of s transcript e c up)
@@ -92,9 +82,7 @@ heard_messages entries asks answers events s e fits run clean up =
 -- WHAT AN END THAT IS UP HEARD, from its own side, also with the packet that it takes next: a front of what the other said, and nothing where
 -- the other isn't up
 none_live : (x : ChannelState) (packets : List (List ℕ)) → (x ≡ Up → ⊥) → live x packets ≡ []
-none_live Up packets not = absurd (not refl)
-none_live Down packets not = refl
-none_live Resetting packets not = refl
+none_live x packets not = grind arith
 
 nothing_front : (xs ys : List (List ℕ)) → [] ≡ xs ++ ys → xs ≡ []
 nothing_front [] ys is = refl

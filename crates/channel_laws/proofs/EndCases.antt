@@ -1,6 +1,6 @@
 -- What a packet that an end hears or says comes to, case by case.
 use Rattle.std.proofs.Common.{◌≡◌, ℕ, ◌≤◌, Bool, true, false, ◌||◌, ◌⊎◌, inl, inr, Option, Some, None, List, [], ◌∷◌, ◌++◌, length, refl, sym, ap, ◌∙◌, subst, arith}
-use Rattle.std.specs.Prelude.{◌&&◌, if◌then◌else◌, nat_eq, nat_le, not, Result, Ok, Err}
+use Rattle.std.specs.Prelude.{◌&&◌, if◌then◌else◌, nat_le, not, Result, Ok, Err}
 use Rattle.std.proofs.lemmas.Bool.{leb-true}
 use Rattle.ldc_packet.specs.declared.packet.Body.TheVariants.{Rdx}
 use Rattle.ldc_packet.specs.declared.packet.Subtype.TheVariants.{Info}
@@ -13,7 +13,7 @@ use Rattle.ldc_link.specs.declared.phase.Role.TheVariants.{Initiator, Responder}
 use Rattle.ldc_link.specs.Following.{Follows}
 use Rattle.ldc_link.specs.LinkState.{LinkState, cleared, is_established, is_up}
 use Rattle.ldc_link.specs.Putting.{control}
-use Rattle.ldc_link.specs.Taking.{Heard, TakesBytes, answer_to, counted}
+use Rattle.ldc_link.specs.Taking.{Heard, TakesBytes, counted}
 use Rattle.vio_handshake.specs.declared.handshake.Handshake.{Handshake}
 use Rattle.vio_handshake.specs.Rules.{Faults, Goes, GoesOpen, HandshakeTake, opens_by_put, handshake_sent, handshake_take}
 use Rattle.vio_handshake.specs.State.{handshake_up}
@@ -26,7 +26,7 @@ use Rattle.channel_model.specs.EndPuts.{ComesUp, EndsOwn, EndsHandshake, Goes as
 use Rattle.channel_model.specs.Sayings.{heard}
 use Rattle.channel_laws.proofs.Apart.{true_is_false}
 use Rattle.channel_laws.proofs.HandshakeCases.{HandshakeTook, goes_took, never_opens, opens_took}
-use Rattle.channel_laws.proofs.LinkCases.{ControlGone, ControlHeard, ControlPut, ControlTaken, LinkHeard, LinkPut, ModeAgreed, ModeAnswered, ModeAsked, ModeOffered, PartGone, PartHeard, ReadyGone, ReadyHeard, VersionAgreed, VersionAnswered, VersionAsked, VersionOffered, VersionRefused, behind_part, behind_ready, canonical_is, link_heard, link_put, put_quiet, ready_loud}
+use Rattle.channel_laws.proofs.LinkCases.{ControlGone, ControlHeard, ControlPut, ControlTaken, LinkHeard, LinkPut, PartGone, PartHeard, ReadyGone, ReadyHeard, behind_part, behind_ready, canonical_is, link_heard, link_put, put_quiet, ready_loud}
 use Rattle.channel_laws.proofs.PutSayings.{control_kind}
 use Rattle.channel_laws.proofs.TurnCases.{EndsBy, HearsOn, SaysLast, SaysMore, SaysNothing, SaysPart, hears_on, says_last, says_more, says_nothing, says_part}
 use Rattle.channel_laws.specs.EndCore.{EndCore}
@@ -64,25 +64,10 @@ pub record EndTook (role : Role) (c : EndCore) (turns : List Turn) (packet : Lis
 
 -- phases of the link's handshake
 pub taken_down : (before : LinkPhase) (bytes : List ℕ) (next : LinkPhase) → ControlTaken before bytes next → (is_established before ≡ false) × (is_established next ≡ false)
-taken_down before bytes next (VersionAsked major minor at packet goes) = (ap is_established at, ap is_established goes ∙ answer_down major)
-  where
-    by_tests : (b c : Bool) → is_established (if b then phase.OwesVersAck else if c then phase.OwesVersNack 0 else phase.OwesVersNack 1) ≡ false
-    by_tests true c = refl
-    by_tests false true = refl
-    by_tests false false = refl
-
-    answer_down : (n : ℕ) → is_established (answer_to n) ≡ false
-    answer_down n = by_tests (nat_eq n 1) (nat_eq n 0)
-taken_down before bytes next (VersionAgreed at packet goes) = (ap is_established at, ap is_established goes)
-taken_down before bytes next (ModeAsked at packet goes) = (ap is_established at, ap is_established goes)
-taken_down before bytes next (ModeAgreed at packet goes) = (ap is_established at, ap is_established goes)
+taken_down before bytes next taken = grind arith
 
 pub put_down : (before : LinkPhase) (bytes : List ℕ) (next : LinkPhase) → ControlPut before bytes next → (is_established before ≡ false) × (is_established next ≡ false)
-put_down before bytes next (VersionOffered at is goes) = (ap is_established at, ap is_established goes)
-put_down before bytes next (VersionAnswered at is goes) = (ap is_established at, ap is_established goes)
-put_down before bytes next (VersionRefused major at is goes) = (ap is_established at, ap is_established goes)
-put_down before bytes next (ModeOffered at is goes) = (ap is_established at, ap is_established goes)
-put_down before bytes next (ModeAnswered at is goes) = (ap is_established at, ap is_established goes)
+put_down before bytes next put = grind arith
 
 -- A LINK that heard a packet stays up where it was, and nothing is whole by it where it wasn't
 pub record HearsUp (k m : LinkState) (turns : List Turn) (bytes : List ℕ) : Type 0 where

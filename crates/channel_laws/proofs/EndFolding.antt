@@ -1,26 +1,21 @@
 -- Each move of an end leaves its link's phase and its handshake as its turns have them.
-use Rattle.std.proofs.Common.{◌≡◌, ℕ, ◌≤◌, Bool, true, false, ◌||◌, inl, inr, Option, Some, None, List, [], ◌∷◌, ◌++◌, refl, sym, ap, ◌∙◌, subst, arith}
-use Rattle.std.specs.Prelude.{◌==◌, Result, Ok}
+use Rattle.std.proofs.Common.{◌≡◌, ℕ, ◌≤◌, Bool, true, false, inl, inr, Option, Some, None, List, [], ◌∷◌, ◌++◌, refl, sym, ap, ◌∙◌, subst, arith}
+use Rattle.std.specs.Prelude.{Result, Ok}
 use Rattle.runs.specs.Run.{Run}
 use Rattle.ldc_link.specs.declared.phase.LinkPhase.{LinkPhase}
 use Rattle.ldc_link.specs.declared.phase.LinkPhase.TheVariants as phase
 use Rattle.ldc_link.specs.declared.phase.Role.{Role}
 use Rattle.ldc_link.specs.declared.phase.Role.TheVariants.{Initiator, Responder}
-use Rattle.ldc_link.specs.LinkState.{LinkState, first_phase, is_established, is_up}
+use Rattle.ldc_link.specs.LinkState.{LinkState, is_established, is_up}
 use Rattle.ldc_link.specs.Putting.{phase_behind_put}
-use Rattle.ldc_link.specs.Taking.{in_mode, phase_behind_rdx, phase_behind_rtr, phase_behind_rts, phase_behind_vers}
 use Rattle.ldc_packet.specs.declared.packet.Body.TheVariants.{Rdx}
-use Rattle.ldc_packet.specs.declared.packet.Subtype.{Subtype}
-use Rattle.ldc_packet.specs.declared.packet.Subtype.TheVariants.{Ack, Info, Nack}
-use Rattle.ldc_packet.specs.Spelling.{ctrl_at, env_at, subtype_at, subtype_code}
+use Rattle.ldc_packet.specs.declared.packet.Subtype.TheVariants.{Info}
 use Rattle.ldc_queue.specs.Fragments.{is_part}
 use Rattle.ldc_queue.specs.Transcript.{Heard as Heard_, Said as Said_, Turn}
-use Rattle.vio_bytes.specs.Place.{number_at}
 use Rattle.vio_tag.proofs.Deciding.{some_result}
 use Rattle.vio_tag.proofs.Reading.{one_result, spelled_decodes}
 use Rattle.vio_tag.specs.declared.message.Message.{Message}
-use Rattle.vio_tag.specs.declared.message.MsgBody.{MsgBody}
-use Rattle.vio_tag.specs.declared.message.MsgBody.TheVariants.{Attr, DringData, DringReg, DringUnreg, Mcast, Plain, Rdx as Ready, Ver}
+use Rattle.vio_tag.specs.declared.message.MsgBody.TheVariants.{Ver}
 use Rattle.vio_tag.specs.declared.message.TagFault.{TagFault}
 use Rattle.vio_tag.specs.Form.{IsWellFormed}
 use Rattle.vio_tag.specs.Spelling.{SpellsMessage, canonical}
@@ -36,114 +31,44 @@ use Rattle.channel_model.specs.Sayings.{half_heard, half_said, heard}
 use Rattle.channel_model.specs.TranscriptLog.{is_rdx}
 use Rattle.channel_laws.proofs.Apart.{false_is_true, true_is_false}
 use Rattle.channel_laws.proofs.Conversations.{held_phase}
-use Rattle.channel_laws.proofs.EndCases.{EndTook, NoMessage, PutControl, PutMore, PutOwn, PutReady, PutHandshake, PutWhat, Rises, TookHandshake, TookMessage, TookOwn, TookWhat, end_put, end_took, taken_down}
+use Rattle.channel_laws.proofs.EndCases.{EndTook, NoMessage, PutControl, PutMore, PutOwn, PutReady, PutHandshake, PutWhat, Rises, TookHandshake, TookMessage, TookOwn, TookWhat, end_put, end_took}
 use Rattle.channel_laws.proofs.EndResting.{held_handshake}
 use Rattle.channel_laws.proofs.EndStanding.{fresh_end_stands, held_stands, holds_some, stands_step}
 use Rattle.channel_laws.proofs.HandshakeCases.{goes_took, opens_took, row_apart, row_sent}
-use Rattle.channel_laws.proofs.HandshakesPlaced.{envelope_reads, held_offer, own_code}
+use Rattle.channel_laws.proofs.HandshakesPlaced.{envelope_reads, held_offer}
 use Rattle.channel_laws.proofs.Lifting.{EndsAll, ends_run}
-use Rattle.channel_laws.proofs.LinkCases.{ControlGone, ControlHeard, ControlPut, ControlTaken, LinkHeard, LinkPut, ModeAgreed, ModeAnswered, ModeAsked, ModeOffered, PartGone, PartHeard, ReadyGone, ReadyHeard, VersionAgreed, VersionAnswered, VersionAsked, VersionOffered, VersionRefused, canonical_is, link_put, put_quiet, ready_loud, taken_quiet}
+use Rattle.channel_laws.proofs.LinkCases.{LinkHeard, LinkPut, canonical_is, link_put, put_quiet, ready_loud}
 use Rattle.channel_laws.proofs.Sids.{loud_rdx, part_rdx, quiet_rdx, row_last, sent_last}
 use Rattle.channel_laws.proofs.TurnCases.{SaysLast, heard_none, heard_some, said_none, said_some}
 use Rattle.channel_laws.specs.Cuts.{Carries}
 use Rattle.channel_laws.specs.EndCore.{Begins, EndCore, EndMove, Fails, Hears, Renews, Says, Stays, Waits, fresh_end}
-use Rattle.channel_laws.specs.EndFold.{EndFolds, behind_decoded, behind_heard, behind_said, decoded_of, down_with, handshake_of, is_of_session, moved_by, or_stays, phase_by, phase_heard, sent_unless, subtype_named, up_if, up_with}
+use Rattle.channel_laws.specs.EndFold.{EndFolds, behind_decoded, behind_heard, behind_said, decoded_of, down_with, handshake_of, is_of_session, moved_by, phase_heard, sent_unless, up_if, up_with}
 use Rattle.channel_laws.specs.EndStep.{EndBegins, EndHears, EndSays, EndStep, IsOfSession}
 use Rattle.channel_laws.specs.LaneCore.{CoreEvent, CoreFits, CoreStep, LaneCore, fresh_core, transcript_behind, turns_after}
 use Rattle.channel_laws.specs.Standing.{EndStands, IsShort, OwedIsShort}
 
 -- WHAT A LINK HEARS moves its phase by the packet's fields
-named_is : (s : Subtype) → subtype_named (subtype_code s) ≡ s
-named_is Info = refl
-named_is Ack = refl
-named_is Nack = refl
-
-subtype_is : (bytes : List ℕ) (s : Subtype) → subtype_at bytes ≡ subtype_code s → subtype_named (subtype_at bytes) ≡ s
-subtype_is bytes s is = ap subtype_named is ∙ named_is s
-
-control_phase : (before : LinkPhase) (bytes : List ℕ) (next : LinkPhase) → ControlTaken before bytes next → next ≡ or_stays before (phase_by (ctrl_at bytes) before bytes)
-control_phase before bytes next (VersionAsked major minor at packet goes) =
-    goes ∙ sym (ap (λ (c : ℕ). or_stays before (phase_by c before bytes)) packet.spells.body.0
-    ∙ ap (λ (x : Subtype). or_stays before (phase_behind_vers before x (number_at 2 8 bytes) (number_at 2 10 bytes))) (subtype_is bytes Info packet.spells.subtype)
-    ∙ ap (λ (m : ℕ). or_stays before (phase_behind_vers before Info m (number_at 2 10 bytes))) packet.spells.body.1
-    ∙ ap (λ (p : LinkPhase). or_stays p (phase_behind_vers p Info major (number_at 2 10 bytes))) at)
-control_phase before bytes next (VersionAgreed at packet goes) =
-    goes ∙ sym (ap (λ (c : ℕ). or_stays before (phase_by c before bytes)) packet.spells.body.0
-    ∙ ap (λ (x : Subtype). or_stays before (phase_behind_vers before x (number_at 2 8 bytes) (number_at 2 10 bytes))) (subtype_is bytes Ack packet.spells.subtype)
-    ∙ ap (λ (m : ℕ). or_stays before (phase_behind_vers before Ack m (number_at 2 10 bytes))) packet.spells.body.1
-    ∙ ap (λ (m : ℕ). or_stays before (phase_behind_vers before Ack 1 m)) packet.spells.body.2
-    ∙ ap (λ (p : LinkPhase). or_stays p (phase_behind_vers p Ack 1 0)) at)
-control_phase before bytes next (ModeAsked at packet goes) =
-    goes ∙ sym (ap (λ (c : ℕ). or_stays before (phase_by c before bytes)) packet.spells.body.0
-    ∙ ap (λ (x : Subtype). or_stays before (in_mode (env_at bytes) (phase_behind_rts before x))) (subtype_is bytes Info packet.spells.subtype)
-    ∙ ap (λ (m : ℕ). or_stays before (in_mode m (phase_behind_rts before Info))) packet.spells.body.1
-    ∙ ap (λ (p : LinkPhase). or_stays p (in_mode 1 (phase_behind_rts p Info))) at)
-control_phase before bytes next (ModeAgreed at packet goes) =
-    goes ∙ sym (ap (λ (c : ℕ). or_stays before (phase_by c before bytes)) packet.spells.body.0
-    ∙ ap (λ (x : Subtype). or_stays before (in_mode (env_at bytes) (phase_behind_rtr before x))) (subtype_is bytes Info packet.spells.subtype)
-    ∙ ap (λ (m : ℕ). or_stays before (in_mode m (phase_behind_rtr before Info))) packet.spells.body.1
-    ∙ ap (λ (p : LinkPhase). or_stays p (in_mode 1 (phase_behind_rtr p Info))) at)
-
 heard_phase : (k m : LinkState) (bytes : List ℕ) → LinkHeard k bytes m → m.phase ≡ phase_heard (is_part bytes) k.phase bytes
-heard_phase k m bytes (ControlHeard next taken is) =
-    ap (λ (x : LinkState). x.phase) is ∙ control_phase k.phase bytes next taken ∙ sym (ap (λ (b : Bool). phase_heard b k.phase bytes) (taken_quiet k.phase bytes next taken).1)
-heard_phase k m bytes (ReadyHeard at packet number is) =
-    ap (λ (x : LinkState). x.phase) is
-    ∙ sym (ap (λ (b : Bool). phase_heard b k.phase bytes) (ready_loud bytes Info packet).1
-    ∙ ap (λ (c : ℕ). or_stays k.phase (phase_by c k.phase bytes)) packet.spells.body
-    ∙ ap (λ (x : Subtype). or_stays k.phase (phase_behind_rdx k.phase x)) (subtype_is bytes Info packet.spells.subtype)
-    ∙ ap (λ (p : LinkPhase). or_stays p (phase_behind_rdx p Info)) at)
-heard_phase k m bytes (PartHeard at part may number is) = ap (λ (x : LinkState). x.phase) is ∙ sym (ap (λ (b : Bool). phase_heard b k.phase bytes) part)
+heard_phase k m bytes heard_holds = grind arith
 
 -- and it comes up by RDX alone
 heard_quiet : (k m : LinkState) (bytes : List ℕ) → LinkHeard k bytes m → is_up m ≡ is_up k → is_rdx bytes ≡ false
-heard_quiet k m bytes (ControlHeard next taken is) same = quiet_rdx bytes (taken_quiet k.phase bytes next taken).0
-heard_quiet k m bytes (ReadyHeard at packet number is) same =
-    true_is_false (sym (ap is_up is) ∙ same ∙ ap is_established at)
-heard_quiet k m bytes (PartHeard at part may number is) same = part_rdx bytes part
+heard_quiet k m bytes heard_holds same = grind arith
 
 heard_rdx : (k m : LinkState) (bytes : List ℕ) → LinkHeard k bytes m → is_up k ≡ false → is_up m ≡ true → is_rdx bytes ≡ true
-heard_rdx k m bytes (ControlHeard next taken is) down up =
-    true_is_false (sym up ∙ ap is_up is ∙ (taken_down k.phase bytes next taken).1)
-heard_rdx k m bytes (ReadyHeard at packet number is) down up = let loud = ready_loud bytes Info packet in loud_rdx bytes loud.0 loud.1
-heard_rdx k m bytes (PartHeard at part may number is) down up = true_is_false (sym (ap is_established at) ∙ down)
+heard_rdx k m bytes heard_holds down up = grind arith
 
 -- WHAT IT PUTS moves it too
-put_phase : (before : LinkPhase) (bytes : List ℕ) (next : LinkPhase) → ControlPut before bytes next → next ≡ phase_behind_put before
-put_phase before bytes next (VersionOffered at is goes) = goes ∙ sym (ap phase_behind_put at)
-put_phase before bytes next (VersionAnswered at is goes) = goes ∙ sym (ap phase_behind_put at)
-put_phase before bytes next (VersionRefused major at is goes) = goes ∙ sym (ap phase_behind_put at)
-put_phase before bytes next (ModeOffered at is goes) = goes ∙ sym (ap phase_behind_put at)
-put_phase before bytes next (ModeAnswered at is goes) = goes ∙ sym (ap phase_behind_put at)
-
 link_phase_put : (k m : LinkState) (bytes : List ℕ) → LinkPut k bytes m → m.phase ≡ phase_behind_put k.phase
-link_phase_put k m bytes (ControlGone next gone is) = ap (λ (x : LinkState). x.phase) is ∙ put_phase k.phase bytes next gone
-link_phase_put k m bytes (ReadyGone at spelled is) = ap (λ (x : LinkState). x.phase) is ∙ sym (ap phase_behind_put at)
-link_phase_put k m bytes (PartGone at some spelled is) = ap (λ (x : LinkState). x.phase) is ∙ at ∙ sym (ap phase_behind_put at)
+link_phase_put k m bytes put = grind arith
 
 -- A MESSAGE OF THE SESSION, and one that a handshake owes
 own_session : (m : Message) → IsOfSession m.body → is_of_session (canonical m) ≡ true
-own_session m of =
-    let reads = envelope_reads m of in
-    elim (own_code m.body of) [
-      | inl one ↦ ap (λ (n : ℕ). n == 0x0042 || n == 0x0101) (reads ∙ one)
-      | inr two ↦ ap (λ (n : ℕ). n == 0x0042 || n == 0x0101) (reads ∙ two)
-    ]
+own_session m of = grind (arith, envelope_reads)
 
 owed_session : (m : Message) → IsShort m.body → is_of_session (canonical m) ≡ false
 unfolding canonical
-owed_session m short = by_body m.subtype m.sid m.body short
-  where
-    by_body : (s : Subtype) (n : ℕ) (b : MsgBody) → IsShort b → is_of_session (canonical (record { subtype = s; sid = n; body = b })) ≡ false
-    by_body s n (Ver major minor class) is = refl
-    by_body s n (Attr bytes) is = refl
-    by_body s n (DringReg ident slots slot_size options count cookies) is = refl
-    by_body s n (DringUnreg ident) is = refl
-    by_body s n Ready is = refl
-    by_body s n (DringData seq ident start end state) is = absurd is
-    by_body s n (Mcast set count addresses) is = absurd is
-    by_body s n (Plain envelope) (inl is) = ap (λ (e : ℕ). is_of_session (canonical (record { subtype = s; sid = n; body = Plain e }))) is
-    by_body s n (Plain envelope) (inr is) = ap (λ (e : ℕ). is_of_session (canonical (record { subtype = s; sid = n; body = Plain e }))) is
+owed_session m short = grind arith
 
 -- what a handshake makes of a message that it takes, and of one of the session, which it doesn't take
 moves_to : (h t : Handshake) (message : Message) → GoesTo (handshake_take h message) t → t ≡ moved_by (handshake_take h message) h
@@ -337,17 +262,10 @@ says_folds role c t turns packet opens stands folds says = record {
 
 -- EACH MOVE
 begins_folds : (role : Role) (c t : EndCore) (turns : List Turn) → EndStands role c turns → EndBegins c t → EndFolds role t []
-begins_folds role c t turns stands begins = record {
-  phase = ap (λ (k : LinkState). k.phase) begins.link ∙ ap first_phase stands.link.role_is;
-  handshake = same_last role t c.offer c.handshake.last_sid [] begins.offer (ap (λ (h : Handshake). h.last_sid) begins.handshake)
-      (begins.handshake ∙ joined_down role c.offer c.handshake stands.handshake.role_is stands.handshake.offer_is);
-}
+begins_folds role c t turns stands begins = grind arith
 
 held_folds : (role : Role) (c t : EndCore) (turns : List Turn) → EndFolds role c turns → t.link.phase ≡ c.link.phase → t.handshake ≡ c.handshake → t.offer ≡ c.offer → EndFolds role t turns
-held_folds role c t turns folds link handshake offer = record {
-  phase = link ∙ folds.phase;
-  handshake = same_last role t c.offer c.handshake.last_sid turns offer (ap (λ (h : Handshake). h.last_sid) handshake) (handshake ∙ folds.handshake);
-}
+held_folds role c t turns folds link handshake offer = search
 
 folds_move : (role : Role) (c : EndCore) (move : EndMove) (t : EndCore) (turns : List Turn) → FoldsSo role c turns → EndStep role c move t → EndFolds role t (turns_after turns move)
 folds_move role c Begins t turns so step = begins_folds role c t turns so.stands step
@@ -376,6 +294,4 @@ first_folds role offer few = record { stands = fresh_end_stands role offer few; 
 
 pub folds_run : (entries : ℕ) (asks answers : Offer) (events : List CoreEvent) (s : LaneCore) → CoreFits entries asks answers
     → Run CoreStep (fresh_core entries asks answers) events s → EndsAll FoldsSo s (transcript_behind events)
-folds_run entries asks answers events s fits run =
-    ends_run FoldsSo (λ role c move t turns so step. folds_step role c move t turns so step) entries asks answers events s (first_folds Initiator asks fits.asks_fit.form.most)
-    (first_folds Responder answers fits.answers_fit.form.most) run
+folds_run entries asks answers events s fits run = search (ends_run, folds_step, first_folds)

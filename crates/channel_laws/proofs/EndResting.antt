@@ -1,7 +1,5 @@
 -- Each move of an end leaves its handshake resting on the messages that it heard.
-use Rattle.std.proofs.Common.{◌≡◌, ℕ, Bool, true, false, Option, Some, None, inl, inr, List, [], ◌∷◌, ◌++◌, refl, sym, ap, ◌∙◌, subst}
-use Rattle.std.specs.Prelude.{◌==◌, ◌&&◌, ◌||◌, if◌then◌else◌}
-use Rattle.std.proofs.lemmas.Bool.{eqb-true}
+use Rattle.std.proofs.Common.{◌≡◌, ℕ, Bool, true, false, Option, Some, None, inl, inr, List, [], ◌∷◌, ◌++◌, refl, sym, ap, ◌∙◌, subst, arith}
 use Rattle.ldc_link.specs.declared.phase.Role.{Role}
 use Rattle.ldc_link.specs.declared.phase.Role.TheVariants.{Initiator, Responder}
 use Rattle.ldc_queue.specs.Transcript.{Heard, Turn}
@@ -13,19 +11,18 @@ use Rattle.vio_handshake.specs.declared.handshake.Phase.TheVariants.{Attributes,
 use Rattle.vio_handshake.specs.declared.session.Session.{Session}
 use Rattle.vio_handshake.specs.Messages.{ack, info, nack}
 use Rattle.vio_handshake.specs.Rules.{behind_ring, owes, peer_named, handshake_sent, sid_fault}
-use Rattle.vio_handshake.specs.State.{begun, fresh_handshake, joined_handshake, session_in, session_of, handshake_up}
-use Rattle.vio_tag.specs.declared.cause.Cause.TheVariants.{Sid}
+use Rattle.vio_handshake.specs.State.{begun, fresh_handshake, joined_handshake, handshake_up}
 use Rattle.vio_tag.specs.declared.message.Message.{Message}
 use Rattle.vio_tag.specs.declared.message.MsgBody.TheVariants.{DringReg, Ver}
 use Rattle.vio_tag.specs.Form.{IsWellFormed}
 use Rattle.vio_tag.specs.Spelling.{SpellsMessage}
 use Rattle.channel_model.specs.Sayings.{heard}
 use Rattle.channel_laws.proofs.EndCases.{NoMessage, PutControl, PutMore, PutOwn, PutReady, PutHandshake, PutWhat, Rises, TookMessage, TookOwn, TookHandshake, TookWhat, end_put, end_took}
-use Rattle.channel_laws.proofs.EndStanding.{held_stands, opened_phase, stands_step}
+use Rattle.channel_laws.proofs.EndStanding.{held_stands, stands_step}
 use Rattle.channel_laws.proofs.HandshakeCases.{AttributesAgreed, AttributesAsked, AttributesRefused, Declined, OneRingAgreed, Opened, Opens, Owes, OwnReadyFollows, PeerAgreed, ReadyAgreed, ReadyAsked, ReadyFollows, RingAgreed, RingAsked, RingFollows, RingRefused, RowSent, RowTaken, VersionAgreed, VersionAsked, VersionRefused, row_sent}
 use Rattle.channel_laws.specs.EndCore.{Begins, EndCore, EndMove, Fails, Hears, Renews, Says, Stays, Waits}
-use Rattle.channel_laws.specs.EndStep.{EndBegins, EndHears, EndSays, EndStep, Holding, Holds, HoldsOn, HoldsOwed, HoldsOwn}
-use Rattle.channel_laws.specs.Grounds.{Among, OpenRests, OwnHeard, PeerHeard, RestsOn, RestsIn, VersionHeard, When, answers, has_named, knows_own, knows_peer, knows_sid, knows_version}
+use Rattle.channel_laws.specs.EndStep.{EndBegins, EndHears, EndSays, EndStep, Holding, Holds}
+use Rattle.channel_laws.specs.Grounds.{Among, OpenRests, OwnHeard, PeerHeard, RestsOn, RestsIn, VersionHeard, When, has_named, knows_own, knows_sid, knows_version}
 use Rattle.channel_laws.specs.LaneCore.{turns_after}
 use Rattle.channel_laws.specs.Standing.{EndStands}
 
@@ -63,14 +60,7 @@ when_have true P holds = holds
 when_have false P holds = tt
 
 rests_grow : (role : Role) (h : Handshake) (before now : List (List ℕ)) → Grows before now → RestsOn role h before → RestsOn role h now
-rests_grow role h before now grows rests = record {
-  role_is = rests.role_is;
-  sid = rests.sid;
-  version = when_grows (knows_version h.phase) (VersionHeard role h.offer.minor h.draft before) (VersionHeard role h.offer.minor h.draft now)
-      (version_grows role h.offer.minor h.draft before now grows) rests.version;
-  own = when_grows (knows_own role h.offer.both_rings h.phase) (OwnHeard h.draft before) (OwnHeard h.draft now) (own_grows h.draft before now grows) rests.own;
-  peer = when_grows (knows_peer role h.offer.both_rings h.phase) (PeerHeard h.draft before) (PeerHeard h.draft now) (peer_grows h.draft before now grows) rests.peer;
-}
+rests_grow role h before now grows rests = search (when_grows, version_grows, own_grows, peer_grows)
 
 -- A HANDSHAKE of this role in this phase, and one that it becomes
 at_phase : (role r : Role) (p : Phase) (h : Handshake) (now : List (List ℕ)) → RestsOn role h now → h.role ≡ r → h.phase ≡ p → RestsIn r p h now
@@ -84,23 +74,11 @@ rests_to role r h t x now rests is to behind =
 -- with the same draft, where as much is known
 same_rests : (role : Role) (p q : Phase) (h : Handshake) (owed : Option Message) (now : List (List ℕ)) → h.phase ≡ p → knows_sid q role ≡ knows_sid p role
     → knows_version q ≡ knows_version p → knows_own role h.offer.both_rings q ≡ knows_own role h.offer.both_rings p → has_named role q ≡ has_named role p → RestsOn role h now → RestsOn role (record h { phase = q; owed = owed }) now
-same_rests role p q h owed now at sid version own named rests = record {
-  role_is = rests.role_is;
-  sid = subst (λ (b : Bool). When b (h.sid ≡ Some h.draft.sid)) (ap (λ (x : Phase). knows_sid x role) at ∙ sym sid) rests.sid;
-  version = subst (λ (b : Bool). When b (VersionHeard role h.offer.minor h.draft now)) (ap knows_version at ∙ sym version) rests.version;
-  own = subst (λ (b : Bool). When b (OwnHeard h.draft now)) (ap (knows_own role h.offer.both_rings) at ∙ sym own) rests.own;
-  peer = subst (λ (b : Bool). When (b && (answers role || h.offer.both_rings)) (PeerHeard h.draft now)) (ap (has_named role) at ∙ sym named) rests.peer;
-}
+same_rests role p q h owed now at sid version own named rests = grind arith
 
 -- the sid is the one that is known
-same_sid : (b : Bool) (one other : ℕ) → (one == other) ≡ b → (if b then None else Some (Sid one other)) ≡ None → one ≡ other
-same_sid true one other test is = eqb-true one other test
-same_sid false one other test is = absurd (cc is)
-
 pub of_sid : (h : Handshake) (sid : ℕ) → sid_fault h.sid sid ≡ None → h.sid ≡ Some h.draft.sid → sid ≡ h.draft.sid
-of_sid h sid fine known =
-    let here : sid_fault (Some h.draft.sid) sid ≡ None = ap (λ (o : Option ℕ). sid_fault o sid) (sym known) ∙ fine in
-    sym (same_sid (h.draft.sid == sid) h.draft.sid sid refl here)
+of_sid h sid fine known = grind arith
 
 among_is : (message other : Message) (now : List (List ℕ)) → message ≡ other → Among message now → Among other now
 among_is message other now is among = subst (λ (x : Message). Among x now) is among
@@ -109,24 +87,7 @@ among_is message other now is among = subst (λ (x : Message). Among x now) is a
 ring_rests : (role : Role) (both : Bool) (h : Handshake) (message : Message) (owed : Message) (ident slots slot_size options count : ℕ) (cookies : List Cookie) (now : List (List ℕ))
     → h.offer.both_rings ≡ both → RestsIn role PeerRing h now → message ≡ info message.sid (DringReg ident slots slot_size options count cookies)
     → message.sid ≡ h.draft.sid → Among message now → RestsOn role (owes (behind_ring both) owed (peer_named h message.sid slots count cookies)) now
-ring_rests role both h message owed ident slots slot_size options count cookies now has rests m sid among = by_role role both has rests
-  where
-    peer : PeerHeard (peer_named h message.sid slots count cookies).draft now
-    peer = (
-      ident,
-      slot_size,
-      options,
-      among_is message (info h.draft.sid (DringReg ident slots slot_size options count cookies)) now
-          (m ∙ ap (λ n. info n (DringReg ident slots slot_size options count cookies)) sid) among,
-      sid,
-    )
-
-    by_role : (r : Role) (b : Bool) → h.offer.both_rings ≡ b → RestsIn r PeerRing h now → RestsOn r (owes (behind_ring b) owed (peer_named h message.sid slots count cookies)) now
-    by_role Initiator true is here = record { role_is = here.role_is; sid = here.sid; version = here.version; own = here.own; peer = when_have h.offer.both_rings _ peer }
-    by_role Initiator false is here = record { role_is = here.role_is; sid = here.sid; version = here.version; own = here.own; peer = when_have h.offer.both_rings _ peer }
-    by_role Responder true is here = record { role_is = here.role_is; sid = here.sid; version = here.version; own = tt; peer = peer }
-    by_role Responder false is here =
-        record { role_is = here.role_is; sid = here.sid; version = here.version; own = subst (λ (x : Bool). When x (OwnHeard h.draft now)) (sym is) tt; peer = peer }
+ring_rests role both h message owed ident slots slot_size options count cookies now has rests m sid among = grind arith
 
 -- in every phase but the first a sid is known
 knows_there : (role : Role) (p : Phase) (h : Handshake) (now : List (List ℕ)) → knows_sid p role ≡ true → RestsIn role p h now → h.sid ≡ Some h.draft.sid
@@ -263,9 +224,7 @@ begins_rests role c t turns stands begins =
     same_handshake role (joined_handshake c.handshake) t.handshake [] begins.handshake (record { role_is = stands.handshake.role_is; sid = tt; version = tt; own = tt; peer = tt })
 
 pub held_handshake : (c held : EndCore) (what : Holding) → Holds c what held → held.handshake ≡ c.handshake
-held_handshake c held HoldsOn is = ap (λ (x : EndCore). x.handshake) is
-held_handshake c held (HoldsOwed message) offers = offers.handshake
-held_handshake c held (HoldsOwn message) offers = offers.handshake
+held_handshake c held what is = grind arith
 
 hears_rests : (role : Role) (c t : EndCore) (turns : List Turn) (packet : List ℕ) (opens : Bool) → StandsResting role c turns → EndHears role c packet opens t
     → RestsOn role t.handshake (heard (Heard packet ∷ turns))
@@ -327,11 +286,5 @@ pub resting_step : (role : Role) (c : EndCore) (move : EndMove) (t : EndCore) (t
 resting_step role c move t turns all step = record { stands = stands_step role c move t turns all.stands step; rests = rests_step role c move t turns all step }
 
 -- AN OPEN SESSION
-open_session : (h : Handshake) → h.phase ≡ Open → session_of h ≡ Some h.draft
-open_session h is = ap (λ (p : Phase). session_in p h.draft) is
-
 pub open_rests : (role : Role) (c : EndCore) (turns : List Turn) → StandsResting role c turns → c.is_open ≡ true → OpenRests role c.handshake (heard turns)
-open_rests role c turns all is =
-    let at = opened_phase c.handshake.phase (sym all.stands.opened ∙ is) in
-    let here : RestsIn role Open c.handshake (heard turns) = subst (λ (p : Phase). RestsIn role p c.handshake (heard turns)) at all.rests in
-    record { is_open = open_session c.handshake at; sid = here.sid; version = here.version; own = here.own; peer = here.peer }
+open_rests role c turns all is = grind arith

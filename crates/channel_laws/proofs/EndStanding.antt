@@ -1,63 +1,51 @@
 -- Each move of an end keeps what always holds of it by itself.
 use Rattle.std.proofs.Common.{◌≡◌, ℕ, ◌≤◌, Bool, true, false, ◌||◌, Some, None, List, [], ◌∷◌, ◌++◌, length, take, drop, refl, sym, ap, ◌∙◌, subst, append_assoc, arith, length-append, length-drop}
-use Rattle.std.specs.Prelude.{◌&&◌, if◌then◌else◌, is_some, nat_eq, nat_le, nat_lt, not}
+use Rattle.std.specs.Prelude.{◌&&◌, is_some, nat_le, nat_lt, not}
 use Rattle.std.proofs.lemmas.Bool.{and_parts, leb-false, leb-true, lt-ltb, ltb-true}
 use Rattle.std.proofs.lemmas.List.{drop_all, length-take, take-append-drop}
-use Rattle.ldc_link.proofs.Coming.{clears_follow, offers_follow}
-use Rattle.ldc_link.proofs.Following.{joins_follow, takes_follow}
+use Rattle.ldc_link.proofs.Coming.{clears_follow}
+use Rattle.ldc_link.proofs.Following.{takes_follow}
 use Rattle.ldc_link.proofs.FollowingPuts.{puts_follow}
 use Rattle.ldc_link.specs.declared.phase.LinkPhase.{LinkPhase}
 use Rattle.ldc_link.specs.declared.phase.LinkPhase.TheVariants as phase
 use Rattle.ldc_link.specs.declared.phase.Role.{Role}
-use Rattle.ldc_link.specs.declared.phase.Role.TheVariants.{Initiator, Responder}
 use Rattle.ldc_link.specs.Following.{Follows}
-use Rattle.ldc_link.specs.LinkState.{LinkState, cleared, first_phase, fresh_link, is_established, is_up, offered}
+use Rattle.ldc_link.specs.LinkState.{LinkState, cleared, fresh_link, is_established, is_up, offered}
 use Rattle.ldc_link.specs.Putting.{owed_in, owes, part_owed}
 use Rattle.ldc_link.specs.Taking.{Heard, TakesBytes}
 use Rattle.ldc_queue.specs.Messages.{is_empty}
 use Rattle.ldc_queue.specs.Transcript.{Heard as Heard_, Said as Said_, Turn}
-use Rattle.ldc_packet.specs.declared.packet.Subtype.{Subtype}
-use Rattle.ldc_packet.specs.declared.packet.Subtype.TheVariants.{Info}
 use Rattle.vio_handshake.specs.declared.handshake.Handshake.{Handshake}
 use Rattle.vio_handshake.specs.declared.handshake.Phase.{Phase}
 use Rattle.vio_handshake.specs.declared.handshake.Phase.TheVariants.{Down, Open}
 use Rattle.vio_handshake.specs.declared.session.Offer.{Offer}
 use Rattle.vio_handshake.specs.declared.session.Session.{Session}
-use Rattle.vio_handshake.specs.Rules.{behind_ring, is_declined, opens_by_put, handshake_sent}
-use Rattle.vio_handshake.specs.State.{begun, fresh_handshake, joined_handshake, handshake_up}
+use Rattle.vio_handshake.specs.Rules.{is_declined, opens_by_put, handshake_sent}
+use Rattle.vio_handshake.specs.State.{begun, joined_handshake, handshake_up}
 use Rattle.vio_tag.specs.declared.message.Message.{Message}
-use Rattle.vio_tag.specs.declared.message.MsgBody.{MsgBody}
-use Rattle.vio_tag.specs.declared.message.MsgBody.TheVariants.{DringUnreg, Plain}
 use Rattle.vio_tag.specs.Spelling.{canonical}
 use Rattle.channel_model.specs.Sayings.{half_said}
-use Rattle.channel_laws.proofs.Apart.{false_is_true, none_is_some, not_open, true_is_false}
+use Rattle.channel_laws.proofs.Apart.{false_is_true, none_is_some, true_is_false}
 use Rattle.channel_laws.proofs.EndCases.{EndTook, NoMessage, PutControl, PutMore, PutOwn, PutReady, PutHandshake, PutWhat, Rises, TookOwn, TookHandshake, TookWhat, end_put, end_took, put_down}
-use Rattle.channel_laws.proofs.HandshakeCases.{AttributesAgreed, AttributesAsked, AttributesRefused, Declined, OneRingAgreed, Opened, Opens, Owes, OwnReadyFollows, PeerAgreed, ReadyAgreed, ReadyAsked, ReadyFollows, RingAgreed, RingAsked, RingFollows, RingRefused, RowSent, RowTaken, VersionAgreed, VersionAsked, VersionRefused, row_sent}
-use Rattle.channel_laws.proofs.LinkCases.{ControlHeard, ControlPut, ControlTaken, LinkHeard, ModeAnswered, ModeOffered, PartHeard, ReadyHeard, VersionAnswered, VersionOffered, behind_part, behind_ready, link_heard}
-use Rattle.channel_laws.proofs.LinkCases as link_cases
+use Rattle.channel_laws.proofs.HandshakeCases.{RowSent, RowTaken, row_sent}
+use Rattle.channel_laws.proofs.LinkCases.{ControlPut, LinkHeard, behind_part, behind_ready, link_heard}
 use Rattle.channel_laws.proofs.Short.{ComesShort, answered_short, message_comes, said_short, short_within}
 use Rattle.channel_laws.proofs.TurnCases.{SaysLast, SaysMore, SaysNothing}
 use Rattle.channel_laws.specs.Cuts.{Carries, Cuts, HoldsIts}
 use Rattle.channel_laws.specs.EndCore.{Begins, EndCore, EndMove, Fails, Hears, Renews, Says, Stays, Waits, fresh_end, holds}
 use Rattle.channel_laws.specs.EndStep.{EndBegins, EndHears, EndRenews, EndSays, EndStays, EndStep, Holding, Holds, HoldsOn, HoldsOwed, HoldsOwn, KeepsOwn}
 use Rattle.channel_laws.specs.LaneCore.{turns_after}
-use Rattle.channel_laws.specs.Standing.{EndStands, HandshakeStands, IsBelow, IsPhaseOf, IsShort, LinkStands, OwedIsShort, is_open_in}
+use Rattle.channel_laws.specs.Standing.{EndStands, HandshakeStands, IsBelow, IsPhaseOf, LinkStands, OwedIsShort, is_open_in}
 
 -- WHAT IT HOLDS
 pub holds_down : (k : LinkState) → is_up k ≡ false → holds k ≡ true → ⊥
 holds_down k down is = let up = (and_parts (is_up k) (not (is_empty k.to_send)) is).0 in true_is_false (sym up ∙ down)
 
 pub holds_none : (k : LinkState) → k.to_send ≡ [] → holds k ≡ true → ⊥
-holds_none k none is =
-    let some = (and_parts (is_up k) (not (is_empty k.to_send)) is).1 in
-    true_is_false (sym some ∙ ap (λ (xs : List ℕ). not (is_empty xs)) none)
+holds_none k none is = grind arith
 
 pub holds_some : (k : LinkState) → is_up k ≡ true → 1 ≤ length k.to_send → holds k ≡ true
-holds_some k up some = ap (λ (b : Bool). b && not (is_empty k.to_send)) up ∙ by_left k.to_send some
-  where
-    by_left : (xs : List ℕ) → 1 ≤ length xs → not (is_empty xs) ≡ true
-    by_left [] none = absurd (omega (arith, none))
-    by_left (x ∷ xs) more = refl
+holds_some k up some = grind arith
 
 none_owed : (k : LinkState) (left : List ℕ) → is_some (part_owed k left) ≡ false → left ≡ []
 none_owed k [] is = refl
@@ -77,40 +65,12 @@ opened_phase _ is = false_is_true is
 -- an end of these parts
 pub stands_as : (role : Role) (c t : EndCore) (k : LinkState) (h : Handshake) (turns : List Turn) → t.link ≡ k → t.handshake ≡ h → t.offer ≡ c.offer → LinkStands role k turns
     → HandshakeStands role c.offer h → t.is_open ≡ is_open_in h.phase → t.more ≤ 256 → (is_up k ≡ false → IsBelow k h turns) → HoldsIts t.own k h turns → EndStands role t turns
-stands_as role c t k h turns link handshake offer link_stands handshake_stands opened more below carries = record {
-  link = subst (λ (x : LinkState). LinkStands role x turns) (sym link) link_stands;
-  handshake = subst (λ (o : Offer). HandshakeStands role o t.handshake) (sym offer) (subst (HandshakeStands role c.offer) (sym handshake) handshake_stands);
-  opened = opened ∙ ap (λ (x : Handshake). is_open_in x.phase) (sym handshake);
-  more = more;
-  below = subst (λ (x : LinkState). is_up x ≡ false → IsBelow x t.handshake turns) (sym link)
-      (subst (λ (x : Handshake). is_up k ≡ false → IsBelow k x turns) (sym handshake) below);
-  carries = subst (λ (x : LinkState). HoldsIts t.own x t.handshake turns) (sym link)
-      (subst (λ (x : Handshake). HoldsIts t.own k x turns) (sym handshake) carries);
-}
+stands_as role c t k h turns link handshake offer link_stands handshake_stands opened more below carries = grind arith
 
 -- IT BEGINS
-first_of : (role : Role) → IsPhaseOf role (first_phase role)
-first_of Initiator = tt
-first_of Responder = tt
-
-pub first_down : (role : Role) → is_established (first_phase role) ≡ false
-first_down Initiator = refl
-first_down Responder = refl
-
-fresh_stands : (role : Role) → LinkStands role (fresh_link role) []
-fresh_stands role = record {
-  role_is = refl;
-  of_role = first_of role;
-  follows = joins_follow (fresh_link role);
-  seen = refl;
-  cuts = record { begun = refl; most = omega arith; free = λ none. refl };
-}
-
 anew_stands : (role : Role) (c t : EndCore) (h : Handshake) → t.link ≡ fresh_link role → t.handshake ≡ h → t.offer ≡ c.offer → t.is_open ≡ false → t.more ≡ 0 → h.phase ≡ Down
     → h.owed ≡ None → HandshakeStands role c.offer h → EndStands role t []
-anew_stands role c t h link handshake offer closed more down owed stands =
-    stands_as role c t (fresh_link role) h [] link handshake offer (fresh_stands role) stands (closed ∙ sym (ap is_open_in down)) (omega (arith, more))
-    (λ below. record { left = refl; owed = owed; down = down; said_none = refl; heard_none = refl }) (λ is. absurd (holds_down (fresh_link role) (first_down role) is))
+anew_stands role c t h link handshake offer closed more down owed stands = grind arith
 
 begins_stands : (role : Role) (c t : EndCore) (turns : List Turn) → EndStands role c turns → EndBegins c t → EndStands role t []
 begins_stands role c t turns stands begins =
@@ -118,23 +78,14 @@ begins_stands role c t turns stands begins =
     (record { role_is = stands.handshake.role_is; offer_is = stands.handshake.offer_is; few = stands.handshake.few; owed = tt })
 
 renews_stands : (role : Role) (c t : EndCore) (turns : List Turn) → EndStands role c turns → EndRenews role c t → EndStands role t []
-renews_stands Initiator c t turns stands renews =
-    anew_stands Initiator c t (joined_handshake c.handshake) renews.link renews.handshake renews.offer renews.closed renews.more refl refl
-    (record { role_is = stands.handshake.role_is; offer_is = stands.handshake.offer_is; few = stands.handshake.few; owed = tt })
-renews_stands Responder c t turns stands renews =
-    anew_stands Responder c t (fresh_handshake Responder c.offer) renews.link renews.handshake renews.offer renews.closed renews.more refl refl
-    (record { role_is = refl; offer_is = refl; few = stands.handshake.few; owed = tt })
+renews_stands role c t turns stands renews = grind arith
 
 pub fresh_end_stands : (role : Role) (offer : Offer) → offer.count ≤ 14 → EndStands role (fresh_end role offer) []
-fresh_end_stands role offer few =
-    anew_stands role (fresh_end role offer) (fresh_end role offer) (fresh_handshake role offer) refl refl refl refl refl refl refl
-    (record { role_is = refl; offer_is = refl; few = few; owed = tt })
+fresh_end_stands role offer few = grind arith
 
 -- IT GOES ON
 stays_stands : (role : Role) (c t : EndCore) (turns : List Turn) → EndStands role c turns → EndStays c t → EndStands role t turns
-stays_stands role c t turns stands stays =
-    stands_as role c t c.link c.handshake turns stays.link stays.handshake stays.offer stands.link stands.handshake (stays.is_open ∙ stands.opened) (omega (arith, stays.more, stands.more)) stands.below
-    (subst (λ (b : Bool). HoldsIts b c.link c.handshake turns) (sym stays.own) stands.carries)
+stays_stands role c t turns stands stays = grind arith
 
 -- IT HOLDS a message: its link is up, and held nothing
 up_unless : (b : Bool) → (b ≡ false → ⊥) → b ≡ true
@@ -146,30 +97,12 @@ owing_up role c turns message stands owed =
     up_unless (is_up c.link) (λ down. none_is_some (sym (stands.below down).owed ∙ owed))
 
 pub open_up : (role : Role) (c : EndCore) (turns : List Turn) → EndStands role c turns → c.is_open ≡ true → is_up c.link ≡ true
-open_up role c turns stands opened =
-    up_unless (is_up c.link)
-    (λ down. true_is_false (sym opened ∙ stands.opened ∙ ap is_open_in (stands.below down).down))
-
-offered_link : (role : Role) (k : LinkState) (turns : List Turn) (message : List ℕ) → k.to_send ≡ [] → length message ≤ 256 → LinkStands role k turns → LinkStands role (offered message k) turns
-offered_link role k turns message none long stands =
-    let half : half_said turns ≡ [] = stands.cuts.free none in
-    record {
-      role_is = stands.role_is;
-      of_role = stands.of_role;
-      follows = offers_follow k turns message stands.follows;
-      seen = stands.seen;
-      cuts = record { begun = ap (λ (xs : List ℕ). not (is_empty xs)) (sym half); most = omega (arith, ap length half, long); free = λ still. half };
-    }
+open_up role c turns stands opened = grind arith
 
 offered_stands : (role : Role) (c held : EndCore) (turns : List Turn) (message : Message) → EndStands role c turns → is_up c.link ≡ true → owes c.link ≡ false
     → length (canonical message) ≤ 256 → held.link ≡ offered (canonical message) c.link → held.handshake ≡ c.handshake → held.offer ≡ c.offer → held.is_open ≡ c.is_open
     → held.more ≤ c.more → (holds held.link ≡ true → Carries held.own c.handshake (canonical message)) → EndStands role held turns
-offered_stands role c held turns message stands up quiet long link handshake offer is_open more carries =
-    let none = up_empty c.link up quiet in
-    let half : half_said turns ≡ [] = stands.link.cuts.free none in
-    stands_as role c held (offered (canonical message) c.link) c.handshake turns link handshake offer (offered_link role c.link turns (canonical message) none long stands.link)
-    stands.handshake (is_open ∙ stands.opened) (omega (arith, more, stands.more)) (λ down. true_is_false (sym up ∙ down))
-    (λ is. subst (Carries held.own c.handshake) (ap (λ (xs : List ℕ). xs ++ canonical message) (sym half)) (carries (ap holds link ∙ is)))
+offered_stands role c held turns message stands up quiet long link handshake offer is_open more carries = grind arith
 
 pub held_stands : (role : Role) (c held : EndCore) (turns : List Turn) (what : Holding) → EndStands role c turns → Holds c what held → EndStands role held turns
 held_stands role c held turns HoldsOn stands is = subst (λ (x : EndCore). EndStands role x turns) (sym is) stands
@@ -188,12 +121,7 @@ pub record SameSending (k m : LinkState) : Type 0 where
   pub role : m.role ≡ k.role
 
 pub heard_sending : (k m : LinkState) (bytes : List ℕ) → LinkHeard k bytes m → SameSending k m
-heard_sending k m bytes (ControlHeard next taken is) =
-    record { left = ap (λ (x : LinkState). x.to_send) is; begun = ap (λ (x : LinkState). x.begun) is; role = ap (λ (x : LinkState). x.role) is }
-heard_sending k m bytes (ReadyHeard at packet number is) =
-    record { left = ap (λ (x : LinkState). x.to_send) is; begun = ap (λ (x : LinkState). x.begun) is; role = ap (λ (x : LinkState). x.role) is }
-heard_sending k m bytes (PartHeard at part may number is) =
-    record { left = ap (λ (x : LinkState). x.to_send) is; begun = ap (λ (x : LinkState). x.begun) is; role = ap (λ (x : LinkState). x.role) is }
+heard_sending k m bytes heard = grind arith
 
 pub heard_leaves : (k m : LinkState) (bytes : List ℕ) → TakesBytes k bytes (Heard m) → SameSending k m
 heard_leaves k m bytes takes = heard_sending k m bytes (link_heard k m bytes takes)
@@ -203,32 +131,11 @@ hears_sending role c t packet opens hears =
     let same = heard_leaves c.link hears.heard packet hears.takes in
     subst (SameSending c.link) (sym hears.link) (record { left = same.left; begun = same.begun; role = same.role })
 
-by_answer : (b c : Bool) → IsPhaseOf Responder (if b then phase.OwesVersAck else if c then phase.OwesVersNack 0 else phase.OwesVersNack 1)
-by_answer true c = tt
-by_answer false true = tt
-by_answer false false = tt
-
-taken_of : (role : Role) (before next : LinkPhase) (bytes : List ℕ) → IsPhaseOf role before → ControlTaken before bytes next → IsPhaseOf role next
-taken_of Initiator before next bytes of (link_cases.VersionAsked major minor at packet goes) = absurd (subst (IsPhaseOf Initiator) at of)
-taken_of Responder before next bytes of (link_cases.VersionAsked major minor at packet goes) = subst (IsPhaseOf Responder) (sym goes) (by_answer (nat_eq major 1) (nat_eq major 0))
-taken_of Initiator before next bytes of (link_cases.VersionAgreed at packet goes) = subst (IsPhaseOf Initiator) (sym goes) tt
-taken_of Responder before next bytes of (link_cases.VersionAgreed at packet goes) = absurd (subst (IsPhaseOf Responder) at of)
-taken_of Initiator before next bytes of (link_cases.ModeAsked at packet goes) = absurd (subst (IsPhaseOf Initiator) at of)
-taken_of Responder before next bytes of (link_cases.ModeAsked at packet goes) = subst (IsPhaseOf Responder) (sym goes) tt
-taken_of Initiator before next bytes of (link_cases.ModeAgreed at packet goes) = subst (IsPhaseOf Initiator) (sym goes) tt
-taken_of Responder before next bytes of (link_cases.ModeAgreed at packet goes) = absurd (subst (IsPhaseOf Responder) at of)
-
 up_of : (role : Role) (m : LinkState) → m.phase ≡ phase.Established → IsPhaseOf role m.phase
-up_of role m is = subst (IsPhaseOf role) (sym is) (every role)
-  where
-    every : (r : Role) → IsPhaseOf r phase.Established
-    every Initiator = tt
-    every Responder = tt
+up_of role m is = grind arith
 
 pub heard_of : (role : Role) (k m : LinkState) (bytes : List ℕ) → IsPhaseOf role k.phase → LinkHeard k bytes m → IsPhaseOf role m.phase
-heard_of role k m bytes of (ControlHeard next taken is) = subst (IsPhaseOf role) (sym (ap (λ (x : LinkState). x.phase) is)) (taken_of role k.phase next bytes of taken)
-heard_of role k m bytes of (ReadyHeard at packet number is) = up_of role m (ap (λ (x : LinkState). x.phase) is)
-heard_of role k m bytes of (PartHeard at part may number is) = up_of role m (ap (λ (x : LinkState). x.phase) is ∙ at)
+heard_of role k m bytes of heard = grind arith
 
 heard_link : (role : Role) (k m : LinkState) (turns : List Turn) (bytes : List ℕ) → TakesBytes k bytes (Heard m) → LinkHeard k bytes m → LinkStands role k turns
     → LinkStands role (cleared m) (Heard_ bytes ∷ turns)
@@ -247,109 +154,27 @@ heard_link role k m turns bytes takes how stands =
     }
 
 -- A HANDSHAKE after a message that it took, and once its message was put
-open_stays : (p q : Phase) (opens : Bool) → opens ≡ false → is_open_in p ≡ false → is_open_in q ≡ false → is_open_in q ≡ (opens || is_open_in p)
-open_stays p q opens not before now = now ∙ sym (ap (λ (b : Bool). b || is_open_in p) not ∙ before)
-
-behind_closed : (both : Bool) → is_open_in (behind_ring both) ≡ false
-behind_closed true = refl
-behind_closed false = refl
-
 pub record HandshakeGoes (role : Role) (offer : Offer) (h t : Handshake) (opens : Bool) : Type 0 where
   pub stands : HandshakeStands role offer t
   pub opened : is_open_in t.phase ≡ (opens || is_open_in h.phase)
-
-goes_as : (role : Role) (offer : Offer) (h t x : Handshake) (opens : Bool) → t ≡ x → x.role ≡ h.role → x.offer ≡ h.offer → OwedIsShort x.owed → opens ≡ false
-    → is_open_in h.phase ≡ false → is_open_in x.phase ≡ false → HandshakeStands role offer h → HandshakeGoes role offer h t opens
-goes_as role offer h t x opens is role_is offer_is owed not before now stands =
-    subst (λ (y : Handshake). HandshakeGoes role offer h y opens) (sym is) (record {
-      stands = record { role_is = role_is ∙ stands.role_is; offer_is = offer_is ∙ stands.offer_is; few = stands.few; owed = owed };
-      opened = open_stays h.phase x.phase opens not before now;
-    })
-
-declined_short : (subtype : Subtype) (body : MsgBody) → ComesShort body → is_declined subtype body ≡ true → IsShort body
-declined_short Info (DringUnreg ident) comes test = tt
-declined_short Info (Plain envelope) comes test = comes
-declined_short subtype body comes test = false_is_true test
 
 pub few_offered : (role : Role) (offer : Offer) (h : Handshake) → HandshakeStands role offer h → h.offer.count ≤ 14
 few_offered role offer h stands = omega (arith, ap (λ (o : Offer). o.count) stands.offer_is, stands.few)
 
 pub row_goes : (role : Role) (offer : Offer) (h t : Handshake) (message : Message) (opens : Bool) → ComesShort message.body → HandshakeStands role offer h → RowTaken h message t opens
     → HandshakeGoes role offer h t opens
-row_goes role offer h t message opens comes stands (Declined test is not) =
-    subst (λ (y : Handshake). HandshakeGoes role offer h y opens) (sym is) (record {
-      stands = record { role_is = stands.role_is; offer_is = stands.offer_is; few = stands.few; owed = declined_short message.subtype message.body comes test };
-      opened = sym (ap (λ (b : Bool). b || is_open_in h.phase) not);
-    })
-row_goes role offer h t message opens comes stands (VersionAgreed minor class r at m low is not) =
-    goes_as role offer h t _ opens is refl refl (said_short h.offer minor) not (ap is_open_in at) refl stands
-row_goes role offer h t message opens comes stands (VersionAsked minor class r at m is not) = goes_as role offer h t _ opens is refl refl tt not (ap is_open_in at) refl stands
-row_goes role offer h t message opens comes stands (VersionRefused major minor class other low r at m is not) =
-    goes_as role offer h t _ opens is refl refl tt not (ap is_open_in at) refl stands
-row_goes role offer h t message opens comes stands (AttributesAgreed bytes r at m test is not) =
-    goes_as role offer h t _ opens is refl refl (few_offered role offer h stands) not (ap is_open_in at) refl stands
-row_goes role offer h t message opens comes stands (AttributesAsked bytes r at m test is not) =
-    goes_as role offer h t _ opens is refl refl (answered_short h.offer h.draft.minor bytes) not (ap is_open_in at) refl stands
-row_goes role offer h t message opens comes stands (AttributesRefused bytes r at m is not) =
-    goes_as role offer h t _ opens is refl refl (subst ComesShort (ap (λ (x : Message). x.body) m) comes) not (ap is_open_in at) refl stands
-row_goes role offer h t message opens comes stands (RingAgreed ident slots slot_size options count cookies r at both m is not) =
-    goes_as role offer h t _ opens is refl refl stands.owed not (ap is_open_in at) refl stands
-row_goes role offer h t message opens comes stands (OneRingAgreed ident slots slot_size options count cookies r at one m is not) =
-    goes_as role offer h t _ opens is refl refl tt not (ap is_open_in at) refl stands
-row_goes role offer h t message opens comes stands (PeerAgreed ident slots slot_size options count cookies r at m is not) =
-    goes_as role offer h t _ opens is refl refl stands.owed not (ap is_open_in at) refl stands
-row_goes role offer h t message opens comes stands (RingAsked ident slots slot_size options count cookies at m test is not) =
-    goes_as role offer h t _ opens is refl refl (subst ComesShort (ap (λ (x : Message). x.body) m) comes) not (ap is_open_in at) (behind_closed h.offer.both_rings) stands
-row_goes role offer h t message opens comes stands (RingRefused ident slots slot_size options count cookies at m is not) =
-    goes_as role offer h t _ opens is refl refl (subst ComesShort (ap (λ (x : Message). x.body) m) comes) not (ap is_open_in at) refl stands
-row_goes role offer h t message opens comes stands (ReadyAgreed r at m is not) = goes_as role offer h t _ opens is refl refl stands.owed not (ap is_open_in at) refl stands
-row_goes role offer h t message opens comes stands (ReadyAsked at m is not) = goes_as role offer h t _ opens is refl refl tt not (ap is_open_in at) refl stands
-row_goes role offer h t message opens comes stands (Opened r at m is now) =
-    subst (λ (y : Handshake). HandshakeGoes role offer h y opens) (sym is) (record {
-      stands = record { role_is = stands.role_is; offer_is = stands.offer_is; few = stands.few; owed = stands.owed };
-      opened = sym (ap (λ (b : Bool). b || is_open_in h.phase) now);
-    })
+row_goes role offer h t message opens comes stands taken = grind (arith, said_short, answered_short)
 
 pub sent_goes : (role : Role) (offer : Offer) (h t : Handshake) (opens : Bool) → HandshakeStands role offer h → RowSent h t opens → HandshakeGoes role offer h t opens
-sent_goes role offer h t opens stands (ReadyFollows r at is not) = goes_as role offer h t _ opens is refl refl tt not (ap is_open_in at) refl stands
-sent_goes role offer h t opens stands (RingFollows r at is not) = goes_as role offer h t _ opens is refl refl (few_offered role offer h stands) not (ap is_open_in at) refl stands
-sent_goes role offer h t opens stands (OwnReadyFollows r at is not) = goes_as role offer h t _ opens is refl refl tt not (ap is_open_in at) refl stands
-sent_goes role offer h t opens stands (Opens r at is now) =
-    subst (λ (y : Handshake). HandshakeGoes role offer h y opens) (sym is) (record {
-      stands = record { role_is = stands.role_is; offer_is = stands.offer_is; few = stands.few; owed = tt };
-      opened = sym (ap (λ (b : Bool). b || is_open_in h.phase) now);
-    })
-sent_goes role offer h t opens stands (Owes follows is not) =
-    subst (λ (y : Handshake). HandshakeGoes role offer h y opens) (sym is) (record {
-      stands = record { role_is = stands.role_is; offer_is = stands.offer_is; few = stands.few; owed = tt };
-      opened = sym (ap (λ (b : Bool). b || is_open_in h.phase) not);
-    })
+sent_goes role offer h t opens stands sent = grind arith
 
 pub up_stands : (role : Role) (offer : Offer) (h : Handshake) → HandshakeStands role offer h → HandshakeStands role offer (handshake_up h) × (is_open_in (handshake_up h).phase ≡ false)
-up_stands role offer h stands = by_role h.role
-  where
-    by_role : (r : Role) → HandshakeStands role offer (begun r (joined_handshake h)) × (is_open_in (begun r (joined_handshake h)).phase ≡ false)
-    by_role Initiator = (record { role_is = stands.role_is; offer_is = stands.offer_is; few = stands.few; owed = tt }, refl)
-    by_role Responder = (record { role_is = stands.role_is; offer_is = stands.offer_is; few = stands.few; owed = tt }, refl)
+up_stands role offer h stands = grind arith
 
 -- in an open session it takes nothing but what it declines
 pub open_declines : (h t : Handshake) (message : Message) (opens : Bool) → h.phase ≡ Open → RowTaken h message t opens
     → (t ≡ record h { owed = t.owed }) × (opens ≡ false) × (is_declined message.subtype message.body ≡ true)
-open_declines h t message opens up (Declined test is not) = (is ∙ ap (λ o. record h { owed = o }) (sym (ap (λ (x : Handshake). x.owed) is)), not, test)
-open_declines h t message opens up (VersionAgreed minor class r at m low is not) = not_open (sym up ∙ at) refl
-open_declines h t message opens up (VersionAsked minor class r at m is not) = not_open (sym up ∙ at) refl
-open_declines h t message opens up (VersionRefused major minor class other low r at m is not) = not_open (sym up ∙ at) refl
-open_declines h t message opens up (AttributesAgreed bytes r at m test is not) = not_open (sym up ∙ at) refl
-open_declines h t message opens up (AttributesAsked bytes r at m test is not) = not_open (sym up ∙ at) refl
-open_declines h t message opens up (AttributesRefused bytes r at m is not) = not_open (sym up ∙ at) refl
-open_declines h t message opens up (RingAgreed ident slots slot_size options count cookies r at both m is not) = not_open (sym up ∙ at) refl
-open_declines h t message opens up (OneRingAgreed ident slots slot_size options count cookies r at one m is not) = not_open (sym up ∙ at) refl
-open_declines h t message opens up (PeerAgreed ident slots slot_size options count cookies r at m is not) = not_open (sym up ∙ at) refl
-open_declines h t message opens up (RingAsked ident slots slot_size options count cookies at m test is not) = not_open (sym up ∙ at) refl
-open_declines h t message opens up (RingRefused ident slots slot_size options count cookies at m is not) = not_open (sym up ∙ at) refl
-open_declines h t message opens up (ReadyAgreed r at m is not) = not_open (sym up ∙ at) refl
-open_declines h t message opens up (ReadyAsked at m is not) = not_open (sym up ∙ at) refl
-open_declines h t message opens up (Opened r at m is now) = not_open (sym up ∙ at) refl
+open_declines h t message opens up taken = grind arith
 
 -- IT HEARS a packet
 -- while the handshake owes nothing the message is one of the session, of the same sid
@@ -369,10 +194,7 @@ keeps_holding k m left up is = ap (λ (b : Bool). b && not (is_empty k.to_send))
 -- what it holds stays, where its handshake stays
 same_carries : (c t : EndCore) (now : LinkState) (turns : List Turn) (packet : List ℕ) → SameSending c.link now → is_up now ≡ is_up c.link → KeepsOwn c t → t.link ≡ cleared now
     → HoldsIts c.own c.link c.handshake turns → HoldsIts t.own (cleared now) c.handshake (Heard_ packet ∷ turns)
-same_carries c t now turns packet same up keeps link carries is =
-    let was : holds c.link ≡ true = keeps_holding c.link now same.left up is in
-    subst (λ (xs : List ℕ). Carries t.own c.handshake (half_said turns ++ xs)) (sym same.left)
-    (subst (λ (b : Bool). Carries b c.handshake (half_said turns ++ c.link.to_send)) (sym (keeps was (ap holds link ∙ is))) (carries was))
+same_carries c t now turns packet same up keeps link carries is = grind arith
 
 hears_stands : (role : Role) (c t : EndCore) (turns : List Turn) (packet : List ℕ) (opens : Bool) → EndStands role c turns → EndHears role c packet opens t
     → EndStands role t (Heard_ packet ∷ turns)
@@ -433,11 +255,7 @@ hears_stands role c t turns packet opens stands hears = by_what took.what
 -- IT SAYS a packet: what was said of its message and what is left of it
 quiet_cuts : (k m : LinkState) (turns : List Turn) (packet : List ℕ) → m.to_send ≡ k.to_send → m.begun ≡ k.begun → SaysNothing turns packet → Cuts k turns
     → Cuts m (Said_ packet ∷ turns)
-quiet_cuts k m turns packet left begun quiet cuts = record {
-  begun = begun ∙ cuts.begun ∙ ap (λ (xs : List ℕ). not (is_empty xs)) (sym quiet.half);
-  most = omega (arith, ap length left, ap length quiet.half, cuts.most);
-  free = λ none. quiet.half ∙ cuts.free (sym left ∙ none);
-}
+quiet_cuts k m turns packet left begun quiet cuts = grind arith
 
 some_more : (half part : List ℕ) → 1 ≤ length part → not (is_empty (half ++ part)) ≡ true
 some_more [] [] some = absurd (omega (arith, some))
@@ -471,16 +289,7 @@ last_cuts k turns packet last =
     }
 
 put_of : (role : Role) (before next : LinkPhase) (bytes : List ℕ) → IsPhaseOf role before → ControlPut before bytes next → IsPhaseOf role next
-put_of Initiator before next bytes of (VersionOffered at is goes) = subst (IsPhaseOf Initiator) (sym goes) tt
-put_of Responder before next bytes of (VersionOffered at is goes) = absurd (subst (IsPhaseOf Responder) at of)
-put_of Initiator before next bytes of (VersionAnswered at is goes) = absurd (subst (IsPhaseOf Initiator) at of)
-put_of Responder before next bytes of (VersionAnswered at is goes) = subst (IsPhaseOf Responder) (sym goes) tt
-put_of Initiator before next bytes of (link_cases.VersionRefused major at is goes) = absurd (subst (IsPhaseOf Initiator) at of)
-put_of Responder before next bytes of (link_cases.VersionRefused major at is goes) = subst (IsPhaseOf Responder) (sym goes) tt
-put_of Initiator before next bytes of (ModeOffered at is goes) = subst (IsPhaseOf Initiator) (sym goes) tt
-put_of Responder before next bytes of (ModeOffered at is goes) = absurd (subst (IsPhaseOf Responder) at of)
-put_of Initiator before next bytes of (ModeAnswered at is goes) = absurd (subst (IsPhaseOf Initiator) at of)
-put_of Responder before next bytes of (ModeAnswered at is goes) = subst (IsPhaseOf Responder) (sym goes) tt
+put_of role before next bytes of put = grind arith
 
 some_left : (n : ℕ) → nat_le n 56 ≡ false → 1 ≤ n
 some_left n long = omega (arith, leb-false n 56 long)

@@ -1,12 +1,11 @@
 -- Each move of an end leaves what it said as its handshake has it.
-use Rattle.std.proofs.Common.{◌≡◌, ◌<◌, ◌≤◌, min, ℕ, Bool, true, false, Option, Some, None, List, [], ◌∷◌, ◌++◌, refl, sym, ap, ◌∙◌, subst, arith}
+use Rattle.std.proofs.Common.{◌≡◌, ◌≤◌, min, ℕ, Bool, true, false, Option, Some, None, List, [], ◌∷◌, ◌++◌, refl, sym, ap, ◌∙◌, subst, arith}
 use Rattle.runs.specs.Run.{Run}
 use Rattle.ldc_link.specs.declared.phase.LinkPhase.TheVariants as phase
 use Rattle.ldc_link.specs.declared.phase.Role.{Role}
 use Rattle.ldc_link.specs.declared.phase.Role.TheVariants.{Initiator, Responder}
 use Rattle.ldc_link.specs.LinkState.{is_established}
 use Rattle.ldc_packet.specs.declared.packet.Subtype.{Subtype}
-use Rattle.ldc_packet.specs.declared.packet.Subtype.TheVariants.{Ack, Info, Nack}
 use Rattle.ldc_queue.specs.OneStream.{IsFront}
 use Rattle.ldc_queue.specs.Transcript.{Said, Turn}
 use Rattle.map_table.specs.declared.cookie.Cookie.{Cookie}
@@ -17,16 +16,16 @@ use Rattle.vio_handshake.specs.declared.handshake.Phase.TheVariants.{Attributes,
 use Rattle.vio_handshake.specs.declared.session.Offer.{Offer}
 use Rattle.vio_handshake.specs.Messages.{ack, info, nack, own_ring}
 use Rattle.vio_handshake.specs.Rules.{agrees_minor, behind_ring, knows, owes, own_named, peer_named, refuses_version, handshake_sent}
-use Rattle.vio_handshake.specs.State.{begun, fresh_handshake, joined_handshake, handshake_up}
+use Rattle.vio_handshake.specs.State.{begun, joined_handshake, handshake_up}
 use Rattle.vio_tag.specs.declared.message.Message.{Message}
 use Rattle.vio_tag.specs.declared.message.MsgBody.{MsgBody}
-use Rattle.vio_tag.specs.declared.message.MsgBody.TheVariants.{Attr, DringData, DringReg, Mcast, Rdx, Ver}
+use Rattle.vio_tag.specs.declared.message.MsgBody.TheVariants.{Attr, DringReg, Rdx, Ver}
 use Rattle.channel_model.specs.Sayings.{half_said, said}
 use Rattle.channel_laws.proofs.Apart.{false_is_true, not_taken}
 use Rattle.channel_laws.proofs.EndCases.{EndTook, NoMessage, PutControl, PutMore, PutOwn, PutReady, PutHandshake, PutWhat, Rises, TookOwn, TookHandshake, TookWhat, end_put, end_took}
 use Rattle.channel_laws.proofs.EndResting.{StandsResting, held_handshake, of_sid, resting_step}
 use Rattle.channel_laws.proofs.EndStanding.{fresh_end_stands, held_stands, holds_some}
-use Rattle.channel_laws.proofs.HandshakeCases.{AttributesAgreed, AttributesAsked, AttributesRefused, Declined, OneRingAgreed, Opened, Opens, Owes, OwnReadyFollows, PeerAgreed, ReadyAgreed, ReadyAsked, ReadyFollows, RingAgreed, RingAsked, RingFollows, RingRefused, RowSent, RowTaken, VersionAgreed, VersionAsked, VersionRefused, row_sent}
+use Rattle.channel_laws.proofs.HandshakeCases.{AttributesAgreed, AttributesAsked, AttributesRefused, Declined, OneRingAgreed, Opened, PeerAgreed, ReadyAgreed, ReadyAsked, RingAgreed, RingAsked, RingRefused, RowSent, RowTaken, VersionAgreed, VersionAsked, VersionRefused, row_sent}
 use Rattle.channel_laws.proofs.Lifting.{EndsAll, ends_run}
 use Rattle.channel_laws.proofs.TurnCases.{SaysLast}
 use Rattle.channel_laws.specs.Cuts.{Carries}
@@ -35,7 +34,7 @@ use Rattle.channel_laws.specs.EndStep.{EndHears, EndSays, EndStep, IsOfSession}
 use Rattle.channel_laws.specs.Grounds.{When, has_named, knows_sid, knows_version}
 use Rattle.channel_laws.specs.LaneCore.{CoreEvent, CoreFits, CoreStep, LaneCore, fresh_core, transcript_behind, turns_after}
 use Rattle.channel_laws.specs.Standing.{EndStands}
-use Rattle.channel_laws.specs.Utterances.{Only, OwesSo, SaysByPhase, SaysBody, SaysBytes, SaysEach, SaysSid, Utters}
+use Rattle.channel_laws.specs.Utterances.{OwesSo, SaysByPhase, SaysBody, SaysBytes, SaysEach, SaysSid, Utters}
 
 -- WHAT A MESSAGE that was said may speak of stays
 record KeepsWords (role : Role) (h t : Handshake) : Type 0 where
@@ -50,24 +49,13 @@ when_keeps b true x m n keeps is =
     let known = keeps refl in
     let here : x ≡ m = subst (λ (d : Bool). When d (x ≡ m)) known.0 is in here ∙ sym known.1
 
-only_keeps : (b c : Bool) (x m n : ℕ) → (b ≡ true → (c ≡ true) × (n ≡ m)) → Only b (x ≡ m) → Only c (x ≡ n)
-only_keeps false c x m n keeps is = absurd is
-only_keeps true c x m n keeps is = let known = keeps refl in subst (λ (d : Bool). Only d (x ≡ n)) (sym known.0) (is ∙ sym known.1)
-
 sid_keeps : (role : Role) (h t : Handshake) (sid : ℕ) → KeepsWords role h t → SaysSid role h.phase h.draft sid → SaysSid role t.phase t.draft sid
 sid_keeps Initiator h t sid keeps says = when_keeps (knows_sid h.phase Initiator) (knows_sid t.phase Initiator) sid h.draft.sid t.draft.sid (keeps.sid refl) says
 sid_keeps Responder h t sid keeps says = tt
 
 body_keeps : (role : Role) (h t : Handshake) (subtype : Subtype) (body : MsgBody) → KeepsWords role h t → SaysBody role h.phase h.offer h.draft subtype body
     → SaysBody role t.phase t.offer t.draft subtype body
-body_keeps Initiator h t Info (Ver major minor class) keeps says = subst (λ (o : Offer). Ver major minor class ≡ Ver 1 o.minor o.class) (sym keeps.offer) says
-body_keeps Responder h t Ack (Ver major minor class) keeps says =
-    only_keeps (knows_version h.phase) (knows_version t.phase) minor h.draft.minor t.draft.minor (keeps.minor refl) says
-body_keeps role h t Info (DringReg ident slots slot_size options count cookies) keeps says =
-    subst (λ (o : Offer). SaysBody role t.phase o t.draft Info (DringReg ident slots slot_size options count cookies)) (sym keeps.offer) says
-body_keeps role h t Ack (DringReg ident slots slot_size options count cookies) keeps says =
-    only_keeps (has_named role h.phase) (has_named role t.phase) ident h.draft.ident_peer t.draft.ident_peer keeps.ident says
-body_keeps role h t subtype body keeps says = tt
+body_keeps role h t subtype body keeps says = grind arith
 
 says_keep : (role : Role) (h t : Handshake) (message : Message) → KeepsWords role h t → SaysByPhase role h.phase h.offer h.draft message → SaysByPhase role t.phase t.offer t.draft message
 says_keep role h t message keeps says = (sid_keeps role h t message.sid keeps says.0, body_keeps role h t message.subtype message.body keeps says.1)
@@ -94,12 +82,7 @@ record GoesBehind (role : Role) (h t : Handshake) : Type 0 where
   taken : t.phase ≡ PeerRingTaken → t.offer.both_rings ≡ true
 
 utters_behind : (role : Role) (h t : Handshake) (messages : List (List ℕ)) → GoesBehind role h t → Utters role h messages → Utters role t messages
-utters_behind role h t messages goes utters = record {
-  said = each_keep role h t messages goes.keeps utters.said;
-  owed = goes.owed;
-  small = λ is now. let known = goes.keeps.sid is now in subst (λ (n : ℕ). n < 4294967296) (sym known.1) (utters.small is known.0);
-  taken = goes.taken;
-}
+utters_behind role h t messages goes utters = grind (arith, each_keep)
 
 goes_to : (role : Role) (h t x : Handshake) → t ≡ x → GoesBehind role h x → GoesBehind role h t
 goes_to role h t x is goes = subst (GoesBehind role h) (sym is) goes
@@ -107,21 +90,11 @@ goes_to role h t x is goes = subst (GoesBehind role h) (sym is) goes
 -- the same draft and offer in a phase that knows as much
 same_words : (role : Role) (p q : Phase) (h : Handshake) (owed : Option Message) → h.phase ≡ p → (role ≡ Initiator → knows_sid q Initiator ≡ true → knows_sid p Initiator ≡ true)
     → (knows_version p ≡ true → knows_version q ≡ true) → (has_named role p ≡ true → has_named role q ≡ true) → KeepsWords role h (record h { phase = q; owed = owed })
-same_words role p q h owed at sid minor ident = record {
-  offer = refl;
-  sid = λ is now. (ap (λ (x : Phase). knows_sid x Initiator) at ∙ sid is now, refl);
-  minor = λ is known. (minor (sym (ap knows_version at) ∙ known), refl);
-  ident = λ known. (ident (sym (ap (has_named role) at) ∙ known), refl);
-}
+same_words role p q h owed at sid minor ident = grind arith
 
 -- one of the roles has the sid of the message that it answers
 sid_said : (role : Role) (h : Handshake) (sid : ℕ) → (role ≡ Initiator → knows_sid h.phase Initiator ≡ true → sid ≡ h.draft.sid) → SaysSid role h.phase h.draft sid
-sid_said Initiator h sid is = by_known (knows_sid h.phase Initiator) refl
-  where
-    by_known : (b : Bool) → knows_sid h.phase Initiator ≡ b → When b (sid ≡ h.draft.sid)
-    by_known true known = is refl known
-    by_known false known = tt
-sid_said Responder h sid is = tt
+sid_said role h sid is = grind arith
 
 refusal_says : (role : Role) (h : Handshake) (sid : ℕ) (body : MsgBody) → SaysSid role h.phase h.draft sid → SaysByPhase role h.phase h.offer h.draft (nack sid body)
 refusal_says Initiator h sid body own = (own, tt)
@@ -279,36 +252,7 @@ row_words role h t message opens messages role_is own utters (Opened r at m is n
 
 -- ONE THAT IS PUT
 sent_words : (role : Role) (h t : Handshake) (opens : Bool) (messages : List (List ℕ)) → h.role ≡ role → Utters role h messages → RowSent h t opens → GoesBehind role h t
-sent_words role h t opens messages role_is utters (ReadyFollows r at is not) =
-    at_role role Initiator h t _ role_is r is (record {
-      keeps = same_words Initiator PeerRingTaken OwnReady h (Some (info h.draft.sid Rdx)) at (λ i now. refl) (λ known. refl) (λ known. refl);
-      owed = (refl, tt);
-      taken = λ at_ring. not_taken at_ring refl;
-    })
-sent_words role h t opens messages role_is utters (RingFollows r at is not) =
-    at_role role Responder h t _ role_is r is (record {
-      keeps = same_words Responder PeerRingTaken OwnRing h (Some (info h.draft.sid (own_ring h.offer))) at (λ i now. refl) (λ known. refl) (λ known. refl);
-      owed = (tt, (refl, utters.taken at));
-      taken = λ at_ring. not_taken at_ring refl;
-    })
-sent_words role h t opens messages role_is utters (OwnReadyFollows r at is not) =
-    at_role role Responder h t _ role_is r is (record {
-      keeps = same_words Responder PeerReadyTaken OwnReady h (Some (info h.draft.sid Rdx)) at (λ i now. refl) (λ known. refl) (λ known. refl);
-      owed = (tt, tt);
-      taken = λ at_ring. not_taken at_ring refl;
-    })
-sent_words role h t opens messages role_is utters (Opens r at is now_open) =
-    at_role role Initiator h t _ role_is r is (record {
-      keeps = same_words Initiator PeerReadyTaken Open h None at (λ i now. refl) (λ known. refl) (λ known. refl);
-      owed = tt;
-      taken = λ at_ring. not_taken at_ring refl;
-    })
-sent_words role h t opens messages role_is utters (Owes follows is not) =
-    goes_to role h t _ is (record {
-      keeps = same_words role h.phase h.phase h None refl (λ r now. now) (λ known. known) (λ known. known);
-      owed = tt;
-      taken = utters.taken;
-    })
+sent_words role h t opens messages role_is utters sent = grind arith
 
 -- ITS LINK COMES UP, or it begins
 begun_utters : (role : Role) (h : Handshake) → Utters role (begun role (joined_handshake h)) []
@@ -319,31 +263,11 @@ up_utters : (role : Role) (h : Handshake) → h.role ≡ role → Utters role (h
 up_utters role h is = subst (λ (r : Role). Utters role (begun r (joined_handshake h)) []) (sym is) (begun_utters role h)
 
 down_utters : (role : Role) (h : Handshake) → h.phase ≡ Down → h.owed ≡ None → Utters role h []
-down_utters role h down none = record {
-  said = tt;
-  owed = subst (OwesSo role h.phase h.offer h.draft) (sym none) tt;
-  small = λ is now. false_is_true (sym (ap (λ (p : Phase). knows_sid p Initiator) down) ∙ now);
-  taken = λ at_ring. not_taken (sym down ∙ at_ring) refl;
-}
+down_utters role h down none = grind arith
 
 -- WHAT A LINK HOLDS is said as its handshake has it
 own_says : (role : Role) (h : Handshake) (message : Message) → IsOfSession message.body → message.sid ≡ h.draft.sid → SaysByPhase role h.phase h.offer h.draft message
-own_says role h message of sid = (sid_said role h message.sid (λ is now. sid), by_body role message.subtype message.body of)
-  where
-    by_body : (r : Role) (subtype : Subtype) (body : MsgBody) → IsOfSession body → SaysBody r h.phase h.offer h.draft subtype body
-    by_body Initiator Info (DringData seq ident start end state) is = tt
-    by_body Initiator Ack (DringData seq ident start end state) is = tt
-    by_body Initiator Nack (DringData seq ident start end state) is = tt
-    by_body Initiator Info (Mcast set count addresses) is = tt
-    by_body Initiator Ack (Mcast set count addresses) is = tt
-    by_body Initiator Nack (Mcast set count addresses) is = tt
-    by_body Responder Info (DringData seq ident start end state) is = tt
-    by_body Responder Ack (DringData seq ident start end state) is = tt
-    by_body Responder Nack (DringData seq ident start end state) is = tt
-    by_body Responder Info (Mcast set count addresses) is = tt
-    by_body Responder Ack (Mcast set count addresses) is = tt
-    by_body Responder Nack (Mcast set count addresses) is = tt
-    by_body r subtype body is = absurd is
+own_says role h message of sid = grind arith
 
 carried_says : (role : Role) (own : Bool) (h : Handshake) (messages : List (List ℕ)) (bytes : List ℕ) → Utters role h messages → Carries own h bytes
     → SaysBytes role h.phase h.offer h.draft bytes
@@ -435,17 +359,12 @@ speaks_step role c move t turns all step =
     record { knows = resting_step role c move t turns all.knows step; utters = utters_step role c move t turns all step }
 
 pub fresh_speaks : (role : Role) (offer : Offer) → offer.count ≤ 14 → EndSpeaks role (fresh_end role offer) []
-fresh_speaks role offer few = record {
-  knows = record { stands = fresh_end_stands role offer few; rests = record { role_is = refl; sid = tt; version = tt; own = tt; peer = tt } };
-  utters = down_utters role (fresh_handshake role offer) refl refl;
-}
+fresh_speaks role offer few = search (fresh_end_stands, down_utters)
 
 -- ALONG EVERY RUN
 pub speaks_run : (entries : ℕ) (asks answers : Offer) (events : List CoreEvent) (s : LaneCore) → CoreFits entries asks answers
     → Run CoreStep (fresh_core entries asks answers) events s → EndsAll EndSpeaks s (transcript_behind events)
-speaks_run entries asks answers events s fits run =
-    ends_run EndSpeaks (λ role c move t turns speaks step. speaks_step role c move t turns speaks step) entries asks answers events s
-    (fresh_speaks Initiator asks fits.asks_fit.form.most) (fresh_speaks Responder answers fits.answers_fit.form.most) run
+speaks_run entries asks answers events s fits run = search (ends_run, speaks_step, fresh_speaks)
 
 -- WHAT IS HEARD is as the other end has it, where nobody forged
 each_before : (role : Role) (h : Handshake) (xs rest : List (List ℕ)) → SaysEach role h.phase h.offer h.draft (xs ++ rest) → SaysEach role h.phase h.offer h.draft xs

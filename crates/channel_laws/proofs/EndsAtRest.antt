@@ -1,7 +1,6 @@
 -- Two ends at rest on a channel which nobody forged and on which nothing was lost: both sessions are open, and each heard all that the other said.
-use Rattle.std.proofs.Common.{◌≡◌, ℕ, true, false, None, List, [], ◌∷◌, refl, sym}
+use Rattle.std.proofs.Common.{◌≡◌, ℕ, true, false, None, List, [], ◌∷◌, refl, sym, arith}
 use Rattle.std.specs.Prelude.{slice_get}
-use Rattle.runs.specs.Lawful.{log_of}
 use Rattle.runs.specs.Run.{Run}
 use Rattle.ldc_queue.specs.declared.end.End.{End}
 use Rattle.ldc_queue.specs.declared.end.End.TheVariants.{A, B}
@@ -13,7 +12,6 @@ use Rattle.channel_model.specs.TranscriptLog.{TranscriptLog, transcript_of}
 use Rattle.channel_laws.proofs.AtRest.{BothRest, HeardAll, heard_all, rests_open}
 use Rattle.channel_laws.proofs.CoreLaws.{conversing, links_placed}
 use Rattle.channel_laws.proofs.Sessions.{meets_knows}
-use Rattle.channel_laws.specs.CoreLog.{CoreLog, after, nothing_yet}
 use Rattle.channel_laws.specs.EndsAtRest.{IsAtRest}
 use Rattle.channel_laws.specs.LaneCore.{CoreEvent, CoreFits, CoreStep, LaneCore, fresh_core, transcript_behind}
 use Rattle.channel_laws.specs.Sides.{sides_of}
@@ -24,26 +22,13 @@ none_waits [] is = refl
 none_waits (packet ∷ waiting) is = absurd (cc is)
 
 both_rest : (s : LaneCore) (transcript : TranscriptLog) → s.wire.lossy ≡ false → IsAtRest A s → IsAtRest B s → BothRest (sides_of s transcript)
-both_rest s transcript whole one other = record {
-  whole = whole;
-  up = one.up;
-  peer_up = other.up;
-  waits = one.waits;
-  peer_waits = other.waits;
-  quiet = one.quiet;
-  peer_quiet = other.quiet;
-  owed = one.owed;
-  peer_owed = other.owed;
-}
+both_rest s transcript whole one other = search
 
 -- ALONG EVERY RUN
 pub two_at_rest_open : (entries : ℕ) (asks answers : Offer) (events : List CoreEvent) (s : LaneCore) → CoreFits entries asks answers → Match asks answers
     → Run CoreStep (fresh_core entries asks answers) events s → s.wire.forged ≡ false → s.wire.lossy ≡ false → IsAtRest A s → IsAtRest B s
     → (s.a.is_open ≡ true) × (s.b.is_open ≡ true)
-two_at_rest_open entries asks answers events s fits matched run clean whole one other =
-    let l : CoreLog = log_of after (nothing_yet entries) events in
-    let knows = meets_knows entries asks answers events s fits matched run in
-    rests_open asks answers (sides_of s l.transcript) (record { mine = knows.holds.ends.a; theirs = knows.holds.ends.b }) (knows.holds.holds clean) (both_rest s l.transcript whole one other)
+two_at_rest_open entries asks answers events s fits matched run clean whole one other = grind (arith, meets_knows, rests_open)
 
 pub two_at_rest_heard : (entries : ℕ) (asks answers : Offer) (events : List CoreEvent) (s : LaneCore) (e : End) → CoreFits entries asks answers
     → Run CoreStep (fresh_core entries asks answers) events s → s.wire.forged ≡ false → s.wire.lossy ≡ false → IsAtRest A s → IsAtRest B s

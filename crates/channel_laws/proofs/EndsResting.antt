@@ -1,9 +1,8 @@
 -- Each move of an end leaves it resting on what it heard, and having said what its handshake holds.
-use Rattle.std.proofs.Common.{List, [], sym, ◌∙◌, ◌≤◌}
+use Rattle.std.proofs.Common.{List, [], ◌≤◌, arith}
 use Rattle.ldc_link.specs.declared.phase.Role.{Role}
 use Rattle.ldc_queue.specs.Transcript.{Turn}
 use Rattle.vio_handshake.specs.declared.session.Offer.{Offer}
-use Rattle.channel_laws.proofs.EndStanding.{opened_phase}
 use Rattle.channel_laws.proofs.EndUttering.{EndSpeaks, fresh_speaks, speaks_step}
 use Rattle.channel_laws.proofs.HandshakeFitting.{fits_step, fresh_fits}
 use Rattle.channel_laws.specs.EndCore.{EndCore, EndMove, fresh_end}
@@ -13,15 +12,7 @@ use Rattle.channel_laws.specs.HandshakeFits.{HandshakeFits}
 use Rattle.channel_laws.specs.LaneCore.{turns_after}
 
 rests_of : (role : Role) (c : EndCore) (turns : List Turn) → EndSpeaks role c turns → HandshakeFits role c.offer c.handshake → EndRests role c turns
-rests_of role c turns speaks fits = record {
-  stands = speaks.knows.stands;
-  rests = speaks.knows.rests;
-  utters = speaks.utters;
-  fits = fits;
-  whole = speaks.knows.stands.link.seen;
-  down = λ below. (speaks.knows.stands.below below).down;
-  opened = λ now. opened_phase c.handshake.phase (sym speaks.knows.stands.opened ∙ now);
-}
+rests_of role c turns speaks fits = grind arith
 
 pub fresh_end_rests : (role : Role) (offer : Offer) → offer.count ≤ 14 → EndRests role (fresh_end role offer) []
 fresh_end_rests role offer most = rests_of role (fresh_end role offer) [] (fresh_speaks role offer most) (fresh_fits role offer)
@@ -33,9 +24,4 @@ rests_move role c move t turns rests step =
     (fits_step role c move t turns (record { stands = rests.stands; fits = rests.fits }) step).fits
 
 pub utters_of : (role : Role) (c : EndCore) (turns : List Turn) → EndRests role c turns → EndUtters c turns
-utters_of role c turns rests = record {
-  half = rests.stands.link.cuts.free;
-  silent = λ below. (rests.stands.below below).said_none;
-  idle = λ below. (rests.stands.below below).left;
-  free = λ below. (rests.stands.below below).owed;
-}
+utters_of role c turns rests = grind arith

@@ -1,9 +1,8 @@
 -- FEW ARE LOST between two packets with numbers that an end takes: the sums, act by act.
 use Rattle.std.proofs.Common.{◌≡◌, ℕ, ◌+◌, ◌≤◌, ◌<◌, Bool, true, false, List, [], ◌∷◌, ◌++◌, length, drop, ap, ◌∙◌, arith}
 use Rattle.ldc_link.specs.declared.phase.LinkPhase.{LinkPhase}
-use Rattle.ldc_link.specs.declared.phase.LinkPhase.TheVariants as phase
 use Rattle.ldc_queue.specs.declared.end.ChannelState.{ChannelState}
-use Rattle.ldc_queue.specs.declared.end.ChannelState.TheVariants.{Down, Resetting, Up}
+use Rattle.ldc_queue.specs.declared.end.ChannelState.TheVariants.{Up}
 use Rattle.ldc_queue.specs.Numbered.{is_numbered, kept}
 use Rattle.ldc_queue.specs.QueueLog.{IsFirst, lost_past}
 use Rattle.channel_laws.specs.Conversing.{AreFew, live_budget, live_puts, live_takes, puts_left, takes_left, unless, unnumbered}
@@ -20,38 +19,10 @@ up_takes e ph up = ap (λ (x : ChannelState). live_takes x ph) up
 
 -- a budget that is lower
 pub live_lower : (e : ChannelState) (n m : ℕ) → n ≤ m → live_budget e n ≤ live_budget e m
-live_lower Up n m lower = lower
-live_lower Down n m lower = omega arith
-live_lower Resetting n m lower = omega arith
+live_lower e n m lower = grind arith
 
 pub live_small : (e : ChannelState) (n : ℕ) → n ≤ 34000 → live_budget e n ≤ 34000
-live_small Up n small = small
-live_small Down n small = omega arith
-live_small Resetting n small = omega arith
-
--- at most two packets without a number are left
-takes_few : (ph : LinkPhase) → takes_left ph ≤ 2
-takes_few phase.OwesVersInfo = omega arith
-takes_few phase.AwaitsVersAck = omega arith
-takes_few phase.OwesRts = omega arith
-takes_few phase.AwaitsRtr = omega arith
-takes_few _ = omega arith
-
-puts_few : (ph : LinkPhase) → puts_left ph ≤ 2
-puts_few phase.OwesVersInfo = omega arith
-puts_few phase.AwaitsVersAck = omega arith
-puts_few phase.OwesRts = omega arith
-puts_few _ = omega arith
-
-pub live_takes_few : (e : ChannelState) (ph : LinkPhase) → live_takes e ph ≤ 2
-live_takes_few Up ph = takes_few ph
-live_takes_few Down ph = omega arith
-live_takes_few Resetting ph = omega arith
-
-pub live_puts_few : (e : ChannelState) (ph : LinkPhase) → live_puts e ph ≤ 2
-live_puts_few Up ph = puts_few ph
-live_puts_few Down ph = omega arith
-live_puts_few Resetting ph = omega arith
+live_small e n small = grind arith
 
 -- what has no number
 unless_more : (b : Bool) (n : ℕ) → unless b n ≡ n + unless b 0

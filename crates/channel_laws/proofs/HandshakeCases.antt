@@ -1,16 +1,15 @@
 -- What a handshake made of a message that it took, row by row, and what it does once its message was put.
-use Rattle.std.proofs.Common.{◌≡◌, ℕ, ◌≤◌, Bool, true, false, Option, Some, None, List, min, inl, inr, refl, sym, ap, ◌∙◌, subst}
+use Rattle.std.proofs.Common.{◌≡◌, ℕ, ◌≤◌, Bool, true, false, Option, Some, None, List, min, inl, refl, sym, ap, ◌∙◌, subst, arith}
 use Rattle.std.specs.Prelude.{◌==◌, ◌&&◌, nat_le, if◌then◌else◌, ⊤}
 use Rattle.std.proofs.lemmas.Bool.{and_parts, eqb-true, leb-true}
 use Rattle.ldc_link.specs.declared.phase.Role.{Role}
 use Rattle.ldc_link.specs.declared.phase.Role.TheVariants.{Initiator, Responder}
 use Rattle.ldc_packet.specs.declared.packet.Subtype.{Subtype}
-use Rattle.ldc_packet.specs.declared.packet.Subtype.TheVariants.{Ack, Info, Nack}
 use Rattle.map_table.specs.declared.cookie.Cookie.{Cookie}
 use Rattle.vio_tag.specs.declared.cause.Cause.{Cause}
 use Rattle.vio_tag.specs.declared.message.Message.{Message}
 use Rattle.vio_tag.specs.declared.message.MsgBody.{MsgBody}
-use Rattle.vio_tag.specs.declared.message.MsgBody.TheVariants.{Attr, DringReg, DringUnreg, Plain, Rdx, Ver}
+use Rattle.vio_tag.specs.declared.message.MsgBody.TheVariants.{Attr, DringReg, Rdx, Ver}
 use Rattle.vio_handshake.proofs.PlaceRows.{GoesTo}
 use Rattle.vio_handshake.specs.Acceptance.{accepts_ring}
 use Rattle.vio_handshake.specs.Attributes.{accepts_answered, accepts_said, answered_attributes, said_attributes}
@@ -19,7 +18,7 @@ use Rattle.vio_handshake.specs.declared.handshake.Phase.{Phase}
 use Rattle.vio_handshake.specs.declared.handshake.Phase.TheVariants.{Attributes, Open, OwnReady, OwnRing, PeerReady, PeerReadyTaken, PeerRing, PeerRingTaken, Version}
 use Rattle.vio_handshake.specs.Messages.{ack, info, nack, own_ring}
 use Rattle.vio_handshake.specs.Rules.{Faults, Goes, GoesOpen, HandshakeTake, agrees_minor, answered, asked, behind_ring, fault_or, is_declined, knows, opens_by_put, own_named, owes, peer_named, put_in, refuses_version, ring_asked, row, handshake_hear, handshake_sent, handshake_take, sid_fault}
-use Rattle.channel_laws.proofs.Apart.{roles_differ, true_is_false}
+use Rattle.channel_laws.proofs.Apart.{roles_differ}
 use Rattle.channel_laws.specs.EndStep.{IsOfSession}
 
 -- A MESSAGE THAT WAS TAKEN: what the handshake is after it, and whether its session opens by it
@@ -79,15 +78,11 @@ made subtype sid body = record { subtype = subtype; sid = sid; body = body }
 
 answered_is : (h : Handshake) (subtype : Subtype) (sid : ℕ) (body : MsgBody) (judged : HandshakeTake) → (made subtype sid body ≡ ack sid body → RowIs h (made subtype sid body) judged)
     → RowIs h (made subtype sid body) (answered subtype judged)
-answered_is h Info sid body judged is = tt
-answered_is h Ack sid body judged is = is refl
-answered_is h Nack sid body judged is = tt
+answered_is h subtype sid body judged is = grind arith
 
 asked_is : (h : Handshake) (subtype : Subtype) (sid : ℕ) (body : MsgBody) (judged : HandshakeTake) → (made subtype sid body ≡ info sid body → RowIs h (made subtype sid body) judged)
     → RowIs h (made subtype sid body) (asked subtype judged)
-asked_is h Info sid body judged is = is refl
-asked_is h Ack sid body judged is = tt
-asked_is h Nack sid body judged is = tt
+asked_is h subtype sid body judged is = grind arith
 
 either_is : (h : Handshake) (message : Message) (test : Bool) (x y : HandshakeTake) → (test ≡ true → RowIs h message x) → (test ≡ false → RowIs h message y)
     → RowIs h message (if test then x else y)
@@ -185,53 +180,18 @@ goes_took h t message is =
     record { sid = took.sid; row = took.row; takes = inl is }
 
 pub opens_took : (h t : Handshake) (message : Message) → handshake_take h message ≡ GoesOpen t → HandshakeTook h message t true
-opens_took h t message is =
-    let took : TookIs h message (GoesOpen t) = subst (TookIs h message) is (took_is h message) in
-    record { sid = took.sid; row = took.row; takes = inr is }
+opens_took h t message is = grind (arith, took_is)
 
 -- only a responder's session opens by one: by the agreement to RDX
 pub opens_row : (h t : Handshake) (message : Message) → RowTaken h message t true → (h.role ≡ Responder) × (message ≡ ack message.sid Rdx)
-opens_row h t message (Opened other at is goes opens) = (other, is)
-opens_row h t message (Declined test goes opens) = true_is_false opens
-opens_row h t message (VersionAgreed minor class r at is low goes opens) = true_is_false opens
-opens_row h t message (VersionAsked minor class r at is goes opens) = true_is_false opens
-opens_row h t message (VersionRefused major minor class other low r at is goes opens) = true_is_false opens
-opens_row h t message (AttributesAgreed bytes r at is test goes opens) = true_is_false opens
-opens_row h t message (AttributesAsked bytes r at is test goes opens) = true_is_false opens
-opens_row h t message (AttributesRefused bytes r at is goes opens) = true_is_false opens
-opens_row h t message (RingAgreed ident slots slot_size options count cookies r at both is goes opens) = true_is_false opens
-opens_row h t message (OneRingAgreed ident slots slot_size options count cookies r at one is goes opens) = true_is_false opens
-opens_row h t message (PeerAgreed ident slots slot_size options count cookies r at is goes opens) = true_is_false opens
-opens_row h t message (RingAsked ident slots slot_size options count cookies at is test goes opens) = true_is_false opens
-opens_row h t message (RingRefused ident slots slot_size options count cookies at is goes opens) = true_is_false opens
-opens_row h t message (ReadyAgreed r at is goes opens) = true_is_false opens
-opens_row h t message (ReadyAsked at is goes opens) = true_is_false opens
+opens_row h t message taken = grind arith
 
 pub never_opens : (h t : Handshake) (message : Message) → h.role ≡ Initiator → HandshakeTook h message t true → ⊥
 never_opens h t message role took = roles_differ (sym role ∙ (opens_row h t message took.row).0)
 
 -- it takes none of its session's
-declined_apart : (subtype : Subtype) (body : MsgBody) → is_declined subtype body ≡ true → IsOfSession body → ⊥
-declined_apart Info (DringUnreg ident) test of = of
-declined_apart Info (Plain envelope) test of = of
-declined_apart subtype body test of = cc test
-
 pub row_apart : (h t : Handshake) (message : Message) (opens : Bool) → RowTaken h message t opens → IsOfSession message.body → ⊥
-row_apart h t message opened (Declined test goes opens) of = declined_apart message.subtype message.body test of
-row_apart h t message opened (VersionAgreed minor class r at is low goes opens) of = subst IsOfSession (ap (λ (x : Message). x.body) is) of
-row_apart h t message opened (VersionAsked minor class r at is goes opens) of = subst IsOfSession (ap (λ (x : Message). x.body) is) of
-row_apart h t message opened (VersionRefused major minor class other low r at is goes opens) of = subst IsOfSession (ap (λ (x : Message). x.body) is) of
-row_apart h t message opened (AttributesAgreed bytes r at is test goes opens) of = subst IsOfSession (ap (λ (x : Message). x.body) is) of
-row_apart h t message opened (AttributesAsked bytes r at is test goes opens) of = subst IsOfSession (ap (λ (x : Message). x.body) is) of
-row_apart h t message opened (AttributesRefused bytes r at is goes opens) of = subst IsOfSession (ap (λ (x : Message). x.body) is) of
-row_apart h t message opened (RingAgreed ident slots slot_size options count cookies r at both is goes opens) of = subst IsOfSession (ap (λ (x : Message). x.body) is) of
-row_apart h t message opened (OneRingAgreed ident slots slot_size options count cookies r at one is goes opens) of = subst IsOfSession (ap (λ (x : Message). x.body) is) of
-row_apart h t message opened (PeerAgreed ident slots slot_size options count cookies r at is goes opens) of = subst IsOfSession (ap (λ (x : Message). x.body) is) of
-row_apart h t message opened (RingAsked ident slots slot_size options count cookies at is test goes opens) of = subst IsOfSession (ap (λ (x : Message). x.body) is) of
-row_apart h t message opened (RingRefused ident slots slot_size options count cookies at is goes opens) of = subst IsOfSession (ap (λ (x : Message). x.body) is) of
-row_apart h t message opened (ReadyAgreed r at is goes opens) of = subst IsOfSession (ap (λ (x : Message). x.body) is) of
-row_apart h t message opened (ReadyAsked at is goes opens) of = subst IsOfSession (ap (λ (x : Message). x.body) is) of
-row_apart h t message opened (Opened other at is goes opens) of = subst IsOfSession (ap (λ (x : Message). x.body) is) of
+row_apart h t message opened taken of = grind arith
 
 -- ONCE ITS MESSAGE WAS PUT: the next is owed, or an initiator's session opens, or nothing is owed
 abbrev pub NothingFollows : Phase → Type 0
@@ -247,12 +207,7 @@ pub data RowSent (h t : Handshake) (opens : Bool) : Type 0 where
   Owes : NothingFollows h.phase → t ≡ record h { owed = None } → opens ≡ false → RowSent h t opens
 
 sent_in : (role : Role) (phase : Phase) (h : Handshake) → h.role ≡ role → h.phase ≡ phase → RowSent h (put_in role phase h) (opens_by_put role phase)
-sent_in Initiator PeerRingTaken h role at = ReadyFollows role at refl refl
-sent_in Responder PeerRingTaken h role at = RingFollows role at refl refl
-sent_in Initiator PeerReadyTaken h role at = Opens role at refl refl
-sent_in Responder PeerReadyTaken h role at = OwnReadyFollows role at refl refl
-sent_in Initiator phase h role at = Owes (subst NothingFollows (sym at) tt) refl refl
-sent_in Responder phase h role at = Owes (subst NothingFollows (sym at) tt) refl refl
+sent_in role phase h is at = grind arith
 
 pub row_sent : (h : Handshake) → RowSent h (handshake_sent h) (opens_by_put h.role h.phase)
 row_sent h = sent_in h.role h.phase h refl refl

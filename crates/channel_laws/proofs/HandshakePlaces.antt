@@ -1,6 +1,6 @@
 -- Where the two handshakes of a channel that nobody forged stand, whose offers match: each at a place of one deal, having said and heard all that
 -- goes before it; once a session is open, messages of it follow.
-use Rattle.std.proofs.Common.{◌≡◌, ◌≢◌, ℕ, ◌^◌, ◌<◌, Bool, true, false, Option, Some, None, List, [], ◌∷◌, ◌++◌, refl, sym, ap, ◌∙◌, subst, append_assoc, ◌⊎◌, inl, inr}
+use Rattle.std.proofs.Common.{◌≡◌, ◌≢◌, ℕ, ◌^◌, ◌<◌, Bool, true, false, Option, Some, None, List, [], ◌∷◌, ◌++◌, refl, sym, ap, ◌∙◌, subst, append_assoc, ◌⊎◌, inl, inr, arith}
 use Rattle.std.specs.Prelude.{⊤}
 use Rattle.std.proofs.lemmas.List.{append-nil}
 use Rattle.ldc_link.specs.declared.phase.Role.{Role}
@@ -18,20 +18,20 @@ use Rattle.vio_handshake.specs.declared.handshake.Handshake.{Handshake}
 use Rattle.vio_handshake.specs.declared.handshake.Phase.TheVariants.{Open}
 use Rattle.vio_handshake.specs.declared.session.Offer.{Offer}
 use Rattle.vio_handshake.specs.Offers.{Match}
-use Rattle.vio_handshake.specs.Rules.{Goes, GoesOpen, HandshakeTake, handshake_sent, handshake_take}
-use Rattle.vio_handshake.specs.State.{begun, joined_handshake, next_sid, handshake_up}
+use Rattle.vio_handshake.specs.Rules.{HandshakeTake, handshake_sent, handshake_take}
+use Rattle.vio_handshake.specs.State.{next_sid, handshake_up}
 use Rattle.vio_handshake.proofs.MessageWidths.{OfferHasWidths, message_has_widths, message_is_well_formed}
 use Rattle.vio_handshake.proofs.PlaceRows.{Fits, GoesTo, put_at, take_at}
 use Rattle.vio_handshake.proofs.Places.{AllSaid, AttributesAnswered, AttributesSaid, Deal, IsPlace, PeerReadyAnswered, PeerReadySaid, PeerRingAnswered, PeerRingSaid, Place, ReadyAnswered, ReadySaid, RingAnswered, RingSaid, VersionAnswered, VersionSaid, message_at, next, owed_by, owner, phase_at, handshake_at}
 use Rattle.channel_model.specs.Sayings.{heard, said}
-use Rattle.channel_laws.proofs.Apart.{not_open, some_is_none, some_same}
+use Rattle.channel_laws.proofs.Apart.{some_is_none, some_same}
 use Rattle.channel_laws.proofs.EndStanding.{opened_phase}
 use Rattle.channel_laws.proofs.Script.{PeerSaid, all_before, bytes_at, hears_beyond, hears_next, not_last, other_next, said_at, said_by, says_next, script}
 use Rattle.channel_laws.specs.EndCore.{EndCore}
 use Rattle.channel_laws.specs.EndStep.{IsOfSession}
 use Rattle.channel_laws.specs.LaneCore.{OfferFits}
 use Rattle.channel_laws.specs.Sides.{Sides, other}
-use Rattle.channel_laws.specs.Standing.{EndStands, is_open_in}
+use Rattle.channel_laws.specs.Standing.{EndStands}
 
 -- A MESSAGE OF THE SESSION that a deal makes
 pub record IsOwn (d : Deal) (bytes : List ℕ) : Type 0 where
@@ -96,15 +96,7 @@ pub deal_fits : (asks answers : Offer) (sid : ℕ) → Match asks answers → Fi
 deal_fits asks answers sid matched = record { kind = refl; peer_kind = matched.kind; ring = matched.ring; device = matched.device }
 
 widths : (offer : Offer) → OfferFits offer → OfferHasWidths offer
-widths offer fits = record {
-  minor = fits.minor;
-  class = fits.class;
-  slots = fits.slots;
-  slot_size = fits.slot_size;
-  room = fits.room;
-  cookies = fits.cookies;
-  form = fits.form;
-}
+widths offer fits = search
 
 -- the bytes of a place spell its message
 pub message_at_spelled : (asks answers : Offer) (sid : ℕ) (n : Place) (bytes : List ℕ) → Matches asks answers → sid < 2 ^ 32 → bytes ≡ bytes_at (deal asks answers sid) n
@@ -125,31 +117,7 @@ message_is asks answers sid n m bytes fits small is form spells =
 
 -- WHOSE TURN it is
 pub who : (r : Role) (n : Place) → (owner n ≡ Some r) ⊎ ((owner n ≡ Some (other r)) ⊎ (n ≡ AllSaid))
-who Initiator VersionSaid = inl refl
-who Responder VersionSaid = inr (inl refl)
-who Initiator VersionAnswered = inr (inl refl)
-who Responder VersionAnswered = inl refl
-who Initiator AttributesSaid = inl refl
-who Responder AttributesSaid = inr (inl refl)
-who Initiator AttributesAnswered = inr (inl refl)
-who Responder AttributesAnswered = inl refl
-who Initiator RingSaid = inl refl
-who Responder RingSaid = inr (inl refl)
-who Initiator RingAnswered = inr (inl refl)
-who Responder RingAnswered = inl refl
-who Initiator PeerRingSaid = inr (inl refl)
-who Responder PeerRingSaid = inl refl
-who Initiator PeerRingAnswered = inl refl
-who Responder PeerRingAnswered = inr (inl refl)
-who Initiator ReadySaid = inl refl
-who Responder ReadySaid = inr (inl refl)
-who Initiator ReadyAnswered = inr (inl refl)
-who Responder ReadyAnswered = inl refl
-who Initiator PeerReadySaid = inr (inl refl)
-who Responder PeerReadySaid = inl refl
-who Initiator PeerReadyAnswered = inl refl
-who Responder PeerReadyAnswered = inr (inl refl)
-who r AllSaid = inr (inr refl)
+who r n = grind arith
 
 twice : (r : Role) → other (other r) ≡ r
 twice Initiator = refl
@@ -185,12 +153,7 @@ owes_not both d Initiator n turn = ap (λ (w : Option Role). owed_by Initiator w
 owes_not both d Responder n turn = ap (λ (w : Option Role). owed_by Responder w (message_at d n)) turn
 
 pub open_at : (both : Bool) (r : Role) (n : Place) → phase_at both r n ≡ Open → n ≡ AllSaid
-open_at both Initiator AllSaid is = refl
-open_at both Responder AllSaid is = refl
-open_at true Responder RingAnswered is = not_open (sym is) refl
-open_at false Responder RingAnswered is = not_open (sym is) refl
-open_at both Initiator _ is = not_open (sym is) refl
-open_at both Responder _ is = not_open (sym is) refl
+open_at both r n is = grind arith
 
 pub open_place : (both : Bool) (d : Deal) (r : Role) (c : EndCore) (turns : List Turn) → EndStands r c turns → (at : AtPlace both d r c.handshake turns) → c.is_open ≡ true
     → at.place ≡ AllSaid
@@ -199,33 +162,12 @@ open_place both d r c turns stands at opened =
 
 pub place_open : (both : Bool) (d : Deal) (r : Role) (c : EndCore) (turns : List Turn) → EndStands r c turns → (at : AtPlace both d r c.handshake turns) → at.place ≡ AllSaid
     → c.is_open ≡ true
-place_open both d r c turns stands at last =
-    stands.opened ∙ ap (λ (h : Handshake). is_open_in h.phase) at.is ∙ ap (λ (n : Place). is_open_in (handshake_at both d r n).phase) last ∙ by_role r
-  where
-    by_role : (x : Role) → is_open_in (handshake_at both d x AllSaid).phase ≡ true
-    by_role Initiator = refl
-    by_role Responder = refl
+place_open both d r c turns stands at last = grind arith
 
 -- ITS LINK COMES UP: it said and heard nothing
 pub begun_at : (both : Bool) (d : Deal) (r : Role) (h : Handshake) (turns : List Turn) → h.role ≡ r → h.offer ≡ (handshake_at both d r VersionSaid).offer → (r ≡ Responder → h.last_sid ≡ d.last)
     → (r ≡ Initiator → d.sid ≡ next_sid h) → IsPlace both VersionSaid → said turns ≡ [] → heard turns ≡ [] → AtPlace both d r (handshake_up h) turns
-begun_at both d r h turns role offer last sid here said_none heard_none = record {
-  place = VersionSaid;
-  here = here;
-  is = ap (λ (x : Role). begun x (joined_handshake h)) role ∙ by_role r role offer last sid;
-  mine = [];
-  theirs = [];
-  said_is = said_none;
-  heard_is = heard_none;
-  only = λ far. (refl, refl);
-  mine_are = tt;
-  theirs_are = tt;
-}
-  where
-    by_role : (x : Role) → h.role ≡ x → h.offer ≡ (handshake_at both d x VersionSaid).offer → (x ≡ Responder → h.last_sid ≡ d.last) → (x ≡ Initiator → d.sid ≡ next_sid h)
-        → begun x (joined_handshake h) ≡ handshake_at both d x VersionSaid
-    by_role Initiator is of last_is sid_is = let same : next_sid h ≡ d.sid = sym (sid_is refl) in rw (is, of, same) refl
-    by_role Responder is of last_is sid_is = let same : h.last_sid ≡ d.last = last_is refl in rw (is, of, same) refl
+begun_at both d r h turns role offer last sid here said_none heard_none = grind arith
 
 -- IT SAYS the message of its place
 pub says_at : (both : Bool) (d : Deal) (r : Role) (h : Handshake) (turns now : List Turn) (bytes : List ℕ) (message : Message) → (at : AtPlace both d r h turns)
@@ -276,18 +218,7 @@ says_own_at both d r h g turns now bytes at same last own said_now heard_now = r
 -- nothing is said or heard
 pub same_at : (both : Bool) (d : Deal) (r : Role) (h g : Handshake) (turns now : List Turn) → AtPlace both d r h turns → g ≡ h → said now ≡ said turns → heard now ≡ heard turns
     → AtPlace both d r g now
-same_at both d r h g turns now at same said_now heard_now = record {
-  place = at.place;
-  here = at.here;
-  is = same ∙ at.is;
-  mine = at.mine;
-  theirs = at.theirs;
-  said_is = said_now ∙ at.said_is;
-  heard_is = heard_now ∙ at.heard_is;
-  only = at.only;
-  mine_are = at.mine_are;
-  theirs_are = at.theirs_are;
-}
+same_at both d r h g turns now at same said_now heard_now = grind arith
 
 -- WHAT THE OTHER SAID
 abbrev pub peer_said : (both : Bool) (d : Deal) (r : Role) (h : Handshake) (turns : List Turn) → AtPlace both d r h turns → PeerSaid both d r (said turns)
@@ -295,10 +226,7 @@ peer_said both d r h turns at = record { place = at.place; more = at.mine; is = 
 
 -- IT HEARS the message of its place
 pub goes_alike : (h g : Handshake) (take answer : HandshakeTake) → take ≡ answer → GoesTo take h → GoesTo answer g → h ≡ g
-goes_alike h g take answer is (inl one) (inl two) = let same : Goes h ≡ Goes g = sym one ∙ is ∙ two in cc same
-goes_alike h g take answer is (inl one) (inr two) = let same : Goes h ≡ GoesOpen g = sym one ∙ is ∙ two in absurd (cc same)
-goes_alike h g take answer is (inr one) (inl two) = let same : GoesOpen h ≡ Goes g = sym one ∙ is ∙ two in absurd (cc same)
-goes_alike h g take answer is (inr one) (inr two) = let same : GoesOpen h ≡ GoesOpen g = sym one ∙ is ∙ two in cc same
+goes_alike h g take answer is to to_holds = grind arith
 
 pub place_bytes : (asks answers : Offer) (sid : ℕ) (r : Role) (h : Handshake) (turns now : List Turn) (bytes : List ℕ) (peer : List (List ℕ))
     → (at : AtPlace asks.both_rings (deal asks answers sid) r h turns) → owner at.place ≡ Some (other r) → PeerSaid asks.both_rings (deal asks answers sid) (other r) peer

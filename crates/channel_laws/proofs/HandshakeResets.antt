@@ -1,24 +1,18 @@
 -- A message that a handshake refuses says why.
-use Rattle.std.proofs.Common.{◌≡◌, ℕ, Bool, true, false, Option, Some, None, List, refl, sym}
-use Rattle.std.specs.Prelude.{nat_eq, nat_le, ◌==◌, ◌&&◌, if◌then◌else◌, ⊤}
+use Rattle.std.proofs.Common.{◌≡◌, ℕ, Bool, true, false, Option, Some, None, List, refl, sym, arith}
+use Rattle.std.specs.Prelude.{nat_eq, ◌==◌, if◌then◌else◌, ⊤}
 use Rattle.ldc_link.specs.declared.phase.Role.{Role}
-use Rattle.ldc_link.specs.declared.phase.Role.TheVariants.{Initiator, Responder}
 use Rattle.ldc_packet.specs.declared.packet.Subtype.{Subtype}
-use Rattle.ldc_packet.specs.declared.packet.Subtype.TheVariants.{Info, Ack, Nack}
 use Rattle.vio_bytes.specs.Place.{number_at}
 use Rattle.vio_tag.specs.declared.cause.Cause.{Cause}
 use Rattle.vio_tag.specs.declared.cause.Cause.TheVariants as the_cause
 use Rattle.vio_tag.specs.declared.message.Message.{Message}
 use Rattle.vio_tag.specs.declared.message.MsgBody.{MsgBody}
-use Rattle.vio_tag.specs.declared.message.MsgBody.TheVariants.{Ver, Attr, DringReg, Rdx}
 use Rattle.vio_tag.specs.Fault.{first_fault}
 use Rattle.vio_tag.specs.Spelling.{SpellsMessage}
-use Rattle.vio_handshake.specs.Attributes.{accepts_answered}
 use Rattle.vio_handshake.specs.declared.handshake.Handshake.{Handshake}
 use Rattle.vio_handshake.specs.declared.handshake.Phase.{Phase}
-use Rattle.vio_handshake.specs.declared.handshake.Phase.TheVariants as state
-use Rattle.vio_handshake.specs.Rules as rules
-use Rattle.vio_handshake.specs.Rules.{Faults, Goes, GoesOpen, HandshakeTake, answered, asked, fault_or, is_declined, row, handshake_hear, handshake_take, sid_fault}
+use Rattle.vio_handshake.specs.Rules.{Faults, Goes, GoesOpen, HandshakeTake, fault_or, is_declined, row, handshake_hear, handshake_take, sid_fault}
 use Rattle.channel_model.specs.ResetSays.{MessageSays}
 use Rattle.channel_laws.proofs.LinkResets.{other_number}
 
@@ -37,36 +31,8 @@ handshake_if : (m : List ℕ) (b : Bool) (one other : HandshakeTake) → Handsha
 handshake_if m true one other why rest = why
 handshake_if m false one other why rest = rest
 
-answered_why : (m : List ℕ) (s : Subtype) (judged : HandshakeTake) → first_fault m ≡ None → HandshakeWhy m judged → HandshakeWhy m (answered s judged)
-answered_why m Info judged sound why = sound
-answered_why m Ack judged sound why = why
-answered_why m Nack judged sound why = sound
-
-asked_why : (m : List ℕ) (s : Subtype) (judged : HandshakeTake) → first_fault m ≡ None → HandshakeWhy m judged → HandshakeWhy m (asked s judged)
-asked_why m Info judged sound why = why
-asked_why m Ack judged sound why = sound
-asked_why m Nack judged sound why = sound
-
-version_why : (m : List ℕ) (h : Handshake) (sid major minor : ℕ) → first_fault m ≡ None → HandshakeWhy m (rules.version_answered h sid major minor)
-version_why m h sid major minor sound = handshake_if m (major == 1 && nat_le minor h.offer.minor) (Goes _) (Faults the_cause.Refused) tt sound
-
-attributes_why : (m : List ℕ) (h : Handshake) (sid : ℕ) (bytes : List ℕ) → first_fault m ≡ None → HandshakeWhy m (rules.attributes_answered h sid bytes)
-attributes_why m h sid bytes sound = handshake_if m (accepts_answered h.offer h.draft.minor bytes) (Goes _) (Faults the_cause.Refused) tt sound
-
 row_why : (m : List ℕ) (role : Role) (p : Phase) (h : Handshake) (s : Subtype) (sid : ℕ) (b : MsgBody) → first_fault m ≡ None → HandshakeWhy m (row role p h s sid b)
-row_why m Initiator state.Version h s sid (Ver major minor class) sound = answered_why m s (rules.version_answered h sid major minor) sound (version_why m h sid major minor sound)
-row_why m Responder state.Version h s sid (Ver major minor class) sound = asked_why m s (Goes (rules.version_asked h sid major minor class)) sound tt
-row_why m Initiator state.Attributes h s sid (Attr bytes) sound = answered_why m s (rules.attributes_answered h sid bytes) sound (attributes_why m h sid bytes sound)
-row_why m Responder state.Attributes h s sid (Attr bytes) sound = asked_why m s (Goes (rules.attributes_asked h sid bytes)) sound tt
-row_why m Initiator state.OwnRing h s sid (DringReg ident slots size options count cookies) sound = answered_why m s (Goes (rules.ring_answered Initiator h sid ident)) sound tt
-row_why m Responder state.OwnRing h s sid (DringReg ident slots size options count cookies) sound = answered_why m s (Goes (rules.ring_answered Responder h sid ident)) sound tt
-row_why m Initiator state.PeerRing h s sid (DringReg ident slots size options count cookies) sound = asked_why m s (Goes (rules.ring_asked h sid ident slots size options count cookies)) sound tt
-row_why m Responder state.PeerRing h s sid (DringReg ident slots size options count cookies) sound = asked_why m s (Goes (rules.ring_asked h sid ident slots size options count cookies)) sound tt
-row_why m Initiator state.OwnReady h s sid Rdx sound = answered_why m s (rules.ready_answered Initiator h) sound tt
-row_why m Responder state.OwnReady h s sid Rdx sound = answered_why m s (rules.ready_answered Responder h) sound tt
-row_why m Initiator state.PeerReady h s sid Rdx sound = asked_why m s (Goes _) sound tt
-row_why m Responder state.PeerReady h s sid Rdx sound = asked_why m s (Goes _) sound tt
-row_why m _ _ h s sid _ sound = sound
+row_why m role p h s sid b sound = grind arith
 
 abbrev pub FaultWhy : List ℕ → Option Cause → Type 0
 FaultWhy m None = ⊤
@@ -89,6 +55,4 @@ hear_why : (m : List ℕ) (h : Handshake) (s : Subtype) (sid : ℕ) (b : MsgBody
 hear_why m h s sid b sound = handshake_if m (is_declined s b) (Goes _) (row h.role h.phase h s sid b) tt (row_why m h.role h.phase h s sid b sound)
 
 pub handshake_why : (m : List ℕ) (h : Handshake) (message : Message) → Spelled m message → HandshakeWhy m (handshake_take h message)
-handshake_why m h message spelled =
-    or_why m (sid_fault h.sid message.sid) (handshake_hear h message.subtype message.sid message.body) (sid_why m h.sid message spelled)
-    (hear_why m h message.subtype message.sid message.body spelled.sound)
+handshake_why m h message spelled = search (or_why, sid_why, hear_why)

@@ -7,16 +7,12 @@ use Rattle.ldc_link.specs.declared.phase.LinkPhase.TheVariants as phase
 use Rattle.ldc_link.specs.declared.phase.Role.{Role}
 use Rattle.ldc_link.specs.declared.phase.Role.TheVariants.{Initiator, Responder}
 use Rattle.ldc_link.specs.LinkState.{LinkState, first_phase, is_established, is_up}
-use Rattle.ldc_packet.specs.declared.packet.Subtype.{Subtype}
-use Rattle.ldc_packet.specs.declared.packet.Subtype.TheVariants.{Info}
 use Rattle.ldc_queue.specs.declared.end.ChannelState.{ChannelState}
-use Rattle.ldc_queue.specs.declared.end.ChannelState.TheVariants.{Down, Resetting, Up}
+use Rattle.ldc_queue.specs.declared.end.ChannelState.TheVariants.{Up}
 use Rattle.ldc_queue.specs.OneStream.{IsFront}
 use Rattle.ldc_queue.specs.Transcript.{Heard, Said, Turn}
-use Rattle.ldc_queue.specs.Wire.{peer_behind, upset}
 use Rattle.vio_tag.specs.declared.message.Message.{Message}
 use Rattle.vio_tag.specs.declared.message.MsgBody.{MsgBody}
-use Rattle.vio_tag.specs.declared.message.MsgBody.TheVariants.{DringData, DringUnreg, Mcast, Plain}
 use Rattle.vio_tag.specs.Form.{HasForm}
 use Rattle.vio_tag.specs.Spelling.{SpellsMessage, canonical, envelope_at, envelope_code}
 use Rattle.vio_handshake.specs.declared.handshake.Handshake.{Handshake}
@@ -29,10 +25,10 @@ use Rattle.channel_model.specs.Sayings.{half_said, heard, said}
 use Rattle.channel_model.specs.TranscriptLog.{nothing_said}
 use Rattle.channel_laws.proofs.Apart.{false_is_true, none_is_some, roles_differ, true_is_false}
 use Rattle.channel_laws.proofs.Conversations.{held_phase}
-use Rattle.channel_laws.proofs.ConversingRuns.{HeardFrom, converse_keeps, first_converse, hears_next}
+use Rattle.channel_laws.proofs.ConversingRuns.{HeardFrom, converse_keeps, hears_next}
 use Rattle.channel_laws.proofs.EndCases.{EndTook, NoMessage, PutControl, PutMore, PutOwn, PutReady, PutHandshake, PutWhat, Rises, TookOwn, TookHandshake, TookWhat, end_put, end_took, put_down}
 use Rattle.channel_laws.proofs.EndResting.{held_handshake}
-use Rattle.channel_laws.proofs.EndStanding.{first_down, held_stands, holds_some, open_declines, open_up, opened_phase}
+use Rattle.channel_laws.proofs.EndStanding.{held_stands, holds_some, open_declines, open_up, opened_phase}
 use Rattle.channel_laws.proofs.HandshakePlaces.{AtPlace, HandshakesAt, IsOwn, Matches, begun_at, deal, hears_at, hears_own_at, offer_in, open_at, open_place, owes_at, own_heard, peer_said, same_at, says_at, says_own_at, who}
 use Rattle.channel_laws.proofs.Lifting.{ActsKeep, BothStand}
 use Rattle.channel_laws.proofs.LinkPlaced.{first_links, links_keep, ready_at}
@@ -40,7 +36,7 @@ use Rattle.channel_laws.proofs.TurnCases.{SaysLast}
 use Rattle.channel_laws.specs.Conversing.{Converse}
 use Rattle.channel_laws.specs.Cuts.{Carries, CarriesOwed, CarriesOwn}
 use Rattle.channel_laws.specs.EndCore.{EndCore}
-use Rattle.channel_laws.specs.EndStep.{EndAnew, EndHears, EndSays, Holding, Holds, HoldsOn, HoldsOwed, HoldsOwn, IsOfSession}
+use Rattle.channel_laws.specs.EndStep.{EndAnew, EndHears, EndSays, Holding, Holds, IsOfSession}
 use Rattle.channel_laws.specs.LaneCore.{fresh_core}
 use Rattle.channel_laws.specs.LinkPlaces.{LinksAt, ModeAgreed, live_phase, phase_at}
 use Rattle.channel_laws.specs.Sides.{Sides, anew, goes_on, other, put, shut, sides_of, swapped, took}
@@ -91,56 +87,14 @@ goes_handshakes asks answers role s t link handshake offer at = record {
 }
 
 pub held_offer : (c held : EndCore) (what : Holding) → Holds c what held → held.offer ≡ c.offer
-held_offer c held HoldsOn is = ap (λ (x : EndCore). x.offer) is
-held_offer c held (HoldsOwed message) offers = offers.offer
-held_offer c held (HoldsOwn message) offers = offers.offer
+held_offer c held what is = grind arith
 
 -- IT BEGINS, or is closed
-anew_last : (role : Role) (c t : EndCore) → EndAnew role c t → c.handshake.last_sid ≡ 0 → t.handshake.last_sid ≡ 0
-anew_last role c t begins zero =
-    elim begins.handshake [
-      | inl joined ↦ ap (λ (h : Handshake). h.last_sid) joined ∙ zero
-      | inr fresh ↦ ap (λ (h : Handshake). h.last_sid) fresh
-    ]
-
-anew_below : (role : Role) (c t : EndCore) (X : Type 0) → EndAnew role c t → is_up t.link ≡ true → X
-anew_below role c t X begins up = true_is_false (sym up ∙ ap is_up begins.link ∙ first_down role)
-
-peer_up : (x y : ChannelState) → peer_behind x y ≡ Up → y ≡ Up
-peer_up Up Up is = refl
-peer_up Up Down is = absurd (cc is)
-peer_up Up Resetting is = absurd (cc is)
-peer_up Down y is = is
-peer_up Resetting y is = is
-
-upset_up : (y : ChannelState) (X : Type 0) → upset y ≡ Up → X
-upset_up Up X is = absurd (cc is)
-upset_up Down X is = absurd (cc is)
-upset_up Resetting X is = absurd (cc is)
-
 anew_handshakes : (asks answers : Offer) (role : Role) (s : Sides) (t : EndCore) → EndAnew role s.mine.core t → HandshakesAt asks answers role s → HandshakesAt asks answers role (anew t s)
-anew_handshakes asks answers role s t begins at = record {
-  sid = at.sid;
-  small = at.small;
-  offer_mine = begins.offer ∙ at.offer_mine;
-  offer_theirs = at.offer_theirs;
-  last_mine = λ is. anew_last role s.mine.core t begins (at.last_mine is);
-  last_theirs = at.last_theirs;
-  mine = λ up now. anew_below role s.mine.core t _ begins now;
-  theirs = λ up now. at.theirs (peer_up s.mine.state s.theirs.state up) now;
-}
+anew_handshakes asks answers role s t begins at = grind arith
 
 shut_handshakes : (asks answers : Offer) (role : Role) (s : Sides) (t : EndCore) → EndAnew role s.mine.core t → HandshakesAt asks answers role s → HandshakesAt asks answers role (shut t s)
-shut_handshakes asks answers role s t begins at = record {
-  sid = at.sid;
-  small = at.small;
-  offer_mine = begins.offer ∙ at.offer_mine;
-  offer_theirs = at.offer_theirs;
-  last_mine = λ is. anew_last role s.mine.core t begins (at.last_mine is);
-  last_theirs = at.last_theirs;
-  mine = λ up now. anew_below role s.mine.core t _ begins now;
-  theirs = λ up now. upset_up s.theirs.state _ up;
-}
+shut_handshakes asks answers role s t begins at = grind arith
 
 -- an end at a place: its own offer and count of sids
 placed : (asks answers : Offer) (sid : ℕ) (role : Role) (s : Sides) (t : EndCore) (turns : List Turn) → HandshakesAt asks answers role s → t.offer ≡ s.mine.core.offer
@@ -150,16 +104,7 @@ placed : (asks answers : Offer) (sid : ℕ) (role : Role) (s : Sides) (t : EndCo
     → (s.theirs.state ≡ Up → is_up s.theirs.core.link ≡ true → AtPlace asks.both_rings (deal asks answers sid) (other role) s.theirs.core.handshake s.theirs.turns)
     → (waiting peer_waiting : List (List ℕ))
     → HandshakesAt asks answers role (record s { mine = record s.mine { waiting = waiting; core = t; turns = turns }; theirs = record s.theirs { waiting = peer_waiting } })
-placed asks answers sid role s t turns at offer small last mine theirs waiting peer_waiting = record {
-  sid = sid;
-  small = small;
-  offer_mine = offer ∙ at.offer_mine;
-  offer_theirs = at.offer_theirs;
-  last_mine = last;
-  last_theirs = at.last_theirs;
-  mine = λ up now. mine now;
-  theirs = theirs;
-}
+placed asks answers sid role s t turns at offer small last mine theirs waiting peer_waiting = grind arith
 
 -- at a place a responder's count of sids is none
 place_last : (both : Bool) (asks answers : Offer) (sid : ℕ) (role : Role) (h : Handshake) (turns : List Turn) → AtPlace both (deal asks answers sid) role h turns → role ≡ Responder
@@ -302,48 +247,23 @@ put_handshakes asks answers role s t packet opens fits stands up says links at =
 -- IT TAKES a packet: a message of the session isn't one that its handshake declines
 pub envelope_reads : (m : Message) → IsOfSession m.body → envelope_at (canonical m) ≡ envelope_code m.body
 unfolding canonical
-envelope_reads m is = by_body m.subtype m.sid m.body is
-  where
-    by_body : (s : Subtype) (n : ℕ) (b : MsgBody) → IsOfSession b → envelope_at (canonical (record { subtype = s; sid = n; body = b })) ≡ envelope_code b
-    by_body s n (DringData seq ident start end state) of = refl
-    by_body s n (Mcast set count addresses) of = refl
-    by_body s n _ of = absurd of
+envelope_reads m is = grind arith
 
 pub own_code : (b : MsgBody) → IsOfSession b → (envelope_code b ≡ 0x0042) ⊎ (envelope_code b ≡ 0x0101)
-own_code (DringData seq ident start end state) of = inl refl
-own_code (Mcast set count addresses) of = inr refl
-own_code _ of = absurd of
+own_code b of = grind arith
 
 pub own_envelope : (d : Deal) (bytes : List ℕ) → IsOwn d bytes → 0x0042 ≤ envelope_at bytes
-own_envelope d bytes own =
-    let same = ap envelope_at own.is ∙ envelope_reads own.message own.body in
-    elim (own_code own.message.body own.body) [
-      | inl one ↦ omega (arith, same, one)
-      | inr two ↦ omega (arith, same, two)
-    ]
-
-declined_code : (s : Subtype) (b : MsgBody) → HasForm b → is_declined s b ≡ true → envelope_code b ≤ 0x0041
-declined_code Info (DringUnreg ident) form is = omega arith
-declined_code Info (Plain envelope) (inl form) is = omega (arith, form)
-declined_code Info (Plain envelope) (inr form) is = omega (arith, form)
-declined_code s b form is = false_is_true is
+own_envelope d bytes own = grind (arith, envelope_reads)
 
 pub never_declined : (m d : Message) (bytes : List ℕ) → IsOfSession m.body → bytes ≡ canonical m → HasForm d.body → SpellsMessage bytes d → is_declined d.subtype d.body ≡ true → ⊥
-never_declined m d bytes of is form spells declined =
-    let same : envelope_code m.body ≡ envelope_code d.body = sym (envelope_reads m of) ∙ sym (ap envelope_at is) ∙ spells.envelope in
-    elim (own_code m.body of) [
-      | inl one ↦ omega (arith, same, one, declined_code d.subtype d.body form declined)
-      | inr two ↦ omega (arith, same, two, declined_code d.subtype d.body form declined)
-    ]
+never_declined m d bytes of is form spells declined = grind (arith, envelope_reads)
 
 none_after : (xs rest : List (List ℕ)) (bytes : List ℕ) → [] ≡ (xs ++ bytes ∷ []) ++ rest → ⊥
 none_after [] rest bytes is = cc is
 none_after (x ∷ xs) rest bytes is = cc is
 
 pub up_or : (x : ChannelState) → (x ≡ Up) ⊎ (x ≡ Up → ⊥)
-up_or Up = inl refl
-up_or Down = inr (λ is. cc is)
-up_or Resetting = inr (λ is. cc is)
+up_or x = grind arith
 
 link_or : (b : Bool) → (b ≡ true) ⊎ (b ≡ false)
 link_or true = inl refl
@@ -527,17 +447,4 @@ meets_keep asks answers fits = record {
 }
 
 pub first_meets : (entries : ℕ) (asks answers : Offer) → entries ≤ 256 → Meets asks answers Initiator (sides_of (fresh_core entries asks answers) nothing_said)
-first_meets entries asks answers few = record {
-  converse = first_converse entries asks answers few;
-  links = first_links entries asks answers;
-  handshakes = record {
-    sid = 0;
-    small = omega arith;
-    offer_mine = refl;
-    offer_theirs = refl;
-    last_mine = λ is. refl;
-    last_theirs = λ is. refl;
-    mine = λ up now. absurd (cc up);
-    theirs = λ up now. absurd (cc up);
-  };
-}
+first_meets entries asks answers few = grind (arith, first_links)

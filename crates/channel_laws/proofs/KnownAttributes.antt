@@ -1,6 +1,5 @@
 -- Where both sessions are open and nobody forged, each end heard the other's attributes as its offer says them at the minor that was agreed on.
-use Rattle.std.proofs.Common.{◌≡◌, ℕ, ◌^◌, ◌<◌, Bool, true, false, List, ◌++◌, refl, sym, ap, ◌∙◌, subst, inl, inr}
-use Rattle.runs.specs.Lawful.{log_of}
+use Rattle.std.proofs.Common.{◌≡◌, ℕ, ◌^◌, ◌<◌, Bool, true, false, List, ◌++◌, refl, sym, ap, ◌∙◌, subst, inl, inr, arith}
 use Rattle.runs.specs.Run.{Run}
 use Rattle.ldc_link.specs.declared.phase.Role.TheVariants.{Initiator, Responder}
 use Rattle.vio_handshake.specs.declared.handshake.Handshake.{Handshake}
@@ -8,14 +7,13 @@ use Rattle.vio_handshake.specs.declared.session.Offer.{Offer}
 use Rattle.vio_handshake.specs.Offers.{Match}
 use Rattle.vio_handshake.proofs.Places.{AllSaid, AttributesAnswered, AttributesSaid, Deal, Place, asked_in_all, handshake_at, message_at}
 use Rattle.channel_model.specs.Sayings.{heard}
-use Rattle.channel_model.specs.TranscriptLog.{TranscriptLog}
 use Rattle.channel_laws.proofs.CoreRuns.{Knows}
 use Rattle.channel_laws.proofs.EndStanding.{open_up}
 use Rattle.channel_laws.proofs.HandshakePlaces.{AtPlace, Matches, deal, message_at_spelled, open_place}
 use Rattle.channel_laws.proofs.HandshakesPlaced.{Meets}
 use Rattle.channel_laws.proofs.Script.{bytes_at, said_at}
 use Rattle.channel_laws.proofs.Sessions.{both_up, meets_knows, transcript_is}
-use Rattle.channel_laws.specs.CoreLog.{CoreLog, after, nothing_yet}
+use Rattle.channel_laws.specs.CoreLog.{CoreLog}
 use Rattle.channel_laws.specs.Grounds.{Among}
 use Rattle.channel_laws.specs.KnownAttributes.{KnowAttributes}
 use Rattle.channel_laws.specs.LaneCore.{CoreEvent, CoreFits, CoreStep, LaneCore, fresh_core, transcript_behind}
@@ -65,7 +63,4 @@ known_attributes asks answers s l fits knows clean opened peer_opened =
 pub attributes_run : (entries : ℕ) (asks answers : Offer) (events : List CoreEvent) (s : LaneCore) → CoreFits entries asks answers → Match asks answers
     → Run CoreStep (fresh_core entries asks answers) events s → s.wire.forged ≡ false → s.a.is_open ≡ true → s.b.is_open ≡ true
     → KnowAttributes asks answers s.a.handshake.draft.sid (heard (transcript_behind events).client) (heard (transcript_behind events).server)
-attributes_run entries asks answers events s fits matched run clean opened peer_opened =
-    subst (λ (transcript : TranscriptLog). KnowAttributes asks answers s.a.handshake.draft.sid (heard transcript.client) (heard transcript.server)) (transcript_is (nothing_yet entries) events)
-    (known_attributes asks answers s (log_of after (nothing_yet entries) events) (record { asks_fit = fits.asks_fit; answers_fit = fits.answers_fit; matched = matched })
-    (meets_knows entries asks answers events s fits matched run) clean opened peer_opened)
+attributes_run entries asks answers events s fits matched run clean opened peer_opened = grind (arith, transcript_is, known_attributes, meets_knows)

@@ -1,6 +1,6 @@
 -- What each move keeps of an end, every run keeps of both; and what each act keeps from the side of the end that acts, every run keeps where
 -- nobody forged.
-use Rattle.std.proofs.Common.{◌≡◌, Bool, ℕ, ◌+◌, ◌<◌, true, false, inl, inr, Option, Some, List, [], length, refl, sym, ap, ◌∙◌, subst}
+use Rattle.std.proofs.Common.{◌≡◌, Bool, ℕ, ◌+◌, ◌<◌, true, false, inl, inr, Option, Some, List, [], length, refl, sym, ap, ◌∙◌, subst, arith}
 use Rattle.std.specs.Prelude.{slice_get, ⊤}
 use Rattle.runs.specs.Lawful.{run_lawful}
 use Rattle.runs.specs.Run.{Run}
@@ -14,54 +14,19 @@ use Rattle.ldc_queue.specs.Transcript.{Turn}
 use Rattle.vio_handshake.specs.declared.session.Offer.{Offer}
 use Rattle.vio_tag.specs.declared.cause.Cause.{Cause}
 use Rattle.channel_model.specs.TranscriptLog.{TranscriptLog, nothing_said, transcript_of}
-use Rattle.channel_model.specs.WireEvent.{Blocked, ByRestart, ByScript, ByStep, ByTick, Declines, Giver, Idle, Injected, Joined, Lost, Poked, Reset, Sent, Took, giver}
+use Rattle.channel_model.specs.WireEvent.{Blocked, Giver, Injected, Joined, Lost, Poked, Reset, Sent, Took, giver}
 use Rattle.channel_model.specs.WireLog.{WireLog, wire_moved}
 use Rattle.channel_laws.proofs.Apart.{true_is_false}
 use Rattle.channel_laws.proofs.EndStanding.{fresh_end_stands, stands_step}
 use Rattle.channel_laws.specs.EndCore.{EndCore, EndMove, Stays, fresh_end}
 use Rattle.channel_laws.specs.EndStep.{EndAnew, EndBegins, EndHears, EndRenews, EndSays, EndStays, EndStep, EndWaits}
-use Rattle.channel_laws.specs.LaneCore.{Beside, Closes, CoreEvent, CoreFits, CoreStep, LaneCore, OnChannel, fresh_core, move_of, reset_move, transcript_after, transcript_behind, turns_after, wire_after}
+use Rattle.channel_laws.specs.LaneCore.{Closes, CoreEvent, CoreFits, CoreStep, LaneCore, OnChannel, fresh_core, move_of, reset_move, transcript_after, transcript_behind, turns_after, wire_after}
 use Rattle.channel_laws.specs.Sides.{Sides, anew, goes_on, missed, other, put, shut, sides_in, sides_of, swapped, took}
 use Rattle.channel_laws.specs.Standing.{EndStands}
 
 -- THE TURNS of each end are those of its moves
-reset_turns : (g : Giver) (turns : List Turn) (cause : Cause) (packet : Option (List ℕ)) → turns_after turns (reset_move g cause packet) ≡ []
-reset_turns ByStep turns cause packet = refl
-reset_turns ByScript turns cause packet = refl
-reset_turns ByRestart turns cause packet = refl
-reset_turns ByTick turns cause packet = refl
-
 pub transcript_turns : (e : End) (l : TranscriptLog) (event : CoreEvent) → transcript_of e (transcript_after l event) ≡ turns_after (transcript_of e l) (move_of e event)
-transcript_turns A l (OnChannel (Joined A lost)) = refl
-transcript_turns A l (OnChannel (Joined B lost)) = refl
-transcript_turns B l (OnChannel (Joined A lost)) = refl
-transcript_turns B l (OnChannel (Joined B lost)) = refl
-transcript_turns A l (OnChannel (Reset A cause packet lost)) = sym (reset_turns (giver cause) l.client cause packet)
-transcript_turns A l (OnChannel (Reset B cause packet lost)) = refl
-transcript_turns B l (OnChannel (Reset A cause packet lost)) = refl
-transcript_turns B l (OnChannel (Reset B cause packet lost)) = sym (reset_turns (giver cause) l.server cause packet)
-transcript_turns A l (OnChannel (Took A packet opens)) = refl
-transcript_turns A l (OnChannel (Took B packet opens)) = refl
-transcript_turns B l (OnChannel (Took A packet opens)) = refl
-transcript_turns B l (OnChannel (Took B packet opens)) = refl
-transcript_turns A l (OnChannel (Sent A packet opens)) = refl
-transcript_turns A l (OnChannel (Sent B packet opens)) = refl
-transcript_turns B l (OnChannel (Sent A packet opens)) = refl
-transcript_turns B l (OnChannel (Sent B packet opens)) = refl
-transcript_turns A l (OnChannel (Blocked A)) = refl
-transcript_turns A l (OnChannel (Blocked B)) = refl
-transcript_turns B l (OnChannel (Blocked A)) = refl
-transcript_turns B l (OnChannel (Blocked B)) = refl
-transcript_turns e l (OnChannel (Idle end)) = refl
-transcript_turns e l (OnChannel (Lost end packet)) = refl
-transcript_turns e l (OnChannel (Injected end packet)) = refl
-transcript_turns e l (OnChannel (Poked end at bytes)) = refl
-transcript_turns e l (OnChannel (Declines d)) = refl
-transcript_turns A l (Closes A) = refl
-transcript_turns A l (Closes B) = refl
-transcript_turns B l (Closes A) = refl
-transcript_turns B l (Closes B) = refl
-transcript_turns e l Beside = refl
+transcript_turns e l event = grind arith
 
 -- A LAW OF ONE END, each move keeping it, is one of both ends along every run
 pub record EndsAll (P : Role → EndCore → List Turn → Type 0) (s : LaneCore) (transcript : TranscriptLog) : Type 0 where
@@ -88,9 +53,7 @@ ends_run P keeps entries asks answers events s first second run =
 
 pub stand_run : (entries : ℕ) (asks answers : Offer) (events : List CoreEvent) (s : LaneCore) → CoreFits entries asks answers
     → Run CoreStep (fresh_core entries asks answers) events s → EndsAll EndStands s (transcript_behind events)
-stand_run entries asks answers events s fits run =
-    ends_run EndStands (λ role c move t turns stands step. stands_step role c move t turns stands step) entries asks answers events s
-    (fresh_end_stands Initiator asks fits.asks_fit.form.most) (fresh_end_stands Responder answers fits.answers_fit.form.most) run
+stand_run entries asks answers events s fits run = search (ends_run, stands_step, fresh_end_stands)
 
 -- WHAT EACH ACT KEEPS of both, from the side of the end that acts
 pub record BothStand (role : Role) (s : Sides) : Type 0 where
@@ -119,10 +82,7 @@ renews_anew Responder c t renews = record { link = renews.link; handshake = inr 
 
 pub resets_anew : (g : Giver) (role : Role) (c t : EndCore) (turns : List Turn) (cause : Cause) (packet : Option (List ℕ)) → EndStands role c turns
     → EndStep role c (reset_move g cause packet) t → EndAnew role c t
-resets_anew ByStep role c t turns cause packet stands step = begins_anew role c t turns stands step.1
-resets_anew ByScript role c t turns cause packet stands step = begins_anew role c t turns stands step
-resets_anew ByRestart role c t turns cause packet stands step = renews_anew role c t step
-resets_anew ByTick role c t turns cause packet stands step = begins_anew role c t turns stands step
+resets_anew g role c t turns cause packet stands step = grind arith
 
 -- both ends and what holds of them, from the side of each
 record Kept (Holds : Role → Sides → Type 0) (n : ℕ) (w : WireLog) (a b : EndCore) (transcript : TranscriptLog) : Type 0 where
@@ -134,10 +94,7 @@ record FromB (Holds : Role → Sides → Type 0) (n : ℕ) (w : WireLog) (a b : 
   holds : Holds Responder (swapped (sides_in n w a b transcript))
 
 from_b : (Holds : Role → Sides → Type 0) → ActsKeep Holds → (n : ℕ) (w : WireLog) (a b : EndCore) (transcript : TranscriptLog) → Kept Holds n w a b transcript → FromB Holds n w a b transcript
-from_b Holds keep n w a b transcript kept = record {
-  stand = record { mine = kept.stand.theirs; theirs = kept.stand.mine };
-  holds = keep.swaps Initiator (sides_in n w a b transcript) kept.holds;
-}
+from_b Holds keep n w a b transcript kept = grind arith
 
 -- one end stays
 a_stays : (Holds : Role → Sides → Type 0) → ActsKeep Holds → (n : ℕ) (w : WireLog) (a t b : EndCore) (transcript : TranscriptLog) → EndStays a t → Kept Holds n w a b transcript → Kept Holds n w t b transcript
@@ -212,12 +169,8 @@ event_behind Holds keep s t transcript (OnChannel (Lost B packet)) kept step cle
     let seen = from_b Holds keep s.entries s.wire t.a t.b transcript k in
     keep.swaps Responder (missed (swapped (sides_in s.entries s.wire t.a t.b transcript)))
     (keep.misses Responder (swapped (sides_in s.entries s.wire t.a t.b transcript)) packet seen.stand step.stands seen.holds)
-event_behind Holds keep s t transcript (OnChannel (Idle e)) kept step clean =
-    (b_stays Holds keep s.entries s.wire t.a s.b t.b transcript step.b (a_stays Holds keep s.entries s.wire s.a t.a s.b transcript step.a kept)).holds
 event_behind Holds keep s t transcript (OnChannel (Injected e packet)) kept step clean = absurd (forged_never (wire_moved s.wire (Injected e packet)) ⊥ refl clean)
 event_behind Holds keep s t transcript (OnChannel (Poked e at bytes)) kept step clean = absurd (forged_never (wire_moved s.wire (Poked e at bytes)) ⊥ refl clean)
-event_behind Holds keep s t transcript (OnChannel (Declines d)) kept step clean =
-    (b_stays Holds keep s.entries s.wire t.a s.b t.b transcript step.b (a_stays Holds keep s.entries s.wire s.a t.a s.b transcript step.a kept)).holds
 event_behind Holds keep s t transcript (Closes A) kept step clean =
     let k = b_stays Holds keep s.entries s.wire s.a s.b t.b transcript step.b kept in
     keep.closes Initiator (sides_in s.entries s.wire s.a t.b transcript) t.a k.stand (renews_anew Initiator s.a t.a step.a) k.holds
@@ -226,7 +179,7 @@ event_behind Holds keep s t transcript (Closes B) kept step clean =
     let seen = from_b Holds keep s.entries s.wire t.a s.b transcript k in
     keep.swaps Responder (shut t.b (swapped (sides_in s.entries s.wire t.a s.b transcript)))
     (keep.closes Responder (swapped (sides_in s.entries s.wire t.a s.b transcript)) t.b seen.stand (renews_anew Responder s.b t.b step.b) seen.holds)
-event_behind Holds keep s t transcript Beside kept step clean =
+event_behind Holds keep s t transcript _ kept step clean =
     (b_stays Holds keep s.entries s.wire t.a s.b t.b transcript step.b (a_stays Holds keep s.entries s.wire s.a t.a s.b transcript step.a kept)).holds
 
 -- ALONG EVERY RUN, where nobody forged
@@ -236,11 +189,7 @@ pub record CoreHolds (Holds : Role → Sides → Type 0) (s : LaneCore) (transcr
 
 -- nobody had forged before
 was_clean : (w : WireLog) (event : CoreEvent) → (wire_after w event).forged ≡ false → w.forged ≡ false
-was_clean w (OnChannel (Injected e packet)) clean = forged_never (wire_moved w (Injected e packet)) (w.forged ≡ false) refl clean
-was_clean w (OnChannel (Poked e at bytes)) clean = forged_never (wire_moved w (Poked e at bytes)) (w.forged ≡ false) refl clean
-was_clean w (OnChannel event) clean = clean
-was_clean w (Closes e) clean = clean
-was_clean w Beside clean = clean
+was_clean w event clean = grind arith
 
 pub core_step : (Holds : Role → Sides → Type 0) → ActsKeep Holds → (s : LaneCore) (transcript : TranscriptLog) (event : CoreEvent) (t : LaneCore) → CoreHolds Holds s transcript → CoreStep s event t
     → CoreHolds Holds t (transcript_after transcript event)

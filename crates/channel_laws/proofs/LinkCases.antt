@@ -1,5 +1,5 @@
 -- What a link did with a packet, case by case: with one that it heard, and with one that it put.
-use Rattle.std.proofs.Common.{◌≡◌, ℕ, ◌≤◌, Bool, true, false, ◌||◌, List, [], ◌∷◌, length, drop, Some, refl, sym, ap, ◌∙◌, subst, arith}
+use Rattle.std.proofs.Common.{◌≡◌, ℕ, ◌≤◌, Bool, true, false, ◌||◌, List, length, drop, Some, refl, sym, ap, ◌∙◌, subst, arith}
 use Rattle.std.specs.Prelude.{◌&&◌, if◌then◌else◌, nat_eq, Option, Result, Ok, Err}
 use Rattle.std.proofs.lemmas.Bool.{eqb-true}
 use Rattle.ldc_packet.proofs.Canonical.{canonical_spells}
@@ -16,7 +16,6 @@ use Rattle.ldc_queue.specs.Fragments.{fragment_at, is_part}
 use Rattle.ldc_queue.specs.Messages.{MayCome}
 use Rattle.ldc_queue.specs.Numbered.{is_numbered}
 use Rattle.ldc_link.proofs.Hearing.{heard_step, numbered_rightly}
-use Rattle.ldc_link.proofs.Saying.{same_pair}
 use Rattle.ldc_link.proofs.Spelled.{has_number, has_part, spelled_fragment, spelled_numbered, spelled_part}
 use Rattle.ldc_link.specs.declared.phase.LinkPhase.{LinkPhase}
 use Rattle.ldc_link.specs.declared.phase.LinkPhase.TheVariants as phase
@@ -124,9 +123,7 @@ rtr_heard k m bytes ph s n mode at one spelled is = absurd (not_heard m _ is)
 
 rdx_heard : (k m : LinkState) (bytes : List ℕ) (ph : LinkPhase) (s : Subtype) (n : ℕ) → k.phase ≡ ph → n ≡ k.take_next → IsSpelled bytes s n Rdx
     → count (goes_to k (phase_behind_rdx ph s)) ≡ Heard m → LinkHeard k bytes m
-rdx_heard k m bytes phase.AwaitsRdx Info n at next spelled is =
-    ReadyHeard at (packet_of bytes Info n Rdx spelled) (spelled.1.seqid ∙ next) (heard_is m (counted (record k { phase = phase.Established })) (sym is))
-rdx_heard k m bytes ph s n at next spelled is = absurd (not_heard m _ (sym is))
+rdx_heard k m bytes ph s n at next spelled is = grind arith
 
 pub established : (ph : LinkPhase) → is_established ph ≡ true → ph ≡ phase.Established
 established phase.Established up = refl
@@ -169,12 +166,7 @@ record ItPuts (one : Packet) (n : LinkState) (bytes : List ℕ) (m : LinkState) 
   behind : m ≡ n
 
 it_puts : (one p : Packet) (n m : LinkState) (bytes : List ℕ) → ◌≡◌ {A = Option (Packet × LinkState)} (Some (one, n)) (Some (p, m)) → bytes ≡ canonical p → ItPuts one n bytes m
-it_puts one p n m bytes is spelled =
-    let same : ◌≡◌ {A = Packet × LinkState} (one, n) (p, m) = same_pair (one, n) (p, m) is in
-    record {
-      spelled = spelled ∙ ap (λ (x : Packet × LinkState). canonical x.0) (sym same);
-      behind = ap (λ (x : Packet × LinkState). x.1) (sym same);
-    }
+it_puts one p n m bytes is spelled = grind arith
 
 abbrev behind_in : LinkPhase → LinkState → LinkState
 behind_in ph k = record k {
@@ -186,10 +178,7 @@ behind_in ph k = record k {
 
 part_gone : (left : List ℕ) (k m : LinkState) (p : Packet) (bytes : List ℕ) → k.phase ≡ phase.Established → k.to_send ≡ left
     → with_link (part_owed k left) (behind_in phase.Established k) ≡ Some (p, m) → bytes ≡ canonical p → LinkPut k bytes m
-part_gone [] k m p bytes at left is spelled = absurd (cc is)
-part_gone (byte ∷ rest) k m p bytes at left is spelled =
-    let puts = it_puts (first_part k) p (behind_in phase.Established k) m bytes is spelled in
-    PartGone at (omega (arith, ap length left)) puts.spelled (puts.behind ∙ ap (λ (ph : LinkPhase). record (behind_part k) { phase = ph }) (sym at))
+part_gone left k m p bytes at is_holds is spelled = grind arith
 
 put_in : (ph : LinkPhase) (k m : LinkState) (p : Packet) (bytes : List ℕ) → k.phase ≡ ph → with_link (owed_in ph k) (behind_in ph k) ≡ Some (p, m) → bytes ≡ canonical p
     → LinkPut k bytes m
@@ -220,11 +209,7 @@ link_put k m bytes puts = put_in k.phase k m puts.packet bytes refl puts.next pu
 -- WHAT THE BYTES SAY of it
 pub control_quiet : (bytes : List ℕ) (s : Subtype) (b : Body) → IsPacket bytes s b → has_number b ≡ false → (is_numbered bytes ≡ false) × (is_part bytes ≡ false)
 unfolding has_number has_part
-control_quiet bytes s (Vers major minor) packet without = (spelled_numbered bytes _ packet.spells, spelled_part bytes _ packet.spells)
-control_quiet bytes s (Rts mode) packet without = (spelled_numbered bytes _ packet.spells, spelled_part bytes _ packet.spells)
-control_quiet bytes s (Rtr mode) packet without = (spelled_numbered bytes _ packet.spells, spelled_part bytes _ packet.spells)
-control_quiet bytes s Rdx packet without = absurd (cc without)
-control_quiet bytes s (Part start stop len own) packet without = absurd (cc without)
+control_quiet bytes s b packet without = grind arith
 
 pub ready_loud : (bytes : List ℕ) (s : Subtype) → IsPacket bytes s Rdx → (is_numbered bytes ≡ true) × (is_part bytes ≡ false)
 unfolding has_number has_part
@@ -243,10 +228,7 @@ canonical_is bytes s n b form widths is = record {
 
 pub taken_quiet : (before : LinkPhase) (bytes : List ℕ) (next : LinkPhase) → ControlTaken before bytes next → (is_numbered bytes ≡ false) × (is_part bytes ≡ false)
 unfolding has_number
-taken_quiet before bytes next (VersionAsked major minor at packet goes) = control_quiet bytes Info (Vers major minor) packet refl
-taken_quiet before bytes next (VersionAgreed at packet goes) = control_quiet bytes Ack (Vers 1 0) packet refl
-taken_quiet before bytes next (ModeAsked at packet goes) = control_quiet bytes Info (Rts 1) packet refl
-taken_quiet before bytes next (ModeAgreed at packet goes) = control_quiet bytes Info (Rtr 1) packet refl
+taken_quiet before bytes next taken = grind arith
 
 -- what is put is a packet, where a refused version is answered by 1.0 or 0.0
 pub put_quiet : (before : LinkPhase) (bytes : List ℕ) (next : LinkPhase) → OffersLittle before → ControlPut before bytes next → (is_numbered bytes ≡ false) × (is_part bytes ≡ false)

@@ -1,5 +1,5 @@
 -- Each act of an end keeps the two links at one place of their handshake, where nobody forged.
-use Rattle.std.proofs.Common.{◌≡◌, ℕ, ◌≤◌, ◌<◌, Bool, true, false, List, [], ◌∷◌, ◌++◌, drop, length, Some, inl, inr, refl, sym, ap, ◌∙◌, subst, arith, length-append}
+use Rattle.std.proofs.Common.{◌≡◌, ℕ, ◌≤◌, ◌<◌, Bool, true, false, List, [], ◌∷◌, ◌++◌, drop, length, Some, inr, refl, sym, ap, ◌∙◌, subst, arith, length-append}
 use Rattle.std.specs.Prelude.{slice_get}
 use Rattle.ldc_packet.proofs.Reading.{unpacked}
 use Rattle.ldc_packet.specs.declared.packet.Body.TheVariants.{Rdx}
@@ -27,12 +27,11 @@ use Rattle.vio_handshake.specs.declared.session.Offer.{Offer}
 use Rattle.channel_model.specs.TranscriptLog.{nothing_said}
 use Rattle.ldc_queue.specs.Wire.{peer_behind, queue_behind, upset}
 use Rattle.channel_model.specs.WireLog.{lossy_behind}
-use Rattle.channel_laws.proofs.Apart.{links_differ, true_is_false}
 use Rattle.channel_laws.proofs.Conversations.{held_phase}
 use Rattle.channel_laws.proofs.EndCases.{end_took}
 use Rattle.channel_laws.proofs.EndStanding.{held_stands}
 use Rattle.channel_laws.proofs.Lifting.{ActsKeep}
-use Rattle.channel_laws.proofs.LinkCases.{ControlGone, ControlHeard, LinkHeard, LinkPut, ModeAnswered as ModeAnswered_, ModeOffered, PartGone, PartHeard, ReadyGone, ReadyHeard, VersionAnswered as VersionAnswered_, VersionOffered, VersionRefused, canonical_is, link_put, part_loud, put_quiet, ready_loud, taken_quiet}
+use Rattle.channel_laws.proofs.LinkCases.{ControlGone, LinkHeard, LinkPut, ModeAnswered as ModeAnswered_, ModeOffered, PartGone, ReadyGone, VersionAnswered as VersionAnswered_, VersionOffered, VersionRefused, canonical_is, link_put, part_loud, put_quiet, ready_loud}
 use Rattle.channel_laws.proofs.TurnCases.{SaysPart, says_part}
 use Rattle.channel_laws.specs.EndCore.{EndCore}
 use Rattle.channel_laws.specs.EndStep.{EndAnew, EndHears, EndSays}
@@ -43,106 +42,27 @@ use Rattle.channel_laws.specs.Standing.{EndStands}
 
 -- FROM THE OTHER SIDE
 pub swap_links : (role : Role) (s : Sides) → LinksAt role s → LinksAt (other role) (swapped s)
-swap_links Initiator s at = record {
-  place = at.place;
-  mine = at.theirs;
-  theirs = at.mine;
-  to_mine = at.to_theirs;
-  to_theirs = at.to_mine;
-  said_mine = at.said_theirs;
-  said_theirs = at.said_mine;
-  heard_mine = at.heard_theirs;
-  heard_theirs = at.heard_mine;
-}
-swap_links Responder s at = record {
-  place = at.place;
-  mine = at.theirs;
-  theirs = at.mine;
-  to_mine = at.to_theirs;
-  to_theirs = at.to_mine;
-  said_mine = at.said_theirs;
-  said_theirs = at.said_mine;
-  heard_mine = at.heard_theirs;
-  heard_theirs = at.heard_mine;
-}
+swap_links role s at = grind arith
 
 -- IT GOES ON
 goes_links : (role : Role) (s : Sides) (t : EndCore) → t.link.phase ≡ s.mine.core.link.phase → LinksAt role s → LinksAt role (goes_on t s)
-goes_links role s t same at = record {
-  place = at.place;
-  mine = ap (live_phase s.mine.state (first_phase role)) same ∙ at.mine;
-  theirs = at.theirs;
-  to_mine = at.to_mine;
-  to_theirs = at.to_theirs;
-  said_mine = at.said_mine;
-  said_theirs = at.said_theirs;
-  heard_mine = at.heard_mine;
-  heard_theirs = at.heard_theirs;
-}
+goes_links role s t same at = grind arith
 
 -- IT BEGINS, or is closed
 at_first : (role : Role) → first_phase role ≡ phase_at role NothingPut
 at_first Initiator = refl
 at_first Responder = refl
 
-none_waits : (role : Role) (lossy : Bool) → Waits role lossy NothingPut []
-none_waits Initiator lossy = refl
-none_waits Responder lossy = refl
-
-none_said : (role : Role) → SaidAt role NothingPut []
-none_said Initiator = refl
-none_said Responder = refl
-
-none_heard : (role : Role) → HeardAt role NothingPut []
-none_heard Initiator = tt
-none_heard Responder = refl
-
--- of an end that is told that the queues were emptied nothing counts any more
-upset_phase : (x : ChannelState) (first now : LinkPhase) → live_phase (upset x) first now ≡ first
-upset_phase Up first now = refl
-upset_phase Down first now = refl
-upset_phase Resetting first now = refl
-
-upset_none : (x : ChannelState) (packets : List (List ℕ)) → live (upset x) packets ≡ []
-upset_none Up packets = refl
-upset_none Down packets = refl
-upset_none Resetting packets = refl
-
 -- both begin
 emptied : (role : Role) (s : Sides) (state : ChannelState) (lossy : Bool) (t : EndCore) → live_phase state (first_phase role) t.link.phase ≡ first_phase role
     → LinksAt role (record s { lossy = lossy; mine = record { state = state; waiting = []; core = t; turns = [] }; theirs = record s.theirs { state = upset s.theirs.state; waiting = [] } })
-emptied role s state lossy t first = record {
-  place = NothingPut;
-  mine = first ∙ at_first role;
-  theirs = upset_phase s.theirs.state (first_phase (other role)) s.theirs.core.link.phase ∙ at_first (other role);
-  to_mine = none_waits role lossy;
-  to_theirs = none_waits (other role) lossy;
-  said_mine = subst (SaidAt role NothingPut) (sym (nothing_live state)) (none_said role);
-  said_theirs = subst (SaidAt (other role) NothingPut) (sym (upset_none s.theirs.state (numbered_said s.theirs.turns))) (none_said (other role));
-  heard_mine = subst (HeardAt role NothingPut) (sym (nothing_live state)) (none_heard role);
-  heard_theirs = subst (HeardAt (other role) NothingPut) (sym (upset_none s.theirs.state (numbered_heard s.theirs.turns))) (none_heard (other role));
-}
-  where
-    nothing_live : (x : ChannelState) → live x [] ≡ []
-    nothing_live Up = refl
-    nothing_live Down = refl
-    nothing_live Resetting = refl
+emptied role s state lossy t first = grind (arith, at_first)
 
 -- one that wasn't up counted as one that begins
 woken : (role : Role) (s : Sides) (t : EndCore) → t.link.phase ≡ first_phase role → live_phase s.mine.state (first_phase role) s.mine.core.link.phase ≡ first_phase role
     → live s.mine.state (numbered_said s.mine.turns) ≡ [] → live s.mine.state (numbered_heard s.mine.turns) ≡ [] → LinksAt role s
     → LinksAt role (record s { mine = record { state = Up; waiting = s.mine.waiting; core = t; turns = [] } })
-woken role s t first was said heard at = record {
-  place = at.place;
-  mine = first ∙ sym was ∙ at.mine;
-  theirs = at.theirs;
-  to_mine = at.to_mine;
-  to_theirs = at.to_theirs;
-  said_mine = subst (SaidAt role at.place) said at.said_mine;
-  said_theirs = at.said_theirs;
-  heard_mine = subst (HeardAt role at.place) heard at.heard_mine;
-  heard_theirs = at.heard_theirs;
-}
+woken role s t first was said heard at = grind arith
 
 abbrev anew_in : ChannelState → EndCore → Sides → Sides
 anew_in x t s = record s {
@@ -172,53 +92,19 @@ shut_links : (role : Role) (s : Sides) (t : EndCore) → LinksAt role (shut t s)
 shut_links role s t = emptied role s Down false t refl
 
 -- ONE IS LOST
-one_less : (lossy : Bool) (p : Packet) (waiting : List (List ℕ)) → AtMost lossy p waiting → AtMost true p (drop 1 waiting)
-one_less lossy p waiting (inl none) = inl (ap (drop 1) none.0, refl)
-one_less lossy p waiting (inr one) = inl (ap (drop 1) one, refl)
-
 all_less : (waiting : List (List ℕ)) → AllNumbered waiting → AllNumbered (drop 1 waiting)
 all_less [] all = tt
 all_less (one ∷ waiting) all = all.1
 
 waits_less : (role : Role) (lossy : Bool) (place : LinkPlace) (waiting : List (List ℕ)) → Waits role lossy place waiting → Waits role true place (drop 1 waiting)
-waits_less Initiator lossy VersionAnswered waiting most = one_less lossy _ waiting most
-waits_less Initiator lossy ModeAnswered waiting most = one_less lossy _ waiting most
-waits_less Initiator lossy BothUp waiting all = all_less waiting all
-waits_less Initiator lossy _ waiting none = ap (drop 1) none
-waits_less Responder lossy VersionPut waiting most = one_less lossy _ waiting most
-waits_less Responder lossy ModePut waiting most = one_less lossy _ waiting most
-waits_less Responder lossy ReadyPut waiting all = all_less waiting all
-waits_less Responder lossy BothUp waiting all = all_less waiting all
-waits_less Responder lossy _ waiting none = ap (drop 1) none
+waits_less role lossy place waiting most = grind arith
 
 -- the other packet may have been lost as well
-or_lost : (lossy : Bool) (p : Packet) (waiting : List (List ℕ)) → AtMost lossy p waiting → AtMost true p waiting
-or_lost lossy p waiting (inl none) = inl (none.0, refl)
-or_lost lossy p waiting (inr one) = inr one
-
 waits_lossy : (role : Role) (lossy : Bool) (place : LinkPlace) (waiting : List (List ℕ)) → Waits role lossy place waiting → Waits role true place waiting
-waits_lossy Initiator lossy VersionAnswered waiting most = or_lost lossy _ waiting most
-waits_lossy Initiator lossy ModeAnswered waiting most = or_lost lossy _ waiting most
-waits_lossy Initiator lossy BothUp waiting all = all
-waits_lossy Initiator lossy _ waiting none = none
-waits_lossy Responder lossy VersionPut waiting most = or_lost lossy _ waiting most
-waits_lossy Responder lossy ModePut waiting most = or_lost lossy _ waiting most
-waits_lossy Responder lossy ReadyPut waiting all = all
-waits_lossy Responder lossy BothUp waiting all = all
-waits_lossy Responder lossy _ waiting none = none
+waits_lossy role lossy place waiting most = grind arith
 
 missed_links : (role : Role) (s : Sides) → LinksAt role s → LinksAt role (missed s)
-missed_links role s at = record {
-  place = at.place;
-  mine = at.mine;
-  theirs = at.theirs;
-  to_mine = waits_less role s.lossy at.place s.mine.waiting at.to_mine;
-  to_theirs = waits_lossy (other role) s.lossy at.place s.theirs.waiting at.to_theirs;
-  said_mine = at.said_mine;
-  said_theirs = at.said_theirs;
-  heard_mine = at.heard_mine;
-  heard_theirs = at.heard_theirs;
-}
+missed_links role s at = search (waits_less, waits_lossy)
 
 -- FROM ONE PLACE TO ANOTHER: what a packet that is put changes
 record PutPlace (role : Role) (place : LinkPlace) (bytes : List ℕ) (now : LinkPhase) : Type 0 where
@@ -241,49 +127,27 @@ parts_more : (packets : List (List ℕ)) (bytes : List ℕ) → EachPart packets
 parts_more [] bytes each one = (one, tt)
 parts_more (packet ∷ packets) bytes each one = (each.0, parts_more packets bytes each.1 one)
 
-ready_more : (packets : List (List ℕ)) (bytes : List ℕ) → ReadyFirst packets → IsPartOf bytes → ReadyFirst (packets ++ bytes ∷ [])
-ready_more [] bytes each one = absurd each
-ready_more (packet ∷ packets) bytes each one = (each.0, parts_more packets bytes each.1 one)
-
 one_waits : (waiting : List (List ℕ)) (bytes : List ℕ) (p : Packet) → waiting ≡ [] → bytes ≡ canonical p → waiting ++ bytes ∷ [] ≡ canonical p ∷ []
 one_waits waiting bytes p none is = ap (λ (q : List (List ℕ)). q ++ bytes ∷ []) none ∙ ap (λ (b : List ℕ). b ∷ []) is
 
 -- the places of a phase in which something is owed
 offers_at : (role : Role) (place : LinkPlace) → phase.OwesVersInfo ≡ phase_at role place → (role ≡ Initiator) × (place ≡ NothingPut)
-offers_at Initiator NothingPut is = (refl, refl)
-offers_at Initiator _ is = links_differ is refl
-offers_at Responder NothingPut is = links_differ is refl
-offers_at Responder _ is = links_differ is refl
+offers_at role place is = grind arith
 
 answers_at : (role : Role) (place : LinkPlace) → phase.OwesVersAck ≡ phase_at role place → (role ≡ Responder) × (place ≡ VersionTaken)
-answers_at Responder VersionTaken is = (refl, refl)
-answers_at Responder _ is = links_differ is refl
-answers_at Initiator NothingPut is = links_differ is refl
-answers_at Initiator _ is = links_differ is refl
+answers_at role place is = grind arith
 
 refuses_at : (role : Role) (place : LinkPlace) (major : ℕ) → phase.OwesVersNack major ≡ phase_at role place → ⊥
-refuses_at Initiator NothingPut major is = links_differ is refl
-refuses_at Initiator _ major is = links_differ is refl
-refuses_at Responder NothingPut major is = links_differ is refl
-refuses_at Responder _ major is = links_differ is refl
+refuses_at role place major is = grind arith
 
 asks_mode_at : (role : Role) (place : LinkPlace) → phase.OwesRts ≡ phase_at role place → (role ≡ Initiator) × (place ≡ AnswerTaken)
-asks_mode_at Initiator AnswerTaken is = (refl, refl)
-asks_mode_at Initiator _ is = links_differ is refl
-asks_mode_at Responder NothingPut is = links_differ is refl
-asks_mode_at Responder _ is = links_differ is refl
+asks_mode_at role place is = grind arith
 
 agrees_mode_at : (role : Role) (place : LinkPlace) → phase.OwesRtr ≡ phase_at role place → (role ≡ Responder) × (place ≡ ModeTaken)
-agrees_mode_at Responder ModeTaken is = (refl, refl)
-agrees_mode_at Responder _ is = links_differ is refl
-agrees_mode_at Initiator NothingPut is = links_differ is refl
-agrees_mode_at Initiator _ is = links_differ is refl
+agrees_mode_at role place is = grind arith
 
 pub ready_at : (role : Role) (place : LinkPlace) → phase.OwesRdx ≡ phase_at role place → (role ≡ Initiator) × (place ≡ ModeAgreed)
-ready_at Initiator ModeAgreed is = (refl, refl)
-ready_at Initiator _ is = links_differ is refl
-ready_at Responder NothingPut is = links_differ is refl
-ready_at Responder _ is = links_differ is refl
+ready_at role place is = grind arith
 
 -- at a role and a place that are known
 put_at : (role r : Role) (place p : LinkPlace) (bytes : List ℕ) (now : LinkPhase) → (role ≡ r) × (place ≡ p) → PutPlace r p bytes now → PutPlace role place bytes now
@@ -360,41 +224,7 @@ ready_put bytes now ready has goes = record {
 
 part_put : (role : Role) (place : LinkPlace) (bytes : List ℕ) (now : LinkPhase) → phase.Established ≡ phase_at role place → IsPartOf bytes → is_numbered bytes ≡ true
     → now ≡ phase.Established → PutPlace role place bytes now
-part_put Initiator ReadyPut bytes now at part has goes = record {
-  next = ReadyPut;
-  mine = goes;
-  theirs = refl;
-  to_mine = λ lossy waiting none. none;
-  to_theirs = λ lossy waiting all. all_more waiting bytes all has;
-  said_mine = λ packets ready. subst ReadyFirst (sym (loud bytes packets has)) (ready_more packets bytes ready part);
-  said_theirs = λ packets none. none;
-  heard_mine = λ packets any. any;
-  heard_theirs = λ packets none. none;
-}
-part_put Initiator BothUp bytes now at part has goes = record {
-  next = BothUp;
-  mine = goes;
-  theirs = refl;
-  to_mine = λ lossy waiting all. all;
-  to_theirs = λ lossy waiting all. all_more waiting bytes all has;
-  said_mine = λ packets ready. subst ReadyFirst (sym (loud bytes packets has)) (ready_more packets bytes ready part);
-  said_theirs = λ packets each. each;
-  heard_mine = λ packets any. any;
-  heard_theirs = λ packets some. some;
-}
-part_put Responder BothUp bytes now at part has goes = record {
-  next = BothUp;
-  mine = goes;
-  theirs = refl;
-  to_mine = λ lossy waiting all. all;
-  to_theirs = λ lossy waiting all. all_more waiting bytes all has;
-  said_mine = λ packets each. subst EachPart (sym (loud bytes packets has)) (parts_more packets bytes each part);
-  said_theirs = λ packets ready. ready;
-  heard_mine = λ packets some. some;
-  heard_theirs = λ packets any. any;
-}
-part_put Initiator _ bytes now at part has goes = links_differ at refl
-part_put Responder _ bytes now at part has goes = links_differ at refl
+part_put role place bytes now at part has goes = grind (arith, all_more, parts_more)
 
 -- A PACKET IS PUT
 put_place : (role : Role) (place : LinkPlace) (k m : LinkState) (turns : List Turn) (bytes : List ℕ) → Follows k turns → k.phase ≡ phase_at role place → LinkPut k bytes m
@@ -426,7 +256,7 @@ put_place role place k m turns bytes follows at (PartGone from some is link) =
 up_phase : (x : ChannelState) (first now : LinkPhase) → x ≡ Up → live_phase x first now ≡ now
 up_phase x first now is = ap (λ (y : ChannelState). live_phase y first now) is
 
-up_live : (x : ChannelState) (packets : List (List ℕ)) → x ≡ Up → live x packets ≡ packets
+pub up_live : (x : ChannelState) (packets : List (List ℕ)) → x ≡ Up → live x packets ≡ packets
 up_live x packets is = ap (λ (y : ChannelState). live y packets) is
 
 put_links : (role : Role) (s : Sides) (t : EndCore) (packet : List ℕ) (opens : Bool) → EndStands role s.mine.core s.mine.turns → s.mine.state ≡ Up → EndSays role s.mine.core packet opens t
@@ -460,10 +290,7 @@ pub record TheOne (p : Packet) (waiting : List (List ℕ)) (packet : List ℕ) :
   pub rest : drop 1 waiting ≡ []
 
 pub the_one : (lossy : Bool) (p : Packet) (waiting : List (List ℕ)) (packet : List ℕ) → AtMost lossy p waiting → slice_get waiting 0 ≡ Some packet → TheOne p waiting packet
-the_one lossy p waiting packet (inl none) first = absurd (nothing_first waiting packet none.0 first)
-the_one lossy p waiting packet (inr one) first =
-    let same : Some packet ≡ Some (canonical p) = sym first ∙ ap (λ (q : List (List ℕ)). slice_get q 0) one in
-    record { is = cc same; rest = ap (drop 1) one }
+the_one lossy p waiting packet most first = grind arith
 
 pub first_numbered : (waiting : List (List ℕ)) (packet : List ℕ) → AllNumbered waiting → slice_get waiting 0 ≡ Some packet → is_numbered packet ≡ true
 first_numbered [] packet all first = absurd (cc first)
@@ -499,9 +326,7 @@ heard_phase m n is = let same : m ≡ n = cc is in ap (λ (k : LinkState). k.pha
 
 -- one with a number, where the link is up or waits for RDX
 numbered_up : (k m : LinkState) (bytes : List ℕ) → is_numbered bytes ≡ true → LinkHeard k bytes m → m.phase ≡ phase.Established
-numbered_up k m bytes has (ControlHeard next taken is) = true_is_false (sym has ∙ (taken_quiet k.phase bytes next taken).0)
-numbered_up k m bytes has (ReadyHeard at ready number is) = ap (λ (x : LinkState). x.phase) is
-numbered_up k m bytes has (PartHeard at part may number is) = ap (λ (x : LinkState). x.phase) is ∙ at
+numbered_up k m bytes has heard = grind arith
 
 one_heard : (packets : List (List ℕ)) (packet : List ℕ) → is_numbered packet ≡ true → 1 ≤ length (packets ++ numbered (packet ∷ []))
 one_heard packets packet is = omega (arith, ap length (loud packet packets is), length-append packets (packet ∷ []))

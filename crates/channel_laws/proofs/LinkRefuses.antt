@@ -8,12 +8,11 @@ use Rattle.ldc_link.specs.Following.{Follows}
 use Rattle.ldc_link.specs.LinkState.{LinkState, first_phase}
 use Rattle.ldc_link.specs.Taking.{Heard, TakesBytes, Unheard}
 use Rattle.ldc_queue.specs.declared.end.ChannelState.{ChannelState}
-use Rattle.ldc_queue.specs.declared.end.ChannelState.TheVariants.{Down, Resetting, Up}
+use Rattle.ldc_queue.specs.declared.end.ChannelState.TheVariants.{Up}
 use Rattle.ldc_queue.specs.Fragments.{fragments_in}
 use Rattle.ldc_queue.specs.Messages.{AllMayCome}
 use Rattle.ldc_queue.specs.Numbered.{is_numbered, numbered}
 use Rattle.ldc_queue.specs.OneStream.{OneWay, live}
-use Rattle.ldc_queue.specs.QueueLog.{IsFirst}
 use Rattle.ldc_queue.specs.Transcript.{Turn, numbered_heard, numbered_said}
 use Rattle.vio_tag.specs.declared.cause.Cause.{Cause}
 use Rattle.channel_laws.proofs.Conversations.{first_waits}
@@ -52,19 +51,12 @@ front_none (one ∷ heard) gone some none = cc none
 
 up_turned : (k : LinkState) (turns : List Turn) (said : List (List ℕ)) (packet : List ℕ) → k.phase ≡ phase.Established → 1 ≤ length (numbered_heard turns) → ReadyFirst said → Follows k turns
     → AllMayCome [] (fragments_in said) → WasSaid said (numbered_heard turns) packet → Turned k said (numbered_heard turns) packet
-up_turned k turns said packet at some ready follows all was =
-    elim (ready_in (numbered_heard turns ++ was.gone) packet was.rest (subst ReadyFirst was.is ready)) [
-      | inl one ↦ absurd (front_none (numbered_heard turns) was.gone some one.1)
-      | inr part ↦ part_turned k turns said packet at follows all part
-    ]
+up_turned k turns said packet at some ready follows all was = grind (arith, ready_in, front_none, part_turned)
 
 -- a packet with a number is a gap, or taken
 numbered_refuses : (lossy : Bool) (k : LinkState) (turns : List Turn) (said waiting : List (List ℕ)) (packet : List ℕ) (cause : Cause) → WayTo lossy k turns said waiting packet
     → is_numbered packet ≡ true → TakesBytes k packet (Unheard cause) → (WasSaid said (numbered_heard turns) packet → Turned k said (numbered_heard turns) packet) → IsGapBehindLoss lossy cause
-numbered_refuses lossy k turns said waiting packet cause to has takes turned =
-    let first : IsFirst packet waiting = first_waits packet waiting to.first in
-    turned_own lossy k turns said waiting packet to.lost cause to.follows first to.way to.few to.whole has
-    (turned (was_said said (numbered_heard turns) waiting packet to.lost first to.way has)) takes
+numbered_refuses lossy k turns said waiting packet cause to has takes turned = search (first_waits, turned_own, was_said)
 
 -- BY THE PLACE of the links: one without a number is always taken
 at_place : (role : Role) (place : LinkPlace) (lossy : Bool) (k : LinkState) (turns : List Turn) (said waiting : List (List ℕ)) (packet : List ℕ) (cause : Cause) → k.phase ≡ phase_at role place
@@ -94,9 +86,7 @@ at_place Initiator _ lossy k turns said waiting packet cause at waits peer_said 
 at_place Responder _ lossy k turns said waiting packet cause at waits peer_said heard to takes = absurd (nothing_first waiting packet waits to.first)
 
 live_parts : (x : ChannelState) (turns : List Turn) → PartsSaid turns → AllMayCome [] (fragments_in (live x (numbered_said turns)))
-live_parts Up turns all = all
-live_parts Down turns all = tt
-live_parts Resetting turns all = tt
+live_parts x turns all = grind arith
 
 -- A LINK that doesn't take the packet that waits first for it
 pub link_refuses : (role : Role) (s : Sides) (packet : List ℕ) (cause : Cause) → Converse role s → LinksAt role s → Follows s.mine.core.link s.mine.turns → PartsSaid s.theirs.turns

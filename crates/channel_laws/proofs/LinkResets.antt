@@ -1,7 +1,6 @@
 -- A packet that a link doesn't take says why.
-use Rattle.std.proofs.Common.{◌≡◌, ◌≢◌, ℕ, Bool, true, false, List, None, Ok, Err, refl, sym, ap, ◌∙◌, subst, inl, inr, ◌⊎◌}
-use Rattle.std.specs.Prelude.{◌&&◌, IfErr, Result, if◌then◌else◌, nat_eq, ⊤}
-use Rattle.std.proofs.lemmas.Bool.Decides.{eqb_tells}
+use Rattle.std.proofs.Common.{◌≡◌, ◌≢◌, ℕ, Bool, true, false, List, None, Ok, Err, refl, sym, ap, ◌∙◌, subst, inl, inr, ◌⊎◌, arith}
+use Rattle.std.specs.Prelude.{IfErr, Result, if◌then◌else◌, nat_eq, ⊤}
 use Rattle.ldc_link.specs.declared.phase.LinkPhase.{LinkPhase}
 use Rattle.ldc_link.specs.declared.phase.LinkPhase.TheVariants as phase
 use Rattle.ldc_link.specs.Conversing.{IsData, fragment_of}
@@ -15,14 +14,13 @@ use Rattle.ldc_packet.specs.declared.packet.Body.TheVariants.{Part, Rdx, Rtr, Rt
 use Rattle.ldc_packet.specs.declared.packet.Packet.{Packet}
 use Rattle.ldc_packet.specs.declared.packet.PacketFault.{PacketFault}
 use Rattle.ldc_packet.specs.declared.packet.Subtype.{Subtype}
-use Rattle.ldc_packet.specs.declared.packet.Subtype.TheVariants.{Ack, Info, Nack}
+use Rattle.ldc_packet.specs.declared.packet.Subtype.TheVariants.{Info}
 use Rattle.ldc_packet.specs.Decoding.{Unpacks}
 use Rattle.ldc_packet.specs.Fault.{first_fault}
 use Rattle.ldc_packet.specs.Spelling.{SpellsBody, ctrl_at, env_at, seqid_at, subtype_at, subtype_code, type_at, type_code}
 use Rattle.ldc_queue.specs.Fragments.{Fragment, fragment_at, is_part}
 use Rattle.ldc_queue.specs.Numbered.{is_numbered}
 use Rattle.ldc_queue.specs.Transcript.{Turn}
-use Rattle.vio_bytes.specs.Place.{number_at}
 use Rattle.vio_tag.specs.declared.cause.Cause.{Cause}
 use Rattle.vio_tag.specs.declared.cause.Cause.TheVariants as the_cause
 use Rattle.channel_model.proofs.SameSayings.{half_heard_is}
@@ -50,46 +48,12 @@ count_why turns bytes (Heard k) why = tt
 count_why turns bytes (Unheard cause) why = why
 
 -- a version that isn't agreed to
-not_both : (b c : Bool) (P Q : Type 0) → (b ≡ false → P) → (c ≡ false → Q) → (b && c) ≡ false → P ⊎ Q
-not_both false c P Q first second is = inl (first refl)
-not_both true false P Q first second is = inr (second refl)
-not_both true true P Q first second is = absurd (cc)
-
 pub other_number : (a b : ℕ) → nat_eq a b ≡ false → a ≢ b
-other_number a b is =
-    elim (eqb_tells a b) [
-      | inl same ↦ absurd (cc (same.0, is))
-      | inr other ↦ other.1
-    ]
-
-refuses_version : (turns : List Turn) (bytes : List ℕ) (b : Bool) (major minor : ℕ) → first_fault bytes ≡ None → type_at bytes ≡ 1 → SpellsBody bytes (Vers major minor)
-    → subtype_at bytes ≡ 2 → b ≡ (nat_eq major 1 && nat_eq minor 0) → WhyPhase turns bytes (if b then Ok phase.OwesRts else Err the_cause.Version)
-refuses_version turns bytes true major minor sound kind spells subtype is = tt
-refuses_version turns bytes false major minor sound kind spells subtype is = record {
-  says = (
-    sound,
-    record {
-      control = kind;
-      kind = spells.0;
-      answer = inr (
-        subtype,
-        not_both (nat_eq major 1) (nat_eq minor 0) (number_at 2 8 bytes ≢ 1) (number_at 2 10 bytes ≢ 0)
-            (λ no same. other_number major 1 no (sym spells.1 ∙ same)) (λ no same. other_number minor 0 no (sym spells.2 ∙ same)) (sym is),
-      );
-    },
-  );
-  gap = tt;
-  carried = tt;
-}
+other_number a b is = grind arith
 
 vers_why : (turns : List Turn) (bytes : List ℕ) (p : LinkPhase) (s : Subtype) (major minor : ℕ) → first_fault bytes ≡ None → type_at bytes ≡ 1 → SpellsBody bytes (Vers major minor)
     → subtype_at bytes ≡ subtype_code s → WhyPhase turns bytes (phase_behind_vers p s major minor)
-vers_why turns bytes phase.AwaitsVersInfo Info major minor sound kind spells subtype = tt
-vers_why turns bytes phase.AwaitsVersAck Ack major minor sound kind spells subtype =
-    refuses_version turns bytes (nat_eq major 1 && nat_eq minor 0) major minor sound kind spells subtype refl
-vers_why turns bytes phase.AwaitsVersAck Nack major minor sound kind spells subtype =
-    record { says = (sound, record { control = kind; kind = spells.0; answer = inl subtype }); gap = tt; carried = tt }
-vers_why turns bytes _ _ major minor sound kind spells subtype = unexpected turns bytes sound
+vers_why turns bytes p s major minor sound kind spells subtype = grind arith
 
 rts_why : (turns : List Turn) (bytes : List ℕ) (p : LinkPhase) (s : Subtype) → first_fault bytes ≡ None → WhyPhase turns bytes (phase_behind_rts p s)
 rts_why turns bytes phase.AwaitsRts Info sound = tt

@@ -1,9 +1,9 @@
 -- A packet with a number that waits first, where nobody forged: the link takes it where it is the next, and else its cause is a gap.
-use Rattle.std.proofs.Common.{◌≡◌, ℕ, ◌+◌, ◌<◌, ◌%◌, Bool, true, false, List, [], ◌∷◌, ◌++◌, length, refl, sym, ap, ◌∙◌, subst}
+use Rattle.std.proofs.Common.{◌≡◌, ℕ, ◌+◌, ◌<◌, ◌%◌, Bool, true, false, List, [], ◌∷◌, ◌++◌, length, refl, sym, ap, ◌∙◌, subst, arith}
 use Rattle.std.specs.Prelude.{◌&&◌, if◌then◌else◌, nat_eq, nat_le}
 use Rattle.std.proofs.lemmas.Bool.{eq-eqb, eqb-true, le-leb}
 use Rattle.ldc_packet.specs.declared.packet.Body.{Body}
-use Rattle.ldc_packet.specs.declared.packet.Body.TheVariants.{Part, Rdx, Rtr, Rts, Vers}
+use Rattle.ldc_packet.specs.declared.packet.Body.TheVariants.{Part, Rdx}
 use Rattle.ldc_packet.specs.declared.packet.Subtype.{Subtype}
 use Rattle.ldc_packet.specs.declared.packet.Subtype.TheVariants.{Info}
 use Rattle.ldc_packet.specs.Spelling.{seqid_at}
@@ -16,7 +16,7 @@ use Rattle.ldc_link.specs.LinkState.{LinkState, is_established, is_up}
 use Rattle.ldc_link.specs.Putting.{control}
 use Rattle.ldc_link.specs.Taking.{Heard, LinkTake, TakesBytes, Unheard, begins_rightly, count, counted, goes_to, in_turn, may_come, phase_behind_rdx, takes_body, takes_part, with_part}
 use Rattle.ldc_queue.proofs.Messages.{fragments_in-append}
-use Rattle.ldc_queue.specs.Fragments.{Fragment, fragment_at, fragments_in, is_part, joins}
+use Rattle.ldc_queue.specs.Fragments.{Fragment, fragment_at, fragments_in, is_part}
 use Rattle.ldc_queue.specs.Messages.{AllMayCome, MayCome, half_in, half_with, is_empty}
 use Rattle.ldc_queue.specs.Numbered.{is_numbered, numbered}
 use Rattle.ldc_queue.specs.OneStream.{OneWay}
@@ -38,22 +38,14 @@ may_at half (x ∷ xs) f ys all = may_at (half_with x.stop (half ++ x.bytes)) xs
 data_part : (b : Body) → IsData b → has_part b ≡ true
 unfolding has_part
 data_part (Part start stop len bytes) carries = refl
-data_part (Vers major minor) carries = absurd carries
-data_part (Rts mode) carries = absurd carries
-data_part (Rtr mode) carries = absurd carries
-data_part Rdx carries = absurd carries
+data_part _ carries = absurd carries
 
 pub part_is : (packet : List ℕ) (part : IsPartOf packet) → is_part packet ≡ true
 part_is packet part = spelled_part packet part.packet (part_spells packet part) ∙ data_part part.packet.body part.carries
 
 next_may : (said heard : List (List ℕ)) (packet : List ℕ) → AllMayCome [] (fragments_in said) → is_part packet ≡ true → IsNext said heard packet
     → MayCome (half_in [] (fragments_in heard)) (fragment_at packet)
-next_may said heard packet all part next =
-    let own : fragments_in (heard ++ packet ∷ []) ≡ fragments_in heard ++ fragment_at packet ∷ [] =
-    fragments_in-append heard (packet ∷ []) ∙ ap (λ (b : Bool). fragments_in heard ++ joins b (fragment_at packet) []) part in
-    let parts : fragments_in said ≡ (fragments_in heard ++ fragment_at packet ∷ []) ++ fragments_in next.rest =
-    ap fragments_in next.is ∙ fragments_in-append (heard ++ packet ∷ []) next.rest ∙ ap (λ (xs : List Fragment). xs ++ fragments_in next.rest) own in
-    may_at [] (fragments_in heard) (fragment_at packet) (fragments_in next.rest) (subst (AllMayCome []) parts all)
+next_may said heard packet all part next = grind (arith, fragments_in-append, may_at)
 
 -- A LINK THAT IS UP takes a part that may come
 begins_so : (start : Bool) (half : List ℕ) → start ≡ is_empty half → begins_rightly start half ≡ true
@@ -85,10 +77,7 @@ pub record Turned (k : LinkState) (said heard : List (List ℕ)) (packet : List 
 
 data_turned : (k : LinkState) (s : Subtype) (n : ℕ) (b : Body) → IsData b → takes_body k s n b ≡ in_turn k n (takes_part k (fragment_of b))
 data_turned k s n (Part start stop len bytes) carries = refl
-data_turned k s n (Vers major minor) carries = absurd carries
-data_turned k s n (Rts mode) carries = absurd carries
-data_turned k s n (Rtr mode) carries = absurd carries
-data_turned k s n Rdx carries = absurd carries
+data_turned k s n _ carries = absurd carries
 
 part_answer : (k : LinkState) (packet : List ℕ) (part : IsPartOf packet) (answer : LinkTake) → TakesBytes k packet answer
     → answer ≡ in_turn k part.packet.seqid (takes_part k (fragment_of part.packet.body))

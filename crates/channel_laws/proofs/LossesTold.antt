@@ -1,17 +1,14 @@
 -- A wire is lossy exactly where a packet was lost behind the last event that emptied the queues.
-use Rattle.std.proofs.Common.{◌≡◌, ◌≢◌, ℕ, Bool, true, false, List, [], ◌∷◌, ◌++◌, refl, sym, ap, ◌∙◌, subst, inl, inr, ◌⊎◌}
+use Rattle.std.proofs.Common.{◌≡◌, ℕ, true, List, [], ◌∷◌, ◌++◌, sym, ap, ◌∙◌, subst, inl, inr, ◌⊎◌, arith}
 use Rattle.runs.specs.Lawful.{Lawful, log_append, log_of}
 use Rattle.runs.specs.Run.{Run}
-use Rattle.ldc_queue.specs.declared.end.ChannelState.{ChannelState}
-use Rattle.ldc_queue.specs.declared.end.ChannelState.TheVariants.{Down, Resetting, Up}
 use Rattle.ldc_queue.specs.declared.end.End.{End}
-use Rattle.ldc_queue.specs.declared.end.End.TheVariants.{A, B}
-use Rattle.ldc_queue.specs.Wire.{queue_behind, state_of, waiting_for}
+use Rattle.ldc_queue.specs.Wire.{waiting_for}
 use Rattle.vio_handshake.specs.declared.session.Offer.{Offer}
-use Rattle.channel_model.specs.WireEvent.{Blocked, Declines, Idle, Injected, Joined, Lost, Poked, Reset, Sent, Took}
-use Rattle.channel_model.specs.WireLog.{WireLog, lossy_behind}
+use Rattle.channel_model.specs.WireEvent.{Lost}
+use Rattle.channel_model.specs.WireLog.{WireLog}
 use Rattle.channel_laws.specs.CoreLog.{CoreLog, after, nothing_yet}
-use Rattle.channel_laws.specs.LaneCore.{Beside, Closes, CoreEvent, CoreFits, CoreStep, LaneCore, OnChannel, fresh_core}
+use Rattle.channel_laws.specs.LaneCore.{CoreEvent, CoreFits, CoreStep, LaneCore, OnChannel, fresh_core}
 use Rattle.channel_laws.specs.LossStands.{Empties, EmptiesNone, LossAmong, LossStands}
 use Rattle.channel_laws.proofs.CoreLaws.{wire_is}
 
@@ -21,43 +18,11 @@ pub record LosesOne (event : CoreEvent) : Type 0 where
   pub packet : List ℕ
   pub is : event ≡ OnChannel (Lost e packet)
 
-begun_lossy : (x : ChannelState) (lossy : Bool) → lossy_behind x lossy ≡ true → (lossy ≡ true) × (x ≢ Up)
-begun_lossy Up lossy is = absurd (cc)
-begun_lossy Down lossy is = (is, λ up. absurd (cc))
-begun_lossy Resetting lossy is = (is, λ up. absurd (cc))
-
-still_lossy : (x : ChannelState) (lossy : Bool) → x ≢ Up → lossy ≡ true → lossy_behind x lossy ≡ true
-still_lossy Up lossy not is = absurd (not refl)
-still_lossy Down lossy not is = is
-still_lossy Resetting lossy not is = is
-
 was_lossy : (l : CoreLog) (event : CoreEvent) → (after l event).wire.lossy ≡ true → LosesOne event ⊎ ((l.wire.lossy ≡ true) × EmptiesNone l event)
-was_lossy l (OnChannel (Joined e lost)) is = inr (begun_lossy (state_of e l.wire.wire) l.wire.lossy is)
-was_lossy l (OnChannel (Reset e cause packet lost)) is = inr (begun_lossy (state_of e l.wire.wire) l.wire.lossy is)
-was_lossy l (OnChannel (Lost e packet)) is = inl (record { e = e; packet = packet; is = refl })
-was_lossy l (OnChannel (Took e packet opens)) is = inr (is, λ never. never)
-was_lossy l (OnChannel (Sent e packet opens)) is = inr (is, λ never. never)
-was_lossy l (OnChannel (Idle e)) is = inr (is, λ never. never)
-was_lossy l (OnChannel (Blocked e)) is = inr (is, λ never. never)
-was_lossy l (OnChannel (Injected e packet)) is = inr (is, λ never. never)
-was_lossy l (OnChannel (Poked e at bytes)) is = inr (is, λ never. never)
-was_lossy l (OnChannel (Declines d)) is = inr (is, λ never. never)
-was_lossy l (Closes e) is = absurd (cc)
-was_lossy l Beside is = inr (is, λ never. never)
+was_lossy l event is = grind arith
 
 stays_lossy : (l : CoreLog) (event : CoreEvent) → l.wire.lossy ≡ true → EmptiesNone l event → (after l event).wire.lossy ≡ true
-stays_lossy l (OnChannel (Joined e lost)) is keeps = still_lossy (state_of e l.wire.wire) l.wire.lossy keeps is
-stays_lossy l (OnChannel (Reset e cause packet lost)) is keeps = still_lossy (state_of e l.wire.wire) l.wire.lossy keeps is
-stays_lossy l (OnChannel (Lost e packet)) is keeps = refl
-stays_lossy l (OnChannel (Took e packet opens)) is keeps = is
-stays_lossy l (OnChannel (Sent e packet opens)) is keeps = is
-stays_lossy l (OnChannel (Idle e)) is keeps = is
-stays_lossy l (OnChannel (Blocked e)) is keeps = is
-stays_lossy l (OnChannel (Injected e packet)) is keeps = is
-stays_lossy l (OnChannel (Poked e at bytes)) is keeps = is
-stays_lossy l (OnChannel (Declines d)) is keeps = is
-stays_lossy l (Closes e) is keeps = absurd (keeps tt)
-stays_lossy l Beside is keeps = is
+stays_lossy l event is keeps = grind arith
 
 -- ALL EVENTS
 shifted : (l : CoreLog) (event : CoreEvent) (events : List CoreEvent) → LossAmong (after l event) events → LossAmong l (event ∷ events)
@@ -100,11 +65,7 @@ lossy_since l [] is kept = is
 lossy_since l (event ∷ events) is kept = lossy_since (after l event) events (stays_lossy l event is kept.0) kept.1
 
 lost_in_log : (entries : ℕ) (events : List CoreEvent) → (log_of after (nothing_yet entries) events).wire.lossy ≡ true → LossStands entries events
-lost_in_log entries events is = or_never (lost_since (nothing_yet entries) events is)
-  where
-    or_never : LossStands entries events ⊎ ((false ≡ true) × Lawful EmptiesNone after (nothing_yet entries) events) → LossStands entries events
-    or_never (inl loss) = loss
-    or_never (inr never) = let no_loss : false ≡ true = never.0 in absurd (cc)
+lost_in_log entries events is = grind (arith, lost_since)
 
 lossy_in_log : (entries : ℕ) (events : List CoreEvent) → LossStands entries events → (log_of after (nothing_yet entries) events).wire.lossy ≡ true
 lossy_in_log entries events loss =
@@ -129,30 +90,5 @@ loss_kept entries asks answers events s fits run loss =
     ap (λ (w : WireLog). w.lossy) (wire_is entries asks answers events s fits run) ∙ lossy_in_log entries events loss
 
 -- what empties the queues
-none_left : (x : ChannelState) (waiting : List (List ℕ)) → x ≡ Up → queue_behind x waiting ≡ []
-none_left Up waiting up = refl
-none_left Down waiting up = absurd (cc)
-none_left Resetting waiting up = absurd (cc)
-
 pub queues_emptied : (l : CoreLog) (event : CoreEvent) (e : End) → Empties l event → waiting_for e (after l event).wire.wire ≡ []
-queues_emptied l (OnChannel (Joined A lost)) A up = none_left l.wire.wire.end_a l.wire.wire.to_a up
-queues_emptied l (OnChannel (Joined A lost)) B up = none_left l.wire.wire.end_a l.wire.wire.to_b up
-queues_emptied l (OnChannel (Joined B lost)) A up = none_left l.wire.wire.end_b l.wire.wire.to_a up
-queues_emptied l (OnChannel (Joined B lost)) B up = none_left l.wire.wire.end_b l.wire.wire.to_b up
-queues_emptied l (OnChannel (Reset A cause packet lost)) A up = none_left l.wire.wire.end_a l.wire.wire.to_a up
-queues_emptied l (OnChannel (Reset A cause packet lost)) B up = none_left l.wire.wire.end_a l.wire.wire.to_b up
-queues_emptied l (OnChannel (Reset B cause packet lost)) A up = none_left l.wire.wire.end_b l.wire.wire.to_a up
-queues_emptied l (OnChannel (Reset B cause packet lost)) B up = none_left l.wire.wire.end_b l.wire.wire.to_b up
-queues_emptied l (OnChannel (Took e packet opens)) end never = absurd never
-queues_emptied l (OnChannel (Sent e packet opens)) end never = absurd never
-queues_emptied l (OnChannel (Idle e)) end never = absurd never
-queues_emptied l (OnChannel (Blocked e)) end never = absurd never
-queues_emptied l (OnChannel (Lost e packet)) end never = absurd never
-queues_emptied l (OnChannel (Injected e packet)) end never = absurd never
-queues_emptied l (OnChannel (Poked e at bytes)) end never = absurd never
-queues_emptied l (OnChannel (Declines d)) end never = absurd never
-queues_emptied l (Closes A) A up = refl
-queues_emptied l (Closes A) B up = refl
-queues_emptied l (Closes B) A up = refl
-queues_emptied l (Closes B) B up = refl
-queues_emptied l Beside end never = absurd never
+queues_emptied l event end up = grind arith

@@ -1,33 +1,15 @@
 -- Both links are up where many packets wait for both ends; and a link that is up and owes a packet holds a message.
-use Rattle.std.proofs.Common.{◌≡◌, ℕ, ◌≤◌, Bool, true, inl, inr, List, [], ◌∷◌, length, refl, sym, ap, ◌∙◌, arith}
+use Rattle.std.proofs.Common.{◌≡◌, ℕ, ◌≤◌, Bool, true, List, [], ◌∷◌, length, sym, ap, ◌∙◌, arith}
 use Rattle.std.specs.Prelude.{is_some}
 use Rattle.ldc_link.specs.declared.phase.Role.TheVariants.{Initiator, Responder}
 use Rattle.ldc_link.specs.declared.phase.LinkPhase.{LinkPhase}
 use Rattle.ldc_link.specs.declared.phase.LinkPhase.TheVariants as phase
 use Rattle.ldc_link.specs.LinkState.{LinkState}
 use Rattle.ldc_link.specs.Putting.{owed_in, owes, part_owed}
-use Rattle.ldc_packet.specs.declared.packet.Packet.{Packet}
-use Rattle.channel_laws.specs.LinkPlaces.{AnswerTaken, AtMost, BothUp, LinkPlace, ModeAgreed, ModeAnswered, ModePut, ModeTaken, NothingPut, ReadyPut, VersionAnswered, VersionPut, VersionTaken, Waits}
-
-few_wait : (lossy : Bool) (p : Packet) (waiting : List (List ℕ)) → AtMost lossy p waiting → 2 ≤ length waiting → ⊥
-few_wait lossy p waiting (inl none) many = omega (arith, many, ap length none.0)
-few_wait lossy p waiting (inr one) many = omega (arith, many, ap length one)
-
-none_wait : (waiting : List (List ℕ)) → waiting ≡ [] → 2 ≤ length waiting → ⊥
-none_wait waiting none many = omega (arith, many, ap length none)
+use Rattle.channel_laws.specs.LinkPlaces.{BothUp, LinkPlace, Waits}
 
 pub many_wait : (place : LinkPlace) (lossy : Bool) (to_a to_b : List (List ℕ)) → Waits Responder lossy place to_b → Waits Initiator lossy place to_a → 2 ≤ length to_a → 2 ≤ length to_b → place ≡ BothUp
-many_wait BothUp lossy to_a to_b to_server to_client many_a many_b = refl
-many_wait VersionAnswered lossy to_a to_b to_server to_client many_a many_b = absurd (few_wait lossy _ to_a to_client many_a)
-many_wait ModeAnswered lossy to_a to_b to_server to_client many_a many_b = absurd (few_wait lossy _ to_a to_client many_a)
-many_wait NothingPut lossy to_a to_b to_server to_client many_a many_b = absurd (none_wait to_a to_client many_a)
-many_wait VersionPut lossy to_a to_b to_server to_client many_a many_b = absurd (none_wait to_a to_client many_a)
-many_wait VersionTaken lossy to_a to_b to_server to_client many_a many_b = absurd (none_wait to_a to_client many_a)
-many_wait AnswerTaken lossy to_a to_b to_server to_client many_a many_b = absurd (none_wait to_a to_client many_a)
-many_wait ModePut lossy to_a to_b to_server to_client many_a many_b = absurd (none_wait to_a to_client many_a)
-many_wait ModeTaken lossy to_a to_b to_server to_client many_a many_b = absurd (none_wait to_a to_client many_a)
-many_wait ModeAgreed lossy to_a to_b to_server to_client many_a many_b = absurd (none_wait to_a to_client many_a)
-many_wait ReadyPut lossy to_a to_b to_server to_client many_a many_b = absurd (none_wait to_a to_client many_a)
+many_wait place lossy to_a to_b to_server to_client many_a many_b = grind arith
 
 -- A LINK THAT IS UP and owes a packet holds a message
 some_part : (k : LinkState) (left : List ℕ) → is_some (part_owed k left) ≡ true → 1 ≤ length left

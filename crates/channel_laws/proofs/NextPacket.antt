@@ -47,7 +47,7 @@ is_next said heard waiting packet lost first way few has number =
     }
 
 -- where nothing was lost it has that number
-none_of : (packets : List (List ℕ)) → length packets ≤ 0 → packets ≡ []
+pub none_of : (packets : List (List ℕ)) → length packets ≤ 0 → packets ≡ []
 none_of [] few = refl
 none_of (packet ∷ packets) few = absurd (omega (arith, few))
 

@@ -7,7 +7,7 @@ use Rattle.runs.specs.Lawful.{Lawful}
 use Rattle.runs.specs.Run.{Run}
 use Rattle.ldc_packet.proofs.NoFault.{spelled_no_fault}
 use Rattle.ldc_packet.specs.declared.packet.Body.{Body}
-use Rattle.ldc_packet.specs.declared.packet.Body.TheVariants.{Part, Rdx, Rtr, Rts, Vers}
+use Rattle.ldc_packet.specs.declared.packet.Body.TheVariants.{Part, Rdx}
 use Rattle.ldc_packet.specs.declared.packet.Packet.{Packet}
 use Rattle.ldc_packet.specs.declared.packet.PacketFault.{PacketFault}
 use Rattle.ldc_packet.specs.declared.packet.Subtype.TheVariants.{Info}
@@ -22,12 +22,10 @@ use Rattle.ldc_link.proofs.Spelled.{has_part, spelled_fragment, spelled_part}
 use Rattle.ldc_link.specs.Conversing.{IsData}
 use Rattle.ldc_link.specs.declared.phase.LinkPhase.TheVariants as phase
 use Rattle.ldc_link.specs.declared.phase.Role.{Role}
-use Rattle.ldc_link.specs.declared.phase.Role.TheVariants.{Initiator, Responder}
 use Rattle.ldc_link.specs.Following.{Follows, OffersLittle}
 use Rattle.ldc_link.specs.LinkState.{LinkState}
 use Rattle.ldc_link.specs.Putting.{control, first_part}
 use Rattle.ldc_link.specs.Taking.{Heard, TakesBytes, takes_decoded}
-use Rattle.ldc_queue.specs.declared.end.End.TheVariants.{A, B}
 use Rattle.ldc_queue.specs.Fragments.{Fragment, fragment_at, is_part}
 use Rattle.ldc_queue.specs.Messages.{is_empty}
 use Rattle.ldc_queue.specs.Numbered.{CountUp, is_numbered, kept}
@@ -38,9 +36,7 @@ use Rattle.channel_model.proofs.SameSayings.{half_heard_is}
 use Rattle.channel_model.specs.Sayings.{count_heard, count_said, half_heard, half_said}
 use Rattle.channel_model.specs.TranscriptLog.{more_if}
 use Rattle.channel_model.specs.WireAt.{IsHeard, IsHeardPart, IsSaid, IsSaidPart, WireHeardAt, WireSaidAt, counts_next}
-use Rattle.channel_model.specs.WireLog.{WireLog}
-use Rattle.channel_model.specs.WireEvent.{Blocked, Declines, Idle, Injected, Joined, Lost, Poked, Reset, Sent, Took, WireEvent}
-use Rattle.channel_laws.proofs.Apart.{true_is_false}
+use Rattle.channel_model.specs.WireEvent.{WireEvent}
 use Rattle.channel_laws.proofs.ConversingRuns.{converse_keeps, first_converse}
 use Rattle.channel_laws.proofs.CoreRuns.{Knows, knows_run}
 use Rattle.channel_laws.proofs.EndStanding.{held_stands}
@@ -51,7 +47,7 @@ use Rattle.channel_laws.specs.CoreLog.{CoreLog, HeardAt, SaidAt, TableAt, after,
 use Rattle.channel_laws.specs.Cuts.{Cuts}
 use Rattle.channel_laws.specs.EndCore.{EndCore}
 use Rattle.channel_laws.specs.EndStep.{EndHears, EndSays}
-use Rattle.channel_laws.specs.LaneCore.{Beside, Closes, CoreEvent, CoreFits, CoreStands, CoreStep, LaneCore, OnChannel, fresh_core}
+use Rattle.channel_laws.specs.LaneCore.{CoreEvent, CoreFits, CoreStep, LaneCore, OnChannel, fresh_core}
 use Rattle.channel_laws.specs.Standing.{EndStands}
 
 -- THE COUNTS of a transcript
@@ -76,14 +72,7 @@ number_of false bytes n counts has = absurd (cc has)
 -- WHAT IS SAID: a packet of the link's handshake, RDX, or the next part of a message
 without_part : (turns : List Turn) (bytes : List ℕ) (packet : Packet) → IsWellFormed packet → HasWidths packet → bytes ≡ canonical packet
     → (is_numbered bytes ≡ true → seqid_at bytes ≡ counts_next (count_said turns)) → is_part bytes ≡ false → IsSaid turns bytes
-without_part turns bytes packet form fits is number none = record {
-  packet = packet;
-  formed = form;
-  widths = fits;
-  spelled = is;
-  number = number;
-  part = λ part. true_is_false (sym part ∙ none);
-}
+without_part turns bytes packet form fits is number none = grind arith
 
 twice : (a b : Bool) → a ≡ not b → not a ≡ b
 twice a true is = ap not is
@@ -134,10 +123,7 @@ end_said role c t turns packet opens stands says =
 part_data : (b : Body) → has_part b ≡ true → IsData b
 unfolding has_part
 part_data (Part start stop len bytes) part = tt
-part_data (Vers major minor) part = absurd (cc part)
-part_data (Rts mode) part = absurd (cc part)
-part_data (Rtr mode) part = absurd (cc part)
-part_data Rdx part = absurd (cc part)
+part_data _ part = absurd (cc part)
 
 pub heard_so : (k : LinkState) (turns : List Turn) (bytes : List ℕ) (m : LinkState) → Follows k turns → TakesBytes k bytes (Heard m) → IsHeard turns bytes
 heard_so k turns bytes m follows takes = from takes.decoded takes.unpacks takes.is
@@ -163,40 +149,16 @@ end_heard role c t turns packet opens stands hears = heard_so c.link turns packe
 
 -- ALONG EVERY RUN
 said_wire : (s : LaneCore) (l : CoreLog) (event : WireEvent) (t : LaneCore) → Knows Converse s l → CoreStep s (OnChannel event) t → WireSaidAt l.transcript event
-said_wire s l (Sent A packet opens) t knows step = end_said Initiator s.a t.a l.transcript.client packet opens knows.holds.ends.a step.a
-said_wire s l (Sent B packet opens) t knows step = end_said Responder s.b t.b l.transcript.server packet opens knows.holds.ends.b step.b
-said_wire s l (Joined e lost) t knows step = tt
-said_wire s l (Reset e cause packet lost) t knows step = tt
-said_wire s l (Took e packet opens) t knows step = tt
-said_wire s l (Idle e) t knows step = tt
-said_wire s l (Blocked e) t knows step = tt
-said_wire s l (Lost e packet) t knows step = tt
-said_wire s l (Injected e packet) t knows step = tt
-said_wire s l (Poked e at bytes) t knows step = tt
-said_wire s l (Declines d) t knows step = tt
+said_wire s l event t knows step = grind (arith, end_said)
 
 heard_wire : (s : LaneCore) (l : CoreLog) (event : WireEvent) (t : LaneCore) → Knows Converse s l → CoreStep s (OnChannel event) t → WireHeardAt l.transcript event
-heard_wire s l (Took A packet opens) t knows step = end_heard Initiator s.a t.a l.transcript.client packet opens knows.holds.ends.a step.a
-heard_wire s l (Took B packet opens) t knows step = end_heard Responder s.b t.b l.transcript.server packet opens knows.holds.ends.b step.b
-heard_wire s l (Joined e lost) t knows step = tt
-heard_wire s l (Reset e cause packet lost) t knows step = tt
-heard_wire s l (Sent e packet opens) t knows step = tt
-heard_wire s l (Idle e) t knows step = tt
-heard_wire s l (Blocked e) t knows step = tt
-heard_wire s l (Lost e packet) t knows step = tt
-heard_wire s l (Injected e packet) t knows step = tt
-heard_wire s l (Poked e at bytes) t knows step = tt
-heard_wire s l (Declines d) t knows step = tt
+heard_wire s l event t knows step = grind (arith, end_heard)
 
 said_at : (s : LaneCore) (l : CoreLog) (event : CoreEvent) (t : LaneCore) → Knows Converse s l → CoreStep s event t → SaidAt l event
-said_at s l (OnChannel event) t knows step = said_wire s l event t knows step
-said_at s l (Closes e) t knows step = tt
-said_at s l Beside t knows step = tt
+said_at s l event t knows step = grind (arith, said_wire)
 
 heard_at : (s : LaneCore) (l : CoreLog) (event : CoreEvent) (t : LaneCore) → Knows Converse s l → CoreStep s event t → HeardAt l event
-heard_at s l (OnChannel event) t knows step = heard_wire s l event t knows step
-heard_at s l (Closes e) t knows step = tt
-heard_at s l Beside t knows step = tt
+heard_at s l event t knows step = grind (arith, heard_wire)
 
 pub said_lawful : (entries : ℕ) (asks answers : Offer) (events : List CoreEvent) (s : LaneCore) → CoreFits entries asks answers
     → Run CoreStep (fresh_core entries asks answers) events s → Lawful SaidAt after (nothing_yet entries) events
@@ -210,24 +172,7 @@ heard_lawful entries asks answers events s fits run =
 
 -- a queue finds no room exactly where it is full
 table_at : (s : LaneCore) (l : CoreLog) (event : CoreEvent) (t : LaneCore) → Knows Converse s l → CoreStep s event t → TableAt l event
-table_at s l event t knows step =
-    by_event event
-    (subst (λ (w : WireLog). CoreStands l.entries w event) knows.wire (subst (λ (n : ℕ). CoreStands n s.wire event) knows.entries step.stands))
-  where
-    by_event : (x : CoreEvent) → CoreStands l.entries l.wire x → TableAt l x
-    by_event (OnChannel (Blocked A)) stands = (stands.0, omega (arith, stands.1, knows.room.to_b))
-    by_event (OnChannel (Blocked B)) stands = (stands.0, omega (arith, stands.1, knows.room.to_a))
-    by_event (OnChannel (Joined e lost)) stands = stands
-    by_event (OnChannel (Reset e cause packet lost)) stands = stands
-    by_event (OnChannel (Took e packet opens)) stands = stands
-    by_event (OnChannel (Sent e packet opens)) stands = stands
-    by_event (OnChannel (Idle e)) stands = stands
-    by_event (OnChannel (Lost e packet)) stands = stands
-    by_event (OnChannel (Injected e packet)) stands = stands
-    by_event (OnChannel (Poked e at bytes)) stands = tt
-    by_event (OnChannel (Declines d)) stands = stands
-    by_event (Closes e) stands = tt
-    by_event Beside stands = tt
+table_at s l event t knows step = grind arith
 
 pub table_lawful : (entries : ℕ) (asks answers : Offer) (events : List CoreEvent) (s : LaneCore) → CoreFits entries asks answers
     → Run CoreStep (fresh_core entries asks answers) events s → Lawful TableAt after (nothing_yet entries) events

@@ -1,6 +1,6 @@
 -- How far an end has come in the handshake's order, as its link, its handshake and the message that it owes say: its turns are the lines of its row
 -- up to where it stands, and what stands aside.
-use Rattle.std.proofs.Common.{◌≡◌, ℕ, ◌%◌, Bool, true, false, ◌⊎◌, inl, inr, Option, Some, None, List, [], ◌∷◌, ◌++◌, drop, refl, sym, ap, ◌∙◌, subst, arith}
+use Rattle.std.proofs.Common.{◌≡◌, ℕ, ◌%◌, Bool, true, false, ◌⊎◌, inl, inr, Option, Some, None, List, [], ◌∷◌, ◌++◌, drop, ap, ◌∙◌, arith}
 use Rattle.std.specs.Prelude.{⊤}
 use Rattle.ldc_link.specs.declared.phase.LinkPhase.{LinkPhase}
 use Rattle.ldc_link.specs.declared.phase.LinkPhase.TheVariants as phase
@@ -14,13 +14,13 @@ use Rattle.ldc_queue.specs.Fragments.{fragment_at, is_part}
 use Rattle.ldc_queue.specs.Transcript.{Heard, Said, Turn}
 use Rattle.vio_tag.specs.declared.message.Message.{Message}
 use Rattle.vio_tag.specs.declared.message.MsgBody.{MsgBody}
-use Rattle.vio_tag.specs.declared.message.MsgBody.TheVariants.{Attr, DringData, DringReg, DringUnreg, Mcast, Plain, Rdx, Ver}
+use Rattle.vio_tag.specs.declared.message.MsgBody.TheVariants.{Plain}
 use Rattle.vio_tag.specs.Spelling as message_at
 use Rattle.vio_tag.specs.Spelling.{SpellsMessage, canonical, envelope_code}
 use Rattle.vio_handshake.specs.declared.handshake.Handshake.{Handshake}
 use Rattle.vio_handshake.specs.declared.handshake.Phase.{Phase}
 use Rattle.vio_handshake.specs.declared.handshake.Phase.TheVariants.{Attributes, Down, Open, OwnReady, OwnRing, PeerReady, PeerReadyTaken, PeerRing, PeerRingTaken, Version}
-use Rattle.channel_model.specs.HandshakeOrder.{ComesUpBelow, EndsAs, FollowsRow, Hears, HearsControl, Line, MayEnd, Meets, Says, SaysControl, opening_lines, own_ring_lines, row, sid_in_bytes}
+use Rattle.channel_model.specs.HandshakeOrder.{ComesUpBelow, EndsAs, FollowsRow, Hears, HearsControl, Line, MayEnd, Meets, Says, SaysControl, opening_lines, row, sid_in_bytes}
 use Rattle.channel_model.specs.Sayings.{half_heard, half_said}
 use Rattle.channel_laws.proofs.HandshakeCases.{NothingFollows}
 use Rattle.channel_laws.proofs.TurnCases.{EndsBy}
@@ -128,18 +128,10 @@ HasNoMessage (Says subtype envelope ∷ lines) = ⊥
 HasNoMessage (Hears subtype envelope ∷ lines) = ⊥
 
 any_line : (one other : ℕ) (line : Line) (lines : List Line) (turn : Turn) (turns : List Turn) → HasNoMessage (line ∷ lines) → Meets one line turn turns → Meets other line turn turns
-any_line one other (SaysControl packet) lines (Said bytes) turns none meets = meets
-any_line one other (SaysControl packet) lines (Heard bytes) turns none meets = absurd meets
-any_line one other (HearsControl packet) lines (Said bytes) turns none meets = absurd meets
-any_line one other (HearsControl packet) lines (Heard bytes) turns none meets = meets
-any_line one other (Says subtype envelope) lines turn turns none meets = absurd none
-any_line one other (Hears subtype envelope) lines turn turns none meets = absurd none
+any_line one other line lines turn turns none meets = grind arith
 
 other_lines : (line : Line) (lines : List Line) → HasNoMessage (line ∷ lines) → HasNoMessage lines
-other_lines (SaysControl packet) lines none = none
-other_lines (HearsControl packet) lines none = none
-other_lines (Says subtype envelope) lines none = absurd none
-other_lines (Hears subtype envelope) lines none = absurd none
+other_lines line lines none = grind arith
 
 pub any_sid : (role : Role) (one other : ℕ) (lines : List Line) (turns : List Turn) → HasNoMessage lines → FollowsRow role one lines turns → FollowsRow role other lines turns
 any_sid role one other [] [] none follows = tt
@@ -165,44 +157,13 @@ pub says_aside : (role : Role) (sid : ℕ) (lines : List Line) (turns : List Tur
 says_aside role sid [] turns bytes up is may follows = absurd up
 says_aside role sid (line ∷ lines) turns bytes up is may follows = inr (inl (up, is, may), follows)
 
-rows_up : (both : Bool) (role : Role) → ComesUpBelow (own_ring_lines both role ++ opening_lines role)
-rows_up true Initiator = tt
-rows_up true Responder = tt
-rows_up false Initiator = tt
-rows_up false Responder = tt
-
 pub comes_up : (both : Bool) (role : Role) (p : Phase) → IsComing both role p → ComesUpBelow (met both role p)
-comes_up both Initiator Version coming = tt
-comes_up both Initiator Attributes coming = tt
-comes_up both Initiator OwnRing coming = tt
-comes_up both Initiator PeerRing coming = tt
-comes_up both Initiator PeerRingTaken coming = tt
-comes_up both Initiator OwnReady coming = rows_up both Initiator
-comes_up both Initiator PeerReady coming = rows_up both Initiator
-comes_up both Initiator PeerReadyTaken coming = rows_up both Initiator
-comes_up both Responder Version coming = tt
-comes_up both Responder Attributes coming = tt
-comes_up both Responder PeerRing coming = tt
-comes_up both Responder PeerRingTaken coming = tt
-comes_up both Responder OwnRing coming = tt
-comes_up both Responder PeerReady coming = rows_up both Responder
-comes_up both Responder PeerReadyTaken coming = rows_up both Responder
-comes_up both Responder OwnReady coming = rows_up both Responder
-comes_up both Initiator Down coming = absurd coming
-comes_up both Responder Down coming = absurd coming
-comes_up both Initiator Open coming = absurd coming
-comes_up both Responder Open coming = absurd coming
+comes_up both role p coming = grind arith
 
 -- A MESSAGE THAT IS HEARD, by its fields
 pub heard_line : (turns : List Turn) (packet bytes : List ℕ) (d : Message) (s : Subtype) (b : MsgBody) (sid : ℕ) → EndsBy turns packet bytes → SpellsMessage bytes d
     → d ≡ record { subtype = s; sid = d.sid; body = b } → d.sid % 4294967296 ≡ sid → EndsAs (subtype_code s) (envelope_code b) sid (half_heard turns) packet
-heard_line turns packet bytes d s b sid ends spells is same = record {
-  part = ends.part;
-  stop = ends.stop;
-  of_subtype = ap message_at.subtype_at (sym ends.is) ∙ spells.subtype ∙ ap (λ (m : Message). subtype_code m.subtype) is;
-  of_envelope = ap message_at.envelope_at (sym ends.is) ∙ spells.envelope ∙ ap (λ (m : Message). envelope_code m.body) is;
-  of_sid = ap sid_in_bytes (sym ends.is) ∙ ap (λ (n : ℕ). n % 4294967296) (sym spells.sid) ∙ same;
-}
+heard_line turns packet bytes d s b sid ends spells is same = grind arith
 
 -- ONE THAT IS SAID
 pub record SaysWhole (turns : List Turn) (packet : List ℕ) (message : Message) : Type 0 where
@@ -220,14 +181,7 @@ subtype_reads m = omega arith
 
 envelope_reads : (s : Subtype) (n : ℕ) (b : MsgBody) → IsNoPlain b → message_at.envelope_at (canonical (record { subtype = s; sid = n; body = b })) ≡ envelope_code b
 unfolding canonical
-envelope_reads s n (Ver major minor class) not = refl
-envelope_reads s n (Attr bytes) not = refl
-envelope_reads s n (DringReg ident slots slot_size options count cookies) not = refl
-envelope_reads s n (DringUnreg ident) not = refl
-envelope_reads s n Rdx not = refl
-envelope_reads s n (DringData seq ident start end state) not = refl
-envelope_reads s n (Mcast set count addresses) not = refl
-envelope_reads s n (Plain envelope) not = absurd not
+envelope_reads s n b not = grind arith
 
 pub said_line : (turns : List Turn) (packet : List ℕ) (message : Message) (subtype envelope sid : ℕ) → SaysWhole turns packet message → IsLine subtype envelope sid message
     → EndsAs subtype envelope sid (half_said turns) packet
@@ -242,10 +196,7 @@ said_line turns packet message subtype envelope sid says is = record {
 next_said : (role : Role) (lines : List Line) (sid : ℕ) (message : Message) (turns : List Turn) (packet : List ℕ) → SaysWhole turns packet message → IsNext lines sid message
     → FollowsRow role sid (drop 1 lines) turns → FollowsRow role sid lines (Said packet ∷ turns)
 next_said role (Says subtype envelope ∷ lines) sid message turns packet says next follows = inl (said_line turns packet message subtype envelope sid says next, follows)
-next_said role (SaysControl control ∷ lines) sid message turns packet says next follows = absurd next
-next_said role (HearsControl control ∷ lines) sid message turns packet says next follows = absurd next
-next_said role (Hears subtype envelope ∷ lines) sid message turns packet says next follows = absurd next
-next_said role [] sid message turns packet says next follows = absurd next
+next_said role _ sid message turns packet says next follows = absurd next
 
 may_end : (b : Bool) (bytes : List ℕ) (message : Message) → b ≡ true → bytes ≡ canonical message → message.subtype ≡ Nack → MayEnd b bytes
 may_end true bytes message stop is refusal = ap message_at.subtype_at is ∙ subtype_reads message ∙ ap subtype_code refusal
@@ -254,14 +205,4 @@ may_end false bytes message stop is refusal = absurd (cc stop)
 -- either way the row is followed up to this message, or up to where it was
 pub last_follows : (both : Bool) (role : Role) (p : Phase) (sid : ℕ) (owed : Option Message) (message : Message) (turns : List Turn) (packet : List ℕ) → owed ≡ Some message
     → SaysWhole turns packet message → Comes both role p sid owed turns → FollowsRow role sid (met both role p) (Said packet ∷ turns)
-last_follows both role p sid owed message turns packet is says comes = of comes.stage
-  where
-    of : Owing both role p sid owed turns ⊎ Waiting both role p sid owed turns → FollowsRow role sid (met both role p) (Said packet ∷ turns)
-    of (inl owing) =
-        let one : Some message ≡ Some owing.message = sym is ∙ owing.owed_is in
-        let same : message ≡ owing.message = cc one in
-        next_said role (met both role p) sid message turns packet says (subst (IsNext (met both role p) sid) (sym same) owing.next) owing.follows
-    of (inr waiting) =
-        let refusal : IsRefusal (Some message) = subst IsRefusal is waiting.refusal in
-        says_aside role sid (met both role p) turns packet (comes_up both role p comes.coming) says.part
-        (may_end (fragment_at packet).stop (half_said turns ++ (fragment_at packet).bytes) message says.stop says.whole refusal) waiting.follows
+last_follows both role p sid owed message turns packet is says comes = grind (arith, next_said, says_aside, may_end)

@@ -1,5 +1,5 @@
 -- Along every run each session opens in the handshake's order, with one ring and with rings both ways.
-use Rattle.std.proofs.Common.{◌≡◌, ℕ, Bool, true, false, ◌⊎◌, inl, inr, Some, None, List, [], ◌∷◌, ◌++◌, drop, length, refl, sym, ap, ◌∙◌, subst}
+use Rattle.std.proofs.Common.{◌≡◌, ℕ, Bool, true, false, ◌⊎◌, inl, inr, Some, None, List, [], ◌∷◌, ◌++◌, length, refl, sym, ap, ◌∙◌, subst, arith}
 use Rattle.std.specs.Prelude.{if◌then◌else◌, nat_eq}
 use Rattle.std.proofs.lemmas.Bool.{eqb-true, leb-true}
 use Rattle.std.proofs.lemmas.List.{take_all}
@@ -12,38 +12,36 @@ use Rattle.ldc_link.specs.declared.phase.LinkPhase.{LinkPhase}
 use Rattle.ldc_link.specs.declared.phase.LinkPhase.TheVariants as phase
 use Rattle.ldc_link.specs.declared.phase.Role.{Role}
 use Rattle.ldc_link.specs.declared.phase.Role.TheVariants.{Initiator, Responder}
-use Rattle.ldc_link.specs.LinkState.{LinkState, first_phase, fresh_link, is_established, is_up}
+use Rattle.ldc_link.specs.LinkState.{LinkState, fresh_link, is_established, is_up}
 use Rattle.ldc_link.specs.Putting.{control}
 use Rattle.ldc_queue.specs.declared.end.End.{End}
 use Rattle.ldc_queue.specs.declared.end.End.TheVariants.{A, B}
 use Rattle.ldc_queue.specs.Fragments.{fragment_at, is_part}
 use Rattle.ldc_queue.specs.Transcript.{Heard, Said, Turn}
 use Rattle.vio_tag.specs.declared.message.Message.{Message}
-use Rattle.vio_tag.specs.declared.message.MsgBody.TheVariants.{Ver}
 use Rattle.vio_tag.specs.Spelling as message_at
 use Rattle.vio_handshake.specs.declared.handshake.Handshake.{Handshake}
 use Rattle.vio_handshake.specs.declared.handshake.Phase.{Phase}
-use Rattle.vio_handshake.specs.declared.handshake.Phase.TheVariants.{Down, Open}
+use Rattle.vio_handshake.specs.declared.handshake.Phase.TheVariants.{Open}
 use Rattle.vio_handshake.specs.declared.session.Offer.{Offer}
-use Rattle.vio_handshake.specs.Messages.{info}
 use Rattle.vio_handshake.specs.Rules.{opens_by_put, put_in, handshake_sent, sid_fault}
-use Rattle.vio_handshake.specs.State.{begun, joined_handshake, next_sid, handshake_up}
-use Rattle.channel_model.specs.HandshakeOrder.{ComesUpBelow, Control, FollowsRow, HandshakeOrder, Hears as Hears_, HearsControl, IsControlOf, IsVersNack, Line, MayEnd, RdxGiven, RtrAnswered, RtsAsked, Says as Says_, SaysControl, VersAgreed, VersOffer}
+use Rattle.vio_handshake.specs.State.{handshake_up}
+use Rattle.channel_model.specs.HandshakeOrder.{Control, FollowsRow, HandshakeOrder, IsControlOf, IsVersNack, RdxGiven, RtrAnswered, RtsAsked, VersAgreed, VersOffer}
 use Rattle.channel_model.specs.Sayings.{half_said}
 use Rattle.channel_model.specs.TranscriptLog.{transcript_of}
 use Rattle.channel_model.specs.WireEvent.{Sent as Sent_, Took as Took_}
-use Rattle.channel_laws.proofs.Apart.{false_is_true, none_is_some}
+use Rattle.channel_laws.proofs.Apart.{false_is_true}
 use Rattle.channel_laws.proofs.EndCases.{EndTook, NoMessage, PutControl, PutMore, PutOwn, PutReady, PutHandshake, PutWhat, Rises, TookMessage, TookOwn, TookHandshake, TookWhat, end_put, end_took, put_down, taken_down}
 use Rattle.channel_laws.proofs.EndResting.{StandsResting, held_handshake, of_sid, resting_step}
-use Rattle.channel_laws.proofs.EndStanding.{first_down, held_stands, holds_some, open_declines, opened_phase, stands_step}
+use Rattle.channel_laws.proofs.EndStanding.{held_stands, holds_some, open_declines, opened_phase, stands_step}
 use Rattle.channel_laws.proofs.EndUttering.{fresh_speaks}
 use Rattle.channel_laws.proofs.HandshakePlaces.{offer_in}
 use Rattle.channel_laws.proofs.HandshakesPlaced.{held_offer}
 use Rattle.channel_laws.proofs.HandshakeCases.{RowTaken, row_sent}
 use Rattle.channel_laws.proofs.Conversations.{held_phase}
 use Rattle.channel_laws.proofs.Lifting.{EndsAll, ends_run}
-use Rattle.channel_laws.proofs.LinkCases.{behind_part, ControlHeard, ControlPut, ControlTaken, IsPacket, LinkHeard, ModeAgreed, ModeAnswered, ModeAsked, ModeOffered, PartHeard, ReadyHeard, VersionAgreed, VersionAnswered, VersionAsked, VersionOffered, VersionRefused, taken_quiet}
-use Rattle.channel_laws.proofs.Opening.{EndCame, HandshakeComes, IsComing, IsNext, Owing, SaysWhole, Waiting, any_sid, comes_up, hears_aside, hears_control, link_met, met, says_aside, sid_of}
+use Rattle.channel_laws.proofs.LinkCases.{behind_part, ControlHeard, ControlPut, ControlTaken, IsPacket, LinkHeard, ModeAgreed, ModeAsked, PartHeard, ReadyHeard, VersionAgreed, VersionAsked, taken_quiet}
+use Rattle.channel_laws.proofs.Opening.{EndCame, HandshakeComes, IsComing, SaysWhole, hears_aside, hears_control, link_met, says_aside}
 use Rattle.channel_laws.proofs.OpeningRows.{Comes_, GoesOn, Opens_, initiator_row, responder_row, sent_row}
 use Rattle.channel_laws.proofs.TurnCases.{SaysLast}
 use Rattle.channel_laws.specs.Cuts.{Carries, CarriesOwed, CarriesOwn}
@@ -100,11 +98,7 @@ control_heard Responder k m turns packet next of follows (ModeAgreed at is goes)
 -- and RDX, with which a responder's link is up
 ready_heard : (k : LinkState) (turns : List Turn) (packet : List ℕ) → k.phase ≡ phase.AwaitsRdx → IsPacket packet Info Rdx → FollowsRow Responder 0 (link_met Responder k.phase) turns
     → FollowsRow Responder 0 (link_met Responder phase.Established) (Heard packet ∷ turns)
-ready_heard k turns packet at is follows =
-    inl (
-      record { control = is.spells.kind; of_subtype = is.spells.subtype; of_ctrl = is.spells.body },
-      subst (λ (p : LinkPhase). FollowsRow Responder 0 (link_met Responder p) turns) at follows,
-    )
+ready_heard k turns packet at is follows = grind arith
 
 -- A CONTROL PACKET that is put
 spelled_control : (bytes : List ℕ) (p : Packet) (one : Control) → bytes ≡ canonical p → IsControlOf one (canonical p) → IsControlOf one bytes
@@ -136,55 +130,15 @@ refuses major = record { control = refl; of_subtype = refl; of_ctrl = refl }
 
 control_put : (role : Role) (k : LinkState) (turns : List Turn) (packet : List ℕ) (next : LinkPhase) → IsPhaseOf role k.phase → FollowsRow role 0 (link_met role k.phase) turns
     → ControlPut k.phase packet next → FollowsRow role 0 (link_met role next) (Said packet ∷ turns)
-control_put Initiator k turns packet next of follows (VersionOffered at is goes) =
-    subst (λ (p : LinkPhase). FollowsRow Initiator 0 (link_met Initiator p) (Said packet ∷ turns)) (sym goes)
-    (inl (spelled_control packet (control Info 0 (Vers 1 0)) VersOffer is offers, subst (λ (p : LinkPhase). FollowsRow Initiator 0 (link_met Initiator p) turns) at follows))
-control_put Initiator k turns packet next of follows (ModeOffered at is goes) =
-    subst (λ (p : LinkPhase). FollowsRow Initiator 0 (link_met Initiator p) (Said packet ∷ turns)) (sym goes)
-    (inl (spelled_control packet (control Info 0 (Rts 1)) RtsAsked is asks_rts, subst (λ (p : LinkPhase). FollowsRow Initiator 0 (link_met Initiator p) turns) at follows))
-control_put Responder k turns packet next of follows (VersionAnswered at is goes) =
-    subst (λ (p : LinkPhase). FollowsRow Responder 0 (link_met Responder p) (Said packet ∷ turns)) (sym goes)
-    (inl (spelled_control packet (control Ack 0 (Vers 1 0)) VersAgreed is agrees, subst (λ (p : LinkPhase). FollowsRow Responder 0 (link_met Responder p) turns) at follows))
-control_put Responder k turns packet next of follows (VersionRefused major at is goes) =
-    subst (λ (p : LinkPhase). FollowsRow Responder 0 (link_met Responder p) (Said packet ∷ turns)) (sym goes)
-    (inr (tt, subst IsVersNack (sym is) (refuses major)), subst (λ (p : LinkPhase). FollowsRow Responder 0 (link_met Responder p) turns) at follows)
-control_put Responder k turns packet next of follows (ModeAnswered at is goes) =
-    subst (λ (p : LinkPhase). FollowsRow Responder 0 (link_met Responder p) (Said packet ∷ turns)) (sym goes)
-    (inl (spelled_control packet (control Info 0 (Rtr 1)) RtrAnswered is answers_rtr, subst (λ (p : LinkPhase). FollowsRow Responder 0 (link_met Responder p) turns) at follows))
-control_put Responder k turns packet next of follows (VersionOffered at is goes) = wrong_role Responder k.phase phase.OwesVersInfo _ of at (λ never. never)
-control_put Responder k turns packet next of follows (ModeOffered at is goes) = wrong_role Responder k.phase phase.OwesRts _ of at (λ never. never)
-control_put Initiator k turns packet next of follows (VersionAnswered at is goes) = wrong_role Initiator k.phase phase.OwesVersAck _ of at (λ never. never)
-control_put Initiator k turns packet next of follows (VersionRefused major at is goes) = wrong_role Initiator k.phase (phase.OwesVersNack major) _ of at (λ never. never)
-control_put Initiator k turns packet next of follows (ModeAnswered at is goes) = wrong_role Initiator k.phase phase.OwesRtr _ of at (λ never. never)
+control_put role k turns packet next of follows put = grind (arith, offers, asks_rts, agrees, refuses, answers_rtr)
 
 -- THE LINK COMES UP
 up_comes : (role : Role) (h : Handshake) (turns : List Turn) → h.role ≡ role → FollowsRow role 0 (link_met role phase.Established) turns → HandshakeComes role (handshake_up h) turns
-up_comes role h turns is follows = subst (λ (r : Role). HandshakeComes role (begun r (joined_handshake h)) turns) (sym is) (by_role role follows)
-  where
-    by_role : (r : Role) → FollowsRow r 0 (link_met r phase.Established) turns → HandshakeComes r (begun r (joined_handshake h)) turns
-    by_role Initiator so = record {
-      coming = tt;
-      stage = inl (record {
-        message = info (next_sid h) (Ver 1 h.offer.minor h.offer.class);
-        owed_is = refl;
-        next = record { of_subtype = refl; of_envelope = refl; of_sid = refl; named = tt };
-        follows = any_sid Initiator 0 (sid_of (begun Initiator (joined_handshake h))) (link_met Initiator phase.Established) turns tt so;
-      });
-    }
-    by_role Responder so = record {
-      coming = tt;
-      stage = inr (record {
-        waits = tt;
-        refusal = tt;
-        follows = any_sid Responder 0 (sid_of (begun Responder (joined_handshake h))) (link_met Responder phase.Established) turns tt so;
-      });
-    }
+up_comes role h turns is follows = grind arith
 
 -- an initiator knows its sid
 initiator_sid : (both : Bool) (p : Phase) → IsComing both Initiator p → knows_sid p Initiator ≡ true
-initiator_sid both Down coming = absurd coming
-initiator_sid both Open coming = absurd coming
-initiator_sid both _ coming = refl
+initiator_sid both p coming = grind arith
 
 -- ITS ORDER, and that a session opens in it
 pub record OrderStands (role : Role) (c : EndCore) (turns : List Turn) : Type 0 where
@@ -203,16 +157,10 @@ never_now {X} b not is = false_is_true (sym not ∙ is)
 
 -- the link isn't up; it is up with the same handshake; and with another
 stays_down : (role : Role) (t : EndCore) (opens : Bool) (now : List Turn) → is_up t.link ≡ false → opens ≡ false → FollowsRow role 0 (link_met role t.link.phase) now → OnIn role opens t now
-stays_down role t opens now down not follows = record {
-  came = record { below = λ still. follows; above = λ up. never_now (is_up t.link) down up };
-  order = λ now_open. never_now opens not now_open;
-}
+stays_down role t opens now down not follows = search (never_now)
 
 goes_up : (role : Role) (t : EndCore) (opens : Bool) (now : List Turn) → is_up t.link ≡ true → opens ≡ false → (t.handshake.phase ≡ Open) ⊎ HandshakeComes role t.handshake now → OnIn role opens t now
-goes_up role t opens now up not comes = record {
-  came = record { below = λ down. never_now (is_up t.link) down up; above = λ still. comes };
-  order = λ now_open. never_now opens not now_open;
-}
+goes_up role t opens now up not comes = grind arith
 
 by_on : (role : Role) (t : EndCore) (opens : Bool) (now : List Turn) → is_up t.link ≡ true → GoesOn role t.handshake opens now → OnIn role opens t now
 by_on role t opens now up (Comes_ not comes) = goes_up role t opens now up not (inr comes)
@@ -226,49 +174,12 @@ same_comes role h g turns now is goes (inr comes) = inr (subst (λ (x : Handshak
 
 -- with a packet that stands aside
 heard_comes : (role : Role) (h : Handshake) (turns : List Turn) (packet : List ℕ) → h.owed ≡ None → HandshakeComes role h turns → HandshakeComes role h (Heard packet ∷ turns)
-heard_comes role h turns packet none comes = record { coming = comes.coming; stage = of comes.stage }
-  where
-    of : Owing h.offer.both_rings role h.phase (sid_of h) h.owed turns ⊎ Waiting h.offer.both_rings role h.phase (sid_of h) h.owed turns
-        → Owing h.offer.both_rings role h.phase (sid_of h) h.owed (Heard packet ∷ turns) ⊎ Waiting h.offer.both_rings role h.phase (sid_of h) h.owed (Heard packet ∷ turns)
-    of (inl owing) = none_is_some (sym none ∙ owing.owed_is)
-    of (inr waiting) = inr (record {
-      waits = waiting.waits;
-      refusal = waiting.refusal;
-      follows = hears_aside role (sid_of h) (met h.offer.both_rings role h.phase) turns packet (comes_up h.offer.both_rings role h.phase comes.coming) waiting.follows;
-    })
+heard_comes role h turns packet none comes = grind (arith, hears_aside)
 
 -- a part that goes on stands aside, also of the message that is owed
-drop_up : (both : Bool) (role : Role) (p : Phase) (sid : ℕ) (message : Message) → IsComing both role p → IsNext (met both role p) sid message → ComesUpBelow (drop 1 (met both role p))
-drop_up both role p sid message coming next = by_lines (met both role p) (comes_up both role p coming) next
-  where
-    by_lines : (lines : List Line) → ComesUpBelow lines → IsNext lines sid message → ComesUpBelow (drop 1 lines)
-    by_lines (Says_ subtype envelope ∷ lines) up is = up
-    by_lines (SaysControl one ∷ lines) up is = absurd is
-    by_lines (HearsControl one ∷ lines) up is = absurd is
-    by_lines (Hears_ subtype envelope ∷ lines) up is = absurd is
-    by_lines [] up is = absurd is
-
 part_comes : (role : Role) (h : Handshake) (turns : List Turn) (packet : List ℕ) → is_part packet ≡ true → (fragment_at packet).stop ≡ false → HandshakeComes role h turns
     → HandshakeComes role h (Said packet ∷ turns)
-part_comes role h turns packet part stop comes = record { coming = comes.coming; stage = of comes.stage }
-  where
-    may : MayEnd (fragment_at packet).stop (half_said turns ++ (fragment_at packet).bytes)
-    may = subst (λ (b : Bool). MayEnd b (half_said turns ++ (fragment_at packet).bytes)) (sym stop) tt
-
-    of : Owing h.offer.both_rings role h.phase (sid_of h) h.owed turns ⊎ Waiting h.offer.both_rings role h.phase (sid_of h) h.owed turns
-        → Owing h.offer.both_rings role h.phase (sid_of h) h.owed (Said packet ∷ turns) ⊎ Waiting h.offer.both_rings role h.phase (sid_of h) h.owed (Said packet ∷ turns)
-    of (inl owing) = inl (record {
-      message = owing.message;
-      owed_is = owing.owed_is;
-      next = owing.next;
-      follows = says_aside role (sid_of h) (drop 1 (met h.offer.both_rings role h.phase)) turns packet
-          (drop_up h.offer.both_rings role h.phase (sid_of h) owing.message comes.coming owing.next) part may owing.follows;
-    })
-    of (inr waiting) = inr (record {
-      waits = waiting.waits;
-      refusal = waiting.refusal;
-      follows = says_aside role (sid_of h) (met h.offer.both_rings role h.phase) turns packet (comes_up h.offer.both_rings role h.phase comes.coming) part may waiting.follows;
-    })
+part_comes role h turns packet part stop comes = grind (arith, says_aside)
 
 -- an open session's handshake stays open, whatever is said
 open_in : (r : Role) (h : Handshake) → put_in r Open h ≡ record h { owed = None }
@@ -451,21 +362,11 @@ says_order role c t turns packet opens all says = by_what (end_put role c t turn
     by_what (PutHandshake not at link last handshake flag is_open) = put_handshake not at link last handshake flag (above at)
 
 -- EACH MOVE
-first_met : (role : Role) → link_met role (first_phase role) ≡ []
-first_met Initiator = refl
-first_met Responder = refl
-
 anew_came : (role : Role) (t : EndCore) → t.link ≡ fresh_link role → EndCame role t []
-anew_came role t is = record {
-  below = λ down. subst (λ (k : LinkState). FollowsRow role 0 (link_met role k.phase) []) (sym is) (subst (λ (lines : List Line). FollowsRow role 0 lines []) (sym (first_met role)) tt);
-  above = λ up. never_now (is_up t.link) (ap is_up is ∙ first_down role) up;
-}
+anew_came role t is = grind arith
 
 same_came : (role : Role) (c t : EndCore) (turns : List Turn) → t.link.phase ≡ c.link.phase → t.handshake ≡ c.handshake → EndCame role c turns → EndCame role t turns
-same_came role c t turns link handshake came = record {
-  below = λ down. subst (λ (p : LinkPhase). FollowsRow role 0 (link_met role p) turns) (sym link) (came.below (ap is_established (sym link) ∙ down));
-  above = λ up. same_comes role c.handshake t.handshake turns turns handshake (λ comes. comes) (came.above (ap is_established (sym link) ∙ up));
-}
+same_came role c t turns link handshake came = grind arith
 
 came_step : (role : Role) (c : EndCore) (move : EndMove) (t : EndCore) (turns : List Turn) → OrderStands role c turns → EndStep role c move t → EndCame role t (turns_after turns move)
 came_step role c Begins t turns all step = anew_came role t (step.link ∙ ap fresh_link all.knows.stands.link.role_is)
@@ -522,13 +423,7 @@ opens_hearing entries asks answers events s B packet t fits run step = end_took_
 -- THE OFFERS stay as they were
 offer_step : (asks answers : Offer) (role : Role) (c : EndCore) (move : EndMove) (t : EndCore) (turns : List Turn) → c.offer ≡ offer_in asks answers role → EndStep role c move t
     → t.offer ≡ offer_in asks answers role
-offer_step asks answers role c Begins t turns is step = step.offer ∙ is
-offer_step asks answers role c Renews t turns is step = step.offer ∙ is
-offer_step asks answers role c (Fails cause packet) t turns is step = step.1.offer ∙ is
-offer_step asks answers role c (Hears packet opens) t turns is step = step.offer ∙ is
-offer_step asks answers role c (Says packet opens) t turns is step = said_offer role c t packet opens step ∙ is
-offer_step asks answers role c Waits t turns is step = held_offer c t step.what step.holds ∙ is
-offer_step asks answers role c Stays t turns is step = step.offer ∙ is
+offer_step asks answers role c move t turns is step = grind arith
 
 pub offers_stay : (entries : ℕ) (asks answers : Offer) (events : List CoreEvent) (s : LaneCore) → Run CoreStep (fresh_core entries asks answers) events s
     → (s.a.offer ≡ asks) × (s.b.offer ≡ answers)

@@ -1,5 +1,5 @@
 -- Each row of a handshake is the next line of its end's order, stands aside, or opens the session.
-use Rattle.std.proofs.Common.{◌≡◌, ℕ, ◌%◌, Bool, true, false, ◌⊎◌, inl, inr, Some, None, List, ◌∷◌, ◌++◌, drop, min, refl, sym, ap, ◌∙◌, subst}
+use Rattle.std.proofs.Common.{◌≡◌, ℕ, ◌%◌, Bool, true, false, ◌⊎◌, inl, inr, Some, None, List, ◌∷◌, ◌++◌, drop, min, refl, sym, ap, ◌∙◌, subst, arith}
 use Rattle.ldc_link.specs.declared.phase.Role.{Role}
 use Rattle.ldc_link.specs.declared.phase.Role.TheVariants.{Initiator, Responder}
 use Rattle.ldc_packet.specs.declared.packet.Subtype.{Subtype}
@@ -18,7 +18,7 @@ use Rattle.vio_handshake.specs.Messages.{ack, info, nack, own_ring}
 use Rattle.vio_handshake.specs.Rules.{behind_ring, own_named}
 use Rattle.channel_model.specs.HandshakeOrder.{EndsAs, FollowsRow, HandshakeOrder, OpensBy, opening_lines, own_ring_lines, row}
 use Rattle.channel_model.specs.Sayings.{half_heard}
-use Rattle.channel_laws.proofs.Apart.{none_is_some, roles_differ}
+use Rattle.channel_laws.proofs.Apart.{roles_differ}
 use Rattle.channel_laws.proofs.HandshakeCases.{AttributesAgreed, AttributesAsked, AttributesRefused, Declined, NothingFollows, OneRingAgreed, Opened, Opens, Owes, OwnReadyFollows, PeerAgreed, ReadyAgreed, ReadyAsked, ReadyFollows, RingAgreed, RingAsked, RingFollows, RingRefused, RowSent, RowTaken, VersionAgreed, VersionAsked, VersionRefused}
 use Rattle.channel_laws.proofs.Opening.{Comes, HandshakeComes, IsComing, IsNext, Owing, SaysWhole, Waiting, any_sid, comes_up, heard_line, hears_aside, last_follows, met, said_line, sid_of}
 use Rattle.channel_laws.proofs.TurnCases.{EndsBy}
@@ -34,12 +34,7 @@ goes_so role t x opens now is not comes = Comes_ not (subst (λ (y : Handshake).
 
 -- where it owes nothing it waits
 waits_so : (role : Role) (h : Handshake) (turns : List Turn) → h.owed ≡ None → HandshakeComes role h turns → Waiting h.offer.both_rings role h.phase (sid_of h) h.owed turns
-waits_so role h turns none comes = of comes.stage
-  where
-    of : Owing h.offer.both_rings role h.phase (sid_of h) h.owed turns ⊎ Waiting h.offer.both_rings role h.phase (sid_of h) h.owed turns
-        → Waiting h.offer.both_rings role h.phase (sid_of h) h.owed turns
-    of (inl owing) = none_is_some (sym none ∙ owing.owed_is)
-    of (inr waiting) = waiting
+waits_so role h turns none comes = grind arith
 
 -- the facts of a message that it takes
 pub record Took (role : Role) (h : Handshake) (message : Message) (turns : List Turn) (packet : List ℕ) : Type 0 where
@@ -310,9 +305,7 @@ sent_coming role h turns packet p sent at = subst (IsComing h.offer.both_rings r
 
 at_role : (role r : Role) (h t : Handshake) (opens : Bool) (turns : List Turn) (packet : List ℕ) → h.role ≡ r → (sent : Sent role h turns packet)
     → (Sent r h turns packet → GoesOn r t opens (Said packet ∷ turns)) → GoesOn role t opens (Said packet ∷ turns)
-at_role role r h t opens turns packet is sent goes =
-    let same : r ≡ role = sym is ∙ sent.role_is in
-    subst (λ (x : Role). GoesOn x t opens (Said packet ∷ turns)) same (goes (subst (λ (x : Role). Sent x h turns packet) (sym same) sent))
+at_role role r h t opens turns packet is sent goes = grind arith
 
 opens_by : (h : Handshake) (turns : List Turn) (packet : List ℕ) → Sent Initiator h turns packet → h.phase ≡ PeerReadyTaken → OpensBy Initiator (sid_of h) (row h.offer.both_rings Initiator) (Said packet ∷ turns)
 opens_by h turns packet sent at = of sent.comes.stage

@@ -1,5 +1,5 @@
 -- An end whose session is open resets itself for the first cause that a packet has, and takes the packet where it has none.
-use Rattle.std.proofs.Common.{◌≡◌, ℕ, Bool, true, false, Option, Some, None, Ok, Err, List, ◌++◌, refl, sym, ap, ◌∙◌, subst, inr}
+use Rattle.std.proofs.Common.{◌≡◌, ℕ, Bool, true, false, Option, Some, None, Ok, Err, List, refl, sym, ap, ◌∙◌, subst, inr, arith}
 use Rattle.std.specs.Prelude.{◌&&◌, ◌||◌, not, Result, if◌then◌else◌, nat_eq, ⊤}
 use Rattle.runs.specs.Run.{Run}
 use Rattle.ldc_link.specs.declared.phase.LinkPhase.{LinkPhase}
@@ -8,8 +8,8 @@ use Rattle.ldc_link.specs.declared.phase.Role.{Role}
 use Rattle.ldc_link.specs.declared.phase.Role.TheVariants.{Initiator, Responder}
 use Rattle.ldc_link.specs.Conversing.{IsData, fragment_of}
 use Rattle.ldc_link.specs.Following.{Follows}
-use Rattle.ldc_link.specs.LinkState.{LinkState, is_established, is_up}
-use Rattle.ldc_link.specs.Taking.{Heard, LinkTake, TakesBytes, Unheard, count, goes_to, may_come, phase_behind_rdx, phase_behind_rtr, phase_behind_rts, phase_behind_vers, takes_body, takes_decoded, takes_part, whole_of, with_part}
+use Rattle.ldc_link.specs.LinkState.{LinkState, is_up}
+use Rattle.ldc_link.specs.Taking.{Heard, LinkTake, TakesBytes, Unheard, count, goes_to, may_come, phase_behind_rdx, phase_behind_rtr, phase_behind_rts, phase_behind_vers, takes_body, takes_decoded, takes_part, with_part}
 use Rattle.ldc_link.proofs.Spelled.{has_number, has_part, spelled_fragment, spelled_numbered, spelled_part}
 use Rattle.ldc_packet.proofs.NoFault.{spelled_no_fault}
 use Rattle.ldc_packet.specs.declared.packet.Body.{Body}
@@ -26,20 +26,18 @@ use Rattle.ldc_queue.specs.Fragments.{Fragment, fragment_at, is_part}
 use Rattle.ldc_queue.specs.Numbered.{is_numbered}
 use Rattle.ldc_queue.specs.Transcript.{Turn}
 use Rattle.vio_handshake.specs.declared.handshake.Handshake.{Handshake}
-use Rattle.vio_handshake.specs.declared.handshake.Phase.{Phase}
 use Rattle.vio_handshake.specs.declared.handshake.Phase.TheVariants.{Open}
 use Rattle.vio_handshake.specs.declared.session.Offer.{Offer}
-use Rattle.vio_handshake.specs.Rules.{Faults, Goes, HandshakeTake, fault_or, handshake_hear, handshake_take, is_declined, row, sid_fault}
+use Rattle.vio_handshake.specs.Rules.{handshake_take, is_declined, sid_fault}
 use Rattle.vio_tag.proofs.Deciding.{some_result}
 use Rattle.vio_tag.proofs.Reading.{one_result}
 use Rattle.vio_tag.specs.declared.cause.Cause.{Cause}
 use Rattle.vio_tag.specs.declared.cause.Cause.TheVariants as the_cause
 use Rattle.vio_tag.specs.declared.message.Message.{Message}
 use Rattle.vio_tag.specs.declared.message.MsgBody.{MsgBody}
-use Rattle.vio_tag.specs.declared.message.MsgBody.TheVariants.{Attr, DringData, DringReg, DringUnreg, Mcast, Plain, Rdx as Ready, Ver}
 use Rattle.vio_tag.specs.declared.message.TagFault.{TagFault}
 use Rattle.channel_model.proofs.SameSayings.{half_heard_is}
-use Rattle.channel_model.specs.Messages.{ended_by, whole_with}
+use Rattle.channel_model.specs.Messages.{ended_by}
 use Rattle.channel_model.specs.Sayings.{count_heard, half_heard}
 use Rattle.channel_model.specs.TranscriptLog.{transcript_of}
 use Rattle.channel_model.specs.WireAt.{counts_next}
@@ -52,57 +50,16 @@ use Rattle.channel_laws.specs.EndCore.{EndCore}
 use Rattle.channel_laws.specs.EndFold.{decoded_of}
 use Rattle.channel_laws.specs.LaneCore.{CoreEvent, CoreFits, CoreStep, LaneCore, end_of, fresh_core, role_of, transcript_behind}
 use Rattle.channel_laws.specs.PacketCauses.{Judges, LinkJudged, WholeJudged, body_cause, decoded_cause, fault_cause, fault_first, judged, judged_body, message_cause, mode_cause, names_mode, number_cause, packet_cause, part_cause, refused_by}
+use Rattle.channel_laws.proofs.LinkCases.{established}
 
 -- THE MESSAGE: an open handshake declines what it takes, and all else is out of order
-open_row : (role : Role) (h : Handshake) (subtype : Subtype) (sid : ℕ) (body : MsgBody) → row role Open h subtype sid body ≡ Faults the_cause.Order
-open_row Initiator h subtype sid (Ver major minor class) = refl
-open_row Initiator h subtype sid (Attr bytes) = refl
-open_row Initiator h subtype sid (DringReg ident slots slot_size options number cookies) = refl
-open_row Initiator h subtype sid (DringUnreg ident) = refl
-open_row Initiator h subtype sid (DringData seq ident start end state) = refl
-open_row Initiator h subtype sid Ready = refl
-open_row Initiator h subtype sid (Mcast set number addresses) = refl
-open_row Initiator h subtype sid (Plain envelope) = refl
-open_row Responder h subtype sid (Ver major minor class) = refl
-open_row Responder h subtype sid (Attr bytes) = refl
-open_row Responder h subtype sid (DringReg ident slots slot_size options number cookies) = refl
-open_row Responder h subtype sid (DringUnreg ident) = refl
-open_row Responder h subtype sid (DringData seq ident start end state) = refl
-open_row Responder h subtype sid Ready = refl
-open_row Responder h subtype sid (Mcast set number addresses) = refl
-open_row Responder h subtype sid (Plain envelope) = refl
-
-refused_if : (b : Bool) (h : Handshake) (take : HandshakeTake) → take ≡ Faults the_cause.Order → refused_by (if b then Goes h else take) ≡ (if b then None else Some the_cause.Order)
-refused_if true h take is = refl
-refused_if false h take is = ap refused_by is
-
-hear_refused : (h : Handshake) (subtype : Subtype) (sid : ℕ) (body : MsgBody) → h.phase ≡ Open
-    → refused_by (handshake_hear h subtype sid body) ≡ (if is_declined subtype body then None else Some the_cause.Order)
-hear_refused h subtype sid body open_now =
-    refused_if (is_declined subtype body) _ (row h.role h.phase h subtype sid body) (ap (λ (p : Phase). row h.role p h subtype sid body) open_now ∙ open_row h.role h subtype sid body)
-
 pub take_refused : (h : Handshake) (message : Message) → h.phase ≡ Open → sid_fault h.sid message.sid ≡ None
     → refused_by (handshake_take h message) ≡ (if is_declined message.subtype message.body then None else Some the_cause.Order)
-take_refused h message open_now sound =
-    ap (λ (fault : Option Cause). refused_by (fault_or fault (handshake_hear h message.subtype message.sid message.body))) sound
-    ∙ hear_refused h message.subtype message.sid message.body open_now
+take_refused h message open_now sound = grind arith
 
 body_judged : (own : Message → Option Cause) (h : Handshake) (message : Message) (body : MsgBody) → message.body ≡ body → h.phase ≡ Open → sid_fault h.sid message.sid ≡ None
     → judged_body own h message body ≡ body_cause own message body
-body_judged own h message (DringData seq ident start end state) is open_now sound = refl
-body_judged own h message (Mcast set number addresses) is open_now sound = refl
-body_judged own h message (Ver major minor class) is open_now sound =
-    take_refused h message open_now sound ∙ ap (λ (b : MsgBody). if is_declined message.subtype b then None else Some the_cause.Order) is
-body_judged own h message (Attr bytes) is open_now sound =
-    take_refused h message open_now sound ∙ ap (λ (b : MsgBody). if is_declined message.subtype b then None else Some the_cause.Order) is
-body_judged own h message (DringReg ident slots slot_size options number cookies) is open_now sound =
-    take_refused h message open_now sound ∙ ap (λ (b : MsgBody). if is_declined message.subtype b then None else Some the_cause.Order) is
-body_judged own h message (DringUnreg ident) is open_now sound =
-    take_refused h message open_now sound ∙ ap (λ (b : MsgBody). if is_declined message.subtype b then None else Some the_cause.Order) is
-body_judged own h message Ready is open_now sound =
-    take_refused h message open_now sound ∙ ap (λ (b : MsgBody). if is_declined message.subtype b then None else Some the_cause.Order) is
-body_judged own h message (Plain envelope) is open_now sound =
-    take_refused h message open_now sound ∙ ap (λ (b : MsgBody). if is_declined message.subtype b then None else Some the_cause.Order) is
+body_judged own h message body is open_now sound = grind arith
 
 -- a sid that is known
 sid_judged : (b : Bool) (sid found : ℕ) (judged_rest rest : Option Cause) → (b ≡ true → judged_rest ≡ rest)
@@ -144,23 +101,7 @@ cause_by numbered next found names mode part comes rest = number_cause numbered 
 by_values : (own : Message → Option Cause) (sid : ℕ) (turns : List Turn) (packet : List ℕ) (numbered : Bool) (next found : ℕ) (names : Bool) (mode : ℕ) (part comes : Bool) (rest : Option Cause)
     → Values packet numbered found names mode part → next ≡ counts_next (count_heard turns) → comes ≡ may_come (half_heard turns) (fragment_at packet)
     → rest ≡ message_cause own sid (ended_by (half_heard turns) packet) → cause_by numbered next found names mode part comes rest ≡ packet_cause own sid turns packet
-by_values own sid turns packet numbered next found names mode part comes rest v next_is comes_is rest_is = sym (
-    ap (λ (f : Option PacketFault). fault_cause f (cause_by (is_numbered packet) (counts_next (count_heard turns)) (seqid_at packet) (names_mode packet) (env_at packet) (is_part packet)
-    (may_come (half_heard turns) (fragment_at packet)) (message_cause own sid (ended_by (half_heard turns) packet)))) v.sound
-    ∙ ap (λ (b : Bool). cause_by b (counts_next (count_heard turns)) (seqid_at packet) (names_mode packet) (env_at packet) (is_part packet)
-    (may_come (half_heard turns) (fragment_at packet)) (message_cause own sid (ended_by (half_heard turns) packet))) v.numbered_is
-    ∙ ap (λ (n : ℕ). cause_by numbered n (seqid_at packet) (names_mode packet) (env_at packet) (is_part packet)
-    (may_come (half_heard turns) (fragment_at packet)) (message_cause own sid (ended_by (half_heard turns) packet))) (sym next_is)
-    ∙ ap (λ (n : ℕ). cause_by numbered next n (names_mode packet) (env_at packet) (is_part packet)
-    (may_come (half_heard turns) (fragment_at packet)) (message_cause own sid (ended_by (half_heard turns) packet))) v.found_is
-    ∙ ap (λ (b : Bool). cause_by numbered next found b (env_at packet) (is_part packet)
-    (may_come (half_heard turns) (fragment_at packet)) (message_cause own sid (ended_by (half_heard turns) packet))) v.names_is
-    ∙ ap (λ (n : ℕ). cause_by numbered next found names n (is_part packet)
-    (may_come (half_heard turns) (fragment_at packet)) (message_cause own sid (ended_by (half_heard turns) packet))) v.mode_is
-    ∙ ap (λ (b : Bool). cause_by numbered next found names mode b
-    (may_come (half_heard turns) (fragment_at packet)) (message_cause own sid (ended_by (half_heard turns) packet))) v.part_is
-    ∙ ap (λ (b : Bool). cause_by numbered next found names mode part b (message_cause own sid (ended_by (half_heard turns) packet))) (sym comes_is)
-    ∙ ap (cause_by numbered next found names mode part comes) (sym rest_is))
+by_values own sid turns packet numbered next found names mode part comes rest v next_is comes_is rest_is = search
 
 -- WHAT A LINK MAKES of it, where its rest is what becomes of the message that it ends
 abbrev link_cause : LinkTake → Option Cause → Option Cause
@@ -229,20 +170,9 @@ parted_whole turns packet true true k part is = is
 parted_whole turns packet true false k part is = tt
 parted_whole turns packet false comes k part is = tt
 
-same_whole : (b : Bool) (m : List ℕ) → whole_of b m ≡ whole_with b m
-same_whole true m = refl
-same_whole false m = refl
-
 ends_message : (k : LinkState) (turns : List Turn) (packet : List ℕ) (part : Fragment) → k.half_heard ≡ half_heard turns → is_part packet ≡ true → fragment_at packet ≡ part
     → (with_part k part).whole ≡ ended_by (half_heard turns) packet
-ends_message k turns packet part half is same =
-    same_whole part.stop (k.half_heard ++ part.bytes) ∙ ap (λ (xs : List ℕ). whole_with part.stop (xs ++ part.bytes)) half
-    ∙ ap (λ (f : Fragment). whole_with f.stop (half_heard turns ++ f.bytes)) (sym same)
-    ∙ sym (ap (λ (b : Bool). whole_with (b && (fragment_at packet).stop) (half_heard turns ++ (fragment_at packet).bytes)) is)
-
-established : (p : LinkPhase) → is_established p ≡ true → p ≡ phase.Established
-established phase.Established is = refl
-established _ is = absurd (cc is)
+ends_message k turns packet part half is same = search
 
 module _ (own : Message → Option Cause) (sid : ℕ) (turns : List Turn) (packet : List ℕ) (k : LinkState) (follows : Follows k turns) (up : is_up k ≡ true) where
   abbrev Holds : LinkTake → Type 0

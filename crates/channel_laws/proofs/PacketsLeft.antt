@@ -1,44 +1,36 @@
 -- How many packets an end has still to put: the number falls with each packet that it puts, and rises by one as its link holds a message of
 -- its session. Where the messages that it may begin count too, it doesn't rise.
-use Rattle.std.proofs.Common.{◌≡◌, ℕ, ◌+◌, ◌≤◌, ◌⊎◌, inl, inr, Bool, true, false, Option, Some, List, [], ◌∷◌, length, drop, refl, sym, ap, ◌∙◌, subst, arith, length-drop}
+use Rattle.std.proofs.Common.{◌≡◌, ℕ, ◌+◌, ◌≤◌, Bool, true, false, Option, Some, List, [], ◌∷◌, length, drop, refl, sym, ap, ◌∙◌, arith, length-drop}
 use Rattle.std.proofs.lemmas.Bool.{leb-false}
 use Rattle.ldc_link.specs.declared.phase.LinkPhase.{LinkPhase}
 use Rattle.ldc_link.specs.declared.phase.LinkPhase.TheVariants as phase
 use Rattle.ldc_link.specs.declared.phase.Role.{Role}
 use Rattle.ldc_link.specs.declared.phase.Role.TheVariants.{Initiator, Responder}
-use Rattle.ldc_link.specs.LinkState.{LinkState, first_phase, is_established, offered}
+use Rattle.ldc_link.specs.LinkState.{LinkState, is_established}
 use Rattle.ldc_link.specs.Putting.{owes}
 use Rattle.ldc_queue.specs.Transcript.{Turn}
 use Rattle.vio_handshake.specs.declared.handshake.Handshake.{Handshake}
 use Rattle.vio_handshake.specs.declared.handshake.Phase.{Phase}
-use Rattle.vio_handshake.specs.declared.handshake.Phase.TheVariants.{Open, OwnReady, OwnRing, PeerReadyTaken, PeerRingTaken, Version}
 use Rattle.vio_handshake.specs.Messages.{info, own_ring}
-use Rattle.vio_handshake.specs.declared.session.Offer.{Offer}
 use Rattle.vio_handshake.specs.Rules.{handshake_sent, opens_by_put}
-use Rattle.vio_handshake.specs.State.{begun, fresh_handshake, handshake_up, joined_handshake, next_sid}
+use Rattle.vio_handshake.specs.State.{begun, handshake_up, joined_handshake}
 use Rattle.vio_tag.proofs.Canonical.{length_canonical}
 use Rattle.vio_tag.specs.declared.message.Message.{Message}
 use Rattle.vio_tag.specs.declared.message.MsgBody.TheVariants.{Rdx, Ver}
 use Rattle.vio_tag.specs.Spelling.{canonical}
-use Rattle.channel_model.specs.EndPuts.{ComesUp, EndsHandshake, EndsOwn, Goes, PutKind, put_opens}
-use Rattle.channel_laws.proofs.Apart.{none_is_some, true_is_false}
+use Rattle.channel_model.specs.EndPuts.{EndsHandshake, PutKind, put_opens}
 use Rattle.channel_laws.proofs.EndCases.{PutControl, PutHandshake, PutMore, PutOwn, PutReady, PutWhat, end_put}
-use Rattle.channel_laws.proofs.EndStanding.{few_offered, held_stands, holds_some, last_none, open_up, owing_up, up_empty}
-use Rattle.channel_laws.proofs.HandshakeCases.{Opens, Owes, OwnReadyFollows, ReadyFollows, RingFollows, RowSent, row_sent}
-use Rattle.channel_laws.proofs.LinkCases.{ControlPut, ModeAnswered, ModeOffered, VersionAnswered, VersionOffered, VersionRefused, behind_part, behind_ready}
-use Rattle.channel_laws.proofs.Short.{short_within, some_bytes}
+use Rattle.channel_laws.proofs.EndStanding.{few_offered, held_stands, holds_some, last_none}
+use Rattle.channel_laws.proofs.HandshakeCases.{RowSent, row_sent}
+use Rattle.channel_laws.proofs.LinkCases.{ControlPut, behind_part, behind_ready}
+use Rattle.channel_laws.proofs.Short.{short_within}
 use Rattle.channel_laws.proofs.TurnCases.{SaysLast}
 use Rattle.channel_laws.specs.EndCore.{EndCore, holds}
-use Rattle.channel_laws.specs.EndStep.{EndAnew, EndSays, EndStays, EndWaits, Holding, Holds, HoldsOn, HoldsOwed, HoldsOwn, kind_of}
-use Rattle.channel_laws.specs.PacketsLeft.{all_in, all_of, first_packets, held_left, later, later_in, left_in, messages_in, own_in, packets_left, parts, parts_owed}
+use Rattle.channel_laws.specs.EndStep.{EndAnew, EndSays, EndStays, EndWaits, Holding, Holds, HoldsOn, kind_of}
+use Rattle.channel_laws.specs.PacketsLeft.{all_in, all_of, first_packets, held_left, later_in, left_in, messages_in, own_in, packets_left, parts, parts_owed}
 use Rattle.channel_laws.specs.Standing.{EndStands, HandshakeStands, is_open_in}
 
 -- SUMS
-left_more : (ph : LinkPhase) (all n m more : ℕ) → n ≤ m + more → left_in ph all n ≤ left_in ph all m + more
-left_more phase.Established all n m more less = less
-left_more phase.OwesVersInfo all n m more less = omega arith
-left_more _ all n m more less = omega arith
-
 part_less : (xs : List ℕ) → 57 ≤ length xs → parts (length (drop 56 xs)) + 1 ≤ parts (length xs)
 part_less xs long = omega (arith, length-drop 56 xs, long)
 
@@ -56,15 +48,9 @@ held_other (x ∷ xs) owed some = refl
 
 held_part : (own : Bool) (xs ys : List ℕ) (owed : Option Message) → 1 ≤ length xs → 1 ≤ length ys → parts (length xs) + 1 ≤ parts (length ys)
     → held_left own xs owed + 1 ≤ held_left own ys owed
-held_part own [] ys owed some more less = absurd (omega (arith, some))
-held_part own (x ∷ xs) [] owed some more less = absurd (omega (arith, more))
-held_part true (x ∷ xs) (y ∷ ys) owed some more less = omega (arith, less)
-held_part false (x ∷ xs) (y ∷ ys) owed some more less = omega (arith, less)
+held_part own xs ys owed some more less = grind arith
 
 -- THE HANDSHAKE, as its link comes up
-later_at : (both_rings : Bool) (one other : Role) (at next : Phase) → one ≡ other → at ≡ next → later both_rings one at ≡ later both_rings other next
-later_at both_rings one other at next role phase_is = ap (λ (r : Role). later both_rings r at) role ∙ ap (later both_rings other) phase_is
-
 version_part : (sid major minor class : ℕ) → parts (length (canonical (info sid (Ver major minor class)))) ≡ 1
 version_part sid major minor class = omega (arith, length_canonical (info sid (Ver major minor class)))
 
@@ -73,29 +59,10 @@ ready_part sid = omega (arith, length_canonical (info sid Rdx))
 
 begun_left : (role : Role) (h : Handshake) → h.role ≡ role
     → later_in (begun role (joined_handshake h)) + parts_owed (begun role (joined_handshake h)).owed ≤ all_of h.offer.both_rings role
-begun_left Initiator h is =
-    omega (arith, later_at h.offer.both_rings h.role Initiator Version Version is refl, version_part (next_sid (joined_handshake h)) 1 h.offer.minor h.offer.class)
-begun_left Responder h is = omega (arith, later_at h.offer.both_rings h.role Responder Version Version is refl)
+begun_left role h is = grind (arith, version_part)
 
 pub up_left : (h : Handshake) → later_in (handshake_up h) + parts_owed (handshake_up h).owed ≤ all_in h
 up_left h = begun_left h.role h refl
-
--- once its message was put, the next one was counted
-ring_follows : (both_rings : Bool) → later both_rings Responder OwnRing + 5 ≤ later both_rings Responder PeerRingTaken
-ring_follows true = omega arith
-ring_follows false = omega arith
-
-ready_follows : (both_rings : Bool) → later both_rings Initiator OwnReady + 1 ≤ later both_rings Initiator PeerRingTaken
-ready_follows true = omega arith
-ready_follows false = omega arith
-
-own_ready_follows : (both_rings : Bool) → later both_rings Responder OwnReady + 1 ≤ later both_rings Responder PeerReadyTaken
-own_ready_follows true = omega arith
-own_ready_follows false = omega arith
-
-opens_last : (both_rings : Bool) → later both_rings Initiator Open ≡ 0
-opens_last true = refl
-opens_last false = refl
 
 ring_parts : (role : Role) (c : EndCore) (turns : List Turn) → EndStands role c turns → parts (length (canonical (info c.handshake.draft.sid (own_ring c.handshake.offer)))) ≤ 5
 ring_parts role c turns stands =
@@ -105,156 +72,46 @@ abbrev SentLeft : Handshake → Handshake → Type 0
 SentLeft h t = later_in t + parts_owed t.owed ≤ later_in h
 
 sent_left : (role : Role) (c : EndCore) (turns : List Turn) (t : Handshake) (opens : Bool) → EndStands role c turns → RowSent c.handshake t opens → SentLeft c.handshake t
-sent_left role c turns t opens stands (ReadyFollows r at is not) =
-    let both = c.handshake.offer.both_rings in
-    subst (SentLeft c.handshake) (sym is)
-    (omega (
-      arith,
-      ready_follows both,
-      ready_part c.handshake.draft.sid,
-      later_at both c.handshake.role Initiator OwnReady OwnReady r refl,
-      later_at both c.handshake.role Initiator c.handshake.phase PeerRingTaken r at,
-    ))
-sent_left role c turns t opens stands (RingFollows r at is not) =
-    let both = c.handshake.offer.both_rings in
-    subst (SentLeft c.handshake) (sym is)
-    (omega (
-      arith,
-      ring_follows both,
-      ring_parts role c turns stands,
-      later_at both c.handshake.role Responder OwnRing OwnRing r refl,
-      later_at both c.handshake.role Responder c.handshake.phase PeerRingTaken r at,
-    ))
-sent_left role c turns t opens stands (OwnReadyFollows r at is not) =
-    let both = c.handshake.offer.both_rings in
-    subst (SentLeft c.handshake) (sym is)
-    (omega (
-      arith,
-      own_ready_follows both,
-      ready_part c.handshake.draft.sid,
-      later_at both c.handshake.role Responder OwnReady OwnReady r refl,
-      later_at both c.handshake.role Responder c.handshake.phase PeerReadyTaken r at,
-    ))
-sent_left role c turns t opens stands (Opens r at is yes_one) =
-    let both = c.handshake.offer.both_rings in
-    subst (SentLeft c.handshake) (sym is) (omega (arith, opens_last both, later_at both c.handshake.role Initiator Open Open r refl))
-sent_left role c turns t opens stands (Owes follows is not) = subst (SentLeft c.handshake) (sym is) (omega arith)
+sent_left role c turns t opens stands sent = grind (arith, ready_part, ring_parts)
 
 -- IT BEGINS
-first_same : (role : Role) (all n : ℕ) → left_in (first_phase role) all n ≡ left_in (first_phase role) all 0
-first_same Initiator all n = refl
-first_same Responder all n = refl
-
 pub anew_packets : (role : Role) (c t : EndCore) → HandshakeStands role c.offer c.handshake → EndAnew role c t → packets_left t ≡ first_packets c.offer.both_rings role
-anew_packets role c t stands begins =
-    ap (λ (k : LinkState). left_in k.phase (all_in t.handshake) (messages_in t)) begins.link ∙ ap (λ (n : ℕ). left_in (first_phase role) n (messages_in t)) (by_handshake begins.handshake)
-    ∙ first_same role (all_of c.offer.both_rings role) (messages_in t)
-  where
-    by_handshake : (t.handshake ≡ joined_handshake c.handshake) ⊎ (t.handshake ≡ fresh_handshake role c.offer) → all_in t.handshake ≡ all_of c.offer.both_rings role
-    by_handshake (inl joined) =
-        ap all_in joined ∙ ap (λ (r : Role). all_of c.handshake.offer.both_rings r) stands.role_is ∙ ap (λ (o : Offer). all_of o.both_rings role) stands.offer_is
-    by_handshake (inr fresh) = ap all_in fresh
+anew_packets role c t stands begins = grind arith
 
 -- IT WORKS, or does nothing
 pub stays_packets : (c t : EndCore) → EndStays c t → packets_left t ≡ packets_left c
-stays_packets c t stays =
-    ap (λ (k : LinkState). left_in k.phase (all_in t.handshake) (later_in t.handshake + held_left t.own k.to_send t.handshake.owed)) stays.link
-    ∙ ap (λ (h : Handshake). left_in c.link.phase (all_in h) (later_in h + held_left t.own c.link.to_send h.owed)) stays.handshake
-    ∙ ap (λ (b : Bool). left_in c.link.phase (all_in c.handshake) (later_in c.handshake + held_left b c.link.to_send c.handshake.owed)) stays.own
+stays_packets c t stays = search
 
 -- IT HOLDS a message: one of its session only where its link owed no packet and its handshake no message
 pub own_most : (what : Holding) → own_in what ≤ 1
 own_most HoldsOn = omega arith
-own_most (HoldsOwed message) = omega arith
-own_most (HoldsOwn message) = omega arith
+own_most _ = omega arith
 
 pub loud_none : (c held : EndCore) (what : Holding) → owes c.link ≡ true → Holds c what held → own_in what ≡ 0
-loud_none c held HoldsOn loud holds = refl
-loud_none c held (HoldsOwed message) loud holds = refl
-loud_none c held (HoldsOwn message) loud holds = true_is_false (sym loud ∙ holds.quiet)
+loud_none c held what loud holds = grind arith
 
 pub owing_none : (c held : EndCore) (message : Message) (what : Holding) → c.handshake.owed ≡ Some message → Holds c what held → own_in what ≡ 0
-owing_none c held message HoldsOn owed holds = refl
-owing_none c held message (HoldsOwed other) owed holds = refl
-owing_none c held message (HoldsOwn other) owed holds = none_is_some (sym holds.owed ∙ owed)
-
-offered_left : (c held : EndCore) (message : Message) (more : ℕ) → c.link.to_send ≡ [] → held.link ≡ offered (canonical message) c.link → held.handshake ≡ c.handshake
-    → held_left held.own (canonical message) c.handshake.owed ≤ parts_owed c.handshake.owed + more → packets_left held ≤ packets_left c + more
-offered_left c held message more none link handshake less =
-    let messages : messages_in held ≤ messages_in c + more =
-    omega (
-      arith,
-      less,
-      held_empty c.own c.link.to_send c.handshake.owed none,
-      ap (λ (k : LinkState). held_left held.own k.to_send held.handshake.owed) link ∙ ap (λ (h : Handshake). held_left held.own (canonical message) h.owed) handshake,
-      ap later_in handshake,
-    ) in
-    omega (
-      arith,
-      ap (λ (k : LinkState). left_in k.phase (all_in held.handshake) (messages_in held)) link ∙ ap (λ (h : Handshake). left_in c.link.phase (all_in h) (messages_in held)) handshake,
-      left_more c.link.phase (all_in c.handshake) (messages_in held) (messages_in c) more messages,
-    )
+owing_none c held message what owed holds = grind arith
 
 pub held_packets : (role : Role) (c held : EndCore) (turns : List Turn) (what : Holding) → EndStands role c turns → Holds c what held
     → packets_left held ≤ packets_left c + own_in what
-held_packets role c held turns HoldsOn stands is = omega (arith, ap packets_left is)
-held_packets role c held turns (HoldsOwed message) stands offers =
-    let up = owing_up role c turns message stands offers.owed in
-    let own : held.own ≡ false = offers.own (ap holds offers.link ∙ holds_some (offered (canonical message) c.link) up (some_bytes message)) in
-    offered_left c held message 0 (up_empty c.link up offers.quiet) offers.link offers.handshake
-    (omega (
-      arith,
-      ap (λ (b : Bool). held_left b (canonical message) c.handshake.owed) own ∙ held_other (canonical message) c.handshake.owed (some_bytes message),
-      ap parts_owed offers.owed,
-    ))
-held_packets role c held turns (HoldsOwn message) stands offers =
-    offered_left c held message 1 (up_empty c.link (open_up role c turns stands offers.opened) offers.quiet) offers.link offers.handshake
-    (omega (
-      arith,
-      offers.short,
-      ap (λ (b : Bool). held_left b (canonical message) c.handshake.owed) offers.own ∙ held_own (canonical message) c.handshake.owed (some_bytes message),
-    ))
+held_packets role c held turns what stands is = grind arith
 
 pub waits_packets : (role : Role) (c t : EndCore) (turns : List Turn) → EndStands role c turns → (waits : EndWaits c t) → packets_left t ≤ packets_left c + own_in waits.what
 waits_packets role c t turns stands waits = held_packets role c t turns waits.what stands waits.holds
 
 -- IT PUTS a packet
 control_left : (before next : LinkPhase) (bytes : List ℕ) (all n m : ℕ) → ControlPut before bytes next → left_in next all n + 1 ≤ left_in before all m
-control_left before next bytes all n m (VersionOffered at is goes) = omega (arith, ap (λ (p : LinkPhase). left_in p all m) at, ap (λ (p : LinkPhase). left_in p all n) goes)
-control_left before next bytes all n m (VersionAnswered at is goes) = omega (arith, ap (λ (p : LinkPhase). left_in p all m) at, ap (λ (p : LinkPhase). left_in p all n) goes)
-control_left before next bytes all n m (VersionRefused major at is goes) = omega (arith, ap (λ (p : LinkPhase). left_in p all m) at, ap (λ (p : LinkPhase). left_in p all n) goes)
-control_left before next bytes all n m (ModeOffered at is goes) = omega (arith, ap (λ (p : LinkPhase). left_in p all m) at, ap (λ (p : LinkPhase). left_in p all n) goes)
-control_left before next bytes all n m (ModeAnswered at is goes) = omega (arith, ap (λ (p : LinkPhase). left_in p all m) at, ap (λ (p : LinkPhase). left_in p all n) goes)
+control_left before next bytes all n m put = grind arith
 
 -- with the message that is left, and the handshake
 part_left : (held t : EndCore) (left : List ℕ) (h : Handshake) → held.link.phase ≡ phase.Established → t.link ≡ behind_part held.link → left ≡ drop 56 held.link.to_send → t.handshake ≡ h
     → later_in h + held_left t.own left h.owed + 1 ≤ messages_in held → packets_left t + 1 ≤ packets_left held
-part_left held t left h at link is handshake less =
-    omega (
-      arith,
-      less,
-      ap (λ (p : LinkPhase). left_in p (all_in held.handshake) (messages_in held)) at,
-      ap (λ (k : LinkState). left_in k.phase (all_in t.handshake) (messages_in t)) link,
-      ap (λ (p : LinkPhase). left_in p (all_in t.handshake) (messages_in t)) at,
-      ap (λ (k : LinkState). held_left t.own k.to_send t.handshake.owed) link ∙ ap (λ (xs : List ℕ). held_left t.own xs t.handshake.owed) (sym is)
-          ∙ ap (λ (x : Handshake). held_left t.own left x.owed) handshake,
-      ap later_in handshake,
-    )
+part_left held t left h at link is handshake less = grind arith
 
 ready_left : (role : Role) (held t : EndCore) (turns : List Turn) → EndStands role held turns → held.link.phase ≡ phase.OwesRdx → t.link ≡ behind_ready held.link
     → t.handshake ≡ handshake_up held.handshake → packets_left t + 1 ≤ packets_left held
-ready_left role held t turns stands at link handshake =
-    let below = stands.below (ap is_established at) in
-    let none : t.link.to_send ≡ [] = ap (λ (k : LinkState). k.to_send) link ∙ below.left in
-    omega (
-      arith,
-      up_left held.handshake,
-      ap (λ (p : LinkPhase). left_in p (all_in held.handshake) (messages_in held)) at,
-      ap (λ (k : LinkState). left_in k.phase (all_in t.handshake) (messages_in t)) link,
-      held_empty t.own t.link.to_send t.handshake.owed none,
-      ap (λ (x : Handshake). parts_owed x.owed) handshake,
-      ap later_in handshake,
-    )
+ready_left role held t turns stands at link handshake = grind (arith, up_left)
 
 last_left : (held t : EndCore) (turns : List Turn) (packet : List ℕ) (h : Handshake) → held.link.phase ≡ phase.Established → t.link ≡ behind_part held.link
     → SaysLast held.link turns packet → t.handshake ≡ h → later_in h + parts_owed h.owed + 1 ≤ messages_in held → packets_left t + 1 ≤ packets_left held
@@ -313,9 +170,7 @@ says_packets role c t turns packet opens stands says =
 
 -- WITH THE MESSAGES that it may begin
 held_more : (role : Role) (c held : EndCore) (turns : List Turn) (what : Holding) → EndStands role c turns → Holds c what held → held.more + own_in what ≤ c.more
-held_more role c held turns HoldsOn stands is = omega (arith, ap (λ (x : EndCore). x.more) is)
-held_more role c held turns (HoldsOwed message) stands offers = omega (arith, offers.more)
-held_more role c held turns (HoldsOwn message) stands offers = offers.more (open_up role c turns stands offers.opened)
+held_more role c held turns what stands is = grind arith
 
 pub waits_left : (role : Role) (c t : EndCore) (turns : List Turn) → EndStands role c turns → EndWaits c t → packets_left t + t.more ≤ packets_left c + c.more
 waits_left role c t turns stands waits =
@@ -328,15 +183,11 @@ says_left role c t turns packet opens stands says shut =
 
 -- A SESSION OPENS by a message that an initiator puts, and wasn't open before
 pub opening_shut : (role : Role) (at : Phase) → opens_by_put role at ≡ true → (role ≡ Initiator) × (is_open_in at ≡ false)
-opening_shut Initiator PeerReadyTaken opens = (refl, refl)
-opening_shut Responder at opens = absurd (cc opens)
-opening_shut Initiator at opens = absurd (cc opens)
+opening_shut role at opens = grind arith
 
-shut_in : (kind : PutKind) (h : Handshake) → h.role ≡ Responder → put_opens kind h ≡ false
+pub shut_in : (kind : PutKind) (h : Handshake) → h.role ≡ Responder → put_opens kind h ≡ false
 shut_in EndsHandshake h role_is = ap (λ (r : Role). opens_by_put r h.phase) role_is
-shut_in Goes h role_is = refl
-shut_in ComesUp h role_is = refl
-shut_in EndsOwn h role_is = refl
+shut_in _ h role_is = refl
 
 pub answering_shut : (c t : EndCore) (turns : List Turn) (packet : List ℕ) (opens : Bool) → EndStands Responder c turns → EndSays Responder c packet opens t → opens ≡ false
 answering_shut c t turns packet opens stands says =

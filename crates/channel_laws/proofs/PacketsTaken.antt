@@ -1,6 +1,6 @@
 -- How many packets an end has still to put doesn't grow by what it takes, where nobody forged and each ring has at most five cookies.
-use Rattle.std.proofs.Common.{◌≡◌, ℕ, ◌+◌, ◌≤◌, Bool, true, false, Option, Some, List, [], ◌∷◌, ◌++◌, length, refl, sym, ap, ◌∙◌, subst, inl, inr, arith}
-use Rattle.std.specs.Prelude.{if◌then◌else◌, nat_eq, slice_get, take}
+use Rattle.std.proofs.Common.{◌≡◌, ℕ, ◌+◌, ◌≤◌, Bool, true, false, Some, List, [], ◌∷◌, ◌++◌, length, refl, sym, ap, ◌∙◌, subst, inl, inr, arith}
+use Rattle.std.specs.Prelude.{slice_get}
 use Rattle.std.proofs.lemmas.List.{length-take}
 use Rattle.runs.specs.Lawful.{log_of}
 use Rattle.runs.specs.Run.{Run}
@@ -9,7 +9,6 @@ use Rattle.ldc_link.specs.declared.phase.LinkPhase.TheVariants as phase
 use Rattle.ldc_link.specs.declared.phase.Role.{Role}
 use Rattle.ldc_link.specs.declared.phase.Role.TheVariants.{Initiator, Responder}
 use Rattle.ldc_link.specs.LinkState.{LinkState, first_phase, is_established, is_up}
-use Rattle.ldc_link.specs.Taking.{answer_to}
 use Rattle.ldc_queue.specs.declared.end.ChannelState.{ChannelState}
 use Rattle.ldc_queue.specs.declared.end.ChannelState.TheVariants.{Up}
 use Rattle.ldc_queue.specs.declared.end.End.{End}
@@ -37,16 +36,16 @@ use Rattle.vio_tag.specs.Spelling.{canonical}
 use Rattle.channel_model.specs.Sayings.{heard, said}
 use Rattle.channel_model.specs.TranscriptLog.{TranscriptLog}
 use Rattle.channel_model.specs.WireEvent.{Took}
-use Rattle.channel_laws.proofs.Apart.{false_is_true, none_is_some, not_turn, true_is_false}
+use Rattle.channel_laws.proofs.Apart.{none_is_some, not_turn, true_is_false}
 use Rattle.channel_laws.proofs.ConversingRuns.{HeardFrom, hears_next}
 use Rattle.channel_laws.proofs.CoreRuns.{Knows}
 use Rattle.channel_laws.proofs.EndCases.{EndTook, NoMessage, Rises, TookHandshake, TookMessage, TookOwn, TookWhat, end_took, taken_down}
-use Rattle.channel_laws.proofs.EndStanding.{SameSending, heard_sending, holds_some, open_declines, up_empty}
+use Rattle.channel_laws.proofs.EndStanding.{SameSending, heard_sending, open_declines, up_empty}
 use Rattle.channel_laws.proofs.HandshakeCases.{HandshakeTook}
 use Rattle.channel_laws.proofs.HandshakePlaces.{AtPlace, IsOwn, Matches, deal, deal_fits, goes_alike, message_is, open_place, own_heard, owes_at, peer_said, place_bytes, who}
 use Rattle.channel_laws.proofs.HandshakesPlaced.{Meets, meets_keep, never_declined, peer_place}
 use Rattle.channel_laws.proofs.Lifting.{BothStand}
-use Rattle.channel_laws.proofs.LinkCases.{ControlHeard, ControlTaken, LinkHeard, ModeAgreed, ModeAsked, PartHeard, ReadyHeard, VersionAgreed, VersionAsked}
+use Rattle.channel_laws.proofs.LinkCases.{ControlHeard, ControlTaken, LinkHeard, PartHeard, ReadyHeard, established}
 use Rattle.channel_laws.proofs.PacketsLeft.{held_empty, up_left}
 use Rattle.channel_laws.proofs.Script.{not_last}
 use Rattle.channel_laws.proofs.Sessions.{meets_knows}
@@ -56,17 +55,14 @@ use Rattle.channel_laws.specs.EndStep.{EndHears}
 use Rattle.channel_laws.specs.LaneCore.{CoreEvent, CoreFits, CoreStep, LaneCore, OnChannel, end_of, fresh_core}
 use Rattle.channel_laws.specs.LinkPlaces as link
 use Rattle.channel_laws.specs.LinkPlaces.{LinkPlace, live_phase}
-use Rattle.channel_laws.specs.PacketsLeft.{all_in, held_left, later, later_in, left_in, messages_in, packets_left, parts, parts_owed}
+use Rattle.channel_laws.specs.PacketsLeft.{all_in, later, later_in, left_in, messages_in, packets_left, parts, parts_owed}
 use Rattle.channel_laws.specs.Sides.{Sides, other, sides_of, swapped, took}
 
 -- THE MESSAGES of a handshake: the registration of a ring and its answer take two packets at most, each other one
 ring_parts : (sid ident slots slot_size options count : ℕ) (cookies : List Cookie) → count ≤ 5
     → (parts (length (canonical (info sid (DringReg ident slots slot_size options count cookies)))) ≤ 2)
     × (parts (length (canonical (ack sid (DringReg ident slots slot_size options count cookies)))) ≤ 2)
-ring_parts sid ident slots slot_size options count cookies few = (
-  omega (arith, few, length_canonical (info sid (DringReg ident slots slot_size options count cookies)), length-cookies_bytes (take count cookies), length-take count cookies),
-  omega (arith, few, length_canonical (ack sid (DringReg ident slots slot_size options count cookies)), length-cookies_bytes (take count cookies), length-take count cookies),
-)
+ring_parts sid ident slots slot_size options count cookies few = grind (arith, length_canonical, length-cookies_bytes, length-take)
 
 record FewCookies (d : Deal) : Type 0 where
   asks : d.asks.count ≤ 5
@@ -80,8 +76,6 @@ most_at PeerRingAnswered = 2
 most_at _ = 1
 
 parts_at : (d : Deal) (n : Place) → FewCookies d → parts (length (canonical (message_at d n))) ≤ most_at n
-parts_at d VersionSaid few = omega (arith, length_canonical (message_at d VersionSaid))
-parts_at d VersionAnswered few = omega (arith, length_canonical (message_at d VersionAnswered))
 parts_at d AttributesSaid few = omega (arith, length_canonical (message_at d AttributesSaid), said_long d.asks.both_rings d.asks (minor_of d) refl)
 parts_at d AttributesAnswered few =
     omega (arith, length_canonical (message_at d AttributesAnswered), answered_long d.answers.both_rings d.answers (minor_of d) (said_attributes d.asks (minor_of d)) refl)
@@ -89,11 +83,7 @@ parts_at d RingSaid few = (ring_parts d.sid 0 d.asks.slots d.asks.slot_size 1 d.
 parts_at d RingAnswered few = (ring_parts d.sid d.sid d.asks.slots d.asks.slot_size 1 d.asks.count d.asks.cookies few.asks).1
 parts_at d PeerRingSaid few = (ring_parts d.sid 0 d.answers.slots d.answers.slot_size 1 d.answers.count d.answers.cookies few.answers).0
 parts_at d PeerRingAnswered few = (ring_parts d.sid d.sid d.answers.slots d.answers.slot_size 1 d.answers.count d.answers.cookies few.answers).1
-parts_at d ReadySaid few = omega (arith, length_canonical (message_at d ReadySaid))
-parts_at d ReadyAnswered few = omega (arith, length_canonical (message_at d ReadyAnswered))
-parts_at d PeerReadySaid few = omega (arith, length_canonical (message_at d PeerReadySaid))
-parts_at d PeerReadyAnswered few = omega (arith, length_canonical (message_at d PeerReadyAnswered))
-parts_at d AllSaid few = omega (arith, length_canonical (message_at d AllSaid))
+parts_at d n few = omega (arith, length_canonical (message_at d n))
 
 -- FROM ONE PLACE TO THE NEXT, which the other end's message leads to
 abbrev place_left : Bool → Deal → Role → Place → ℕ
@@ -130,95 +120,27 @@ next_fewer both d role n few here turn = not_turn turn refl
 -- with the rings that its own offer says
 place_fewer : (both : Bool) (d : Deal) (role : Role) (n : Place) → FewCookies d → (offer_at d role).both_rings ≡ both → IsPlace both n → owner n ≡ Some (other role)
     → later_in (handshake_at both d role (next both n)) + parts_owed (handshake_at both d role (next both n)).owed ≤ later_in (handshake_at both d role n)
-place_fewer both d role n few rings here turn =
-    omega (
-      arith,
-      next_fewer both d role n few here turn,
-      ap (λ (b : Bool). later b role (phase_at both role (next both n))) rings,
-      ap (λ (b : Bool). later b role (phase_at both role n)) rings,
-    )
+place_fewer both d role n few rings here turn = grind (arith, next_fewer)
 
 -- THE LINK
-up_phase : (p : LinkPhase) → is_established p ≡ true → p ≡ phase.Established
-up_phase phase.Established is = refl
-up_phase _ is = false_is_true is
-
 -- no link refuses a version
 abbrev refuses : LinkPhase → Bool
 refuses (phase.OwesVersNack major) = true
 refuses _ = false
 
 never_refuses : (role : Role) (place : LinkPlace) → refuses (link.phase_at role place) ≡ false
-never_refuses Initiator link.NothingPut = refl
-never_refuses Initiator link.VersionPut = refl
-never_refuses Initiator link.VersionTaken = refl
-never_refuses Initiator link.VersionAnswered = refl
-never_refuses Initiator link.AnswerTaken = refl
-never_refuses Initiator link.ModePut = refl
-never_refuses Initiator link.ModeTaken = refl
-never_refuses Initiator link.ModeAnswered = refl
-never_refuses Initiator link.ModeAgreed = refl
-never_refuses Initiator link.ReadyPut = refl
-never_refuses Initiator link.BothUp = refl
-never_refuses Responder link.NothingPut = refl
-never_refuses Responder link.VersionPut = refl
-never_refuses Responder link.VersionTaken = refl
-never_refuses Responder link.VersionAnswered = refl
-never_refuses Responder link.AnswerTaken = refl
-never_refuses Responder link.ModePut = refl
-never_refuses Responder link.ModeTaken = refl
-never_refuses Responder link.ModeAnswered = refl
-never_refuses Responder link.ModeAgreed = refl
-never_refuses Responder link.ReadyPut = refl
-never_refuses Responder link.BothUp = refl
-
-by_tests : (b c : Bool) (all n : ℕ) → refuses (if b then phase.OwesVersAck else if c then phase.OwesVersNack 0 else phase.OwesVersNack 1) ≡ false
-    → left_in (if b then phase.OwesVersAck else if c then phase.OwesVersNack 0 else phase.OwesVersNack 1) all n ≤ all + 2
-by_tests true c all n fine = omega arith
-by_tests false true all n fine = absurd (cc fine)
-by_tests false false all n fine = absurd (cc fine)
-
-answer_left : (major all n : ℕ) → refuses (answer_to major) ≡ false → left_in (answer_to major) all n ≤ all + 2
-answer_left major all n fine = by_tests (nat_eq major 1) (nat_eq major 0) all n fine
+never_refuses role place = grind arith
 
 control_taken : (before next : LinkPhase) (bytes : List ℕ) (all n m : ℕ) → ControlTaken before bytes next → refuses next ≡ false → left_in next all n ≤ left_in before all m
-control_taken before next bytes all n m (VersionAsked major minor at packet goes) fine =
-    omega (
-      arith,
-      answer_left major all n (sym (ap refuses goes) ∙ fine),
-      ap (λ (p : LinkPhase). left_in p all m) at,
-      ap (λ (p : LinkPhase). left_in p all n) goes,
-    )
-control_taken before next bytes all n m (VersionAgreed at packet goes) fine = omega (arith, ap (λ (p : LinkPhase). left_in p all m) at, ap (λ (p : LinkPhase). left_in p all n) goes)
-control_taken before next bytes all n m (ModeAsked at packet goes) fine = omega (arith, ap (λ (p : LinkPhase). left_in p all m) at, ap (λ (p : LinkPhase). left_in p all n) goes)
-control_taken before next bytes all n m (ModeAgreed at packet goes) fine = omega (arith, ap (λ (p : LinkPhase). left_in p all m) at, ap (λ (p : LinkPhase). left_in p all n) goes)
+control_taken before next bytes all n m taken fine = grind arith
 
 -- BOTH UP
-held_same : (xs : List ℕ) (one two : Bool) (owed : Option Message) → (1 ≤ length xs → one ≡ two) → held_left one xs owed ≡ held_left two xs owed
-held_same [] one two owed same = refl
-held_same (x ∷ xs) one two owed same = ap (λ (b : Bool). held_left b (x ∷ xs) owed) (same (omega arith))
-
 up_fewer : (c t : EndCore) → c.link.phase ≡ phase.Established → t.link.phase ≡ phase.Established → messages_in t ≤ messages_in c → packets_left t ≤ packets_left c
-up_fewer c t was now less =
-    omega (
-      arith,
-      less,
-      ap (λ (p : LinkPhase). left_in p (all_in c.handshake) (messages_in c)) was,
-      ap (λ (p : LinkPhase). left_in p (all_in t.handshake) (messages_in t)) now,
-    )
+up_fewer c t was now less = grind arith
 
 same_fewer : (c t : EndCore) → c.link.phase ≡ phase.Established → t.link.phase ≡ phase.Established → t.link.to_send ≡ c.link.to_send → t.handshake ≡ c.handshake
     → (holds c.link ≡ true → holds t.link ≡ true → t.own ≡ c.own) → packets_left t ≤ packets_left c
-same_fewer c t was now left handshake own =
-    let same : 1 ≤ length c.link.to_send → t.own ≡ c.own =
-    λ some. own (holds_some c.link (ap is_established was) some) (holds_some t.link (ap is_established now) (omega (arith, some, ap length left))) in
-    up_fewer c t was now
-    (omega (
-      arith,
-      ap later_in handshake,
-      ap (λ (xs : List ℕ). held_left t.own xs t.handshake.owed) left ∙ ap (λ (h : Handshake). held_left t.own c.link.to_send h.owed) handshake,
-      held_same c.link.to_send t.own c.own c.handshake.owed same,
-    ))
+same_fewer c t was now left handshake own = grind arith
 
 -- sums over what is left, of numbers alone
 turn_sums : (now held was held_was next owed parts at : ℕ) → next + owed ≤ at → held ≡ parts → now ≡ next → parts ≡ owed → was ≡ at → now + held ≤ was + held_was
@@ -267,7 +189,7 @@ took_packets asks answers role s t packet opens fits few_asks few_answers stands
     fine = ap refuses (sym now_phase ∙ placed) ∙ never_refuses role meets_now.links.place
 
     up_so : is_up c.link ≡ true → is_up took_so.now ≡ true → t.handshake ≡ c.handshake → packets_left t ≤ packets_left c
-    up_so was stays handshake = same_fewer c t (up_phase c.link.phase was) (now_phase ∙ up_phase took_so.now.phase stays) left handshake hears.own
+    up_so was stays handshake = same_fewer c t (established c.link.phase was) (now_phase ∙ established took_so.now.phase stays) left handshake hears.own
 
     by_how : is_up took_so.now ≡ is_up c.link → t.handshake ≡ c.handshake → LinkHeard c.link packet took_so.now → packets_left t ≤ packets_left c
     by_how same handshake (ControlHeard next taken is) =
@@ -304,7 +226,7 @@ took_packets asks answers role s t packet opens fits few_asks few_answers stands
         (ap (λ (h : Handshake). handshake_take h message) there.is ∙ ap (handshake_take (handshake_at both d role there.place)) named) handshake.takes
         (take_at both d role there.place (deal_fits asks answers meets.handshakes.sid fits.matched) there.here is) in
         let empty : c.link.to_send ≡ [] = up_empty c.link took_message.up (hears.may.quiet (shut there is c.is_open refl)) in
-        up_fewer c t (up_phase c.link.phase took_message.up) (now_phase ∙ up_phase took_so.now.phase took_message.stays)
+        up_fewer c t (established c.link.phase took_message.up) (now_phase ∙ established took_so.now.phase took_message.stays)
         (turn_sums _ _ _ _ _ _ _ _ (place_fewer both d role there.place (record { asks = few_asks; answers = few_answers }) (rings role) there.here is)
         (held_empty t.own t.link.to_send t.handshake.owed (left ∙ empty)) (ap (λ (h : Handshake). later_in h) goes) (ap (λ (h : Handshake). parts_owed h.owed) goes)
         (ap (λ (h : Handshake). later_in h) there.is))
@@ -341,7 +263,7 @@ took_packets asks answers role s t packet opens fits few_asks few_answers stands
     rising down handshake now_up (ReadyHeard at ready number is) =
         let below = stands.mine.below down in
         rising_sums _ _ _ _ _ _ _ _ (up_left c.handshake) (ap (λ (p : LinkPhase). left_in p (all_in c.handshake) (messages_in c)) at)
-        (ap (λ (p : LinkPhase). left_in p (all_in t.handshake) (messages_in t)) (now_phase ∙ up_phase took_so.now.phase now_up))
+        (ap (λ (p : LinkPhase). left_in p (all_in t.handshake) (messages_in t)) (now_phase ∙ established took_so.now.phase now_up))
         (held_empty t.own t.link.to_send t.handshake.owed (left ∙ below.left)) (ap (λ (h : Handshake). parts_owed h.owed) handshake) (ap later_in handshake)
 
     by_what : TookWhat role c s.mine.turns packet opens t took_so.now → packets_left t ≤ packets_left c

@@ -1,13 +1,12 @@
 -- Along every run the parts of messages that an end said since it last began are those that may come, one after the other.
-use Rattle.std.proofs.Common.{◌≡◌, ℕ, ◌≤◌, Bool, true, false, List, [], ◌∷◌, ◌++◌, length, take, refl, sym, ◌∙◌, subst, arith}
+use Rattle.std.proofs.Common.{◌≡◌, ℕ, ◌≤◌, Bool, true, false, List, [], ◌∷◌, ◌++◌, length, refl, sym, ◌∙◌, subst, arith}
 use Rattle.std.proofs.lemmas.List.{append-nil, length-take-le}
 use Rattle.runs.specs.Run.{Run}
 use Rattle.ldc_packet.proofs.Canonical.{canonical_spells}
 use Rattle.ldc_packet.specs.declared.packet.Body.{Body}
-use Rattle.ldc_packet.specs.declared.packet.Body.TheVariants.{Part, Rdx, Rtr, Rts, Vers}
+use Rattle.ldc_packet.specs.declared.packet.Body.TheVariants.{Part}
 use Rattle.ldc_packet.specs.declared.packet.Subtype.{Subtype}
 use Rattle.ldc_packet.specs.Form.{HasForm}
-use Rattle.ldc_packet.specs.Spelling.{SpellsPacket}
 use Rattle.ldc_link.proofs.Following.{parts_more, quiet}
 use Rattle.ldc_link.proofs.Spelled.{has_part, spelled_fragment, spelled_part}
 use Rattle.ldc_link.specs.Conversing.{IsData, fragment_of}
@@ -24,7 +23,7 @@ use Rattle.vio_handshake.specs.declared.session.Offer.{Offer}
 use Rattle.channel_laws.proofs.EndStanding.{fresh_end_stands, stands_step}
 use Rattle.channel_laws.proofs.Lifting.{EndsAll, ends_run}
 use Rattle.channel_laws.proofs.Numbering.{end_said}
-use Rattle.channel_laws.specs.EndCore.{Begins, EndCore, EndMove, Fails, Hears, Renews, Says, Stays, Waits}
+use Rattle.channel_laws.specs.EndCore.{EndCore, EndMove}
 use Rattle.channel_laws.specs.EndStep.{EndStep}
 use Rattle.channel_laws.specs.LaneCore.{CoreEvent, CoreFits, CoreStep, LaneCore, fresh_core, transcript_behind, turns_after}
 use Rattle.channel_laws.specs.Standing.{EndStands}
@@ -41,26 +40,13 @@ come_more half (x ∷ xs) f all may = (all.0, come_more (half_with x.stop (half 
 pub carries_part : (b : Body) → has_part b ≡ true → IsData b
 unfolding has_part
 carries_part (Part start stop len bytes) part = tt
-carries_part (Vers major minor) part = absurd (cc part)
-carries_part (Rts mode) part = absurd (cc part)
-carries_part (Rtr mode) part = absurd (cc part)
-carries_part Rdx part = absurd (cc part)
+carries_part _ part = absurd (cc part)
 
 within : (s : Subtype) (b : Body) → IsData b → HasForm s b → (1 ≤ length (fragment_of b).bytes) × (length (fragment_of b).bytes ≤ 56)
-within s (Part start stop len bytes) is form =
-    let long : length (take len bytes) ≡ len = length-take-le len bytes (omega (arith, form.within, form.room)) in
-    (omega (arith, long, form.some), omega (arith, long, form.within))
-within s (Vers major minor) is form = absurd is
-within s (Rts mode) is form = absurd is
-within s (Rtr mode) is form = absurd is
-within s Rdx is form = absurd is
+within s b is form = grind (arith, length-take-le)
 
 said_within : (turns : List Turn) (bytes : List ℕ) → IsSaid turns bytes → is_part bytes ≡ true → (1 ≤ length (fragment_at bytes).bytes) × (length (fragment_at bytes).bytes ≤ 56)
-said_within turns bytes said part =
-    let spells : SpellsPacket bytes said.packet = subst (λ (xs : List ℕ). SpellsPacket xs said.packet) (sym said.spelled) (canonical_spells said.packet said.formed said.widths) in
-    let carries : IsData said.packet.body = carries_part said.packet.body (sym (spelled_part bytes said.packet spells) ∙ part) in
-    subst (λ (f : Fragment). (1 ≤ length f.bytes) × (length f.bytes ≤ 56)) (sym (spelled_fragment bytes said.packet carries said.formed spells))
-    (within said.packet.subtype said.packet.body carries said.formed)
+said_within turns bytes said part = grind (arith, canonical_spells, carries_part, spelled_part, spelled_fragment, within)
 
 -- A PACKET that is said
 may_part : (turns : List Turn) (bytes : List ℕ) → IsSaid turns bytes → is_part bytes ≡ true → MayCome (half_in [] (fragments_in (numbered_said turns))) (fragment_at bytes)
@@ -89,13 +75,7 @@ pub record SaysParts (role : Role) (c : EndCore) (turns : List Turn) : Type 0 wh
   pub parts : PartsSaid turns
 
 parts_move : (role : Role) (c : EndCore) (move : EndMove) (t : EndCore) (turns : List Turn) → SaysParts role c turns → EndStep role c move t → PartsSaid (turns_after turns move)
-parts_move role c Begins t turns says step = tt
-parts_move role c Renews t turns says step = tt
-parts_move role c (Fails cause packet) t turns says step = tt
-parts_move role c (Hears packet opens) t turns says step = says.parts
-parts_move role c (Says packet opens) t turns says step = says_more turns packet (end_said role c t turns packet opens says.stands step) says.parts
-parts_move role c Waits t turns says step = says.parts
-parts_move role c Stays t turns says step = says.parts
+parts_move role c move t turns says step = grind (arith, says_more, end_said)
 
 pub parts_run : (entries : ℕ) (asks answers : Offer) (events : List CoreEvent) (s : LaneCore) → CoreFits entries asks answers
     → Run CoreStep (fresh_core entries asks answers) events s → EndsAll SaysParts s (transcript_behind events)

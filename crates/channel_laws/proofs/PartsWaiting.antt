@@ -8,7 +8,6 @@ use Rattle.ldc_link.proofs.Following.{parts_more, quiet}
 use Rattle.ldc_link.specs.declared.phase.Role.{Role}
 use Rattle.ldc_link.specs.declared.phase.Role.TheVariants.{Initiator, Responder}
 use Rattle.ldc_queue.proofs.Messages.{fragments_in-append, half_in-append, whole_in-append}
-use Rattle.ldc_queue.specs.declared.end.ChannelState.{ChannelState}
 use Rattle.ldc_queue.specs.declared.end.ChannelState.TheVariants.{Up}
 use Rattle.ldc_queue.specs.Fragments.{Fragment, fragment_at, fragments_in, is_part, joins}
 use Rattle.ldc_queue.specs.Messages.{AllMayCome, half_in, half_with, whole_in, whole_with}
@@ -25,13 +24,15 @@ use Rattle.channel_laws.proofs.LinkTurns.{part_is}
 use Rattle.channel_laws.proofs.Numbering.{end_said}
 use Rattle.channel_laws.proofs.PartsSaid.{PartsSaid}
 use Rattle.channel_laws.specs.Conversing.{Converse}
-use Rattle.channel_laws.specs.EndCore.{Begins, EndCore, EndMove, Fails, Hears, Renews, Says, Stays, Waits}
+use Rattle.channel_laws.specs.EndCore.{EndCore, EndMove}
 use Rattle.channel_laws.specs.EndStep.{EndStep}
 use Rattle.channel_laws.specs.LaneCore.{CoreEvent, CoreFits, CoreStep, LaneCore, fresh_core, transcript_behind, turns_after}
 use Rattle.channel_laws.specs.LinkPlaces.{AllNumbered, BothUp, EachPart, LinkPlace, LinksAt, ReadyFirst, SaidAt, HeardAt}
 use Rattle.channel_laws.specs.LinkPlaces as link
 use Rattle.channel_laws.specs.Sides.{Sides}
 use Rattle.channel_laws.specs.Standing.{EndStands}
+use Rattle.channel_laws.proofs.LinkPlaced.{up_live}
+use Rattle.channel_laws.proofs.NextPacket.{none_of}
 
 -- A PART that isn't the last of its message has 56 bytes
 abbrev pub IsLong : Fragment → Type 0
@@ -77,13 +78,7 @@ pub record SaysLong (role : Role) (c : EndCore) (turns : List Turn) : Type 0 whe
   pub long : LongSaid turns
 
 long_move : (role : Role) (c : EndCore) (move : EndMove) (t : EndCore) (turns : List Turn) → SaysLong role c turns → EndStep role c move t → LongSaid (turns_after turns move)
-long_move role c Begins t turns says step = tt
-long_move role c Renews t turns says step = tt
-long_move role c (Fails cause packet) t turns says step = tt
-long_move role c (Hears packet opens) t turns says step = says.long
-long_move role c (Says packet opens) t turns says step = says_long turns packet (end_said role c t turns packet opens says.stands step) says.long
-long_move role c Waits t turns says step = says.long
-long_move role c Stays t turns says step = says.long
+long_move role c move t turns says step = grind (arith, says_long, end_said)
 
 pub long_run : (entries : ℕ) (asks answers : Offer) (events : List CoreEvent) (s : LaneCore) → CoreFits entries asks answers
     → Run CoreStep (fresh_core entries asks answers) events s → EndsAll SaysLong s (transcript_behind events)
@@ -131,13 +126,6 @@ all_numbered : (packets : List (List ℕ)) → AllNumbered packets → numbered 
 all_numbered [] all = refl
 all_numbered (packet ∷ packets) all = ap (λ (b : Bool). kept b packet (numbered packets)) all.0 ∙ ap (λ (xs : List (List ℕ)). packet ∷ xs) (all_numbered packets all.1)
 
-no_packets : (xs : List (List ℕ)) → length xs ≤ 0 → xs ≡ []
-no_packets [] few = refl
-no_packets (x ∷ xs) few = absurd (omega (arith, few))
-
-live_up : (state : ChannelState) (packets : List (List ℕ)) → state ≡ Up → live state packets ≡ packets
-live_up state packets is = ap (λ (x : ChannelState). live x packets) is
-
 -- THE MESSAGES that the responder hasn't heard, and how many packets that makes
 pub record Unheard (s : Sides) : Type 0 where
   pub messages : List (List ℕ)
@@ -169,27 +157,27 @@ unheard s converse at both whole up other_up parts long = record {
     way = converse.stream.to_b
 
     gone : way.gone ≡ []
-    gone = no_packets way.gone (omega (arith, way.few, (converse.whole whole).1))
+    gone = none_of way.gone (omega (arith, way.few, (converse.whole whole).1))
 
     numbers : AllNumbered waits
     numbers = subst (λ (p : LinkPlace). link.Waits Responder s.lossy p waits) both at.to_theirs
 
     put : numbered_said s.mine.turns ≡ took ++ waits
     put =
-        sym (live_up s.mine.state (numbered_said s.mine.turns) up) ∙ way.is ∙ ap (λ (xs : List (List ℕ)). live s.theirs.state took ++ (xs ++ numbered waits)) gone
-        ∙ ap (λ (xs : List (List ℕ)). live s.theirs.state took ++ xs) (all_numbered waits numbers) ∙ ap (λ (xs : List (List ℕ)). xs ++ waits) (live_up s.theirs.state took other_up)
+        sym (up_live s.mine.state (numbered_said s.mine.turns) up) ∙ way.is ∙ ap (λ (xs : List (List ℕ)). live s.theirs.state took ++ (xs ++ numbered waits)) gone
+        ∙ ap (λ (xs : List (List ℕ)). live s.theirs.state took ++ xs) (all_numbered waits numbers) ∙ ap (λ (xs : List (List ℕ)). xs ++ waits) (up_live s.theirs.state took other_up)
 
     split : fragments_in (numbered_said s.mine.turns) ≡ first ++ fragments_in waits
     split = ap fragments_in put ∙ fragments_in-append took waits
 
     ready : ReadyFirst (took ++ waits)
     ready =
-        subst ReadyFirst (live_up s.mine.state (numbered_said s.mine.turns) up ∙ put)
+        subst ReadyFirst (up_live s.mine.state (numbered_said s.mine.turns) up ∙ put)
         (subst (λ (p : LinkPlace). SaidAt Initiator p (live s.mine.state (numbered_said s.mine.turns))) both at.said_mine)
 
     some : 1 ≤ length took
     some =
-        subst (λ (xs : List (List ℕ)). 1 ≤ length xs) (live_up s.theirs.state took other_up)
+        subst (λ (xs : List (List ℕ)). 1 ≤ length xs) (up_live s.theirs.state took other_up)
         (subst (λ (p : LinkPlace). HeardAt Responder p (live s.theirs.state took)) both at.heard_theirs)
 
     many : length (fragments_in waits) ≡ length waits

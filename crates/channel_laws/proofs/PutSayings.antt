@@ -14,7 +14,7 @@ use Rattle.ldc_link.specs.Putting.{behind_put, left_behind_put}
 use Rattle.ldc_queue.specs.Transcript.{Said, Turn}
 use Rattle.channel_model.specs.EndPuts.{ComesUp, EndsOwn, EndsHandshake, Goes, PutKind, ending, kind_in, put_kind}
 use Rattle.channel_model.specs.Sayings.{half_said, said}
-use Rattle.channel_laws.proofs.LinkCases.{ControlGone, ControlPut, LinkPut, ModeAnswered, ModeOffered, PartGone, ReadyGone, VersionAnswered, VersionOffered, VersionRefused, canonical_is, link_put, put_quiet, ready_loud}
+use Rattle.channel_laws.proofs.LinkCases.{ControlGone, ControlPut, LinkPut, PartGone, ReadyGone, canonical_is, link_put, put_quiet, ready_loud}
 use Rattle.channel_laws.proofs.TurnCases.{SaysNothing, SaysPart, says_last, says_more, says_nothing, says_part}
 
 -- no message is whole by it
@@ -39,25 +39,13 @@ PutSays EndsHandshake own k turns packet = SaysWhole k turns packet × (own ≡ 
 
 -- a packet of the link's own handshake
 pub control_kind : (before : LinkPhase) (bytes : List ℕ) (next : LinkPhase) (k : LinkState) (own : Bool) → ControlPut before bytes next → kind_in before k own ≡ Goes
-control_kind before bytes next k own (VersionOffered at is goes) = ap (λ (p : LinkPhase). kind_in p k own) at
-control_kind before bytes next k own (VersionAnswered at is goes) = ap (λ (p : LinkPhase). kind_in p k own) at
-control_kind before bytes next k own (VersionRefused major at is goes) = ap (λ (p : LinkPhase). kind_in p k own) at
-control_kind before bytes next k own (ModeOffered at is goes) = ap (λ (p : LinkPhase). kind_in p k own) at
-control_kind before bytes next k own (ModeAnswered at is goes) = ap (λ (p : LinkPhase). kind_in p k own) at
+control_kind before bytes next k own put = grind arith
 
 control_left : (before : LinkPhase) (bytes : List ℕ) (next : LinkPhase) (left : List ℕ) → ControlPut before bytes next → left_behind_put before left ≡ left
-control_left before bytes next left (VersionOffered at is goes) = ap (λ (p : LinkPhase). left_behind_put p left) at
-control_left before bytes next left (VersionAnswered at is goes) = ap (λ (p : LinkPhase). left_behind_put p left) at
-control_left before bytes next left (VersionRefused major at is goes) = ap (λ (p : LinkPhase). left_behind_put p left) at
-control_left before bytes next left (ModeOffered at is goes) = ap (λ (p : LinkPhase). left_behind_put p left) at
-control_left before bytes next left (ModeAnswered at is goes) = ap (λ (p : LinkPhase). left_behind_put p left) at
+control_left before bytes next left put = grind arith
 
 quiet_on : (k : LinkState) (turns : List Turn) (packet : List ℕ) → SaysNothing turns packet → left_behind_put k.phase k.to_send ≡ k.to_send → SaysOn k turns packet
-quiet_on k turns packet quiet left = record {
-  messages = quiet.messages;
-  whole = ap (λ (xs : List ℕ). xs ++ left_behind_put k.phase k.to_send) quiet.half ∙ ap (λ (xs : List ℕ). half_said turns ++ xs) left;
-  some = λ some. subst (λ (xs : List ℕ). 1 ≤ length xs) left some;
-}
+quiet_on k turns packet quiet left = grind arith
 
 -- a part of a message
 part_says : (last own : Bool) (k : LinkState) (turns : List Turn) (packet : List ℕ) → k.phase ≡ phase.Established → 1 ≤ length k.to_send → SaysPart k packet

@@ -1,62 +1,44 @@
 -- An end that resets itself says why; and where nobody forged and the offers match, it does so for a gap behind a loss alone, or for a cause of its
 -- session.
-use Rattle.std.proofs.Common.{◌≡◌, ℕ, Option, Some, None, Ok, Err, List, refl, sym, subst, inl, inr}
+use Rattle.std.proofs.Common.{◌≡◌, ℕ, Option, Some, None, Ok, Err, List, refl, sym, subst, inl, inr, arith}
 use Rattle.std.specs.Prelude.{Result}
 use Rattle.runs.specs.Run.{Run}
 use Rattle.ldc_link.specs.declared.phase.Role.{Role}
-use Rattle.ldc_link.specs.declared.phase.Role.TheVariants.{Initiator, Responder}
 use Rattle.ldc_link.specs.LinkState.{LinkState}
 use Rattle.ldc_link.specs.Taking.{Heard, LinkTake, TakesBytes, Unheard}
 use Rattle.ldc_packet.specs.Fault.{first_fault}
 use Rattle.ldc_queue.specs.declared.end.End.{End}
-use Rattle.ldc_queue.specs.declared.end.End.TheVariants.{A, B}
 use Rattle.ldc_queue.specs.Transcript.{Turn}
 use Rattle.vio_handshake.specs.declared.handshake.Handshake.{Handshake}
 use Rattle.vio_handshake.specs.declared.session.Offer.{Offer}
-use Rattle.vio_handshake.specs.Rules.{Faults, Goes, GoesOpen, HandshakeTake, handshake_take}
+use Rattle.vio_handshake.specs.Rules.{Faults, HandshakeTake, handshake_take}
 use Rattle.vio_tag.proofs.NoFault.{spelled_no_fault}
 use Rattle.vio_tag.specs.declared.cause.Cause.{Cause}
 use Rattle.vio_tag.specs.declared.cause.Cause.TheVariants as the_cause
 use Rattle.vio_tag.specs.declared.message.Message.{Message}
 use Rattle.vio_tag.specs.declared.message.TagFault.{TagFault}
 use Rattle.vio_tag.specs.Decoding.{Decodes}
-use Rattle.channel_model.specs.ResetSays.{EndsMessage, MessageSays, ended}
+use Rattle.channel_model.specs.ResetSays.{MessageSays}
 use Rattle.channel_model.specs.TranscriptLog.{transcript_of}
-use Rattle.channel_model.specs.WireEvent.{ByStep, Giver, Reset, giver}
+use Rattle.channel_model.specs.WireEvent.{ByStep, Reset, giver}
 use Rattle.channel_laws.proofs.HandshakeResets.{HandshakeWhy, Spelled, handshake_why}
 use Rattle.channel_laws.proofs.LinkCases.{link_heard}
 use Rattle.channel_laws.proofs.LinkResets.{link_why}
 use Rattle.channel_laws.proofs.Numbering.{heard_so}
 use Rattle.channel_laws.proofs.TurnCases.{EndsBy, EndsWhole, hears_on}
 use Rattle.channel_laws.specs.EndCore.{EndCore}
-use Rattle.channel_laws.specs.EndStep.{DecodedFails, EndFails, EndStep, LinkFails, WholeFails, risen_at}
-use Rattle.channel_laws.specs.LaneCore.{CoreEvent, CoreFits, CoreStep, LaneCore, OnChannel, end_of, fresh_core, reset_move, transcript_behind}
+use Rattle.channel_laws.specs.EndStep.{DecodedFails, EndFails, LinkFails, WholeFails, risen_at}
+use Rattle.channel_laws.specs.LaneCore.{CoreEvent, CoreFits, CoreStep, LaneCore, OnChannel, end_of, fresh_core, transcript_behind}
 use Rattle.channel_laws.specs.Resetting.{ResetsFor, SaysWhy}
-use Rattle.channel_laws.proofs.Lifting.{EndsAll, stand_run}
+use Rattle.channel_laws.proofs.Lifting.{stand_run}
 use Rattle.channel_laws.specs.Standing.{EndStands}
 
 -- THE MESSAGE that the packet ends says why
 pub by_message : (turns : List Turn) (packet bytes : List ℕ) (cause : Cause) → first_fault packet ≡ None → EndsBy turns packet bytes → MessageSays bytes cause → SaysWhy turns packet cause
-by_message turns packet bytes cause sound by says = by_cause cause (subst (λ (m : List ℕ). MessageSays m cause) by.is says)
-  where
-    ends : EndsMessage packet
-    ends = record { part = by.part; stop = by.stop }
-
-    by_cause : (x : Cause) → MessageSays (ended turns packet) x → SaysWhy turns packet x
-    by_cause (the_cause.Tag fault) here = record { says = (sound, (ends, here)); gap = tt; carried = tt }
-    by_cause (the_cause.Sid expected found) here = record { says = (sound, (ends, here)); gap = tt; carried = tt }
-    by_cause the_cause.Order here = record { says = (sound, (ends, here)); gap = tt; carried = tt }
-    by_cause the_cause.Refused here = record { says = (sound, (ends, here)); gap = tt; carried = tt }
-    by_cause (the_cause.Ident expected found) here = record { says = (sound, (ends, here)); gap = tt; carried = tt }
-    by_cause (the_cause.Seq expected found) here = record { says = (sound, (ends, here)); gap = tt; carried = tt }
-    by_cause (the_cause.Slot expected found) here = record { says = (sound, (ends, here)); gap = tt; carried = tt }
-    by_cause (the_cause.RangeEnd found) here = record { says = (sound, (ends, here)); gap = tt; carried = tt }
-    by_cause _ here = absurd here
+by_message turns packet bytes cause sound by says = grind arith
 
 refused_says : (bytes : List ℕ) (take : HandshakeTake) (cause : Cause) → HandshakeWhy bytes take → take ≡ Faults cause → MessageSays bytes cause
-refused_says bytes (Faults why) cause says is = let same : why ≡ cause = cc is in subst (MessageSays bytes) same says
-refused_says bytes (Goes h) cause says is = absurd (cc is)
-refused_says bytes (GoesOpen h) cause says is = absurd (cc is)
+refused_says bytes take cause says is = grind arith
 
 pub end_fails : (role : Role) (c : EndCore) (turns : List Turn) (cause : Cause) (packet : Option (List ℕ)) → EndStands role c turns → EndFails role c cause packet
     → ResetsFor c turns cause packet
@@ -90,15 +72,4 @@ end_fails role c turns cause (Some packet) stands fails = by_take fails.take fai
 pub reset_says : (entries : ℕ) (asks answers : Offer) (events : List CoreEvent) (s : LaneCore) (e : End) (cause : Cause) (packet : Option (List ℕ)) (lost : ℕ) (t : LaneCore) → CoreFits entries asks answers
     → Run CoreStep (fresh_core entries asks answers) events s → giver cause ≡ ByStep → CoreStep s (OnChannel (Reset e cause packet lost)) t
     → ResetsFor (end_of e s) (transcript_of e (transcript_behind events)) cause packet
-reset_says entries asks answers events s e cause packet lost t fits run by step = by_end e step
-  where
-    stand : EndsAll EndStands s (transcript_behind events)
-    stand = stand_run entries asks answers events s fits run
-
-    by_end : (x : End) → CoreStep s (OnChannel (Reset x cause packet lost)) t → ResetsFor (end_of x s) (transcript_of x (transcript_behind events)) cause packet
-    by_end A moves =
-        end_fails Initiator s.a (transcript_behind events).client cause packet stand.a
-        (subst (λ (g : Giver). EndStep Initiator s.a (reset_move g cause packet) t.a) by moves.a).0
-    by_end B moves =
-        end_fails Responder s.b (transcript_behind events).server cause packet stand.b
-        (subst (λ (g : Giver). EndStep Responder s.b (reset_move g cause packet) t.b) by moves.b).0
+reset_says entries asks answers events s e cause packet lost t fits run by step = grind (arith, stand_run, end_fails)

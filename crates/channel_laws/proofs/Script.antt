@@ -1,6 +1,6 @@
 -- What each end says in the handshake of a session, message by message, where its offer and the other's match; and that what it hears next is the
 -- next that the other says.
-use Rattle.std.proofs.Common.{◌≡◌, ◌≢◌, ℕ, ◌+◌, Bool, true, false, Option, Some, List, [], ◌∷◌, ◌++◌, take, drop, length, refl, sym, ap, ◌∙◌, arith, length-append, append_assoc, ◌⊎◌, inl, inr}
+use Rattle.std.proofs.Common.{◌≡◌, ◌≢◌, ℕ, ◌+◌, Bool, true, false, Option, Some, List, [], ◌∷◌, ◌++◌, take, drop, refl, sym, ap, ◌∙◌, arith, append_assoc, ◌⊎◌, inl, inr}
 use Rattle.std.proofs.lemmas.List.{append-nil, take-append-drop}
 use Rattle.ldc_link.specs.declared.phase.Role.{Role}
 use Rattle.ldc_link.specs.declared.phase.Role.TheVariants.{Initiator, Responder}
@@ -117,29 +117,19 @@ pub own_role : (r : Role) (who : Option Role) → who ≡ Some r → is_role r w
 own_role Initiator who is = ap (is_role Initiator) is
 own_role Responder who is = ap (is_role Responder) is
 
-not_role : (r : Role) (who : Option Role) → who ≡ Some (other r) → is_role r who ≡ false
-not_role Initiator who is = ap (is_role Initiator) is
-not_role Responder who is = ap (is_role Responder) is
-
 pub not_last : (r : Role) (n : Place) → owner n ≡ Some r → n ≢ AllSaid
 not_last r n own is = some_is_none (sym own ∙ ap owner is)
 
 -- who says a place's message says one more by it, and the other as much as before
 pub says_next : (both : Bool) (d : Deal) (r : Role) (n : Place) → IsPlace both n → owner n ≡ Some r → said_at both d r (next both n) ≡ said_at both d r n ++ bytes_at d n ∷ []
-says_next both d r n here own =
-    ap (said_by d r) (next_at both n here (not_last r n own)).more ∙ said_by-append d r (before both n) (n ∷ [])
-    ∙ ap (λ (b : Bool). said_at both d r n ++ one_if b (bytes_at d n) []) (own_role r (owner n) own)
+says_next both d r n here own = grind arith
 
 pub other_next : (both : Bool) (d : Deal) (r : Role) (n : Place) → IsPlace both n → owner n ≡ Some (other r) → said_at both d r (next both n) ≡ said_at both d r n
-other_next both d r n here own =
-    ap (said_by d r) (next_at both n here (not_last (other r) n own)).more ∙ said_by-append d r (before both n) (n ∷ [])
-    ∙ ap (λ (b : Bool). said_at both d r n ++ one_if b (bytes_at d n) []) (not_role r (owner n) own) ∙ append-nil (said_at both d r n)
+other_next both d r n here own = grind arith
 
 -- all that it says: what went before, its message, and what follows
 pub script_at : (both : Bool) (d : Deal) (r : Role) (n : Place) → IsPlace both n → owner n ≡ Some r → script both d r ≡ said_at both d r n ++ bytes_at d n ∷ said_by d r (behind both n)
-script_at both d r n here own =
-    ap (said_by d r) (next_at both n here (not_last r n own)).split ∙ said_by-append d r (before both n) (n ∷ behind both n)
-    ∙ ap (λ (b : Bool). said_at both d r n ++ one_if b (bytes_at d n) (said_by d r (behind both n))) (own_role r (owner n) own)
+script_at both d r n here own = grind arith
 
 -- a place is the last one or isn't, and says a front of the script
 pub last_or : (n : Place) → (n ≡ AllSaid) ⊎ (n ≢ AllSaid)
@@ -156,10 +146,6 @@ front_of both d r n = ap (said_by d r) (split_take (index both n) (all_places bo
 pub same_next : {X : Type 0} (xs ys zs : List X) (y z : X) → xs ++ y ∷ ys ≡ xs ++ z ∷ zs → y ≡ z
 same_next {X} [] ys zs y z is = cc is
 same_next {X} (x ∷ xs) ys zs y z is = same_next xs ys zs y z (let tails : xs ++ y ∷ ys ≡ xs ++ z ∷ zs = cc is in tails)
-
-same_rest : (xs ys zs : List (List ℕ)) → xs ++ ys ≡ xs ++ zs → ys ≡ zs
-same_rest [] ys zs is = is
-same_rest (x ∷ xs) ys zs is = same_rest xs ys zs (let tails : xs ++ ys ≡ xs ++ zs = cc is in tails)
 
 -- WHAT THE OTHER END SAID: as much of its script as its place says, and after all of it messages of its session
 pub record PeerSaid (both : Bool) (d : Deal) (r : Role) (messages : List (List ℕ)) : Type 0 where
@@ -192,28 +178,4 @@ hears_next both d r n messages bytes here own peer front =
 -- and after all of it one of those that follow
 pub hears_beyond : (both : Bool) (d : Deal) (r : Role) (messages theirs : List (List ℕ)) (bytes : List ℕ) → (peer : PeerSaid both d r messages)
     → IsFront ((script both d r ++ theirs) ++ bytes ∷ []) messages → (rest : List (List ℕ)) × (peer.more ≡ (theirs ++ bytes ∷ []) ++ rest)
-hears_beyond both d r messages theirs bytes peer front =
-    elim (last_or peer.place) [
-      | inl last ↦
-          let all : messages ≡ script both d r ++ peer.more =
-          peer.is ∙ ap (λ (m : Place). said_at both d r m ++ peer.more) last ∙ ap (λ (ps : List Place). said_by d r ps ++ peer.more) (all_before both) in (
-            front.0,
-            same_rest (script both d r) peer.more ((theirs ++ bytes ∷ []) ++ front.0)
-                (sym all ∙ front.1 ∙ ap (λ (xs : List (List ℕ)). xs ++ front.0) (append_assoc (script both d r) theirs (bytes ∷ []))
-                ∙ append_assoc (script both d r) (theirs ++ bytes ∷ []) front.0),
-          )
-      | inr far ↦
-          let some : messages ≡ said_at both d r peer.place =
-          peer.is ∙ ap (λ (xs : List (List ℕ)). said_at both d r peer.place ++ xs) (peer.only far) ∙ append-nil (said_at both d r peer.place) in
-          let rest = said_by d r (drop (index both peer.place) (all_places both)) in
-          absurd (omega (
-            arith,
-            ap length (front_of both d r peer.place),
-            length-append (said_at both d r peer.place) rest,
-            ap length some,
-            ap length front.1,
-            length-append ((script both d r ++ theirs) ++ bytes ∷ []) front.0,
-            length-append (script both d r ++ theirs) (bytes ∷ []),
-            length-append (script both d r) theirs,
-          ))
-    ]
+hears_beyond both d r messages theirs bytes peer front = grind arith

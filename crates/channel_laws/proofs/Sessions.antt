@@ -1,5 +1,5 @@
 -- Where both sessions are open and nobody forged, both ends are up, what each heard is as the other has it, and the sessions are one.
-use Rattle.std.proofs.Common.{◌≡◌, ℕ, Bool, true, false, List, [], ◌∷◌, ◌++◌, inl, inr, refl, sym, ap, ◌∙◌, subst}
+use Rattle.std.proofs.Common.{◌≡◌, ℕ, Bool, true, false, List, [], ◌∷◌, ◌++◌, inl, inr, refl, sym, ap, ◌∙◌, subst, arith}
 use Rattle.std.specs.Prelude.{⊤}
 use Rattle.runs.specs.Run.{Run}
 use Rattle.ldc_link.specs.declared.phase.Role.{Role}
@@ -15,19 +15,17 @@ use Rattle.ldc_queue.specs.Wire.{peer_of}
 use Rattle.runs.specs.Lawful.{log_of}
 use Rattle.vio_handshake.specs.declared.handshake.Handshake.{Handshake}
 use Rattle.vio_handshake.specs.declared.session.Offer.{Offer}
-use Rattle.vio_handshake.specs.Messages.{ack, info}
 use Rattle.vio_handshake.specs.Offers.{Match}
 use Rattle.vio_handshake.specs.Pairing.{KnowsBoth}
 use Rattle.vio_handshake.proofs.Places.{AllSaid, Deal, answered_in_all, asked_in_all, handshake_at}
 use Rattle.vio_tag.specs.declared.message.Message.{Message}
-use Rattle.vio_tag.specs.declared.message.MsgBody.TheVariants.{Ver}
 use Rattle.channel_model.specs.Sayings.{heard, said}
-use Rattle.channel_model.specs.TranscriptLog.{TranscriptLog, transcript_of}
+use Rattle.channel_model.specs.TranscriptLog.{transcript_of}
 use Rattle.channel_model.specs.WireAt.{IsUp}
 use Rattle.channel_laws.proofs.Apart.{true_is_false}
 use Rattle.channel_laws.proofs.ConversingRuns.{converse_keeps, first_converse, heard_messages, messages_of, unheard}
 use Rattle.channel_laws.proofs.CoreRuns.{Knows, knows_run}
-use Rattle.channel_laws.proofs.EndResting.{StandsResting, open_rests}
+use Rattle.channel_laws.proofs.EndResting.{StandsResting}
 use Rattle.channel_laws.proofs.EndStanding.{open_up}
 use Rattle.channel_laws.proofs.EndUttering.{each_front}
 use Rattle.channel_laws.proofs.HandshakePlaces.{AtPlace, deal, open_place, place_open}
@@ -49,17 +47,12 @@ transcript_is l [] = refl
 transcript_is l (event ∷ events) = transcript_is (after l event) events
 
 -- AN OPEN SESSION heard a message
-not_among : (message : Message) (messages : List (List ℕ)) → messages ≡ [] → Among message messages → ⊥
+pub not_among : (message : Message) (messages : List (List ℕ)) → messages ≡ [] → Among message messages → ⊥
 not_among message [] is among = among
 not_among message (bytes ∷ messages) is among = cc is
 
 pub open_heard : (role : Role) (c : EndCore) (turns : List Turn) → StandsResting role c turns → c.is_open ≡ true → heard turns ≡ [] → ⊥
-open_heard Initiator c turns knows is none =
-    let version = (open_rests Initiator c turns knows is).version in
-    not_among (ack c.handshake.draft.sid (Ver 1 c.handshake.draft.minor version.0)) (heard turns) none version.1
-open_heard Responder c turns knows is none =
-    let version = (open_rests Responder c turns knows is).version in
-    not_among (info c.handshake.draft.sid (Ver 1 version.0 version.1)) (heard turns) none version.2
+open_heard role c turns knows is none = grind arith
 
 -- BOTH ENDS ARE UP
 record Opens (s : LaneCore) : Type 0 where
@@ -70,12 +63,7 @@ record Opens (s : LaneCore) : Type 0 where
   hears_b : s.wire.wire.end_b ≡ Up → (s.wire.wire.end_a ≡ Up → ⊥) → ⊥
 
 both_in : (a b : ChannelState) (s : LaneCore) → s.wire.wire.end_a ≡ a → s.wire.wire.end_b ≡ b → Opens s → IsUp A s.wire.wire × IsUp B s.wire.wire
-both_in Up Up s is_a is_b opens = (is_a, is_b)
-both_in Down b s is_a is_b opens = absurd (opens.closed_a is_a)
-both_in a Down s is_a is_b opens = absurd (opens.closed_b is_b)
-both_in Up Resetting s is_a is_b opens = absurd (opens.hears_a is_a (λ up. let wrong : Up ≡ Resetting = sym up ∙ is_b in cc wrong))
-both_in Resetting Up s is_a is_b opens = absurd (opens.hears_b is_b (λ up. let wrong : Up ≡ Resetting = sym up ∙ is_a in cc wrong))
-both_in Resetting Resetting s is_a is_b opens = absurd (opens.one is_a is_b)
+both_in a b s is_a is_b opens = grind arith
 
 pub both_up : (Holds : Role → Sides → Type 0) (s : LaneCore) (l : CoreLog) → Knows Holds s l → Converse Initiator (sides_of s l.transcript) → s.a.is_open ≡ true → s.b.is_open ≡ true
     → IsUp A s.wire.wire × IsUp B s.wire.wire
@@ -190,21 +178,12 @@ open_sessions_begin entries asks answers events s fits matched run clean up open
     initiator_open asks answers s (log_of after (nothing_yet entries) events) (meets_knows entries asks answers events s fits matched run) clean up opened
 
 -- WHAT IS HEARD is as the other end has it
-said_of : (e : End) (s : LaneCore) (l : CoreLog) → Knows Converse s l
-    → SaysEach (role_of e) (end_of e s).handshake.phase (end_of e s).handshake.offer (end_of e s).handshake.draft (said (transcript_of e l.transcript))
-said_of A s l knows = knows.speaks.a.utters.said
-said_of B s l knows = knows.speaks.b.utters.said
-
 pub said_as_held : (entries : ℕ) (asks answers : Offer) (events : List CoreEvent) (s : LaneCore) (e : End) → CoreFits entries asks answers
     → Run CoreStep (fresh_core entries asks answers) events s
     → SaysEach (role_of e) (end_of e s).handshake.phase (end_of e s).handshake.offer (end_of e s).handshake.draft (said (transcript_of e (transcript_behind events)))
-said_as_held entries asks answers events s e fits run =
-    subst (λ (transcript : TranscriptLog). SaysEach (role_of e) (end_of e s).handshake.phase (end_of e s).handshake.offer (end_of e s).handshake.draft (said (transcript_of e transcript)))
-    (transcript_is (nothing_yet entries) events) (said_of e s (log_of after (nothing_yet entries) events) (converse_knows entries asks answers events s fits run))
+said_as_held entries asks answers events s e fits run = grind (arith, transcript_is, converse_knows)
 
 pub heard_as_said : (entries : ℕ) (asks answers : Offer) (events : List CoreEvent) (s : LaneCore) (e : End) → CoreFits entries asks answers
     → Run CoreStep (fresh_core entries asks answers) events s → s.wire.forged ≡ false → IsUp e s.wire.wire
     → SaysEach (role_of (peer_of e)) (end_of (peer_of e) s).handshake.phase (end_of (peer_of e) s).handshake.offer (end_of (peer_of e) s).handshake.draft (heard (transcript_of e (transcript_behind events)))
-heard_as_said entries asks answers events s e fits run clean up =
-    each_front (role_of (peer_of e)) (end_of (peer_of e) s).handshake (heard (transcript_of e (transcript_behind events))) (said (transcript_of (peer_of e) (transcript_behind events)))
-    (heard_messages entries asks answers events s e fits run clean up) (said_as_held entries asks answers events s (peer_of e) fits run)
+heard_as_said entries asks answers events s e fits run clean up = grind (arith, each_front, heard_messages, said_as_held)

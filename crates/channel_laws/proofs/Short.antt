@@ -32,12 +32,8 @@ taken_most n xs = omega (arith, length-take n xs)
 body_comes : (bytes : List ℕ) (body : MsgBody) → HasForm body → SpellsBody bytes body → ComesShort body
 body_comes bytes (Attr attr) form spells = omega (arith, ap length spells, taken_most 48 (drop 8 bytes))
 body_comes bytes (DringReg ident slots slot_size options count cookies) form spells = form.most
-body_comes bytes (Mcast set count addresses) form spells = tt
-body_comes bytes (Ver major minor class) form spells = tt
-body_comes bytes (DringUnreg ident) form spells = tt
-body_comes bytes Rdx form spells = tt
-body_comes bytes (DringData seq ident start end state) form spells = tt
 body_comes bytes (Plain envelope) form spells = form
+body_comes bytes _ form spells = tt
 
 pub message_comes : (bytes : List ℕ) (message : Message) → IsWellFormed message → SpellsMessage bytes message → ComesShort message.body
 message_comes bytes message form spells = body_comes bytes message.body form spells.body
@@ -51,14 +47,7 @@ taken_cookies : (n : ℕ) (cookies : List Cookie) → n ≤ 14 → length (cooki
 taken_cookies n cookies few = omega (arith, few, length-take n cookies, cookies_long (take n cookies))
 
 body_within : (body : MsgBody) → IsShort body → length (body_bytes body) ≤ 248
-body_within (Ver major minor class) short = omega arith
-body_within (Attr bytes) short = omega (arith, short)
-body_within (DringReg ident slots slot_size options count cookies) short = omega (arith, taken_cookies count cookies short)
-body_within (DringUnreg ident) short = omega arith
-body_within Rdx short = omega arith
-body_within (DringData seq ident start end state) short = absurd short
-body_within (Mcast set count addresses) short = absurd short
-body_within (Plain envelope) short = omega arith
+body_within body short = grind (arith, taken_cookies)
 
 pub short_within : (message : Message) → IsShort message.body → length (canonical message) ≤ 256
 short_within message short = omega (arith, length_canonical message, body_within message.body short)

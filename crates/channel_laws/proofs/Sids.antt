@@ -1,5 +1,5 @@
 -- An initiator's last sid is how often its link came up, modulo 2^32; a responder counts none.
-use Rattle.std.proofs.Common.{◌≡◌, ℕ, ◌+◌, ◌%◌, Bool, true, false, ◌||◌, List, [], ◌∷◌, Option, refl, sym, ap, ◌∙◌, arith}
+use Rattle.std.proofs.Common.{◌≡◌, ℕ, ◌+◌, ◌%◌, Bool, true, false, List, [], ◌∷◌, refl, sym, ap, ◌∙◌, arith}
 use Rattle.std.specs.Prelude.{⊤, nat_eq, ◌&&◌}
 use Rattle.std.proofs.lemmas.Bool.{eqb-true}
 use Rattle.runs.specs.Lawful.{log_of, run_lawful}
@@ -16,66 +16,38 @@ use Rattle.ldc_queue.specs.Transcript.{Turn}
 use Rattle.vio_handshake.specs.declared.handshake.Handshake.{Handshake}
 use Rattle.vio_handshake.specs.declared.session.Offer.{Offer}
 use Rattle.vio_handshake.specs.Rules.{handshake_sent}
-use Rattle.vio_handshake.specs.State.{begun, joined_handshake, handshake_up}
-use Rattle.vio_tag.specs.declared.cause.Cause.{Cause}
+use Rattle.vio_handshake.specs.State.{handshake_up}
 use Rattle.vio_tag.specs.declared.message.Message.{Message}
-use Rattle.channel_model.specs.TranscriptLog.{TranscriptLog, is_rdx, more_if, nothing_said}
-use Rattle.channel_model.specs.WireEvent.{Blocked, ByRestart, ByScript, ByStep, ByTick, Declines, Giver, Idle, Injected, Joined, Lost, Poked, Reset, Sent, Took, giver}
+use Rattle.channel_model.specs.TranscriptLog.{TranscriptLog, is_rdx, nothing_said}
 use Rattle.channel_laws.proofs.Apart.{roles_differ}
 use Rattle.channel_laws.proofs.EndCases.{EndTook, NoMessage, PutControl, PutMore, PutOwn, PutReady, PutHandshake, PutWhat, Rises, TookOwn, TookHandshake, TookWhat, end_put, end_took}
 use Rattle.channel_laws.proofs.EndResting.{held_handshake}
 use Rattle.channel_laws.proofs.EndStanding.{fresh_end_stands, held_stands, stands_step}
-use Rattle.channel_laws.proofs.HandshakeCases.{AttributesAgreed, AttributesAsked, AttributesRefused, Declined, OneRingAgreed, Opened, Opens, Owes, OwnReadyFollows, PeerAgreed, ReadyAgreed, ReadyAsked, ReadyFollows, RingAgreed, RingAsked, RingFollows, RingRefused, RowSent, RowTaken, VersionAgreed, VersionAsked, VersionRefused, row_sent}
+use Rattle.channel_laws.proofs.HandshakeCases.{RowSent, RowTaken, row_sent}
 use Rattle.channel_laws.proofs.Lifting.{EndsAll, ends_step}
 use Rattle.channel_laws.proofs.LinkCases.{canonical_is, put_quiet, ready_loud}
 use Rattle.channel_laws.specs.CoreLog.{comings_after}
-use Rattle.channel_laws.specs.EndCore.{Begins, EndCore, EndMove, Fails, Hears, Renews, Says, Stays, Waits}
+use Rattle.channel_laws.specs.EndCore.{EndCore, EndMove, Renews, Says}
 use Rattle.channel_laws.specs.EndStep.{EndHears, EndSays, EndStep}
-use Rattle.channel_laws.specs.LaneCore.{Beside, Closes, CoreEvent, CoreFits, CoreStep, LaneCore, OnChannel, fresh_core, move_of, reset_move, transcript_after}
+use Rattle.channel_laws.specs.LaneCore.{CoreEvent, CoreFits, CoreStep, LaneCore, fresh_core, move_of, transcript_after}
 use Rattle.channel_laws.specs.Standing.{EndStands}
 
 -- A PACKET that was put is RDX, or isn't
 pub quiet_rdx : (packet : List ℕ) → is_numbered packet ≡ false → is_rdx packet ≡ false
-quiet_rdx packet not = by_test (is_part packet) (is_rdx packet) not
-  where
-    by_test : (b c : Bool) → (b || c) ≡ false → c ≡ false
-    by_test true c is = absurd (cc is)
-    by_test false c is = is
+quiet_rdx packet not = grind arith
 
 pub loud_rdx : (packet : List ℕ) → is_numbered packet ≡ true → is_part packet ≡ false → is_rdx packet ≡ true
-loud_rdx packet has none = by_test (is_part packet) (is_rdx packet) has none
-  where
-    by_test : (b c : Bool) → (b || c) ≡ true → b ≡ false → c ≡ true
-    by_test false c is not = is
-    by_test true c is not = absurd (cc not)
+loud_rdx packet has none = search
 
 pub part_rdx : (packet : List ℕ) → is_part packet ≡ true → is_rdx packet ≡ false
 part_rdx packet part = ap (λ (n : ℕ). nat_eq n 1 && nat_eq (ctrl_at packet) 4) (eqb-true (type_at packet) 2 part)
 
 -- A HANDSHAKE keeps its count but as its link comes up
 pub row_last : (h t : Handshake) (message : Message) (opens : Bool) → RowTaken h message t opens → t.last_sid ≡ h.last_sid
-row_last h t message opens (Declined test is not) = ap (λ (x : Handshake). x.last_sid) is
-row_last h t message opens (VersionAgreed minor class r at m low is not) = ap (λ (x : Handshake). x.last_sid) is
-row_last h t message opens (VersionAsked minor class r at m is not) = ap (λ (x : Handshake). x.last_sid) is
-row_last h t message opens (VersionRefused major minor class other low r at m is not) = ap (λ (x : Handshake). x.last_sid) is
-row_last h t message opens (AttributesAgreed bytes r at m test is not) = ap (λ (x : Handshake). x.last_sid) is
-row_last h t message opens (AttributesAsked bytes r at m test is not) = ap (λ (x : Handshake). x.last_sid) is
-row_last h t message opens (AttributesRefused bytes r at m is not) = ap (λ (x : Handshake). x.last_sid) is
-row_last h t message opens (RingAgreed ident slots slot_size options count cookies r at both m is not) = ap (λ (x : Handshake). x.last_sid) is
-row_last h t message opens (OneRingAgreed ident slots slot_size options count cookies r at one m is not) = ap (λ (x : Handshake). x.last_sid) is
-row_last h t message opens (PeerAgreed ident slots slot_size options count cookies r at m is not) = ap (λ (x : Handshake). x.last_sid) is
-row_last h t message opens (RingAsked ident slots slot_size options count cookies at m test is not) = ap (λ (x : Handshake). x.last_sid) is
-row_last h t message opens (RingRefused ident slots slot_size options count cookies at m is not) = ap (λ (x : Handshake). x.last_sid) is
-row_last h t message opens (ReadyAgreed r at m is not) = ap (λ (x : Handshake). x.last_sid) is
-row_last h t message opens (ReadyAsked at m is not) = ap (λ (x : Handshake). x.last_sid) is
-row_last h t message opens (Opened r at m is now) = ap (λ (x : Handshake). x.last_sid) is
+row_last h t message opens taken = grind arith
 
 pub sent_last : (h t : Handshake) (opens : Bool) → RowSent h t opens → t.last_sid ≡ h.last_sid
-sent_last h t opens (ReadyFollows r at is not) = ap (λ (x : Handshake). x.last_sid) is
-sent_last h t opens (RingFollows r at is not) = ap (λ (x : Handshake). x.last_sid) is
-sent_last h t opens (OwnReadyFollows r at is not) = ap (λ (x : Handshake). x.last_sid) is
-sent_last h t opens (Opens r at is now) = ap (λ (x : Handshake). x.last_sid) is
-sent_last h t opens (Owes follows is not) = ap (λ (x : Handshake). x.last_sid) is
+sent_last h t opens sent = grind arith
 
 abbrev next_if : Bool → ℕ → ℕ
 next_if true n = (n + 1) % 4294967296
@@ -92,10 +64,7 @@ sid_after role (Says packet opens) n = next_if (is_rdx packet) n
 sid_after role _ n = n
 
 up_last : (role : Role) (h : Handshake) → h.role ≡ role → (role ≡ Responder → (handshake_up h).last_sid ≡ h.last_sid) × (role ≡ Initiator → (handshake_up h).last_sid ≡ (h.last_sid + 1) % 4294967296)
-up_last role h is = (
-  λ responds. ap (λ (r : Role). (begun r (joined_handshake h)).last_sid) (is ∙ responds),
-  λ asks. ap (λ (r : Role). (begun r (joined_handshake h)).last_sid) (is ∙ asks),
-)
+up_last role h is = grind arith
 
 hears_last : (role : Role) (c t : EndCore) (turns : List Turn) (packet : List ℕ) (opens : Bool) → EndStands role c turns → EndHears role c packet opens t
     → t.handshake.last_sid ≡ c.handshake.last_sid
@@ -145,57 +114,19 @@ says_last role c t turns packet opens stands says = by_what (end_put role c t tu
 -- EACH MOVE
 last_step : (role : Role) (c : EndCore) (move : EndMove) (t : EndCore) (turns : List Turn) → EndStands role c turns → EndStep role c move t
     → t.handshake.last_sid ≡ sid_after role move c.handshake.last_sid
-last_step role c Begins t turns stands step = ap (λ (h : Handshake). h.last_sid) step.handshake
-last_step Initiator c Renews t turns stands step = ap (λ (h : Handshake). h.last_sid) step.handshake
-last_step Responder c Renews t turns stands step = ap (λ (h : Handshake). h.last_sid) step.handshake
-last_step role c (Fails cause packet) t turns stands step = ap (λ (h : Handshake). h.last_sid) step.1.handshake
-last_step role c (Hears packet opens) t turns stands step = hears_last role c t turns packet opens stands step
-last_step role c (Says packet opens) t turns stands step = (says_last role c t turns packet opens stands step).last
-last_step role c Waits t turns stands step = ap (λ (h : Handshake). h.last_sid) (held_handshake c t step.what step.holds)
-last_step role c Stays t turns stands step = ap (λ (h : Handshake). h.last_sid) step.handshake
+last_step role c move t turns stands step = grind (arith, hears_last, says_last)
 
 zero_step : (c : EndCore) (move : EndMove) (t : EndCore) (turns : List Turn) → EndStands Responder c turns → EndStep Responder c move t → c.handshake.last_sid ≡ 0
     → t.handshake.last_sid ≡ 0
-zero_step c Begins t turns stands step zero = last_step Responder c Begins t turns stands step ∙ zero
 zero_step c Renews t turns stands step zero = last_step Responder c Renews t turns stands step
-zero_step c (Fails cause packet) t turns stands step zero = last_step Responder c (Fails cause packet) t turns stands step ∙ zero
-zero_step c (Hears packet opens) t turns stands step zero = last_step Responder c (Hears packet opens) t turns stands step ∙ zero
 zero_step c (Says packet opens) t turns stands step zero =
     let says = says_last Responder c t turns packet opens stands step in
     says.last ∙ ap (λ (b : Bool). next_if b c.handshake.last_sid) (says.never refl) ∙ zero
-zero_step c Waits t turns stands step zero = last_step Responder c Waits t turns stands step ∙ zero
-zero_step c Stays t turns stands step zero = last_step Responder c Stays t turns stands step ∙ zero
+zero_step c move t turns stands step zero = last_step Responder c move t turns stands step ∙ zero
 
 -- EACH EVENT
-more_mod : (b : Bool) (last n : ℕ) → last ≡ n % 4294967296 → next_if b last ≡ more_if b n % 4294967296
-more_mod true last n is = omega (arith, is)
-more_mod false last n is = is
-
-reset_count : (g : Giver) (cause : Cause) (packet : Option (List ℕ)) (last n : ℕ) → last ≡ n % 4294967296 → sid_after Initiator (reset_move g cause packet) last ≡ n % 4294967296
-reset_count ByStep cause packet last n is = is
-reset_count ByScript cause packet last n is = is
-reset_count ByRestart cause packet last n is = is
-reset_count ByTick cause packet last n is = is
-
 event_count : (event : CoreEvent) (last n : ℕ) → last ≡ n % 4294967296 → sid_after Initiator (move_of A event) last ≡ comings_after n event % 4294967296
-event_count (OnChannel (Sent A packet opens)) last n is = more_mod (is_rdx packet) last n is
-event_count (OnChannel (Sent B packet opens)) last n is = is
-event_count (OnChannel (Reset A cause packet lost)) last n is = reset_count (giver cause) cause packet last n is
-event_count (OnChannel (Reset B cause packet lost)) last n is = is
-event_count (OnChannel (Joined A lost)) last n is = is
-event_count (OnChannel (Joined B lost)) last n is = is
-event_count (OnChannel (Took A packet opens)) last n is = is
-event_count (OnChannel (Took B packet opens)) last n is = is
-event_count (OnChannel (Blocked A)) last n is = is
-event_count (OnChannel (Blocked B)) last n is = is
-event_count (OnChannel (Idle e)) last n is = is
-event_count (OnChannel (Lost e packet)) last n is = is
-event_count (OnChannel (Injected e packet)) last n is = is
-event_count (OnChannel (Poked e at bytes)) last n is = is
-event_count (OnChannel (Declines d)) last n is = is
-event_count (Closes A) last n is = is
-event_count (Closes B) last n is = is
-event_count Beside last n is = is
+event_count event last n is = grind arith
 
 -- ALONG EVERY RUN
 record SidLog : Type 0 where

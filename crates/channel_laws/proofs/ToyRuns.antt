@@ -5,7 +5,6 @@ use Rattle.runs.specs.Run.{Run}
 use Rattle.ldc_queue.specs.declared.end.End.{End}
 use Rattle.ldc_queue.specs.declared.end.End.TheVariants.{A, B}
 use Rattle.ldc_queue.specs.Transcript.{Heard, Said}
-use Rattle.map_table.specs.Cookies.{IsCookie, no_cookie}
 use Rattle.map_table.proofs.Each.{each_replicate}
 use Rattle.vio_handshake.specs.Acceptance.{hold_ring}
 use Rattle.vio_handshake.specs.Offers.{FitsRing, Match}
@@ -21,18 +20,7 @@ use Rattle.channel_laws.specs.OneSession.{AreOneSession}
 use Rattle.channel_laws.specs.ToyKind.{ToyLane, ToyStep, fresh_toys, toy_lane, toy_offer}
 
 offer_fits : OfferFits toy_offer
-offer_fits = record {
-  minor = omega arith;
-  class = omega arith;
-  slots = omega arith;
-  slot_size = omega arith;
-  room = refl;
-  cookies = (
-    record { address = omega arith; size = omega arith },
-    each_replicate IsCookie 13 no_cookie (record { address = omega arith; size = omega arith }),
-  );
-  form = record { most = omega arith; none = refl };
-}
+offer_fits = grind (arith, each_replicate)
 
 fits : CoreFits 8 toy_offer toy_offer
 fits = record { some_entries = omega arith; most_entries = omega arith; asks_fit = offer_fits; answers_fit = offer_fits }

@@ -1,5 +1,5 @@
 -- What an end has said and heard after one packet more.
-use Rattle.std.proofs.Common.{◌≡◌, ℕ, ◌≤◌, ◌-◌, Bool, true, false, Option, Some, None, List, [], ◌∷◌, ◌++◌, length, drop, take, replicate, refl, sym, ap, ◌∙◌, subst, arith, length-append}
+use Rattle.std.proofs.Common.{◌≡◌, ℕ, ◌≤◌, ◌-◌, Bool, true, false, Option, Some, None, List, [], ◌∷◌, ◌++◌, length, drop, take, replicate, refl, sym, ap, ◌∙◌, arith, length-append}
 use Rattle.std.specs.Prelude.{◌&&◌, min, nat_le, not}
 use Rattle.std.proofs.lemmas.List.{length-take, take-append-le, take_all}
 use Rattle.ldc_packet.specs.declared.packet.Subtype.TheVariants.{Info}
@@ -11,11 +11,10 @@ use Rattle.ldc_link.proofs.Spelled.{has_part, spelled_fragment, spelled_part}
 use Rattle.ldc_link.specs.Following.{Follows}
 use Rattle.ldc_link.specs.LinkState.{LinkState}
 use Rattle.ldc_link.specs.Putting.{first_part, part_bytes}
-use Rattle.ldc_link.specs.Taking.{whole_of}
 use Rattle.channel_model.proofs.SameSayings.{half_heard_is}
 use Rattle.channel_model.specs.Messages.{ended_by, whole_with}
 use Rattle.channel_model.specs.Sayings.{half_heard, half_past, half_said, heard, said, whole_by, whole_past}
-use Rattle.channel_laws.proofs.LinkCases.{ControlHeard, IsPacket, LinkHeard, PartHeard, ReadyHeard, canonical_is, ready_loud, taken_quiet}
+use Rattle.channel_laws.proofs.LinkCases.{IsPacket, LinkHeard, canonical_is}
 
 -- A PACKET THAT IS NO PART says nothing of a message
 pub record SaysNothing (turns : List Turn) (bytes : List ℕ) : Type 0 where
@@ -82,9 +81,7 @@ past_part true stop part half more messages is stops carries = (
 past_part false stop part half more messages is stops carries = absurd (cc is)
 
 pub says_more : (k : LinkState) (turns : List Turn) (bytes : List ℕ) → SaysPart k bytes → nat_le (length k.to_send) 56 ≡ false → SaysMore k turns bytes
-says_more k turns bytes part long =
-    let past = past_part (is_part bytes) false (fragment_at bytes) (half_said turns) (take 56 k.to_send) (said turns) part.part (part.stops ∙ long) part.carries in
-    record { part = part; long = long; messages = past.0; half = past.1 }
+says_more k turns bytes part long = search
 
 pub says_last : (k : LinkState) (turns : List Turn) (bytes : List ℕ) → SaysPart k bytes → 1 ≤ length k.to_send → length k.to_send ≤ 56 → nat_le (length k.to_send) 56 ≡ true
     → SaysLast k turns bytes
@@ -112,34 +109,8 @@ pub record HearsOn (turns : List Turn) (bytes : List ℕ) (whole : Option (List 
   pub messages : heard (Heard bytes ∷ turns) ≡ with_whole whole (heard turns)
   pub ends : EndsWhole turns bytes whole
 
-no_part : (turns : List Turn) (bytes : List ℕ) (whole : Option (List ℕ)) → is_part bytes ≡ false → whole ≡ None → HearsOn turns bytes whole
-no_part turns bytes None part none = record {
-  messages = (past_none (is_part bytes) (fragment_at bytes) (half_heard turns) (heard turns) part).0;
-  ends = tt;
-}
-no_part turns bytes (Some message) part none = absurd (cc none)
-
-by_stop : (turns : List Turn) (bytes : List ℕ) (stop : Bool) → is_part bytes ≡ true → (fragment_at bytes).stop ≡ stop
-    → HearsOn turns bytes (whole_of stop (half_heard turns ++ (fragment_at bytes).bytes))
-by_stop turns bytes true part stops = record {
-  messages = (past_part (is_part bytes) true (fragment_at bytes) (half_heard turns) (fragment_at bytes).bytes (heard turns) part stops refl).0;
-  ends = record { part = part; stop = stops; is = refl };
-}
-by_stop turns bytes false part stops = record {
-  messages = (past_part (is_part bytes) false (fragment_at bytes) (half_heard turns) (fragment_at bytes).bytes (heard turns) part stops refl).0;
-  ends = tt;
-}
-
 pub hears_on : (k m : LinkState) (turns : List Turn) (bytes : List ℕ) → k.whole ≡ None → Follows k turns → LinkHeard k bytes m → HearsOn turns bytes m.whole
-hears_on k m turns bytes none follows (ControlHeard next taken is) =
-    no_part turns bytes m.whole (taken_quiet k.phase bytes next taken).1 (ap (λ (x : LinkState). x.whole) is ∙ none)
-hears_on k m turns bytes none follows (ReadyHeard at packet number is) =
-    no_part turns bytes m.whole (ready_loud bytes Info packet).1 (ap (λ (x : LinkState). x.whole) is ∙ none)
-hears_on k m turns bytes none follows (PartHeard at part may number is) =
-    let half : k.half_heard ≡ half_heard turns = follows.half ∙ sym (half_heard_is turns) in
-    let whole : m.whole ≡ whole_of (fragment_at bytes).stop (half_heard turns ++ (fragment_at bytes).bytes) =
-    ap (λ (x : LinkState). x.whole) is ∙ ap (λ (xs : List ℕ). whole_of (fragment_at bytes).stop (xs ++ (fragment_at bytes).bytes)) half in
-    subst (HearsOn turns bytes) (sym whole) (by_stop turns bytes (fragment_at bytes).stop part refl)
+hears_on k m turns bytes none follows heard_holds = grind (arith, half_heard_is)
 
 -- THE MESSAGE that a packet ends is the one that the turns have more
 same_last : (xs : List (List ℕ)) (a b : List ℕ) → xs ++ a ∷ [] ≡ xs ++ b ∷ [] → a ≡ b

@@ -1,11 +1,11 @@
 -- Where nobody forged and the offers match, an end resets itself for a gap behind a loss alone, or for a cause of its session.
-use Rattle.std.proofs.Common.{◌≡◌, ℕ, Bool, true, false, Option, Some, None, Ok, Err, List, ◌∷◌, refl, sym, ap, ◌∙◌, subst, ◌⊎◌, inl, inr}
+use Rattle.std.proofs.Common.{◌≡◌, ℕ, Bool, true, false, Option, Some, None, Ok, Err, List, ◌∷◌, refl, sym, ap, ◌∙◌, subst, ◌⊎◌, inl, inr, arith}
 use Rattle.std.specs.Prelude.{Result, slice_get}
 use Rattle.runs.specs.Lawful.{log_of}
 use Rattle.runs.specs.Run.{Run}
 use Rattle.ldc_link.specs.declared.phase.Role.{Role}
 use Rattle.ldc_link.specs.declared.phase.Role.TheVariants.{Initiator, Responder}
-use Rattle.ldc_link.specs.LinkState.{LinkState, is_established, is_up}
+use Rattle.ldc_link.specs.LinkState.{LinkState, is_up}
 use Rattle.ldc_link.specs.Taking.{Heard, LinkTake, TakesBytes, Unheard}
 use Rattle.ldc_queue.specs.declared.end.ChannelState.TheVariants.{Up}
 use Rattle.ldc_queue.specs.declared.end.End.{End}
@@ -34,7 +34,7 @@ use Rattle.channel_laws.proofs.EndCases.{stays_risen}
 use Rattle.channel_laws.proofs.HandshakePlaces.{AtPlace, Matches, deal, deal_fits, message_at_spelled, message_is, open_place, owes_at, peer_said, place_bytes, place_open, who}
 use Rattle.channel_laws.proofs.HandshakesPlaced.{Meets, meets_keep, peer_place}
 use Rattle.channel_laws.proofs.Lifting.{BothStand}
-use Rattle.channel_laws.proofs.LinkCases.{ControlHeard, LinkHeard, PartHeard, ReadyHeard, link_heard}
+use Rattle.channel_laws.proofs.LinkCases.{LinkHeard, link_heard}
 use Rattle.channel_laws.proofs.LinkRefuses.{link_refuses}
 use Rattle.channel_laws.proofs.PartsSaid.{PartsSaid, parts_run}
 use Rattle.channel_laws.proofs.Script.{bytes_at, not_last}
@@ -49,9 +49,7 @@ use Rattle.channel_laws.specs.Sides.{Sides, other, sides_of, swapped}
 
 -- A MESSAGE that became whole: the link was up before
 whole_up : (k m : LinkState) (packet bytes : List ℕ) → k.whole ≡ None → m.whole ≡ Some bytes → LinkHeard k packet m → is_up k ≡ true
-whole_up k m packet bytes none whole (ControlHeard next taken is) = none_is_some (sym none ∙ sym (ap (λ (x : LinkState). x.whole) is) ∙ whole)
-whole_up k m packet bytes none whole (ReadyHeard at ready number is) = none_is_some (sym none ∙ sym (ap (λ (x : LinkState). x.whole) is) ∙ whole)
-whole_up k m packet bytes none whole (PartHeard at part may number is) = ap is_established at
+whole_up k m packet bytes none whole heard = grind arith
 
 never_refused : (take answer : HandshakeTake) (h : Handshake) (cause : Cause) → take ≡ answer → GoesTo answer h → take ≡ Faults cause → ⊥
 never_refused take answer h cause is (inl goes) refused = let wrong : Goes h ≡ Faults cause = sym goes ∙ sym is ∙ refused in cc wrong

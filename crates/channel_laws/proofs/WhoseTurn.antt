@@ -1,18 +1,15 @@
 -- Two ends in a handshake whose messages each heard as the other said them: never do both owe one; and where neither does and each heard all, both
 -- have said all.
-use Rattle.std.proofs.Common.{◌≡◌, ◌≢◌, ℕ, zero, suc, ◌+◌, ◌<◌, ◌≤◌, ◌⊎◌, inl, inr, Bool, true, false, Some, None, List, [], ◌∷◌, ◌++◌, take, length, refl, sym, ap, ◌∙◌, arith, length-append, nat_le}
+use Rattle.std.proofs.Common.{◌≡◌, ◌≢◌, ℕ, zero, suc, ◌<◌, ◌≤◌, ◌⊎◌, inl, inr, Bool, true, false, Some, None, List, [], ◌∷◌, ◌++◌, take, length, refl, sym, ap, ◌∙◌, arith, length-append}
 use Rattle.std.specs.Prelude.{is_some}
-use Rattle.std.proofs.lemmas.Bool.{leb-false, leb-true}
-use Rattle.std.proofs.lemmas.List.{length-take}
 use Rattle.ldc_link.specs.declared.phase.Role.{Role}
 use Rattle.ldc_link.specs.declared.phase.Role.TheVariants.{Initiator, Responder}
 use Rattle.ldc_queue.specs.OneStream.{IsFront}
 use Rattle.ldc_queue.specs.Transcript.{Turn}
 use Rattle.vio_handshake.specs.declared.handshake.Handshake.{Handshake}
-use Rattle.vio_handshake.proofs.Places.{AllSaid, AttributesAnswered, AttributesSaid, Deal, IsPlace, PeerReadyAnswered, PeerReadySaid, PeerRingAnswered, PeerRingSaid, Place, ReadyAnswered, ReadySaid, RingAnswered, RingSaid, VersionAnswered, VersionSaid, owner}
+use Rattle.vio_handshake.proofs.Places.{AllSaid, Deal, IsPlace, Place, owner}
 use Rattle.channel_model.specs.Sayings.{heard, said}
-use Rattle.channel_laws.proofs.Apart.{none_is_some, true_is_false}
-use Rattle.channel_laws.proofs.HandshakePlaces.{AtPlace, owes_at, owes_none, owes_not, who}
+use Rattle.channel_laws.proofs.HandshakePlaces.{AtPlace}
 use Rattle.channel_laws.proofs.Script.{all_places, before, behind, bytes_at, index, next_at, not_last, one_if, own_role, said_at, said_by, said_by-append, same_next}
 use Rattle.channel_laws.specs.Sides.{other}
 
@@ -24,10 +21,7 @@ past (x ∷ xs) ys n zero less = absurd (omega (arith, less))
 past (x ∷ xs) ys n (suc j) less = let more = past xs ys n j (omega (arith, less)) in (more.0, ap (λ (ps : List Place). x ∷ ps) more.1)
 
 before_long : (both : Bool) (n : Place) → IsPlace both n → n ≢ AllSaid → (length (before both n) ≡ index both n) × (index both n < length (all_places both))
-before_long both n here far =
-    let split : length (all_places both) ≡ length (before both n) + 1 + length (behind both n) =
-    omega (arith, ap length (next_at both n here far).split, length-append (before both n) (n ∷ behind both n)) in
-    (omega (arith, split, length-take (index both n) (all_places both)), omega (arith, split, length-take (index both n) (all_places both)))
+before_long both n here far = grind arith
 
 all_long : (both : Bool) → index both AllSaid ≡ length (all_places both)
 all_long true = refl
@@ -56,12 +50,7 @@ data Order (n m : ℕ) : Type 0 where
   Later : m < n → Order n m
 
 order : (n m : ℕ) → Order n m
-order n m = by_tests (nat_le m n) (nat_le n m) refl refl
-  where
-    by_tests : (a b : Bool) → nat_le m n ≡ a → nat_le n m ≡ b → Order n m
-    by_tests false b one other = Earlier (leb-false m n one)
-    by_tests true false one other = Later (leb-false n m other)
-    by_tests true true one other = let most = leb-true m n one in let least = leb-true n m other in Same (omega (arith, most, least))
+order n m = grind arith
 
 -- what an end at a place said and heard, counted
 record Counts (both : Bool) (d : Deal) (mine theirs : Role) (n : Place) (told taken : ℕ) : Type 0 where
@@ -72,126 +61,25 @@ record Counts (both : Bool) (d : Deal) (mine theirs : Role) (n : Place) (told ta
 
 counts : (both : Bool) (d : Deal) (r : Role) (h : Handshake) (turns : List Turn) → (at : AtPlace both d r h turns)
     → Counts both d r (other r) at.place (length (said turns)) (length (heard turns))
-counts both d r h turns at =
-    let told = length-append (said_at both d r at.place) at.mine in
-    let taken = length-append (said_at both d (other r) at.place) at.theirs in
-    record {
-      told_least = omega (arith, ap length at.said_is, told);
-      taken_least = omega (arith, ap length at.heard_is, taken);
-      told_is = λ far. omega (arith, ap length at.said_is, told, ap length (at.only far).0);
-      taken_is = λ far. omega (arith, ap length at.heard_is, taken, ap length (at.only far).1);
-    }
+counts both d r h turns at = grind arith
 
 -- WHO OWES a message says the next, and who owes none waits for the other or is through
-owes_own : (both : Bool) (d : Deal) (r : Role) (h : Handshake) (turns : List Turn) → (at : AtPlace both d r h turns) → is_some h.owed ≡ true → owner at.place ≡ Some r
-owes_own both d r h turns at owed =
-    elim (who r at.place) [
-      | inl own ↦ own
-      | inr (inl turn) ↦ (true_is_false (sym owed ∙ ap (λ (x : Handshake). is_some x.owed) at.is ∙ ap is_some (owes_not both d r at.place turn)))
-      | inr (inr last) ↦ (true_is_false (sym owed ∙ ap (λ (x : Handshake). is_some x.owed) at.is ∙ ap is_some (owes_none both d r at.place last)))
-    ]
-
 owes_nothing : (both : Bool) (d : Deal) (r : Role) (h : Handshake) (turns : List Turn) → (at : AtPlace both d r h turns) → h.owed ≡ None
     → (owner at.place ≡ Some (other r)) ⊎ (at.place ≡ AllSaid)
-owes_nothing both d r h turns at none =
-    elim (who r at.place) [
-      | inl own ↦ (none_is_some (sym none ∙ ap (λ (x : Handshake). x.owed) at.is ∙ owes_at both d r at.place own))
-      | inr rest ↦ rest
-    ]
+owes_nothing both d r h turns at none = grind arith
 
 both_own : (n m : Place) → n ≡ m → owner n ≡ Some Initiator → owner m ≡ Some Responder → ⊥
 both_own n m same one other = let wrong : Some Initiator ≡ Some Responder = sym one ∙ ap owner same ∙ other in cc wrong
 
-front_less : (xs ys : List (List ℕ)) → IsFront xs ys → length xs ≤ length ys
-front_less xs ys front = omega (arith, ap length front.1, length-append xs front.0)
-
 -- NEVER DO BOTH owe one, where each heard a front of what the other said
 pub never_both : (both : Bool) (d : Deal) (h g : Handshake) (mine theirs : List Turn) → (at : AtPlace both d Initiator h mine) → (there : AtPlace both d Responder g theirs)
     → is_some h.owed ≡ true → (is_some g.owed ≡ true) ⊎ (there.place ≡ AllSaid) → IsFront (heard theirs) (said mine) → IsFront (heard mine) (said theirs) → ⊥
-never_both both d h g mine theirs at there owed owing to_there to_here = by_order (order (index both at.place) (index both there.place))
-  where
-    own : owner at.place ≡ Some Initiator
-    own = owes_own both d Initiator h mine at owed
-
-    far : at.place ≢ AllSaid
-    far = not_last Initiator at.place own
-
-    owning : (owner there.place ≡ Some Responder) ⊎ (there.place ≡ AllSaid)
-    owning = by_owing owing
-      where
-        by_owing : (is_some g.owed ≡ true) ⊎ (there.place ≡ AllSaid) → (owner there.place ≡ Some Responder) ⊎ (there.place ≡ AllSaid)
-        by_owing (inl now) = inl (owes_own both d Responder g theirs there now)
-        by_owing (inr last) = inr last
-
-    here : Counts both d Initiator Responder at.place (length (said mine)) (length (heard mine))
-    here = counts both d Initiator h mine at
-
-    yonder : Counts both d Responder Initiator there.place (length (said theirs)) (length (heard theirs))
-    yonder = counts both d Responder g theirs there
-
-    told : length (heard theirs) ≤ length (said mine)
-    told = front_less (heard theirs) (said mine) to_there
-
-    taken : length (heard mine) ≤ length (said theirs)
-    taken = front_less (heard mine) (said theirs) to_here
-
-    by_order : Order (index both at.place) (index both there.place) → ⊥
-    by_order (Earlier less) = omega (arith, later both d Initiator at.place there.place at.here own less, here.told_is far, yonder.taken_least, told)
-    by_order (Later less) =
-        elim owning [
-          | inl turn ↦ omega (arith, later both d Responder there.place at.place there.here turn less, yonder.told_is (not_last Responder there.place turn), here.taken_least, taken)
-          | inr last ↦ omega (arith, less, before_last both at.place there.place at.here far last)
-        ]
-    by_order (Same same) =
-        elim owning [
-          | inl turn ↦ both_own at.place there.place (same_place both at.place there.place at.here there.here far (not_last Responder there.place turn) same) own turn
-          | inr last ↦ omega (arith, same, before_last both at.place there.place at.here far last)
-        ]
+never_both both d h g mine theirs at there owed owing to_there to_here = grind arith
 
 -- THE INITIATOR HAS SAID ALL where a responder that heard a front of it has: the last message is the initiator's
-last_asked : (both : Bool) (d : Deal) (n : Place) → IsPlace both n → owner n ≡ Some Responder → length (said_at both d Initiator n) < length (said_at both d Initiator AllSaid)
-last_asked true d VersionAnswered here turn = omega arith
-last_asked true d AttributesAnswered here turn = omega arith
-last_asked true d RingAnswered here turn = omega arith
-last_asked true d PeerRingSaid here turn = omega arith
-last_asked true d ReadyAnswered here turn = omega arith
-last_asked true d PeerReadySaid here turn = omega arith
-last_asked false d VersionAnswered here turn = omega arith
-last_asked false d AttributesAnswered here turn = omega arith
-last_asked false d RingAnswered here turn = omega arith
-last_asked false d PeerRingSaid here turn = absurd here
-last_asked false d ReadyAnswered here turn = omega arith
-last_asked false d PeerReadySaid here turn = omega arith
-last_asked both d VersionSaid here turn = absurd (cc turn)
-last_asked both d AttributesSaid here turn = absurd (cc turn)
-last_asked both d RingSaid here turn = absurd (cc turn)
-last_asked both d PeerRingAnswered here turn = absurd (cc turn)
-last_asked both d ReadySaid here turn = absurd (cc turn)
-last_asked both d PeerReadyAnswered here turn = absurd (cc turn)
-last_asked both d AllSaid here turn = absurd (cc turn)
-
 pub initiator_done : (both : Bool) (d : Deal) (h g : Handshake) (mine theirs : List Turn) → (at : AtPlace both d Initiator h mine) → (there : AtPlace both d Responder g theirs)
     → there.place ≡ AllSaid → IsFront (heard theirs) (said mine) → at.place ≡ AllSaid
-initiator_done both d h g mine theirs at there last front =
-    elim (who Initiator at.place) [
-      | inl own ↦
-          let less = later both d Initiator at.place there.place at.here own (before_last both at.place there.place at.here (not_last Initiator at.place own) last) in
-          absurd (omega (arith, less, here.told_is (not_last Initiator at.place own), yonder.taken_least, told))
-      | inr (inl turn) ↦
-          let less = last_asked both d at.place at.here turn in
-          let all : length (said_at both d Initiator there.place) ≡ length (said_at both d Initiator AllSaid) = ap (λ (n : Place). length (said_at both d Initiator n)) last in
-          absurd (omega (arith, less, all, here.told_is (not_last Responder at.place turn), yonder.taken_least, told))
-      | inr (inr done) ↦ done
-    ]
-  where
-    here : Counts both d Initiator Responder at.place (length (said mine)) (length (heard mine))
-    here = counts both d Initiator h mine at
-
-    yonder : Counts both d Responder Initiator there.place (length (said theirs)) (length (heard theirs))
-    yonder = counts both d Responder g theirs there
-
-    told : length (heard theirs) ≤ length (said mine)
-    told = front_less (heard theirs) (said mine) front
+initiator_done both d h g mine theirs at there last front = grind arith
 
 -- BOTH HAVE SAID ALL where neither owes one and each heard all
 pub both_done : (both : Bool) (d : Deal) (h g : Handshake) (mine theirs : List Turn) → (at : AtPlace both d Initiator h mine) → (there : AtPlace both d Responder g theirs)

@@ -1,5 +1,5 @@
 -- On a lane that nobody forged what a client that is up has heard acknowledged the server finished.
-use Rattle.std.proofs.Common.{◌≡◌, ℕ, ◌≤◌, false, Option, Some, None, List, [], inl, inr, sym, ap, ◌∙◌, subst, arith}
+use Rattle.std.proofs.Common.{◌≡◌, ℕ, ◌≤◌, false, Option, Some, List, [], inl, inr, sym, ap, ◌∙◌, subst, arith}
 use Rattle.runs.specs.Lawful.{log_of}
 use Rattle.runs.specs.Run.{Run}
 use Rattle.ldc_queue.specs.declared.end.ChannelState.TheVariants.{Up}
@@ -21,7 +21,6 @@ use Rattle.lane_laws.proofs.Agreeing.{front_sum}
 use Rattle.lane_laws.proofs.LaneCores.{transcript_is}
 use Rattle.lane_laws.proofs.HeardFront.{heard_messages, unheard_client}
 use Rattle.lane_laws.proofs.LaneCounting.{Knows, run_knows}
-use Rattle.channel_laws.proofs.Apart.{some_same}
 use Rattle.channel_laws.proofs.HandshakesPlaced.{up_or}
 use Rattle.lane_laws.specs.Counted.{ServerOrder, acked_of, announced_of, range_sum}
 use Rattle.lane_laws.specs.LaneTranscripts.{transcript_behind}
@@ -33,21 +32,11 @@ pub record SameRanges (o : Option ClientSession) (k : ClientCounts) : Type 0 whe
   pub acked : k.acked ≡ acked_of o
 
 pub same_ranges : (o : Option ClientSession) (done : ℕ) (q : Option ClientCounts) (k : ClientCounts) → q ≡ Some k → ClientAgrees o done q → SameRanges o k
-same_ranges None done None k is agrees = absurd (cc is)
-same_ranges None done (Some c) k is agrees = absurd agrees
-same_ranges (Some x) done None k is agrees = absurd agrees
-same_ranges (Some x) done (Some c) k is agrees =
-    let same : c ≡ k = some_same is in
-    record {
-      announced = ap (λ (y : ClientCounts). y.announced) (sym same) ∙ sym agrees.announced;
-      acked = ap (λ (y : ClientCounts). y.acked) (sym same) ∙ sym agrees.acked;
-    }
+same_ranges o done q k is agrees = grind arith
 
 answered_most : (slots : ℕ) (o : Option ServerSession) (w : Option Work) (q : Option ServerCounts) (transcript : TranscriptLog) (finished descs : ℕ) → ServerOrder slots o q transcript.server → ServerAgrees o w q
     → IfServer q (λ d. (finished ≡ d.finished) × (descs ≡ d.descs)) → range_sum slots 2 (said transcript.server) ≤ finished
-answered_most slots None w q transcript finished descs order agrees works = omega (arith, order.answered)
-answered_most slots (Some v) w None transcript finished descs order agrees works = absurd order
-answered_most slots (Some v) w (Some d) transcript finished descs order agrees works = omega (arith, order.answered, order.finished, works.0)
+answered_most slots o w q transcript finished descs order agrees works = grind arith
 
 pub acked_finished : (shape : Shape) (events : List DiskEvent) (s : LaneState) (k : ClientCounts) (finished descs : ℕ) → IsShape shape → Run LaneStep (fresh shape) events s
     → (log_of after (nothing_yet shape) events).wire.forged ≡ false → (log_of after (nothing_yet shape) events).work.client ≡ Some k

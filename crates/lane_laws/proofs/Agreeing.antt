@@ -21,7 +21,7 @@ use Rattle.disk_model.specs.DiskEvent.{DiskEvent}
 use Rattle.disk_model.specs.LaneState.{IsShape, LaneState, Shape, fresh}
 use Rattle.disk_model.specs.LaneStep.{LaneStep}
 use Rattle.disk_model.specs.Offering.{client_offer, own_cookies}
-use Rattle.disk_model.specs.ServerState.{ServerSession, SlotRange, Work}
+use Rattle.disk_model.specs.ServerState.{ServerSession, Work}
 use Rattle.lane_laws.proofs.CarriedRuns.{AllStand, all_step, fresh_all}
 use Rattle.lane_laws.proofs.HeardFront.{heard_messages}
 use Rattle.lane_laws.proofs.LaneCounting.{Knows, run_knows}
@@ -30,7 +30,7 @@ use Rattle.lane_laws.proofs.OneSession.{client_in_session, one_session}
 use Rattle.lane_laws.proofs.LaneCores.{transcript_is}
 use Rattle.lane_laws.proofs.RangeSums.{sum_front}
 use Rattle.lane_laws.proofs.RingRuns.{issued_behind}
-use Rattle.lane_laws.specs.Counted.{InServerOrder, RangeStands, ServerOrder, acked_of, announced_of, range_sum}
+use Rattle.lane_laws.specs.Counted.{InServerOrder, ServerOrder, acked_of, announced_of, range_sum}
 use Rattle.lane_laws.specs.LaneTranscripts.{transcript_behind}
 use Rattle.lane_laws.specs.OneSession.{AreOneSession}
 use Rattle.channel_model.specs.Ranges.{wrapped}
@@ -54,15 +54,11 @@ issued_few shape events s sound run =
 
 -- WHERE THE SERVER'S SESSION IS OPEN and its end is up, so is the client's
 pub server_open : (o : Option ServerSession) (w : Option Work) (q : Option ServerCounts) (d : ServerCounts) → q ≡ Some d → ServerAgrees o w q → is_some o ≡ true
-server_open None w None d is agrees = absurd (cc is)
-server_open None w (Some c) d is agrees = absurd agrees
-server_open (Some s) w q d is agrees = refl
+server_open o w q d is agrees = grind arith
 
 order_of : (slots : ℕ) (o : Option ServerSession) (q : Option ServerCounts) (d : ServerCounts) (transcript : TranscriptLog) → q ≡ Some d → is_some o ≡ true → ServerOrder slots o q transcript.server
     → (session : ServerSession) × InServerOrder slots session d transcript.server
-order_of slots None q d transcript is now order = absurd (cc)
-order_of slots (Some s) None d transcript is now order = absurd order
-order_of slots (Some s) (Some c) d transcript is now order = let same : c ≡ d = some_same is in (s, subst (λ (x : ServerCounts). InServerOrder slots s x transcript.server) same order)
+order_of slots o q d transcript is now order = grind arith
 
 record ClientOpen (o : Option ClientSession) (done : ℕ) (q : Option ClientCounts) : Type 0 where
   session : ClientSession
@@ -72,9 +68,7 @@ record ClientOpen (o : Option ClientSession) (done : ℕ) (q : Option ClientCoun
   agree : ClientCountsAgree session done counts
 
 counts_of : (o : Option ClientSession) (done : ℕ) (q : Option ClientCounts) → is_some o ≡ true → ClientAgrees o done q → ClientOpen o done q
-counts_of None done q now agrees = absurd (cc)
-counts_of (Some s) done None now agrees = absurd agrees
-counts_of (Some s) done (Some c) now agrees = record { session = s; counts = c; session_is = refl; counts_are = refl; agree = agrees }
+counts_of o done q now agrees = grind arith
 
 pub front_sum : (slots subtype : ℕ) (xs ys : List (List ℕ)) → IsFront xs ys → range_sum slots subtype xs ≤ range_sum slots subtype ys
 front_sum slots subtype xs ys front = subst (λ (zs : List (List ℕ)). range_sum slots subtype xs ≤ range_sum slots subtype zs) (sym front.1) (sum_front slots subtype xs front.0)
@@ -185,11 +179,6 @@ pub client_offers : (shape : Shape) (events : List DiskEvent) (s : LaneState) �
     → s.client.handshake.offer ≡ client_offer s.client.blocks s.client.slots
 client_offers shape events s sound run = (run_knows shape events s sound run).rests.client.fits.offer_is
 
--- what a server whose end is up has answered
-pub range_answered : (slots : ℕ) (range : Option SlotRange) (d : ServerCounts) → RangeStands slots range d → d.answered ≤ d.asked
-range_answered slots None d stands = omega (arith, stands)
-range_answered slots (Some range) d stands = omega (arith, stands.0)
-
 -- WHAT A SERVER WAS ASKED FOR, where its end is up
 pub record AskedWithin (s : LaneState) (l : DiskLog) (session : ServerSession) : Type 0 where
   pub asked : session.asked ≡ range_sum l.shape.slots 1 (heard l.transcript.server)
@@ -200,14 +189,10 @@ pub record AskedWithin (s : LaneState) (l : DiskLog) (session : ServerSession) :
 
 server_counts_of : (o : Option ServerSession) (w : Option Work) (q : Option ServerCounts) (session : ServerSession) → o ≡ Some session → ServerAgrees o w q
     → (d : ServerCounts) × (q ≡ Some d) × (session.asked ≡ wrapped d.asked)
-server_counts_of None w q session is agrees = absurd (cc is)
-server_counts_of (Some s) w None session is agrees = absurd agrees
-server_counts_of (Some s) w (Some c) session is agrees = let same : session ≡ s = sym (some_same is) in (c, refl, ap (λ (x : ServerSession). x.asked) same ∙ agrees.0.asked)
+server_counts_of o w q session is agrees = grind arith
 
 pub client_some : (o : Option ClientSession) (done : ℕ) (q : Option ClientCounts) (k : ClientCounts) → q ≡ Some k → ClientAgrees o done q → is_some o ≡ true
-client_some None done None k is agrees = absurd (cc is)
-client_some None done (Some c) k is agrees = absurd agrees
-client_some (Some s) done q k is agrees = refl
+client_some o done q k is agrees = grind arith
 
 pub asked_within : (shape : Shape) (events : List DiskEvent) (s : LaneState) (session : ServerSession) → IsShape shape → Run LaneStep (fresh shape) events s → s.wire.forged ≡ false → IsUp B s.wire.wire
     → s.server.session ≡ Some session → AskedWithin s (log_of after (nothing_yet shape) events) session

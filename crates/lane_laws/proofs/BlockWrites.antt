@@ -1,7 +1,6 @@
 -- The blocks of what requests leave, and of what is put into an image.
-use Rattle.std.proofs.Common.{◌≡◌, ℕ, zero, suc, ◌+◌, ◌-◌, ◌*◌, ◌<◌, ◌≤◌, ◌⊎◌, List, [], ◌∷◌, ◌++◌, length, take, Some, None, inl, inr, refl, sym, ap, ◌∙◌, arith}
+use Rattle.std.proofs.Common.{◌≡◌, ℕ, zero, suc, ◌+◌, ◌-◌, ◌*◌, ◌<◌, ◌≤◌, ◌⊎◌, List, [], ◌∷◌, ◌++◌, length, take, Some, None, inl, inr, refl, ap, ◌∙◌, arith}
 use Rattle.std.specs.Prelude.{slice_get}
-use Rattle.std.proofs.lemmas.Bool.{cases_lt}
 use Rattle.std.proofs.lemmas.Bool.Decides.{nat_tests}
 use Rattle.vdisk_msg.proofs.Repeated.{length-repeated}
 use Rattle.vdisk_msg.specs.declared.request.Request.{Request}
@@ -34,21 +33,10 @@ pub admitted_blocks : (blocks block count : ℕ) → blocks_defect blocks block 
 admitted_blocks blocks block count is = (grind (arith, nat_tests), grind (arith, nat_tests), grind (arith, nat_tests))
 
 pub after_long : (blocks : ℕ) (content : List ℕ) (request : Request) → defect blocks request ≡ None → length content ≡ 512 * blocks → length (after_request content request) ≡ 512 * blocks
-after_long blocks content (Read block count) admitted long = long
-after_long blocks content (Write block count fill) admitted long =
-    let fits = admitted_blocks blocks block count admitted in
-    length-put_at (512 * block) (written fill count) content (omega (arith, length-repeated fill 0 (512 * count), fits.2, long)) ∙ long
-after_long blocks content Flush admitted long = long
+after_long blocks content request admitted long = grind (arith, length-put_at, length-repeated)
 
 pub in_or_out : (o n b : ℕ) → (((o ≤ b) × (b < o + n)) ⊎ ((b < o) ⊎ (o + n ≤ b)))
-in_or_out o n b =
-    elim (cases_lt b o) [
-      | inl before ↦ inr (inl before)
-      | inr past ↦ elim (cases_lt b (o + n)) [
-        | inl below ↦ inl (past, below)
-        | inr behind ↦ inr (inr behind)
-      ]
-    ]
+in_or_out o n b = grind arith
 
 pub reaches_or_not : (request : Request) (b : ℕ) → Reaches request b ⊎ (Reaches request b → ⊥)
 reaches_or_not (Read block count) b = inr (λ never. never)
@@ -80,15 +68,8 @@ after_missed blocks content (Write block count fill) b admitted long not = by_ra
         block_put_out block count b (written fill count) content (length-repeated fill 0 (512 * count)) (omega (arith, fits.2, long)) outside
 after_missed blocks content Flush b admitted long not = refl
 
-pub puts_reaches : (request : Request) (b : ℕ) (bytes : List ℕ) → WritesBlock request b bytes → Reaches request b
-puts_reaches (Read block count) b bytes puts = absurd puts
-puts_reaches (Write block count fill) b bytes puts = puts.0
-puts_reaches Flush b bytes puts = absurd puts
-
 pub puts_same : (request : Request) (b : ℕ) (one other : List ℕ) → WritesBlock request b one → WritesBlock request b other → one ≡ other
-puts_same (Read block count) b one other puts also = absurd puts
-puts_same (Write block count fill) b one other puts also = puts.1 ∙ sym also.1
-puts_same Flush b one other puts also = absurd puts
+puts_same request b one other puts also = grind arith
 
 -- REQUESTS one after another
 pub take_more : (xs : List Request) (k : ℕ) (request : Request) → slice_get xs k ≡ Some request → take (suc k) xs ≡ take k xs ++ request ∷ []

@@ -1,12 +1,11 @@
 -- An end that finds no room has a packet to put.
-use Rattle.std.proofs.Common.{◌≡◌, ◌≢◌, ◌<◌, ◌≤◌, Bool, true, false, Option, Some, None, ◌++◌, length, sym, ap, ◌∙◌, subst, arith, refl, inl, inr}
+use Rattle.std.proofs.Common.{◌≡◌, ◌≢◌, ◌<◌, ◌≤◌, Bool, true, false, Option, Some, None, ◌++◌, length, sym, ap, ◌∙◌, arith, refl, inl, inr}
 use Rattle.ldc_link.specs.declared.phase.Role.TheVariants.{Initiator, Responder}
 use Rattle.ldc_link.specs.LinkState.{LinkState}
 use Rattle.ldc_link.specs.Putting.{owes, owes_control, owes_in}
 use Rattle.ldc_queue.specs.declared.end.End.TheVariants.{A, B}
 use Rattle.vio_tag.specs.declared.message.Message.{Message}
 use Rattle.vio_handshake.specs.declared.handshake.Handshake.{Handshake}
-use Rattle.dring.specs.Slots.{range_length}
 use Rattle.channel_model.specs.Sayings.{half_said}
 use Rattle.disk_model.specs.ClientPutting.{client_holds, is_announcing}
 use Rattle.disk_model.specs.ClientRule as client
@@ -18,24 +17,20 @@ use Rattle.disk_model.specs.ServerState.{ServerSession, ServerState, SlotRange}
 use Rattle.channel_laws.proofs.Apart.{none_is_some, some_is_none}
 use Rattle.channel_laws.specs.EndFold.{link_phase}
 use Rattle.lane_laws.specs.ChannelEnds.{client_core}
-use Rattle.lane_laws.specs.Counted.{InServerOrder, RangeStands}
 use Rattle.lane_laws.specs.DiskLog.{DiskLog}
 use Rattle.lane_laws.specs.OrderLaws.{HasToPut}
 use Rattle.lane_laws.specs.RuleFacts.{ClientMay}
 use Rattle.lane_laws.specs.Sound.{InOrder}
 use Rattle.lane_laws.specs.WorkLaws.{client_handshake, server_handshake}
-use Rattle.lane_laws.specs.WorkLog.{ClientCounts, ServerCounts}
 use Rattle.lane_laws.proofs.ClientFolds.{calm_up, sends_some}
 use Rattle.lane_laws.proofs.ClientPutCounting.{OwnInfo, own_info}
-use Rattle.lane_laws.proofs.Counting.{OfClient, OfServer, of_client, of_server}
 use Rattle.lane_laws.proofs.EndsFold.{BothAre}
 use Rattle.lane_laws.proofs.RangeLaw.{AreTold}
 use Rattle.lane_laws.proofs.RulesFree.{ServerFree, puts_owe, server_free}
 use Rattle.lane_laws.proofs.Ruling.{client_may}
-use Rattle.lane_laws.proofs.ServerPutCounting.{all_finished}
 use Rattle.lane_laws.proofs.Sharing.{in_order}
 use Rattle.channel_laws.proofs.MessagesHeld.{owed_held}
-use Rattle.lane_laws.proofs.WorkNumbers.{Grounded, in_client, in_server, order_of}
+use Rattle.lane_laws.proofs.WorkNumbers.{Grounded}
 use Rattle.lane_laws.proofs.LaneViews.{at_client, at_server}
 
 -- what is known of both ends
@@ -56,9 +51,7 @@ by_control k false P is owing one other = other (sends_some k (calm_up k is owin
 
 -- THE CLIENT
 more_published : (s : LaneState) (l : DiskLog) (session : ClientSession) → Grounded s l → s.client.session ≡ Some session → session.announced < session.published → HasToPut A l
-more_published s l session grounded is more =
-    let of : OfClient session l.work.done l.work.client = of_client s.client.session session l.work.done l.work.client is grounded.knows.counted.client.agrees in
-    inr (inr (in_client l.work.client of.counts (λ (c : ClientCounts). c.announced < c.published) of.is (omega (arith, of.agree.announced, of.agree.published, more))))
+more_published s l session grounded is more = grind arith
 
 client_left : (s : LaneState) (l : DiskLog) (own : Bool) → Told s l → is_announcing s.client.session ≡ own → 1 ≤ length s.client.link.to_send → HasToPut A l
 client_left s l true told own some =
@@ -88,18 +81,7 @@ client_to_put s l held told is = client_puts s l (client.client_rule s.client (a
 -- THE SERVER
 more_answered : (s : LaneState) (l : DiskLog) (session : ServerSession) (range : SlotRange) → Grounded s l → s.server.session ≡ Some session → session.range ≡ Some range
     → session.finished ≡ session.asked → HasToPut B l
-more_answered s l session range grounded is ranged ended =
-    let slots = l.shape.slots in
-    let of : OfServer session s.server.work l.work.server = of_server s.server.session session s.server.work l.work.server is grounded.knows.counted.server.agrees in
-    let c = of.counts in
-    let order : InServerOrder slots session c l.transcript.server =
-    order_of slots s.server.session session l.work.server c l.transcript.server is of.is grounded.knows.counted.server.order in
-    let stands : RangeStands slots (Some range) c = subst (λ (r : Option SlotRange). RangeStands slots r c) ranged order.range in
-    let some : 1 ≤ range_length slots range.start range.end = omega arith in
-    inr (inr (in_server l.work.server c (λ (d : ServerCounts). (d.answered < d.asked) × (d.finished ≡ d.asked)) of.is (
-      omega (arith, stands.0, some),
-      all_finished slots session s.server.work c l.transcript.server range grounded.sound.most_slots ended stands order of.agree of.work_agrees,
-    )))
+more_answered s l session range grounded is ranged ended = grind arith
 
 server_left : (s : LaneState) (l : DiskLog) (owed : Option Message) → Told s l → s.server.handshake.owed ≡ owed → 1 ≤ length s.server.link.to_send → HasToPut B l
 server_left s l (Some message) told is some = inr (inl (some_owed s.server.handshake (server_handshake l) message told.are.server is))

@@ -194,9 +194,7 @@ calm_are_still shape events s e one m next t sound run step calm then quiet =
 pub calm_are_idle : (shape : Shape) (events : List DiskEvent) (s : LaneState) (e : End) (one : DiskEvent) (m : LaneState) (next : DiskEvent) (t : LaneState) → IsShape shape
     → Run LaneStep (fresh shape) events s → s.wire.forged ≡ false → s.stopped ≡ false → LaneStep s one m → IsCalm e one → LaneStep m next t → IsCalm (peer_of e) next
     → (one ≡ OnWire (Idle e)) × (next ≡ OnWire (Idle (peer_of e))) × (t ≡ s)
-calm_are_idle shape events s e one m next t sound run clean runs step calm then quiet =
-    let idle = both_idle e shape events s one m next t (record { sound = sound; run = run; clean = clean }) runs step calm then quiet in
-    (idle.first, idle.second, idle.same)
+calm_are_idle shape events s e one m next t sound run clean runs step calm then quiet = grind (arith, both_idle)
 
 pub calm_have_finished : (shape : Shape) (events : List DiskEvent) (s : LaneState) (e : End) (one : DiskEvent) (m : LaneState) (next : DiskEvent) (t : LaneState) → IsShape shape
     → Run LaneStep (fresh shape) events s → s.wire.forged ≡ false → s.wire.lossy ≡ false → s.stopped ≡ false → LaneStep s one m → IsCalm e one → LaneStep m next t → IsCalm (peer_of e) next

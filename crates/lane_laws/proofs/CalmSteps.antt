@@ -1,24 +1,22 @@
 -- A calm step of an end leaves the wire and the other end as they were, and the end still.
-use Rattle.std.proofs.Common.{◌≡◌, ◌+◌, ◌⊎◌, inl, inr, true, false, Some, length, refl, sym, ap, ◌∙◌, subst}
+use Rattle.std.proofs.Common.{◌≡◌, ◌+◌, ◌⊎◌, inl, inr, true, false, Some, length, sym, subst, arith}
 use Rattle.ldc_queue.specs.declared.end.ChannelState.TheVariants.{Up}
 use Rattle.ldc_queue.specs.declared.end.End.{End}
 use Rattle.ldc_queue.specs.declared.end.End.TheVariants.{A, B}
 use Rattle.ldc_queue.specs.Wire.{peer_of}
-use Rattle.channel_model.specs.WireEvent.{Blocked, Idle}
+use Rattle.channel_model.specs.WireEvent.{Idle}
 use Rattle.lane_laws.specs.DiskLog.{DiskLog, after}
 use Rattle.disk_model.specs.ClientPutting.{client_holds}
 use Rattle.disk_model.specs.ClientRule as client_rules
-use Rattle.disk_model.specs.DiskEvent.{DiskEvent, Off, OnWire, Switches}
+use Rattle.disk_model.specs.DiskEvent.{DiskEvent, OnWire}
 use Rattle.disk_model.specs.LaneState.{LaneState}
 use Rattle.disk_model.specs.LaneStep.{LaneStep}
 use Rattle.disk_model.specs.ServerPutting.{server_holds}
 use Rattle.disk_model.specs.ServerRule as server_rules
 use Rattle.lane_laws.proofs.ClientHolding.{holds_up}
-use Rattle.lane_laws.proofs.IdleRuns.{client_same, server_same}
 use Rattle.lane_laws.proofs.LaneCounting.{knows_step}
 use Rattle.lane_laws.proofs.Ruling.{client_may, server_may}
 use Rattle.lane_laws.proofs.ServerSpeaking.{server_holds_up}
-use Rattle.lane_laws.specs.RuleFacts.{ClientMay, ServerMay}
 use Rattle.channel_laws.proofs.EndsAtRest.{none_waits}
 use Rattle.lane_laws.proofs.IdleLaw.{idle_client, idle_server, not_below}
 use Rattle.lane_laws.proofs.IdleRules.{client_idles, server_idles}
@@ -59,21 +57,10 @@ abbrev pub ServerCalm : LaneState → DiskEvent → LaneState → Type 0
 ServerCalm s event t = ServerRested s event t ⊎ (ServerWaits s t ⊎ ServerOff s t)
 
 pub client_calm : (s : LaneState) (event : DiskEvent) (t : LaneState) → LaneStep s event t → IsCalm A event → ClientCalm s event t
-client_calm s (OnWire (Idle A)) t step calm = inl (record { event_is = refl; rule = step.step.0; same = client_same s t step })
-client_calm s (OnWire (Blocked A)) t step calm = inr (record { holds = step.step.0; full = step.step.1; is = step.is })
-client_calm s (OnWire (Idle B)) t step calm = absurd (cc calm)
-client_calm s (OnWire (Blocked B)) t step calm = absurd (cc calm)
-client_calm s (OnWire event) t step calm = absurd calm
-client_calm s event t step calm = absurd calm
+client_calm s event t step calm = grind arith
 
 pub server_calm : (s : LaneState) (event : DiskEvent) (t : LaneState) → LaneStep s event t → IsCalm B event → ServerCalm s event t
-server_calm s (OnWire (Idle B)) t step calm = inl (record { event_is = refl; rule = step.1.step.1.0; same = server_same s t step })
-server_calm s (OnWire (Blocked B)) t step calm = inr (inl (record { holds = step.1.step.1.0; full = step.1.step.1.1; is = step.1.is }))
-server_calm s (Switches Off) t step calm = inr (inr (record { stopped = step.0; same = step.1 }))
-server_calm s (OnWire (Idle A)) t step calm = absurd (cc calm)
-server_calm s (OnWire (Blocked A)) t step calm = absurd (cc calm)
-server_calm s (OnWire event) t step calm = absurd calm
-server_calm s event t step calm = absurd calm
+server_calm s event t step calm = grind arith
 
 -- THE END IS STILL after it, and the other stays so
 abbrev pub StaysStill : End → LaneState → Type 0
@@ -90,24 +77,17 @@ pub waits_up_b : (s t : LaneState) → ServerWaits s t → s.wire.wire.end_b ≡
 waits_up_b s t waits = server_holds_up s.server (at_server s) (server_rules.server_rule s.server (at_server s)) t.server (server_may s.server (at_server s)) waits.holds
 
 client_still : (s : LaneState) (event : DiskEvent) (t : LaneState) → ClientCalm s event t → StaysStill A t
-client_still s event t (inl rested) =
-    subst (StaysStill A) (sym rested.same) (subst (ClientMay s.client (at_client s)) rested.rule (client_may s.client (at_client s)), inl rested.rule)
-client_still s event t (inr waits) = subst (StaysStill A) (sym waits.is) (waits_up_a s t waits, inr waits.full)
+client_still s event t calm = grind arith
 
 server_still : (s : LaneState) (event : DiskEvent) (t : LaneState) → ServerCalm s event t → ServerStays t
-server_still s event t (inl rested) =
-    inr (subst (StaysStill B) (sym rested.same) (subst (ServerMay s.server (at_server s)) rested.rule (server_may s.server (at_server s)), inl rested.rule))
-server_still s event t (inr (inl waits)) = inr (subst (StaysStill B) (sym waits.is) (waits_up_b s t waits, inr waits.full))
-server_still s event t (inr (inr off)) = inl (ap (λ (x : LaneState). x.stopped) off.same ∙ off.stopped)
+server_still s event t calm = grind arith
 
 client_keeps : (s : LaneState) (event : DiskEvent) (t : LaneState) → ClientCalm s event t → ServerStays s → ServerStays t
 client_keeps s event t (inl rested) still = subst ServerStays (sym rested.same) still
 client_keeps s event t (inr waits) still = subst ServerStays (sym waits.is) still
 
 server_keeps : (s : LaneState) (event : DiskEvent) (t : LaneState) → ServerCalm s event t → StaysStill A s → StaysStill A t
-server_keeps s event t (inl rested) still = subst (StaysStill A) (sym rested.same) still
-server_keeps s event t (inr (inl waits)) still = subst (StaysStill A) (sym waits.is) still
-server_keeps s event t (inr (inr off)) still = subst (StaysStill A) (sym off.same) still
+server_keeps s event t calm still = grind arith
 
 both_still : (e : End) (s : LaneState) (one : DiskEvent) (m : LaneState) (next : DiskEvent) (t : LaneState) → LaneStep s one m → IsCalm e one → LaneStep m next t → IsCalm (peer_of e) next
     → StaysStill A t × ServerStays t

@@ -1,11 +1,11 @@
 -- What a client makes of a packet that it takes: what holds of each answer that it may come to, holds of the one that it comes to.
-use Rattle.std.proofs.Common.{◌≡◌, ℕ, ◌+◌, ◌<◌, ◌≤◌, Bool, true, false, Option, Some, None, List, refl, sym, ap, subst}
-use Rattle.std.specs.Prelude.{◌&&◌, nat_le, nat_lt, ◌==◌, if◌then◌else◌, is_some, Result, Ok, Err, ⊤}
-use Rattle.std.proofs.lemmas.Bool.{and_parts, eqb-true, leb-true, ltb-true}
+use Rattle.std.proofs.Common.{◌≡◌, ℕ, ◌+◌, ◌<◌, ◌≤◌, Bool, true, false, Option, Some, None, List, refl, sym, subst, arith}
+use Rattle.std.specs.Prelude.{◌&&◌, nat_le, nat_lt, if◌then◌else◌, is_some, Result, Ok, Err, ⊤}
+use Rattle.std.proofs.lemmas.Bool.{and_parts, leb-true, ltb-true}
 use Rattle.ldc_link.specs.LinkState.{LinkState, cleared}
 use Rattle.ldc_link.specs.Taking.{Heard, LinkTake, TakesBytes, Unheard}
 use Rattle.ldc_packet.specs.declared.packet.Subtype.{Subtype}
-use Rattle.ldc_packet.specs.declared.packet.Subtype.TheVariants.{Ack, Nack}
+use Rattle.ldc_packet.specs.declared.packet.Subtype.TheVariants.{Ack}
 use Rattle.vio_tag.specs.declared.cause.Cause.{Cause}
 use Rattle.vio_tag.specs.declared.cause.Cause.TheVariants as the_cause
 use Rattle.vio_tag.specs.declared.message.Message.{Message}
@@ -14,12 +14,12 @@ use Rattle.vio_tag.specs.declared.message.MsgBody.TheVariants.{DringData}
 use Rattle.vio_tag.specs.declared.message.TagFault.{TagFault}
 use Rattle.vio_tag.specs.Decoding.{Decodes}
 use Rattle.vio_handshake.specs.declared.handshake.Handshake.{Handshake}
-use Rattle.vio_handshake.specs.Rules.{Faults, Goes, GoesOpen, HandshakeTake, fault_or, handshake_hear, handshake_take, sid_fault}
-use Rattle.channel_laws.specs.EndStep.{IsOfSession, IsOwn}
+use Rattle.vio_handshake.specs.Rules.{Faults, Goes, GoesOpen, HandshakeTake, handshake_take, sid_fault}
+use Rattle.channel_laws.specs.EndStep.{IsOwn}
 use Rattle.channel_model.specs.Ranges.{is_other}
 use Rattle.dring.specs.Slots.{range_length}
 use Rattle.disk_model.specs.ClientState.{ClientSession, ClientState, slot_in}
-use Rattle.disk_model.specs.ClientTaking.{ClientTake, ClientTakes, GoesOn, HearsLink, HearsWhole, Resets, acknowledged, by_handshake, hears_message, in_session, reads, sid_first, takes_ack}
+use Rattle.disk_model.specs.ClientTaking.{ClientTake, ClientTakes, GoesOn, HearsLink, HearsWhole, Resets, acknowledged, by_handshake, hears_message, in_session, reads, takes_ack}
 
 -- a handshake after a message, whether its session opens by it or not
 abbrev pub HandshakesTo : Handshake → HandshakeTake → Bool → Handshake → Type 0
@@ -82,11 +82,7 @@ by_take s k message T (GoesOpen h) answers is = answers.goes true h is
 by_take s k message T (Faults cause) answers is = answers.faults cause is
 
 pub is_the : (one other : ℕ) → is_other one other ≡ false → other ≡ one
-is_the one other is = the (one == other) refl is
-  where
-    the : (b : Bool) → (one == other) ≡ b → (if b then false else true) ≡ false → other ≡ one
-    the true test is = sym (eqb-true one other test)
-    the false test is = absurd (cc)
+is_the one other is = grind arith
 
 either : (T : ClientTake → Type 0) (b : Bool) (x y : ClientTake) → (b ≡ true → T x) → (b ≡ false → T y) → T (if b then x else y)
 either T true x y one other = one refl
@@ -94,16 +90,7 @@ either T false x y one other = other refl
 
 refused : (s : ClientState) (message : Message) (session : ClientSession) (seq ident start end state : ℕ) (cause : Cause) → s.session ≡ Some session
     → sid_fault s.handshake.sid message.sid ≡ None → message.body ≡ DringData seq ident start end state → AckFails ident start end cause → Refuses s message cause
-refused s message session seq ident start end state cause is sid body fails = record {
-  own = record { opened = ap is_some is; sid = sid; body = subst IsOfSession (sym body) tt };
-  seq = seq;
-  ident = ident;
-  start = start;
-  end = end;
-  state = state;
-  body_is = body;
-  fails = fails;
-}
+refused s message session seq ident start end state cause is sid body fails = grind arith
 
 by_ack : (s : ClientState) (k : LinkState) (message : Message) (T : ClientTake → Type 0) (session : ClientSession) (seq ident start end state : ℕ) → Answers s k message T
     → s.session ≡ Some session → sid_fault s.handshake.sid message.sid ≡ None → message.subtype ≡ Ack → message.body ≡ DringData seq ident start end state
@@ -142,23 +129,11 @@ by_ack s k message T session seq ident start end state answers is sid kind body 
 by_session : (s : ClientState) (k : LinkState) (message : Message) (T : ClientTake → Type 0) (session : ClientSession) (subtype : Subtype) (body : MsgBody) → Answers s k message T
     → s.session ≡ Some session → sid_fault s.handshake.sid message.sid ≡ None → message.subtype ≡ subtype → message.body ≡ body
     → T (in_session (record s { link = k }) session message subtype body)
-by_session s k message T session Ack (DringData seq ident start end state) answers is sid kind body =
-    by_ack s k message T session seq ident start end state answers is sid kind body
-by_session s k message T session Nack (DringData seq ident start end state) answers is sid kind body =
-    answers.refuses the_cause.Refused (refused s message session seq ident start end state the_cause.Refused is sid body tt)
-by_session s k message T session _ _ answers is sid kind body = by_take s k message T (handshake_take s.handshake message) answers refl
-
-by_sid : (T : ClientTake → Type 0) (fault : Option Cause) (rest : ClientTake) → ((cause : Cause) → fault ≡ Some cause → T (Resets cause)) → (fault ≡ None → T rest) → T (sid_first fault rest)
-by_sid T None rest other same = same refl
-by_sid T (Some cause) rest other same = other cause refl
+by_session s k message T session subtype body answers is sid kind is_holds = grind (arith, by_ack, by_take)
 
 by_message : (s : ClientState) (k : LinkState) (message : Message) (T : ClientTake → Type 0) (open_one : Option ClientSession) → Answers s k message T → s.session ≡ open_one
     → T (hears_message (record s { link = k }) open_one message)
-by_message s k message T None answers is = by_take s k message T (handshake_take s.handshake message) answers refl
-by_message s k message T (Some session) answers is =
-    by_sid T (sid_fault s.handshake.sid message.sid) (in_session (record s { link = k }) session message message.subtype message.body)
-    (λ cause sid. answers.faults cause (ap (λ (f : Option Cause). fault_or f (handshake_hear s.handshake message.subtype message.sid message.body)) sid))
-    (λ sid. by_session s k message T session message.subtype message.body answers is sid refl refl)
+by_message s k message T open_one answers is = grind (arith, by_take, by_session)
 
 -- A PACKET
 by_decoded : (s : ClientState) (k : LinkState) (T : ClientTake → Type 0) (bytes : List ℕ) (d : Result Message TagFault) → Hearings s k T → k.whole ≡ Some bytes → Decodes bytes d

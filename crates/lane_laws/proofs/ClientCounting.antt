@@ -26,14 +26,7 @@ use Rattle.lane_laws.specs.LaneRests.{ClientRests}
 -- IT BEGINS
 pub client_begins_counting : (shape : Shape) (c : ClientState) (turns : List Turn) (done : ℕ) (k : Option ClientCounts) → ClientCounted shape c turns done k
     → ClientCounted shape (joined_client c) [] done None
-client_begins_counting shape c turns done k counted = record {
-  slots = counted.slots;
-  holds = λ session is on. absurd (cc);
-  announced = refl;
-  infos = refl;
-  acked = refl;
-  agrees = tt;
-}
+client_begins_counting shape c turns done k counted = grind arith
 
 -- THE LOG counts what is heard
 abbrev SameButAcked : Option ClientSession → Option ClientSession → Type 0
@@ -47,22 +40,6 @@ same_acked : (o : Option ClientSession) → SameButAcked o o
 same_acked None = tt
 same_acked (Some s) = (refl, refl, refl, refl, refl)
 
-heard_agrees : (o p : Option ClientSession) (done n : ℕ) (k : Option ClientCounts) → SameButAcked o p → acked_of p ≡ acked_of o + n → ClientAgrees o done k
-    → ClientAgrees p done (change_client (λ (c : ClientCounts). record c { acked = c.acked + n }) k)
-heard_agrees None None done n None same more agrees = tt
-heard_agrees None None done n (Some c) same more agrees = absurd agrees
-heard_agrees (Some s) None done n k same more agrees = absurd same
-heard_agrees None (Some t) done n k same more agrees = absurd same
-heard_agrees (Some s) (Some t) done n None same more agrees = absurd agrees
-heard_agrees (Some s) (Some t) done n (Some c) same more agrees = record {
-  base = same.0 ∙ agrees.base;
-  published = same.1 ∙ agrees.published;
-  announced = same.2 ∙ agrees.announced;
-  infos = same.3 ∙ agrees.infos;
-  acked = more ∙ ap (λ (x : ℕ). x + n) agrees.acked;
-  completed = agrees.completed ∙ ap (λ (x : ℕ). c.base + x) (sym same.4);
-}
-
 -- what is heard after one more packet
 record HeardOf (shape : Shape) (c t : ClientState) (turns : List Turn) (packet : List ℕ) : Type 0 where
   same : SameButAcked c.session t.session
@@ -70,9 +47,7 @@ record HeardOf (shape : Shape) (c t : ClientState) (turns : List Turn) (packet :
 
 hears_agrees : (shape : Shape) (c t : ClientState) (turns : List Turn) (packet : List ℕ) (done : ℕ) (k : Option ClientCounts) → ClientCounted shape c turns done k → HeardOf shape c t turns packet
     → ClientAgrees t.session done (change_client (λ (x : ClientCounts). record x { acked = x.acked + length_in shape.slots (range_ended 2 (half_heard turns) packet) }) k)
-hears_agrees shape c t turns packet done k counted heard_of =
-    heard_agrees c.session t.session done (length_in shape.slots (range_ended 2 (half_heard turns) packet)) k heard_of.same
-    (omega (arith, heard_of.acked, sum_heard shape.slots 2 packet turns, counted.acked)) counted.agrees
+hears_agrees shape c t turns packet done k counted heard_of = grind (arith, sum_heard)
 
 abbrev pub acks_more : Shape → List Turn → List ℕ → Option ClientCounts → Option ClientCounts
 acks_more shape turns packet k = change_client (λ (x : ClientCounts). record x { acked = x.acked + length_in shape.slots (range_ended 2 (half_heard turns) packet) }) k

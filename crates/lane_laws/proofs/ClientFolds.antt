@@ -1,41 +1,38 @@
 -- Each event of a client leaves it as its log counts it: whether it is stuck, and with what.
-use Rattle.std.proofs.Common.{◌≡◌, ℕ, ◌+◌, ◌-◌, ◌≤◌, Bool, true, false, Option, Some, None, List, [], ◌∷◌, ◌++◌, length, refl, sym, ap, ◌∙◌, subst, inl, inr, arith}
-use Rattle.std.specs.Prelude.{is_none, is_some, ◌&&◌, nat_le}
+use Rattle.std.proofs.Common.{◌≡◌, ℕ, ◌+◌, ◌-◌, ◌≤◌, Bool, true, false, Option, Some, None, List, [], length, refl, sym, ap, ◌∙◌, subst, inl, inr, arith}
+use Rattle.std.specs.Prelude.{is_none, is_some, ◌&&◌}
 use Rattle.std.proofs.lemmas.Bool.{ltb-false}
-use Rattle.std.proofs.lemmas.Bool.Decides.{nat_tests}
 use Rattle.std.proofs.lemmas.List.{drop_all, length-append}
 use Rattle.ldc_link.specs.declared.phase.LinkPhase.{LinkPhase}
 use Rattle.ldc_link.specs.declared.phase.LinkPhase.TheVariants as phase
 use Rattle.ldc_link.specs.declared.phase.Role.TheVariants.{Initiator}
 use Rattle.ldc_link.specs.LinkState.{LinkState, is_established, is_up, offered}
-use Rattle.ldc_link.specs.Putting.{begun_behind_put, behind_put, left_behind_put, owed_in, owes, owes_control, owes_in, part_owed}
+use Rattle.ldc_link.specs.Putting.{begun_behind_put, behind_put, left_behind_put, owes, owes_control}
 use Rattle.ldc_queue.specs.Transcript.{Turn}
 use Rattle.vio_tag.specs.declared.message.Message.{Message}
 use Rattle.vio_tag.specs.Spelling.{canonical}
 use Rattle.vio_handshake.specs.declared.handshake.Handshake.{Handshake}
 use Rattle.vio_handshake.specs.State.{handshake_up}
-use Rattle.channel_laws.proofs.MessagesHeld.{owed_held}
-use Rattle.lane_laws.specs.BlockLog.{Blockage, Clear, Stuck, StuckBefore, hearing, is_stuck, stuck}
+use Rattle.lane_laws.specs.BlockLog.{Blockage, Clear, hearing, is_stuck, stuck}
 use Rattle.disk_model.specs.ClientPutting.{announcement, announced, announcing, client_holds, client_kind, holding, is_announcing, session_behind}
-use Rattle.disk_model.specs.ClientRule.{Announces, ClientRule, Completes, Publishes, Puts, Says, client_rule}
+use Rattle.disk_model.specs.ClientRule.{Announces, ClientRule, Puts, Says, client_rule}
 use Rattle.disk_model.specs.ClientState.{ClientSession, ClientState, joined_client, slot_in}
 use Rattle.disk_model.specs.ClientStep.{ClientAdmits, ClientCompletes, ClientPublishes}
-use Rattle.disk_model.specs.DiskEvent.{Accepted, Admitted, Full, Refused}
+use Rattle.disk_model.specs.DiskEvent.{Admitted}
 use Rattle.lane_laws.specs.EndLog.{is_stuck_with_own}
-use Rattle.channel_model.specs.EndPuts.{ComesUp, EndsOwn, EndsHandshake, Goes, PutKind, ending, handshake_behind, kind_in, put_kind, put_opens}
+use Rattle.channel_model.specs.EndPuts.{ComesUp, EndsOwn, EndsHandshake, Goes, PutKind, handshake_behind, put_kind, put_opens}
 use Rattle.channel_model.specs.Ranges.{wrapped}
 use Rattle.channel_model.specs.Sayings.{half_said}
 use Rattle.channel_model.specs.Seeing.{Seen}
 use Rattle.lane_laws.proofs.ClientHolding.{info_long}
 use Rattle.lane_laws.proofs.ClientPutCounting.{own_info, put_as}
 use Rattle.lane_laws.proofs.ClientTaken.{ClientTook}
-use Rattle.channel_laws.proofs.Apart.{false_is_true, none_is_some, some_is_none, some_same, true_is_false}
+use Rattle.channel_laws.proofs.Apart.{none_is_some, some_same}
 use Rattle.channel_laws.proofs.PutSayings.{PutSays}
 use Rattle.channel_laws.proofs.EndStanding.{SameSending, open_up, owing_up}
 use Rattle.lane_laws.proofs.RulesFree.{puts_owe}
 use Rattle.lane_laws.proofs.Ruling.{client_may}
 use Rattle.channel_laws.proofs.Short.{some_bytes}
-use Rattle.channel_laws.specs.Cuts.{CarriesOwed}
 use Rattle.lane_laws.specs.Counted.{ClientHolds}
 use Rattle.lane_laws.specs.LaneRests.{ClientRests, ClientUtters}
 use Rattle.lane_laws.specs.RuleFacts.{ClientMay}
@@ -59,48 +56,18 @@ ClientIs c blockage = ClientIsBy c.link c.handshake c.session blockage
 pub link_begins : (k : LinkState) → k.to_send ≡ [] → LinkIs k Clear
 link_begins k empty = record { owes = λ never. absurd (cc); left = λ fresh some. absurd (omega (arith, some, ap length empty)) }
 
-hearing_stuck : (b : Blockage) → is_stuck (hearing b) ≡ is_stuck b
-hearing_stuck Clear = refl
-hearing_stuck _ = refl
-
 -- it takes a packet where its end isn't urgent
 pub owes_up : (k : LinkState) → is_up k ≡ true → 1 ≤ length k.to_send → owes k ≡ true
-owes_up k up some = in_phase k.phase up
-  where
-    in_left : (left : List ℕ) → 1 ≤ length left → is_some (part_owed k left) ≡ true
-    in_left [] more = absurd (omega (arith, more))
-    in_left (byte ∷ left) more = refl
-
-    in_phase : (ph : LinkPhase) → is_established ph ≡ true → is_some (owed_in ph k) ≡ true
-    in_phase phase.Established at = in_left k.to_send some
-    in_phase _ at = absurd (cc)
+owes_up k up some = grind arith
 
 pub sends_some : (k : LinkState) → is_up k ≡ true → owes k ≡ true → 1 ≤ length k.to_send
-sends_some k up owing = in_phase k.phase up owing
-  where
-    in_left : (left : List ℕ) → is_some (part_owed k left) ≡ true → 1 ≤ length left
-    in_left [] more = false_is_true more
-    in_left (byte ∷ left) more = omega arith
-
-    in_phase : (ph : LinkPhase) → is_established ph ≡ true → is_some (owed_in ph k) ≡ true → 1 ≤ length k.to_send
-    in_phase phase.Established at is = in_left k.to_send is
-    in_phase _ at is = false_is_true at
+sends_some k up owing = grind arith
 
 pub calm_up : (k : LinkState) → owes_control k ≡ false → owes k ≡ true → is_up k ≡ true
-calm_up k calm owing = in_phase k.phase calm owing
-  where
-    in_phase : (ph : LinkPhase) → owes_in ph ≡ false → is_some (owed_in ph k) ≡ true → is_established ph ≡ true
-    in_phase phase.Established quiet is = refl
-    in_phase _ quiet is = absurd (cc)
+calm_up k calm owing = grind arith
 
 pub link_hears : (k m : LinkState) (b : Blockage) → SameSending k m → (is_up k ≡ true → is_up m ≡ true) → (is_stuck b ≡ true → owes_control k ≡ false) → LinkIs k b → LinkIs m (hearing b)
-link_hears k m b same stays calm is = record {
-  owes = λ now.
-      let before : is_stuck b ≡ true = sym (hearing_stuck b) ∙ now in
-      let up : is_up k ≡ true = calm_up k (calm before) (is.owes before) in
-      owes_up m (stays up) (subst (λ (xs : List ℕ). 1 ≤ length xs) (sym same.left) (sends_some k up (is.owes before)));
-  left = λ fresh some. hearing_stuck b ∙ is.left (sym same.begun ∙ fresh) (subst (λ (xs : List ℕ). 1 ≤ length xs) same.left some);
-}
+link_hears k m b same stays calm is = grind arith
 
 -- it puts one
 put_left : (k : LinkState) → (is_up k ≡ false → k.to_send ≡ []) → (behind_put k).begun ≡ false → (behind_put k).to_send ≡ []
@@ -123,9 +90,7 @@ link_stuck k b owing = record { owes = λ now. owing; left = λ fresh some. stuc
 
 -- an end whose link owes nothing isn't stuck
 pub not_stuck : (k : LinkState) (b : Blockage) → LinkIs k b → owes k ≡ false → b ≡ Clear
-not_stuck k Clear is quiet = refl
-not_stuck k Stuck is quiet = true_is_false (sym (is.owes refl) ∙ quiet)
-not_stuck k StuckBefore is quiet = true_is_false (sym (is.owes refl) ∙ quiet)
+not_stuck k b is quiet = grind arith
 
 -- IT BEGINS ANEW
 pub client_begins : (c : ClientState) → ClientIs (joined_client c) Clear
@@ -133,9 +98,7 @@ client_begins c = record { link = link_begins (joined_client c).link refl; annou
 
 -- IT TAKES A PACKET
 own_heard : (b : Blockage) (owed behind : Option Message) → owed ≡ None → is_stuck_with_own b owed ≡ is_stuck_with_own (hearing b) behind
-own_heard Clear owed behind none = refl
-own_heard Stuck owed behind none = ap is_none none
-own_heard StuckBefore owed behind none = refl
+own_heard b owed behind none = grind arith
 
 hears_announcing : (o p : Option ClientSession) (b : Blockage) (owed behind : Option Message) → owed ≡ None → is_announcing p ≡ is_announcing o → is_some p ≡ is_some o
     → is_announcing o ≡ (is_some o && is_stuck_with_own b owed) → is_announcing p ≡ (is_some p && is_stuck_with_own (hearing b) behind)
@@ -149,10 +112,7 @@ pub record Taking (s t : ClientState) : Type 0 where
 
 takes_by : (s t : ClientState) (b : Blockage) → Taking s t → ClientIs s b → (is_up s.link ≡ true → is_up t.link ≡ true) → is_announcing t.session ≡ is_announcing s.session
     → is_some t.session ≡ is_some s.session → ClientIs t (hearing b)
-takes_by s t b taking is stays same some = record {
-  link = link_hears s.link t.link b taking.same stays (λ now. taking.calm) is.link;
-  announcing = hears_announcing s.session t.session b s.handshake.owed t.handshake.owed taking.owed same some is.announcing;
-}
+takes_by s t b taking is stays same some = search (link_hears, hears_announcing)
 
 pub client_takes_so : (s t : ClientState) (turns : List Turn) (packet : List ℕ) (b : Blockage) → Taking s t → ClientIs s b → ClientTook s turns packet t → ClientIs t (hearing b)
 client_takes_so s t turns packet b taking is (inl part) =
@@ -177,14 +137,7 @@ none_announced : (session : Option ClientSession) (h : Handshake) → is_announc
 none_announced session h quiet = quiet ∙ sym (and_false (is_some session))
 
 own_ends : (k : LinkState) (own : Bool) → own ≡ true → is_up k ≡ true → length k.to_send ≤ 56 → put_kind k own ≡ EndsOwn
-own_ends k own sure up short = in_phase k.phase up
-  where
-    whole : nat_le (length k.to_send) 56 ≡ true
-    whole = grind (arith, nat_tests, short)
-
-    in_phase : (ph : LinkPhase) → is_established ph ≡ true → kind_in ph k own ≡ EndsOwn
-    in_phase phase.Established at = ap (λ (x : Bool). ending x own) whole ∙ ap (ending true) sure
-    in_phase _ at = absurd (cc)
+own_ends k own sure up short = grind arith
 
 own_length : (c : ClientState) (turns : List Turn) → is_announcing c.session ≡ true → ClientHolds c turns → length c.link.to_send ≤ 56
 own_length c turns own holds =
@@ -229,19 +182,12 @@ client_puts_so turns packet EndsHandshake c at held says =
 -- IT IS BLOCKED
 stuck_again : (o : Option ClientSession) (h : Handshake) (b : Blockage) → Announcing o h b → (is_stuck b ≡ false → is_announcing o ≡ false → (is_some o && is_none h.owed) ≡ false)
     → Announcing o h (stuck b)
-stuck_again o h Clear is first = let quiet : is_announcing o ≡ false = is ∙ and_false (is_some o) in quiet ∙ sym (first refl quiet)
-stuck_again o h Stuck is first = is
-stuck_again o h StuckBefore is first = is
+stuck_again o h b is first = grind arith
 
 -- what the link has to put is of the handshake, where the client doesn't announce
 first_stuck : (c : ClientState) (turns : List Turn) (o : Option ClientSession) (owed : Option Message) → c.session ≡ o → c.handshake.owed ≡ owed → ClientRests c turns
     → owes c.link ≡ true → is_announcing c.session ≡ false → (is_some o && is_none owed) ≡ false
-first_stuck c turns None owed is owes_is rests owing quiet = refl
-first_stuck c turns (Some session) (Some message) is owes_is rests owing quiet = refl
-first_stuck c turns (Some session) None is owes_is rests owing quiet =
-    let up : is_up c.link ≡ true = open_up Initiator (client_core c) turns rests.stands (ap is_some is) in
-    let some : CarriesOwed c.handshake.owed (half_said turns ++ c.link.to_send) = owed_held Initiator (client_core c) turns rests.stands quiet (sends_some c.link up owing) in
-    some_is_none (sym some.owed ∙ owes_is)
+first_stuck c turns o owed is owes_is rests owing quiet = grind arith
 
 says_owes : (k : LinkState) (message : Message) → is_up k ≡ true → owes (offered (canonical message) k) ≡ true
 says_owes k message up = owes_up (offered (canonical message) k) up (some_bytes message)
@@ -250,9 +196,7 @@ held_is : (one other : ClientState) (b : Blockage) → Some one ≡ Some other �
 held_is one other b same is = let mine : one ≡ other = some_same same in subst (λ (x : ClientState). ClientIs x b) mine is
 
 none_stuck : (o : Option ClientSession) (h : Handshake) (b : Blockage) → b ≡ Clear → Announcing o h b → is_announcing o ≡ false
-none_stuck o h Clear clear is = is ∙ and_false (is_some o)
-none_stuck o h Stuck clear is = absurd (cc)
-none_stuck o h StuckBefore clear is = absurd (cc)
+none_stuck o h b clear is = grind arith
 
 owed_stuck : (o : Option ClientSession) (h : Handshake) (message : Message) (b : Blockage) → b ≡ Clear → h.owed ≡ Some message → Announcing o h b → Announcing o h (stuck b)
 owed_stuck o h message b clear owed is =
@@ -287,25 +231,12 @@ client_blocks_so s at _ t turns b rule may holds known is = none_is_some holds
 
 -- ITS WORK, and a request
 pub client_admits_so : (s : ClientState) (event : Admitted) (t : ClientState) (b : Blockage) → ClientAdmits s event t → ClientIs s b → ClientIs t b
-client_admits_so s (Refused why request) t b admits is = subst (λ (x : ClientState). ClientIs x b) (sym admits.1) is
-client_admits_so s (Full request) t b admits is = subst (λ (x : ClientState). ClientIs x b) (sym admits.2) is
-client_admits_so s (Accepted id request) t b admits is = subst (λ (x : ClientState). ClientIs x b) (sym admits.5) is
-
-works_by : (s : ClientState) (next session : ClientSession) (b : Blockage) → s.session ≡ Some session → next.announcing ≡ session.announcing → ClientIs s b
-    → ClientIsBy s.link s.handshake (Some next) b
-works_by s next session b at same is = record {
-  link = is.link;
-  announcing = same ∙ sym (ap is_announcing at) ∙ is.announcing ∙ ap (λ (p : Option ClientSession). is_some p && is_stuck_with_own b s.handshake.owed) at;
-}
+client_admits_so s event t b admits is = grind arith
 
 pub client_publishes_so : (s : ClientState) (at : Seen) (memory : List ℕ) (id : ℕ) (t : ClientState) (new : List ℕ) (b : Blockage) → ClientPublishes s at memory id t new → ClientIs s b
     → ClientIs t b
-client_publishes_so s at memory id t new b step is =
-    let may : ClientMay s at (Publishes step.session step.request) = subst (ClientMay s at) step.rule (client_may s at) in
-    subst (λ (x : ClientState). ClientIs x b) (sym step.is) (works_by s (record step.session { published = step.session.published + 1 }) step.session b may.1 refl is)
+client_publishes_so s at memory id t new b step is = grind (arith, client_may)
 
 pub client_completes_so : (s : ClientState) (at : Seen) (memory : List ℕ) (id operation status : ℕ) (bytes : List ℕ) (t : ClientState) (new : List ℕ) (b : Blockage)
     → ClientCompletes s at memory id operation status bytes t new → ClientIs s b → ClientIs t b
-client_completes_so s at memory id operation status bytes t new b step is =
-    let may : ClientMay s at (Completes step.session) = subst (ClientMay s at) step.rule (client_may s at) in
-    subst (λ (x : ClientState). ClientIs x b) (sym step.is) (works_by s (record step.session { completed = step.session.completed + 1 }) step.session b may.1 refl is)
+client_completes_so s at memory id operation status bytes t new b step is = grind (arith, client_may)

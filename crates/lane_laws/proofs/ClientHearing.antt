@@ -1,17 +1,15 @@
 -- A client that takes a packet keeps its requests and what its session counts, but for what is acknowledged by it.
-use Rattle.std.proofs.Common.{◌≡◌, ℕ, ◌+◌, ◌≤◌, Option, Some, List, length, refl, sym, ap, ◌∙◌, subst, arith}
+use Rattle.std.proofs.Common.{◌≡◌, ℕ, List, length, refl, sym, ap, ◌∙◌, subst, arith}
 use Rattle.std.specs.Prelude.{is_some, ⊤}
 use Rattle.ldc_link.specs.LinkState.{LinkState, cleared}
 use Rattle.vio_tag.specs.declared.message.Message.{Message}
 use Rattle.disk_model.specs.ClientPutting.{is_announcing}
-use Rattle.disk_model.specs.ClientState.{ClientSession, ClientState}
+use Rattle.disk_model.specs.ClientState.{ClientState}
 use Rattle.disk_model.specs.ClientTaking.{ClientTake, ClientTakes, GoesOn, Resets}
-use Rattle.dring.specs.Slots.{range_length}
 use Rattle.channel_laws.proofs.EndStanding.{heard_leaves}
 use Rattle.lane_laws.proofs.ClientAnswers.{Answers, comes_to, goes_by}
-use Rattle.lane_laws.proofs.Sharing.{in_order}
 use Rattle.lane_laws.specs.Standing.{SessionStands}
-use Rattle.lane_laws.specs.Sound.{ClientSound, CountsInOrder, InOrder}
+use Rattle.lane_laws.specs.Sound.{ClientSound, CountsInOrder}
 
 pub record TakenBy (s t : ClientState) : Type 0 where
   pub sends : t.link.to_send ≡ s.link.to_send
@@ -28,30 +26,8 @@ abbrev TookBy : ClientState → ClientTake → Type 0
 TookBy s (GoesOn t) = TakenBy s t
 TookBy s (Resets cause) = ⊤
 
-acked_more : (pending : ℕ) (open_one : Option ClientSession) (session : ClientSession) (count : ℕ) → open_one ≡ Some session → session.acked + count ≤ session.announced
-    → CountsInOrder pending open_one → CountsInOrder pending (Some (record session { acked = session.acked + count }))
-acked_more pending open_one session count is most all =
-    let counts : InOrder pending session = in_order pending open_one session is all in
-    record { completed = omega (arith, counts.completed); acked = most; announced = counts.announced; published = counts.published; own = counts.own }
-
 answers : (s : ClientState) (k : LinkState) (message : Message) → k.to_send ≡ s.link.to_send → Answers s k message (TookBy s)
-answers s k message sends = record {
-  goes = λ opens h to.
-      record { sends = sends; slots = refl; pending = refl; next = refl; blocks = refl; own = refl; opened = refl; counts = λ counts. counts; keeps = λ done stands. stands };
-  faults = λ cause is. tt;
-  acks = λ a. record {
-    sends = sends;
-    slots = refl;
-    pending = refl;
-    next = refl;
-    blocks = refl;
-    own = ap is_announcing (sym a.session_is);
-    opened = ap is_some (sym a.session_is);
-    counts = λ counts. acked_more (length s.pending) s.session a.session (range_length s.slots a.start a.end) a.session_is a.within counts;
-    keeps = λ done stands. subst (SessionStands done) a.session_is stands;
-  };
-  refuses = λ cause refuses. tt;
-}
+answers s k message sends = grind arith
 
 pub took_by : (s : ClientState) (packet : List ℕ) (t : ClientState) → ClientTakes s packet (GoesOn t) → TakenBy s t
 took_by s packet t takes =

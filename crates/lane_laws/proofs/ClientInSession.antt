@@ -1,7 +1,7 @@
 -- A client in session, on a lane that nobody forged, hears the answer to the first of its ranges that has none, and goes on.
-use Rattle.std.proofs.Common.{◌≡◌, ℕ, ◌+◌, ◌%◌, ◌^◌, ◌<◌, ◌≤◌, Bool, true, false, Option, Some, None, List, [], ◌∷◌, ◌++◌, refl, sym, ap, ◌∙◌, subst, arith, nat_le, nat_lt}
-use Rattle.std.specs.Prelude.{◌&&◌, is_some, if◌then◌else◌, Ok}
-use Rattle.std.proofs.lemmas.Bool.{and_from, le-leb, lt-ltb}
+use Rattle.std.proofs.Common.{◌≡◌, ℕ, ◌+◌, ◌%◌, ◌^◌, ◌<◌, ◌≤◌, Bool, true, false, Option, Some, None, List, [], ◌∷◌, ◌++◌, sym, ap, ◌∙◌, subst, arith}
+use Rattle.std.specs.Prelude.{is_some, if◌then◌else◌, Ok}
+use Rattle.std.proofs.lemmas.Bool.{le-leb}
 use Rattle.std.proofs.lemmas.Nat.{mod_below}
 use Rattle.runs.specs.Lawful.{log_of}
 use Rattle.runs.specs.Run.{Run}
@@ -17,17 +17,15 @@ use Rattle.vio_tag.specs.declared.cause.Cause.TheVariants as the_cause
 use Rattle.vio_tag.specs.declared.message.Message.{Message}
 use Rattle.vio_tag.specs.Spelling.{SpellsMessage}
 use Rattle.vio_handshake.proofs.Agreeable.{same_number}
-use Rattle.vio_handshake.proofs.Places.{AllSaid, Deal, Place, handshake_at}
-use Rattle.vio_handshake.specs.declared.handshake.Handshake.{Handshake}
+use Rattle.vio_handshake.proofs.Places.{AllSaid, Deal}
 use Rattle.vio_handshake.specs.Rules.{sid_fault}
 use Rattle.channel_model.specs.Sayings.{heard, said}
 use Rattle.channel_model.specs.TranscriptLog.{TranscriptLog}
 use Rattle.channel_model.specs.WireLog.{WireLog}
 use Rattle.lane_laws.specs.DiskLog.{after, nothing_yet}
-use Rattle.channel_model.specs.Messages.{range_in}
-use Rattle.lane_laws.specs.WorkLog.{ServerCounts, length_in}
+use Rattle.lane_laws.specs.WorkLog.{ServerCounts}
 use Rattle.disk_model.specs.ClientState.{ClientSession, ClientState, slot_in}
-use Rattle.disk_model.specs.ClientTaking.{ClientTake, GoesOn, HearsWhole, Resets, acknowledged, hears_message, reads, sid_first, takes_ack}
+use Rattle.disk_model.specs.ClientTaking.{ClientTake, GoesOn, HearsWhole, acknowledged, hears_message, reads, sid_first, takes_ack}
 use Rattle.disk_model.specs.DiskEvent.{DiskEvent}
 use Rattle.disk_model.specs.LaneState.{IsShape, LaneState, Shape, fresh}
 use Rattle.disk_model.specs.LaneStep.{LaneStep}
@@ -38,7 +36,7 @@ use Rattle.channel_laws.proofs.Apart.{some_same}
 use Rattle.channel_laws.proofs.EndStanding.{open_up}
 use Rattle.channel_laws.proofs.HandshakePlaces.{AtPlace, deal, open_place}
 use Rattle.channel_laws.specs.Sides.{sides_of}
-use Rattle.lane_laws.proofs.Agreeing.{front_sum, range_answered}
+use Rattle.lane_laws.proofs.Agreeing.{front_sum}
 use Rattle.lane_laws.proofs.LaneCores.{shape_of, transcript_is}
 use Rattle.lane_laws.proofs.DataHeard.{data_spells, decodes_to, read_data}
 use Rattle.lane_laws.proofs.HeardFront.{heard_messages}
@@ -55,14 +53,6 @@ use Rattle.lane_laws.specs.ChannelEnds.{client_core, core_of}
 pub same_is : (one other : ℕ) → one ≡ other → is_other one other ≡ false
 same_is one other is = ap (λ (x : ℕ). is_other one x) (sym is) ∙ ap (λ (b : Bool). if b then false else true) (same_number one)
 
-past : (b : Bool) (x y : ClientTake) → b ≡ false → (if b then x else y) ≡ y
-past true x y is = absurd (cc is)
-past false x y is = refl
-
-at_once : (b : Bool) (x y : ClientTake) → b ≡ true → (if b then x else y) ≡ x
-at_once true x y is = refl
-at_once false x y is = absurd (cc is)
-
 record AckFits (s : ClientState) (session : ClientSession) (n ident start end : ℕ) : Type 0 where
   sid : s.handshake.sid ≡ Some n
   named : s.handshake.draft.ident_own ≡ ident
@@ -72,13 +62,7 @@ record AckFits (s : ClientState) (session : ClientSession) (n ident start end : 
 
 takes_fitting : (s : ClientState) (session : ClientSession) (n ident start end : ℕ) → AckFits s session n ident start end
     → takes_ack s session ident start end ≡ GoesOn (acknowledged s session (range_length s.slots start end))
-takes_fitting s session n ident start end fits =
-    past (is_other s.handshake.draft.ident_own ident) (Resets (the_cause.Ident s.handshake.draft.ident_own ident)) _ (same_is s.handshake.draft.ident_own ident fits.named)
-    ∙ past (is_other (slot_in s session.acked) start) (Resets (the_cause.Slot (slot_in s session.acked) start)) _ (same_is (slot_in s session.acked) start fits.begins)
-    ∙ at_once (nat_lt end s.slots && nat_le (session.acked + range_length s.slots start end) session.announced) (GoesOn (acknowledged s session (range_length s.slots start end)))
-    (Resets (the_cause.RangeEnd end))
-    (and_from (nat_lt end s.slots) (nat_le (session.acked + range_length s.slots start end) session.announced) (lt-ltb end s.slots fits.ends)
-    (le-leb (session.acked + range_length s.slots start end) session.announced fits.within))
+takes_fitting s session n ident start end fits = search (same_is, le-leb)
 
 pub no_fault : (o : Option ℕ) (n : ℕ) → o ≡ Some n → sid_fault o n ≡ None
 no_fault None n is = absurd (cc is)
@@ -106,9 +90,7 @@ goes_on s session n ident start end bytes take is fits spells hears =
 -- WHAT IT MAY HEAR: as many slots as it announced
 pub answered_asked : (slots : ℕ) (o : Option ServerSession) (q : Option ServerCounts) (turns : List Turn) → ServerOrder slots o q turns
     → range_sum slots 2 (said turns) ≤ range_sum slots 1 (heard turns)
-answered_asked slots None q turns order = omega (arith, order.answered)
-answered_asked slots (Some s) None turns order = absurd order
-answered_asked slots (Some s) (Some d) turns order = omega (arith, order.answered, order.asked, range_answered slots s.range d order.range)
+answered_asked slots o q turns order = grind arith
 
 -- the next answer of the server is one that the client takes
 ack_fits : (shape : Shape) (d : Deal) (c : ClientState) (session : ClientSession) (turns : List Turn) (bytes : List ℕ)
@@ -116,24 +98,7 @@ ack_fits : (shape : Shape) (d : Deal) (c : ClientState) (session : ClientSession
     → acked_of c.session ≡ range_sum shape.slots 2 (heard turns) → (is : IsData Responder shape.slots d.sid (range_count 2 (heard turns)) (range_sum shape.slots 2 (heard turns)) bytes)
     → range_sum shape.slots 2 (heard turns ++ bytes ∷ []) ≤ session.announced
     → AckFits c session d.sid d.sid (range_sum shape.slots 2 (heard turns) % shape.slots) is.end
-ack_fits shape d c session turns bytes at last open_is slots few acked is most =
-    let sum = range_sum shape.slots 2 (heard turns) in
-    let counted : session.acked ≡ sum = ap acked_of (sym open_is) ∙ acked in
-    let ends = is.ends in
-    let start_small : sum % shape.slots < 2 ^ 32 = omega (arith, mod_below sum shape.slots (omega (arith, ends)), few) in
-    let end_small : is.end < 2 ^ 32 = omega (arith, ends, few) in
-    let adds : length_in shape.slots (range_in 2 (Some bytes)) ≡ range_length shape.slots (sum % shape.slots) is.end =
-    ap (λ (b : List ℕ). length_in shape.slots (range_in 2 (Some b))) is.bytes_are
-    ∙ said_range shape.slots 2 d.sid Ack is.seq d.sid (sum % shape.slots) is.end is.state refl start_small end_small in
-    let own : range_length c.slots (sum % shape.slots) is.end ≡ range_length shape.slots (sum % shape.slots) is.end =
-    ap (λ (n : ℕ). range_length n (sum % shape.slots) is.end) slots in
-    record {
-      sid = ap (λ (h : Handshake). h.sid) at.is ∙ ap (λ (n : Place). (handshake_at false d Initiator n).sid) last;
-      named = ap (λ (h : Handshake). h.draft.ident_own) at.is ∙ ap (λ (n : Place). (handshake_at false d Initiator n).draft.ident_own) last;
-      begins = ap (λ (n : ℕ). session.acked % n) slots ∙ ap (λ (x : ℕ). x % shape.slots) counted;
-      ends = omega (arith, ends, slots);
-      within = omega (arith, own, adds, counted, sum_more shape.slots 2 (heard turns) bytes, most);
-    }
+ack_fits shape d c session turns bytes at last open_is slots few acked is most = grind (arith, said_range, sum_more)
 
 pub client_hears_in_session : (shape : Shape) (events : List DiskEvent) (s : LaneState) (session : ClientSession) (k : LinkState) (bytes : List ℕ) (take : ClientTake)
     → IsShape shape → Run LaneStep (fresh shape) events s → (log_of after (nothing_yet shape) events).wire.forged ≡ false

@@ -1,6 +1,6 @@
 -- Each step of a disk's client is a move of an end that begins.
-use Rattle.std.proofs.Common.{◌≡◌, ℕ, ◌+◌, ◌-◌, ◌≤◌, ◌<◌, inl, inr, Bool, true, false, Option, Some, None, List, [], ◌∷◌, length, drop, refl, sym, ap, ◌∙◌, subst, arith, length-drop}
-use Rattle.std.specs.Prelude.{◌&&◌, ◌||◌, is_some, is_none, not, nat_le, Ok, Err}
+use Rattle.std.proofs.Common.{◌≡◌, ℕ, ◌+◌, ◌-◌, ◌≤◌, ◌<◌, Bool, true, false, Option, Some, None, List, length, drop, refl, sym, ap, ◌∙◌, subst, arith, length-drop}
+use Rattle.std.specs.Prelude.{◌&&◌, ◌||◌, is_some, is_none, nat_le, Ok, Err}
 use Rattle.std.proofs.lemmas.Bool.{leb-true}
 use Rattle.ldc_link.specs.declared.phase.LinkPhase.{LinkPhase}
 use Rattle.ldc_link.specs.declared.phase.LinkPhase.TheVariants as phase
@@ -8,29 +8,25 @@ use Rattle.ldc_link.specs.declared.phase.Role.TheVariants.{Initiator}
 use Rattle.ldc_link.specs.LinkState.{LinkState, cleared, is_established, is_up, offered}
 use Rattle.ldc_link.specs.Putting.{behind_put, left_behind_put, owes, owes_control}
 use Rattle.ldc_link.specs.Taking.{Heard, LinkTake, Unheard}
-use Rattle.ldc_queue.specs.Messages.{is_empty}
 use Rattle.vio_tag.proofs.Canonical.{length_canonical}
 use Rattle.vio_tag.specs.declared.cause.Cause.{Cause}
 use Rattle.vio_tag.specs.declared.cause.Cause.TheVariants as the_cause
 use Rattle.vio_tag.specs.declared.message.Message.{Message}
 use Rattle.vio_tag.specs.Decoding.{Decodes}
 use Rattle.vio_tag.specs.Spelling.{canonical}
-use Rattle.vio_handshake.specs.declared.handshake.Handshake.{Handshake}
-use Rattle.vio_handshake.specs.Rules.{HandshakeTake, handshake_take}
-use Rattle.disk_model.specs.ClientPutting.{announced, announcement, announcing, client_holds, client_kind, client_opens, client_put, holding, is_announcing, opened_if, session_behind}
-use Rattle.disk_model.specs.ClientRule.{Announces, ClientRule, Completes, Publishes, Puts, Says, Takes, client_rule}
+use Rattle.disk_model.specs.ClientPutting.{announcement, announcing, client_holds, client_opens, client_put, holding, is_announcing, session_behind}
+use Rattle.disk_model.specs.ClientRule.{Announces, ClientRule, Completes, Puts, Says, Takes, client_rule}
 use Rattle.disk_model.specs.ClientState.{ClientSession, ClientState, joined_client}
 use Rattle.disk_model.specs.ClientStep.{ClientAdmits, ClientCompletes, ClientFails, ClientPublishes, ClientSends}
-use Rattle.disk_model.specs.ClientTaking.{ClientTake, ClientTakes, GoesOn, HearsLink, Resets, acknowledged}
-use Rattle.disk_model.specs.DiskEvent.{Accepted, Admitted, Full, Refused}
-use Rattle.channel_model.specs.EndPuts.{ComesUp, EndsHandshake, EndsOwn, Goes, PutKind, ending, kind_in, put_opens}
+use Rattle.disk_model.specs.ClientTaking.{ClientTake, ClientTakes, GoesOn, HearsLink, Resets}
+use Rattle.disk_model.specs.DiskEvent.{Admitted}
+use Rattle.channel_model.specs.EndPuts.{ending, kind_in}
 use Rattle.disk_model.specs.Offering.{client_offer}
-use Rattle.dring.specs.Slots.{range_length}
 use Rattle.channel_model.specs.Seeing.{Seen}
 use Rattle.channel_laws.proofs.Apart.{none_is_some, some_same, true_is_false}
 use Rattle.channel_laws.specs.EndCore.{EndCore, holds}
-use Rattle.channel_laws.specs.EndStep.{EndBegins, EndFails, EndHears, EndSays, EndStays, EndWaits, HandshakeTakes, HearsWhole, Holding, Holds, HoldsOn, HoldsOwed, HoldsOwn, IsOfSession, KeepsOwn, LinkFails, MayTake, WholeFails}
-use Rattle.lane_laws.proofs.ClientAnswers.{Answers, HandshakesTo, comes_to, goes_by}
+use Rattle.channel_laws.specs.EndStep.{EndBegins, EndFails, EndHears, EndSays, EndStays, EndWaits, HearsWhole, Holding, Holds, HoldsOn, HoldsOwed, HoldsOwn, KeepsOwn, LinkFails, MayTake, WholeFails}
+use Rattle.lane_laws.proofs.ClientAnswers.{Answers, comes_to, goes_by}
 use Rattle.lane_laws.proofs.ClientHolding.{client_held, not_own}
 use Rattle.channel_laws.proofs.EndStanding.{SameSending, heard_leaves, up_empty}
 use Rattle.lane_laws.proofs.RulesFree.{nothing_owed, takes_calm}
@@ -39,7 +35,7 @@ use Rattle.lane_laws.proofs.Sharing.{in_order, infos_few}
 use Rattle.lane_laws.specs.Budget.{infos_left, one_if}
 use Rattle.lane_laws.specs.ChannelEnds.{client_core}
 use Rattle.lane_laws.specs.RuleFacts.{ClientMay}
-use Rattle.lane_laws.specs.Sound.{ClientSound, CountsInOrder, InOrder}
+use Rattle.lane_laws.specs.Sound.{ClientSound, InOrder}
 
 -- IT BEGINS
 pub client_begins : (s t : ClientState) → t ≡ joined_client s → EndBegins (client_core s) (client_core t)
@@ -83,27 +79,8 @@ abbrev Comes : ClientState → LinkState → ClientTake → Type 0
 Comes s k (GoesOn t) = TookTo s (cleared k) t × HearsAs s k.whole t
 Comes s k (Resets cause) = FailsAs s k.whole cause
 
-goes_to : (s : ClientState) (k : LinkState) (message : Message) (opens : Bool) (h : Handshake) → HandshakesTo s.handshake (handshake_take s.handshake message) opens h
-    → HandshakeTakes Initiator (is_some s.session) (handshake_take s.handshake message) false (client_core (record s { link = k; handshake = h }))
-goes_to s k message false h is =
-    subst (λ (x : HandshakeTake). HandshakeTakes Initiator (is_some s.session) x false (client_core (record s { link = k; handshake = h }))) (sym is) (refl, refl, refl)
-goes_to s k message true h is =
-    subst (λ (x : HandshakeTake). HandshakeTakes Initiator (is_some s.session) x false (client_core (record s { link = k; handshake = h }))) (sym is) (refl, refl, refl)
-
 answers : (s : ClientState) (k : LinkState) (bytes : List ℕ) (message : Message) → k.whole ≡ Some bytes → Decodes bytes (Ok message) → Answers s (cleared k) message (Comes s k)
-answers s k bytes message whole decodes = record {
-  goes = λ opens h to. (
-    record { link = refl; blocks = refl; slots = refl; own = refl },
-    subst (λ (w : Option (List ℕ)). HearsAs s w (record s { link = cleared k; handshake = h })) (sym whole) (Ok message, decodes, inl (goes_to s (cleared k) message opens h to)),
-  );
-  faults = λ cause is. subst (λ (w : Option (List ℕ)). FailsAs s w cause) (sym whole) (Ok message, decodes, inl is);
-  acks = λ a. (
-    record { link = refl; blocks = refl; slots = refl; own = ap is_announcing (sym a.session_is) },
-    subst (λ (w : Option (List ℕ)). HearsAs s w (acknowledged (record s { link = cleared k }) a.session (range_length s.slots a.start a.end))) (sym whole)
-        (Ok message, decodes, inr (record { opened = ap is_some a.session_is; sid = a.sid_is; body = subst IsOfSession (sym a.body_is) tt }, refl, refl, ap is_some (sym a.session_is))),
-  );
-  refuses = λ cause refuses. subst (λ (w : Option (List ℕ)). FailsAs s w cause) (sym whole) (Ok message, decodes, inr refuses.own);
-}
+answers s k bytes message whole decodes = grind arith
 
 pub cleared_is : (k : LinkState) → k.whole ≡ None → k ≡ cleared k
 cleared_is k none = ap (λ (w : Option (List ℕ)). record k { whole = w }) none
@@ -175,11 +152,7 @@ record HoldsTo (s held : ClientState) : Type 0 where
   holds : Holds (client_core s) what (client_core held)
 
 pub holds_and : (k : LinkState) → holds k ≡ true → is_up k ≡ true
-holds_and k is = first (is_up k) (not (is_empty k.to_send)) is
-  where
-    first : (a b : Bool) → (a && b) ≡ true → a ≡ true
-    first true b is = refl
-    first false b is = absurd (cc is)
+holds_and k is = grind arith
 
 holds_says : (s : ClientState) (message : Message) → ClientSound s → owes s.link ≡ false → s.handshake.owed ≡ Some message → HoldsTo s (holding message s)
 holds_says s message sound quiet owed = record {
@@ -251,27 +224,7 @@ held_open s at held sound is = let to = holds_by s at (client_rule s at) held so
 
 -- IT PUTS a packet: whose the link's message is stays, unless it is wholly put
 pub holds_none : (k : LinkState) (xs : List ℕ) (X : Type 0) → k.to_send ≡ xs → length xs ≤ 0 → holds k ≡ true → X
-holds_none k [] X is few up = absurd (cc (both (is_up k) up))
-  where
-    both : (a : Bool) → (a && not (is_empty k.to_send)) ≡ true → true ≡ false
-    both true up = sym up ∙ ap (λ (bytes : List ℕ). not (is_empty bytes)) is
-    both false up = sym up
-holds_none k (x ∷ xs) X is few up = absurd (omega (arith, few))
-
--- its session after it
-announced_open : (o : Option ClientSession) → is_some (announced o) ≡ is_some o
-announced_open None = refl
-announced_open (Some s) = refl
-
-opened_if_open : (b : Bool) (c : ClientState) → is_some (opened_if b c) ≡ (b || is_some c.session)
-opened_if_open true c = refl
-opened_if_open false c = refl
-
-behind_open : (kind : PutKind) (c : ClientState) → is_some (session_behind kind c) ≡ (put_opens kind c.handshake || is_some c.session)
-behind_open EndsOwn c = announced_open c.session
-behind_open Goes c = refl
-behind_open ComesUp c = refl
-behind_open EndsHandshake c = opened_if_open (put_opens EndsHandshake c.handshake) c
+holds_none k xs X is few up = grind arith
 
 put_own_in : (ph : LinkPhase) (c : ClientState) (last : Bool) → c.link.phase ≡ ph → nat_le (length c.link.to_send) 56 ≡ last → is_up c.link ≡ true → holds (behind_put c.link) ≡ true
     → is_announcing (session_behind (kind_in ph c.link (is_announcing c.session)) c) ≡ is_announcing c.session
@@ -282,23 +235,6 @@ put_own_in phase.Established c false at long up still =
     ap (λ (b : Bool). is_announcing (session_behind (ending b (is_announcing c.session)) c)) long
 put_own_in _ c last at short up still = true_is_false (sym up ∙ ap is_established at)
 
-infos_announced : (slots pending : ℕ) (open_one : Option ClientSession) → CountsInOrder pending open_one → is_announcing open_one ≡ true
-    → infos_left slots (announced open_one) ≤ infos_left slots open_one
-infos_announced slots pending None counts own = absurd (cc own)
-infos_announced slots pending (Some s) counts own = omega (arith, counts.own own, ap one_if own, counts.acked)
-
-own_ends : (c : ClientState) (last own : Bool) → is_announcing c.session ≡ own → ClientSound c → put_opens (ending last own) c.handshake ≡ false
-    → infos_left c.slots (session_behind (ending last own) c) ≤ infos_left c.slots c.session
-own_ends c true true is sound opens = infos_announced c.slots (length c.pending) c.session sound.counts is
-own_ends c true false is sound opens = omega (arith, ap (λ (b : Bool). infos_left c.slots (opened_if b c)) opens)
-own_ends c false own is sound opens = omega arith
-
-put_infos_in : (ph : LinkPhase) (c : ClientState) → ClientSound c → put_opens (kind_in ph c.link (is_announcing c.session)) c.handshake ≡ false
-    → infos_left c.slots (session_behind (kind_in ph c.link (is_announcing c.session)) c) ≤ infos_left c.slots c.session
-put_infos_in phase.Established c sound opens = own_ends c (nat_le (length c.link.to_send) 56) (is_announcing c.session) refl sound opens
-put_infos_in phase.OwesRdx c sound opens = omega arith
-put_infos_in _ c sound opens = omega arith
-
 record PutsTo (packet : List ℕ) (opens : Bool) (held t : ClientState) : Type 0 where
   handshake : t.handshake ≡ (client_put held).handshake
   is_open : is_some t.session ≡ (opens || is_some held.session)
@@ -307,13 +243,7 @@ record PutsTo (packet : List ℕ) (opens : Bool) (held t : ClientState) : Type 0
   more : opens ≡ false → infos_left t.slots t.session ≤ infos_left held.slots held.session
 
 puts_to : (packet : List ℕ) (opens : Bool) (held : ClientState) → ClientSound held → opens ≡ client_opens held → PutsTo packet opens held (client_put held)
-puts_to packet opens held sound is = record {
-  handshake = refl;
-  is_open = behind_open (client_kind held) held ∙ ap (λ (b : Bool). b || is_some held.session) (sym is);
-  offer = refl;
-  own = λ before behind. put_own_in held.link.phase held (nat_le (length held.link.to_send) 56) refl refl (holds_and held.link before) behind;
-  more = λ closed. put_infos_in held.link.phase held sound (sym is ∙ closed);
-}
+puts_to packet opens held sound is = grind (arith, put_own_in)
 
 pub client_says : (s : ClientState) (at : Seen) (memory packet : List ℕ) (opens : Bool) (t : ClientState) (new : List ℕ) → ClientSound s → ClientSound t
     → ClientSends s at memory packet opens t new → EndSays Initiator (client_core s) packet opens (client_core t)
@@ -342,21 +272,12 @@ pub client_same : (s t : ClientState) → t ≡ s → EndStays (client_core s) (
 client_same s t is = subst (λ (x : ClientState). EndStays (client_core s) (client_core x)) (sym is) (stays s)
 
 pub client_asked : (s : ClientState) (event : Admitted) (t : ClientState) → ClientAdmits s event t → EndStays (client_core s) (client_core t)
-client_asked s (Refused why request) t admits = client_same s t admits.1
-client_asked s (Full request) t admits = client_same s t admits.2
-client_asked s (Accepted id request) t admits =
-    subst (λ (x : ClientState). EndStays (client_core s) (client_core x)) (sym admits.5) (record { link = refl; handshake = refl; offer = refl; is_open = refl; own = refl; more = omega arith })
+client_asked s event t admits = grind arith
 
 pub client_published : (s : ClientState) (at : Seen) (memory : List ℕ) (id : ℕ) (t : ClientState) (new : List ℕ) → ClientPublishes s at memory id t new
     → EndStays (client_core s) (client_core t)
-client_published s at memory id t new step =
-    let may : ClientMay s at (Publishes step.session step.request) = subst (ClientMay s at) step.rule (client_may s at) in
-    subst (λ (x : ClientState). EndStays (client_core s) (client_core x)) (sym step.is)
-    (record { link = refl; handshake = refl; offer = refl; is_open = ap is_some (sym may.1); own = ap is_announcing (sym may.1); more = omega (arith, ap (infos_left s.slots) may.1) })
+client_published s at memory id t new step = grind (arith, client_may)
 
 pub client_completed : (s : ClientState) (at : Seen) (memory : List ℕ) (id operation status : ℕ) (bytes : List ℕ) (t : ClientState) (new : List ℕ)
     → ClientCompletes s at memory id operation status bytes t new → EndStays (client_core s) (client_core t)
-client_completed s at memory id operation status bytes t new step =
-    let may : ClientMay s at (Completes step.session) = subst (ClientMay s at) step.rule (client_may s at) in
-    subst (λ (x : ClientState). EndStays (client_core s) (client_core x)) (sym step.is)
-    (record { link = refl; handshake = refl; offer = refl; is_open = ap is_some (sym may.1); own = ap is_announcing (sym may.1); more = omega (arith, ap (infos_left s.slots) may.1) })
+client_completed s at memory id operation status bytes t new step = grind (arith, client_may)

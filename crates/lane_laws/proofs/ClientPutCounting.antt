@@ -1,8 +1,7 @@
 -- A packet that a client puts leaves its session counting what it said and heard.
 use Rattle.std.proofs.Common.{◌≡◌, ℕ, ◌+◌, ◌-◌, ◌<◌, ◌≤◌, Bool, true, false, Option, Some, None, List, ◌∷◌, ◌++◌, length, refl, sym, ap, ◌∙◌, subst, arith}
-use Rattle.std.specs.Prelude.{is_some, ⊤}
+use Rattle.std.specs.Prelude.{⊤}
 use Rattle.std.proofs.lemmas.Nat.{mod_below}
-use Rattle.ldc_link.specs.declared.phase.Role.TheVariants.{Initiator}
 use Rattle.ldc_link.specs.LinkState.{is_up}
 use Rattle.ldc_link.specs.Putting.{behind_put}
 use Rattle.ldc_packet.specs.declared.packet.Subtype.TheVariants.{Info}
@@ -21,7 +20,6 @@ use Rattle.channel_model.specs.Ranges.{wrapped}
 use Rattle.dring.specs.Slots.{range_length}
 use Rattle.channel_laws.proofs.Apart.{false_is_true, some_same}
 use Rattle.channel_laws.proofs.PutSayings.{SaysWhole, SaysOn}
-use Rattle.channel_laws.proofs.EndStanding.{open_up}
 use Rattle.lane_laws.proofs.RangeSums.{count_more, count_said, sum_more, sum_said}
 use Rattle.lane_laws.proofs.RangeTurns.{range_turns}
 use Rattle.lane_laws.proofs.RangesSaid.{said_one, said_range}
@@ -29,7 +27,6 @@ use Rattle.lane_laws.proofs.Sharing.{in_order}
 use Rattle.lane_laws.specs.Counted.{ClientCounted, ClientHolds, acked_of, announced_of, infos_of, range_count, range_sum}
 use Rattle.lane_laws.specs.LaneRests.{ClientRests, ClientUtters}
 use Rattle.lane_laws.specs.Sound.{ClientSound, InOrder}
-use Rattle.lane_laws.specs.ChannelEnds.{client_core}
 
 -- THE LOG counts what is said
 abbrev pub SameButSaid : Option ClientSession → Option ClientSession → Type 0
@@ -41,22 +38,6 @@ SameButSaid (Some s) (Some t) = (t.base ≡ s.base) × (t.published ≡ s.publis
 pub same_said : (o : Option ClientSession) → SameButSaid o o
 same_said None = tt
 same_said (Some s) = (refl, refl, refl, refl)
-
-said_agrees : (o p : Option ClientSession) (done n m : ℕ) (k : Option ClientCounts) → SameButSaid o p → announced_of p ≡ announced_of o + n → infos_of p ≡ infos_of o + m → ClientAgrees o done k
-    → ClientAgrees p done (change_client (λ (c : ClientCounts). record c { announced = c.announced + n; infos = c.infos + m }) k)
-said_agrees None None done n m None same more one agrees = tt
-said_agrees None None done n m (Some c) same more one agrees = absurd agrees
-said_agrees (Some s) None done n m k same more one agrees = absurd same
-said_agrees None (Some t) done n m k same more one agrees = absurd same
-said_agrees (Some s) (Some t) done n m None same more one agrees = absurd agrees
-said_agrees (Some s) (Some t) done n m (Some c) same more one agrees = record {
-  base = same.0 ∙ agrees.base;
-  published = same.1 ∙ agrees.published;
-  announced = more ∙ ap (λ (x : ℕ). x + n) agrees.announced;
-  infos = one ∙ ap (λ (x : ℕ). x + m) agrees.infos;
-  acked = same.2 ∙ agrees.acked;
-  completed = agrees.completed ∙ ap (λ (x : ℕ). c.base + x) (sym same.3);
-}
 
 -- a client after a packet of this kind, and its counts in the log
 abbrev pub put_as : PutKind → ClientState → ClientState
@@ -77,10 +58,7 @@ pub record SaidOf (shape : Shape) (c : ClientState) (p : Option ClientSession) (
 
 pub says_agrees : (shape : Shape) (c : ClientState) (p : Option ClientSession) (turns : List Turn) (packet : List ℕ) (sid done : ℕ) (k : Option ClientCounts) → ClientCounted shape c turns done k
     → SaidOf shape c p turns packet → ClientAgrees p done (counts_as shape false turns packet sid done k)
-says_agrees shape c p turns packet sid done k counted says =
-    said_agrees c.session p done (length_in shape.slots (range_ended 1 (half_said turns) packet)) (one_in (range_ended 1 (half_said turns) packet)) k says.same
-    (omega (arith, says.announced, sum_said shape.slots 1 packet turns, counted.announced))
-    (omega (arith, says.infos, count_said 1 packet turns, counted.infos)) counted.agrees
+says_agrees shape c p turns packet sid done k counted says = grind (arith, sum_said, count_said)
 
 -- A PACKET THAT GOES ON
 on_holds : (c : ClientState) (turns : List Turn) (packet : List ℕ) → SaysOn c.link turns packet → ClientHolds c turns → ClientHolds (record c { link = behind_put c.link }) (Said packet ∷ turns)
@@ -104,19 +82,7 @@ goes_counting shape c turns packet sid done k on counted =
 pub comes_counting : (shape : Shape) (c : ClientState) (turns : List Turn) (packet : List ℕ) (sid done : ℕ) (k : Option ClientCounts) → ClientRests c turns → ClientUtters c turns → is_up c.link ≡ false
     → SaysOn c.link turns packet → ClientCounted shape c turns done k
     → ClientCounted shape (put_as ComesUp c) (Said packet ∷ turns) done (counts_as shape false turns packet sid done k)
-comes_counting shape c turns packet sid done k rests utters down on counted =
-    let announced : announced_of c.session ≡ range_sum shape.slots 1 (said (Said packet ∷ turns)) = counted.announced ∙ ap (range_sum shape.slots 1) (sym on.messages) in
-    let infos : infos_of c.session ≡ range_count 1 (said (Said packet ∷ turns)) = counted.infos ∙ ap (range_count 1) (sym on.messages) in
-    record {
-      slots = counted.slots;
-      holds = λ session is now.
-          let up : is_up c.link ≡ true = open_up Initiator (client_core c) turns rests.stands (ap is_some is) in
-          false_is_true (sym down ∙ up);
-      announced = announced;
-      infos = infos;
-      acked = counted.acked;
-      agrees = says_agrees shape c c.session turns packet sid done k counted (record { same = same_said c.session; announced = announced; infos = infos });
-    }
+comes_counting shape c turns packet sid done k rests utters down on counted = grind arith
 
 -- THE LAST PART of its own INFO: all that is published is announced
 pub record OwnInfo (c : ClientState) (bytes : List ℕ) : Type 0 where

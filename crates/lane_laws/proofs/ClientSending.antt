@@ -5,30 +5,13 @@ use Rattle.std.proofs.lemmas.Bool.{leb-false}
 use Rattle.ldc_link.specs.declared.phase.LinkPhase.{LinkPhase}
 use Rattle.ldc_link.specs.declared.phase.LinkPhase.TheVariants as phase
 use Rattle.ldc_link.specs.Putting.{left_behind_put}
-use Rattle.disk_model.specs.ClientPutting.{announced, client_kind, client_put, is_announcing, opened_if, session_behind}
+use Rattle.disk_model.specs.ClientPutting.{announced, client_put, is_announcing, opened_if, session_behind}
 use Rattle.disk_model.specs.ClientState.{ClientSession, ClientState}
-use Rattle.channel_model.specs.EndPuts.{ComesUp, EndsOwn, EndsHandshake, Goes, PutKind, ending, kind_in, put_opens}
+use Rattle.channel_model.specs.EndPuts.{EndsHandshake, PutKind, ending, kind_in, put_opens}
 use Rattle.lane_laws.specs.Sound.{ClientSound, CountsInOrder}
 
-announced_counts : (pending : ℕ) (open_one : Option ClientSession) → CountsInOrder pending open_one → CountsInOrder pending (announced open_one)
-announced_counts pending None counts = tt
-announced_counts pending (Some s) counts = record {
-  completed = counts.completed;
-  acked = omega (arith, counts.acked, counts.announced);
-  announced = omega arith;
-  published = counts.published;
-  own = λ own. absurd (cc);
-}
-
-opened_counts : (b : Bool) (c : ClientState) → CountsInOrder (length c.pending) c.session → CountsInOrder (length c.pending) (opened_if b c)
-opened_counts true c counts = record { completed = omega arith; acked = omega arith; announced = omega arith; published = omega arith; own = λ own. absurd (cc) }
-opened_counts false c counts = counts
-
 behind_counts : (kind : PutKind) (c : ClientState) → CountsInOrder (length c.pending) c.session → CountsInOrder (length c.pending) (session_behind kind c)
-behind_counts EndsOwn c counts = announced_counts (length c.pending) c.session counts
-behind_counts Goes c counts = counts
-behind_counts ComesUp c counts = counts
-behind_counts EndsHandshake c counts = opened_counts (put_opens EndsHandshake c.handshake) c counts
+behind_counts kind c counts = grind arith
 
 -- an INFO that isn't wholly put is still held
 pub not_announcing : (open_one : Option ClientSession) → is_announcing (announced open_one) ≡ false
@@ -58,9 +41,4 @@ own_in phase.Established c sound own = parts_own c (nat_le (length c.link.to_sen
 own_in _ c sound own = sound.own own
 
 pub client_put_sound : (c : ClientState) → ClientSound c → ClientSound (client_put c)
-client_put_sound c sound = record {
-  own = own_in c.link.phase c sound;
-  slots = sound.slots;
-  pending = sound.pending;
-  counts = behind_counts (client_kind c) c sound.counts;
-}
+client_put_sound c sound = search (own_in, behind_counts)

@@ -3,7 +3,7 @@
 use Rattle.std.proofs.Common.{◌≡◌, ℕ, ◌+◌, inl, Bool, true, false, Option, Some, None, List, [], ◌∷◌, ◌++◌, length, refl, sym, ap, ◌∙◌, subst, arith}
 use Rattle.std.specs.Prelude.{is_some}
 use Rattle.ldc_link.specs.declared.phase.Role.{Role}
-use Rattle.ldc_link.specs.declared.phase.Role.TheVariants.{Initiator, Responder}
+use Rattle.ldc_link.specs.declared.phase.Role.TheVariants.{Initiator}
 use Rattle.ldc_link.specs.LinkState.{is_up}
 use Rattle.ldc_link.specs.Putting.{behind_put, owes}
 use Rattle.ldc_queue.specs.Transcript.{Said, Turn}
@@ -14,20 +14,20 @@ use Rattle.vio_handshake.specs.declared.handshake.Phase.TheVariants.{Open, PeerR
 use Rattle.vio_handshake.specs.Rules.{opens_by_put, handshake_sent}
 use Rattle.channel_model.specs.Sayings.{half_said, said}
 use Rattle.channel_laws.proofs.MessagesHeld.{owed_held}
-use Rattle.lane_laws.specs.Agreement.{ClientAgrees, ClientCountsAgree}
+use Rattle.lane_laws.specs.Agreement.{ClientAgrees}
 use Rattle.channel_model.specs.Messages.{range_in}
-use Rattle.lane_laws.specs.WorkLog.{ClientCounts, change_client, length_in, one_in}
+use Rattle.lane_laws.specs.WorkLog.{ClientCounts, change_client}
 use Rattle.disk_model.specs.ClientPutting.{announcement, announcing, client_holds, holding, is_announcing, opened_if}
-use Rattle.disk_model.specs.ClientRule.{Announces, ClientRule, Completes, Publishes, Puts, Says}
+use Rattle.disk_model.specs.ClientRule.{Announces, ClientRule, Publishes, Puts, Says}
 use Rattle.disk_model.specs.ClientState.{ClientSession, ClientState, first_id, opened_session}
 use Rattle.disk_model.specs.ClientStep.{ClientAdmits, ClientCompletes, ClientPublishes}
-use Rattle.disk_model.specs.DiskEvent.{Accepted, Admitted, Full, Refused}
+use Rattle.disk_model.specs.DiskEvent.{Admitted}
 use Rattle.disk_model.specs.LaneState.{Shape}
 use Rattle.channel_model.specs.Seeing.{Seen}
 use Rattle.lane_laws.proofs.ClientPutCounting.{counts_as, none_left, put_as, same_said, says_agrees}
 use Rattle.channel_laws.proofs.Apart.{false_is_true, none_is_some, some_same}
 use Rattle.channel_laws.proofs.PutSayings.{SaysWhole}
-use Rattle.channel_laws.proofs.EndStanding.{open_up, owing_up, up_empty}
+use Rattle.channel_laws.proofs.EndStanding.{open_up, up_empty}
 use Rattle.lane_laws.proofs.RangeSums.{count_more, sum_more}
 use Rattle.lane_laws.proofs.RangesSaid.{owed_no_range}
 use Rattle.lane_laws.proofs.RulesFree.{publishes_free}
@@ -42,9 +42,7 @@ use Rattle.channel_model.specs.EndPuts.{EndsHandshake, put_opens}
 
 -- A MESSAGE OF THE HANDSHAKE is put whole: by the agreement to RDX the session opens
 pub opens_phase : (role : Role) (phase : Phase) → opens_by_put role phase ≡ true → phase ≡ PeerReadyTaken
-opens_phase Initiator PeerReadyTaken is = refl
-opens_phase Initiator phase is = absurd (cc)
-opens_phase Responder phase is = absurd (cc)
+opens_phase role phase is = grind arith
 
 closed : (o : Option ClientSession) (phase : Phase) → (is_some o ≡ true → phase ≡ Open) → phase ≡ PeerReadyTaken → o ≡ None
 closed None phase opened is = refl
@@ -74,12 +72,7 @@ record SumsSame (shape : Shape) (turns : List Turn) (packet : List ℕ) : Type 0
   infos : range_count 1 (said (Said packet ∷ turns)) ≡ range_count 1 (said turns)
 
 sums_same : (shape : Shape) (c : ClientState) (turns : List Turn) (packet : List ℕ) → SaysWhole c.link turns packet → PutsOwed c (half_said turns ++ c.link.to_send) → SumsSame shape turns packet
-sums_same shape c turns packet last owed =
-    let bytes = half_said turns ++ c.link.to_send in
-    record {
-      ranges = omega (arith, ap (range_sum shape.slots 1) last.messages, sum_more shape.slots 1 (said turns) bytes, ap (length_in shape.slots) owed.none);
-      infos = omega (arith, ap (range_count 1) last.messages, count_more 1 (said turns) bytes, ap one_in owed.none);
-    }
+sums_same shape c turns packet last owed = grind (arith, sum_more, count_more)
 
 pub none_more : (n : ℕ) → n ≡ n + 0
 none_more n = omega arith
@@ -127,50 +120,17 @@ record Known (c : ClientState) (turns : List Turn) : Type 0 where
   rests : ClientRests c turns
   utters : ClientUtters c turns
 
-free_half : (c : ClientState) (turns : List Turn) → ClientUtters c turns → c.link.to_send ≡ [] → half_said turns ≡ []
-free_half c turns utters empty = utters.half empty
-
 -- a link that holds nothing holds no INFO
 no_own : (c : ClientState) (session : ClientSession) → ClientSound c → c.link.to_send ≡ [] → c.session ≡ Some session → session.announcing ≡ true → ⊥
 no_own c session sound empty is announces = absurd (omega (arith, sound.own (ap is_announcing is ∙ announces), ap length empty))
 
 says_counting : (shape : Shape) (c : ClientState) (turns : List Turn) (message : Message) (done : ℕ) (k : Option ClientCounts) → Known c turns → owes c.link ≡ false → c.handshake.owed ≡ Some message
     → ClientCounted shape c turns done k → ClientCounted shape (holding message c) turns done k
-says_counting shape c turns message done k known free owed counted =
-    let empty : c.link.to_send ≡ [] = up_empty c.link (owing_up Initiator (client_core c) turns message known.rests.stands owed) free in
-    record {
-      slots = counted.slots;
-      holds = λ session is announces. absurd (no_own c session known.sound empty is announces);
-      announced = counted.announced;
-      infos = counted.infos;
-      acked = counted.acked;
-      agrees = counted.agrees;
-    }
-
-announcing_agrees : (o : Option ClientSession) (session : ClientSession) (done : ℕ) (k : Option ClientCounts) → o ≡ Some session → ClientAgrees o done k
-    → ClientAgrees (Some (record session { announcing = true })) done k
-announcing_agrees None session done k is agrees = none_is_some is
-announcing_agrees (Some s) session done None is agrees = absurd agrees
-announcing_agrees (Some s) session done (Some c) is agrees =
-    let same : s ≡ session = some_same is in
-    subst (λ (x : ClientSession). ClientCountsAgree (record x { announcing = true }) done c) same
-    (record { base = agrees.base; published = agrees.published; announced = agrees.announced; infos = agrees.infos; acked = agrees.acked; completed = agrees.completed })
+says_counting shape c turns message done k known free owed counted = grind arith
 
 announces_counting : (shape : Shape) (c : ClientState) (turns : List Turn) (session : ClientSession) (done : ℕ) (k : Option ClientCounts) → Known c turns → owes c.link ≡ false
     → c.session ≡ Some session → ClientCounted shape c turns done k → ClientCounted shape (announcing session (holding (announcement c session) c)) turns done k
-announces_counting shape c turns session done k known free is counted =
-    let empty : c.link.to_send ≡ [] = up_empty c.link (open_up Initiator (client_core c) turns known.rests.stands (ap is_some is)) free in
-    let half = free_half c turns known.utters empty in
-    record {
-      slots = counted.slots;
-      holds = λ other now announces.
-          let same : record session { announcing = true } ≡ other = cc is in
-          ap (λ (xs : List ℕ). xs ++ canonical (announcement c session)) half ∙ ap (λ (x : ClientSession). canonical (announcement c x)) same;
-      announced = ap announced_of (sym is) ∙ counted.announced;
-      infos = ap infos_of (sym is) ∙ counted.infos;
-      acked = ap acked_of (sym is) ∙ counted.acked;
-      agrees = announcing_agrees c.session session done k is counted.agrees;
-    }
+announces_counting shape c turns session done k known free is counted = grind arith
 
 held_is : (shape : Shape) (one other : ClientState) (turns : List Turn) (done : ℕ) (k : Option ClientCounts) → Some one ≡ Some other → ClientCounted shape one turns done k
     → ClientCounted shape other turns done k
@@ -190,12 +150,7 @@ client_holds_counting shape c at _ held turns done k sound rests utters may is c
 -- ITS WORK: it publishes a request
 published_agrees : (o : Option ClientSession) (session : ClientSession) (done : ℕ) (k : Option ClientCounts) → o ≡ Some session → ClientAgrees o done k
     → ClientAgrees (Some (record session { published = session.published + 1 })) done (change_client (λ (c : ClientCounts). record c { published = c.published + 1 }) k)
-published_agrees None session done k is agrees = none_is_some is
-published_agrees (Some s) session done None is agrees = absurd agrees
-published_agrees (Some s) session done (Some c) is agrees =
-    let same : s ≡ session = some_same is in
-    subst (λ (x : ClientSession). ClientCountsAgree (record x { published = x.published + 1 }) done (record c { published = c.published + 1 })) same
-    (record { base = agrees.base; published = ap (λ (n : ℕ). n + 1) agrees.published; announced = agrees.announced; infos = agrees.infos; acked = agrees.acked; completed = agrees.completed })
+published_agrees o session done k is agrees = grind arith
 
 pub client_publishes_counting : (shape : Shape) (c : ClientState) (at : Seen) (memory : List ℕ) (id : ℕ) (t : ClientState) (new : List ℕ) (turns : List Turn) (done : ℕ) (k : Option ClientCounts)
     → ClientSound c → ClientRests c turns → ClientPublishes c at memory id t new → ClientCounted shape c turns done k
@@ -216,47 +171,11 @@ client_publishes_counting shape c at memory id t new turns done k sound rests st
     })
 
 -- it completes one
-completed_agrees : (o : Option ClientSession) (session : ClientSession) (done : ℕ) (k : Option ClientCounts) → o ≡ Some session → ClientAgrees o done k
-    → ClientAgrees (Some (record session { completed = session.completed + 1 })) (done + 1) k
-completed_agrees None session done k is agrees = none_is_some is
-completed_agrees (Some s) session done None is agrees = absurd agrees
-completed_agrees (Some s) session done (Some c) is agrees =
-    let same : s ≡ session = some_same is in
-    subst (λ (x : ClientSession). ClientCountsAgree (record x { completed = x.completed + 1 }) (done + 1) c) same
-    (record {
-      base = agrees.base;
-      published = agrees.published;
-      announced = agrees.announced;
-      infos = agrees.infos;
-      acked = agrees.acked;
-      completed = omega (arith, agrees.completed);
-    })
-
 pub client_completes_counting : (shape : Shape) (c : ClientState) (at : Seen) (memory : List ℕ) (id operation status : ℕ) (bytes : List ℕ) (t : ClientState) (new : List ℕ) (turns : List Turn)
     (done : ℕ) (k : Option ClientCounts) → ClientCompletes c at memory id operation status bytes t new → ClientCounted shape c turns done k → ClientCounted shape t turns (done + 1) k
-client_completes_counting shape c at memory id operation status bytes t new turns done k step counted =
-    let may : ClientMay c at (Completes step.session) = subst (ClientMay c at) step.rule (client_may c at) in
-    subst (λ (x : ClientState). ClientCounted shape x turns (done + 1) k) (sym step.is) (record {
-      slots = counted.slots;
-      holds = λ other now announces.
-          let same : record step.session { completed = step.session.completed + 1 } ≡ other = cc in
-          counted.holds step.session may.1 (ap (λ (x : ClientSession). x.announcing) same ∙ announces) ∙ ap (λ (x : ClientSession). canonical (announcement c x)) same;
-      announced = ap announced_of (sym may.1) ∙ counted.announced;
-      infos = ap infos_of (sym may.1) ∙ counted.infos;
-      acked = ap acked_of (sym may.1) ∙ counted.acked;
-      agrees = completed_agrees c.session step.session done k may.1 counted.agrees;
-    })
+client_completes_counting shape c at memory id operation status bytes t new turns done k step counted = grind (arith, client_may)
 
 -- and what is asked of it
 pub client_admits_counting : (shape : Shape) (c : ClientState) (event : Admitted) (t : ClientState) (turns : List Turn) (done : ℕ) (k : Option ClientCounts) → ClientAdmits c event t
     → ClientCounted shape c turns done k → ClientCounted shape t turns done k
-client_admits_counting shape c (Refused why request) t turns done k admits counted = subst (λ (x : ClientState). ClientCounted shape x turns done k) (sym admits.1) counted
-client_admits_counting shape c (Full request) t turns done k admits counted = subst (λ (x : ClientState). ClientCounted shape x turns done k) (sym admits.2) counted
-client_admits_counting shape c (Accepted id request) t turns done k admits counted = subst (λ (x : ClientState). ClientCounted shape x turns done k) (sym admits.5) (record {
-  slots = counted.slots;
-  holds = counted.holds;
-  announced = counted.announced;
-  infos = counted.infos;
-  acked = counted.acked;
-  agrees = counted.agrees;
-})
+client_admits_counting shape c event t turns done k admits counted = grind arith

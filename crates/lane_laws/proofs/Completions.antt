@@ -4,7 +4,6 @@ use Rattle.std.proofs.lemmas.Nat.{mod_below}
 use Rattle.runs.specs.Run.{Run}
 use Rattle.ldc_queue.specs.declared.end.End.TheVariants.{A}
 use Rattle.vdisk_msg.specs.declared.request.Request.{Request}
-use Rattle.vdisk_msg.specs.declared.request.Request.TheVariants.{Flush, Read, Write}
 use Rattle.vdisk_msg.specs.Requests.{defect, given_count}
 use Rattle.disk_model.specs.ClientRule as client_rules
 use Rattle.disk_model.specs.ClientStep.{completed_slot}
@@ -18,16 +17,13 @@ use Rattle.lane_laws.specs.RuleFacts.{ClientMay}
 use Rattle.lane_laws.specs.LaneView.{place_of, view_of}
 use Rattle.lane_laws.specs.Near.{FrontShows, IsNear}
 use Rattle.lane_laws.specs.ReadsNear.{BlocksShow}
-use Rattle.lane_laws.proofs.BlockWrites.{admitted_blocks}
 use Rattle.lane_laws.proofs.DoneChanges.{front_split}
 use Rattle.lane_laws.proofs.NearRuns.{front_shows, given_whole, run_step}
 use Rattle.lane_laws.proofs.Statuses.{run_done_zero}
 use Rattle.lane_laws.proofs.WorkCounts.{completed_some}
 
 given_few : (blocks : ℕ) (request : Request) → defect blocks request ≡ None → given_count request ≤ 32768
-given_few blocks (Read block count) admitted = let fits = admitted_blocks blocks block count admitted in omega (arith, fits.1)
-given_few blocks (Write block count fill) admitted = omega arith
-given_few blocks Flush admitted = omega arith
+given_few blocks request admitted = grind arith
 
 pub run_shows : (shape : Shape) (events : List DiskEvent) (s : LaneState) (id operation status : ℕ) (bytes : List ℕ) (t : LaneState) (content image : List ℕ) → IsShape shape
     → Run LaneStep (fresh shape) events s → LaneStep s (Works (Done id operation status bytes)) t → t.wire.forged ≡ false → t.failed ≡ false → IsNear content s image

@@ -1,5 +1,5 @@
 -- Each kind of change leaves the buffers of writes holding what they write, and a descriptor in work going on as its request has it.
-use Rattle.std.proofs.Common.{◌≡◌, ◌≢◌, ℕ, suc, ◌+◌, ◌-◌, ◌*◌, ◌%◌, ◌<◌, ◌≤◌, List, ◌∷◌, length, Option, Some, inl, inr, refl, sym, ap, ◌∙◌, subst, arith}
+use Rattle.std.proofs.Common.{◌≡◌, ◌≢◌, ℕ, suc, ◌+◌, ◌-◌, ◌*◌, ◌%◌, ◌<◌, ◌≤◌, List, ◌∷◌, length, Option, Some, inl, inr, sym, ap, ◌∙◌, subst, arith}
 use Rattle.std.specs.Prelude.{slice_get}
 use Rattle.std.proofs.lemmas.Bool.{cases_lt}
 use Rattle.std.proofs.lemmas.Nat.{mod_below}
@@ -38,31 +38,14 @@ rests_contents v w change stand =
     subst ContentsStand (sym change.is) (record { writes = writes_kept v w.session change.keeps stand.writes; work = stand.work; none = stand.none })
 
 pub opens_contents : (v w : View) → Opens v w → ContentsStand v → ContentsStand w
-opens_contents v w change stand =
-    subst ContentsStand (sym change.is) (record {
-      writes = λ session is i below request got. absurd (omega (arith, below, change.nothing session is));
-      work = stand.work;
-      none = stand.none;
-    })
+opens_contents v w change stand = grind arith
 
 pub disturbs_contents : (p : ℕ) (v w : View) → Disturbs p v w → ContentsStand v → ContentsStand w
-disturbs_contents p v w change stand =
-    subst ContentsStand (sym change.is) (record {
-      writes = writes_kept v w.session change.keeps stand.writes;
-      work = λ work is request got. absurd (cc is);
-      none = λ none. refl;
-    })
+disturbs_contents p v w change stand = grind (arith, writes_kept)
 
 -- A REQUEST IS ACCEPTED
 pub accepts_contents : (blocks : ℕ) (request : Request) (v w : View) → Placed blocks v → Accepts request v w → ContentsStand v → ContentsStand w
-accepts_contents blocks request v w placed change stand =
-    subst ContentsStand (sym change.is) (record {
-      writes = λ session is i below other got.
-          let most = placed.most session is in
-          stand.writes session is i below other (sym (get_within v.pending request i (omega (arith, below, most))) ∙ got);
-      work = λ work is other got. stand.work work is other (sym (get_within v.pending request v.k (placed.serves work is)) ∙ got);
-      none = stand.none;
-    })
+accepts_contents blocks request v w placed change stand = grind (arith, get_within)
 
 -- ONE IS PUBLISHED
 holds_other : (slots a b : ℕ) (request other : Request) (buffers : List ℕ) → a ≢ b → b < slots → 32768 * slots ≤ length buffers → size_of request ≤ 32768 → size_of other ≤ 32768
@@ -77,9 +60,7 @@ holds_other slots a b (Write block count fill) (Write at n word) buffers apart b
     ∙ holds
 
 holds_own : (place : ℕ) (request : Request) (buffers : List ℕ) → place ≤ length buffers → HoldsWritten place request (filled request place buffers)
-holds_own place (Read block count) buffers room = tt
-holds_own place (Write block count fill) buffers room = range_at-put_at_same place (512 * count) (written fill count) buffers (length-repeated fill 0 (512 * count)) room
-holds_own place Flush buffers room = tt
+holds_own place request buffers room = grind (arith, range_at-put_at_same, length-repeated)
 
 writes_published : (blocks : ℕ) (v w : View) → Placed blocks v → (change : Publishes v w) → WritesStand v
     → WritesStand (record v { session = Some (record change.session { published = change.session.published + 1 }); buffers = filled change.request (32768 * (change.session.published % v.slots)) v.buffers })

@@ -1,22 +1,17 @@
 -- Along every run the completions have the numbers 0, 1, 2 and so on.
-use Rattle.std.proofs.Common.{ℕ, List, [], ◌∷◌, subst}
+use Rattle.std.proofs.Common.{ℕ, List, [], ◌∷◌, arith}
 use Rattle.runs.specs.Lawful.{Lawful}
 use Rattle.runs.specs.Run.{Run}
 use Rattle.lane_laws.specs.DiskLog.{DiskLog, after, nothing_yet}
 use Rattle.lane_laws.specs.RequestLaws.{OnceAt}
-use Rattle.disk_model.specs.DiskEvent.{Accepted, Asks, DiskEvent, Done, OnWire, Stopped, Switches, Works}
+use Rattle.disk_model.specs.DiskEvent.{DiskEvent}
 use Rattle.disk_model.specs.LaneState.{IsShape, LaneState, Shape, fresh}
 use Rattle.disk_model.specs.LaneStep.{LaneStep}
 use Rattle.lane_laws.proofs.StandingRuns.{once_lawful}
-use Rattle.lane_laws.proofs.StandingSteps.{wired_keeps}
 use Rattle.lane_laws.specs.CompletedIds.{CountsFrom, done_ids, id_in, with_id}
 
 counts_step : (l : DiskLog) (event : DiskEvent) (ids : List ℕ) → OnceAt l event → CountsFrom (after l event).work.done ids → CountsFrom l.work.done (with_id (id_in event) ids)
-counts_step l (OnWire event) ids once rest = subst (λ (n : ℕ). CountsFrom n ids) (wired_keeps l.shape.slots l.transcript l.work event).done rest
-counts_step l (Asks (Accepted id request)) ids once rest = rest
-counts_step l (Works (Done id operation status bytes)) ids once rest = (once.next, rest)
-counts_step l (Switches Stopped) ids once rest = rest
-counts_step l _ ids once rest = rest
+counts_step l event ids once rest = grind arith
 
 counts_from : (l : DiskLog) (events : List DiskEvent) → Lawful OnceAt after l events → CountsFrom l.work.done (done_ids events)
 counts_from l [] lawful = tt

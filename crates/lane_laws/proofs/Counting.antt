@@ -1,12 +1,11 @@
 -- What the log counts of an open session, and what its slots are: those of its numbers modulo the ring.
-use Rattle.std.proofs.Common.{◌≡◌, ℕ, zero, suc, ◌^◌, ◌%◌, ◌≤◌, ◌⊎◌, Option, Some, None, refl, ap, ◌∙◌, subst, arith, inl, inr}
+use Rattle.std.proofs.Common.{◌≡◌, ℕ, zero, suc, ◌^◌, ◌%◌, ◌≤◌, ◌⊎◌, Option, Some, ap, ◌∙◌, arith, inl, inr}
 use Rattle.lane_laws.specs.Agreement.{ClientAgrees, ClientCountsAgree, ServerAgrees, ServerCountsAgree, WorkAgrees}
 use Rattle.lane_laws.specs.WorkLog.{ClientCounts, ServerCounts}
 use Rattle.disk_model.specs.ClientState.{ClientSession}
 use Rattle.channel_model.specs.OwnMemory.{IsPowerOfTwo}
 use Rattle.channel_model.specs.Ranges.{wrapped}
 use Rattle.disk_model.specs.ServerState.{ServerSession, Work}
-use Rattle.channel_laws.proofs.Apart.{none_is_some, some_same}
 
 -- a client's session is open in the log too, with its counts
 pub record OfClient (session : ClientSession) (done : ℕ) (k : Option ClientCounts) : Type 0 where
@@ -15,12 +14,7 @@ pub record OfClient (session : ClientSession) (done : ℕ) (k : Option ClientCou
   pub agree : ClientCountsAgree session done counts
 
 pub of_client : (o : Option ClientSession) (session : ClientSession) (done : ℕ) (k : Option ClientCounts) → o ≡ Some session → ClientAgrees o done k → OfClient session done k
-of_client None session done k is agrees = none_is_some (is)
-of_client (Some other) session done None is agrees = absurd agrees
-of_client (Some other) session done (Some c) is agrees =
-    let both : Some other ≡ Some session = is in
-    let same : other ≡ session = some_same both in
-    record { counts = c; is = refl; agree = subst (λ (s : ClientSession). ClientCountsAgree s done c) same agrees }
+of_client o session done k is agrees = grind arith
 
 -- and a server's, with its work
 pub record OfServer (session : ServerSession) (work : Option Work) (d : Option ServerCounts) : Type 0 where
@@ -30,12 +24,7 @@ pub record OfServer (session : ServerSession) (work : Option Work) (d : Option S
   pub work_agrees : WorkAgrees work counts
 
 pub of_server : (o : Option ServerSession) (session : ServerSession) (work : Option Work) (d : Option ServerCounts) → o ≡ Some session → ServerAgrees o work d → OfServer session work d
-of_server None session work d is agrees = none_is_some (is)
-of_server (Some other) session work None is agrees = absurd agrees
-of_server (Some other) session work (Some c) is agrees =
-    let both : Some other ≡ Some session = is in
-    let same : other ≡ session = some_same both in
-    record { counts = c; is = refl; agree = subst (λ (s : ServerSession). ServerCountsAgree s c) same agrees.0; work_agrees = agrees.1 }
+of_server o session work d is agrees = grind arith
 
 -- A RING has 2, 4, 8 slots and so on up to 256, so that a number modulo 2^64 has its slot
 positive : (k : ℕ) → 1 ≤ 2 ^ k
@@ -58,14 +47,7 @@ size_of (suc (suc (suc (suc (suc (suc (suc (suc zero)))))))) n is some most = in
 size_of (suc (suc (suc (suc (suc (suc (suc (suc (suc k))))))))) n is some most = absurd (omega (arith, is, most, positive k))
 
 wraps_in : (n m : ℕ) → IsSize n → m % 2 ^ 64 % n ≡ m % n
-wraps_in n m (inl is) = rw is (omega arith)
-wraps_in n m (inr (inl is)) = rw is (omega arith)
-wraps_in n m (inr (inr (inl is))) = rw is (omega arith)
-wraps_in n m (inr (inr (inr (inl is)))) = rw is (omega arith)
-wraps_in n m (inr (inr (inr (inr (inl is))))) = rw is (omega arith)
-wraps_in n m (inr (inr (inr (inr (inr (inl is)))))) = rw is (omega arith)
-wraps_in n m (inr (inr (inr (inr (inr (inr (inl is))))))) = rw is (omega arith)
-wraps_in n m (inr (inr (inr (inr (inr (inr (inr is))))))) = rw is (omega arith)
+wraps_in n m size = grind arith
 
 -- the slot of a count that wraps
 pub slot_of_count : (slots count number : ℕ) → IsPowerOfTwo slots → 2 ≤ slots → slots ≤ 256 → count ≡ wrapped number → count % slots ≡ number % slots

@@ -1,5 +1,5 @@
 -- A range or the answer to one, heard: its bytes decode to it, whatever the fields are that nobody compares.
-use Rattle.std.proofs.Common.{◌≡◌, ℕ, ◌^◌, ◌<◌, List, length, refl, sym, ap, ◌∙◌, subst, arith}
+use Rattle.std.proofs.Common.{◌≡◌, ℕ, ◌^◌, ◌<◌, List, length, refl, sym, ap, ◌∙◌, arith}
 use Rattle.std.specs.Prelude.{Result, Ok, Err}
 use Rattle.ldc_packet.specs.declared.packet.Subtype.{Subtype}
 use Rattle.vio_bytes.specs.Place.{number_at}
@@ -104,9 +104,7 @@ data_of_spells s n seq ident start end state small fits small_start small_end =
 
 pub data_spells : (s : Subtype) (n seq ident start end state : ℕ) → n < 2 ^ 32 → ident < 2 ^ 64 → start < 2 ^ 32 → end < 2 ^ 32
     → SpellsMessage (data_bytes s n seq ident start end state) (read_data s n ident start end (data_bytes s n seq ident start end state))
-data_spells s n seq ident start end state small fits small_start small_end =
-    subst (λ (bytes : List ℕ). SpellsMessage bytes (read_data s n ident start end bytes)) (sym (named s n seq ident start end state))
-    (data_of_spells s n seq ident start end state small fits small_start small_end)
+data_spells s n seq ident start end state small fits small_start small_end = search (named, data_of_spells)
 
 -- its number is read back
 pub seq_reads : (s : Subtype) (n seq ident start end state : ℕ) → n < 2 ^ 32 → seq < 2 ^ 64 → ident < 2 ^ 64 → start < 2 ^ 32 → end < 2 ^ 32

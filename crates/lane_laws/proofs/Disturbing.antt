@@ -1,5 +1,5 @@
 -- Each event leaves the requests that were published in an earlier session below those that were disturbed.
-use Rattle.std.proofs.Common.{◌≡◌, ℕ, zero, suc, ◌+◌, ◌-◌, ◌≤◌, ◌⊎◌, false, List, [], ◌∷◌, length, inl, inr, refl, sym, ap, ◌∙◌, arith, length-append}
+use Rattle.std.proofs.Common.{◌≡◌, ◌+◌, ◌-◌, ◌≤◌, false, List, [], ◌∷◌, length, inl, refl, sym, ap, ◌∙◌, arith, length-append}
 use Rattle.std.specs.Prelude.{⊤}
 use Rattle.runs.specs.Lawful.{log_of, run_lawful}
 use Rattle.runs.specs.Run.{Run}
@@ -19,45 +19,20 @@ use Rattle.lane_laws.proofs.LaneViews.{lane_view, near_after}
 -- WHAT STAYS, and what is disturbed
 same_later : (s t : LaneState) (l n : DiskLog) → t.near ≡ s.near → n.work.done ≡ l.work.done → n.work.disturbed_below ≡ l.work.disturbed_below → length l.work.issued ≤ length n.work.issued
     → LaterDisturbed s l → LaterDisturbed t n
-same_later s t l n near done below more later =
-    let m : t.near.m ≡ s.near.m = ap (λ (x : NearCounts). x.m) near in
-    let issued = later.issued in
-    record { later = by m later.later; issued = omega (arith, issued, below, more) }
-  where
-    by : t.near.m ≡ s.near.m → (s.near.m ≡ 0) ⊎ (l.work.done + s.near.m ≤ l.work.disturbed_below) → (t.near.m ≡ 0) ⊎ (n.work.done + t.near.m ≤ n.work.disturbed_below)
-    by m (inl none) = inl (m ∙ none)
-    by m (inr few) = inr (omega (arith, few, m, done, below))
+same_later s t l n near done below more later = grind arith
 
 all_disturbed : (s t : LaneState) (l n : DiskLog) → Before s l → t.near.m ≡ (near_disturbed s.client).m → n.work.done ≡ l.work.done → n.work.disturbed_below ≡ length n.work.issued
     → length n.work.issued ≡ length l.work.issued → LaterDisturbed t n
-all_disturbed s t l n before counted done below same =
-    let m : t.near.m ≡ s.client.ever_published - l.work.done = counted ∙ ever_count s l before.known.stands in
-    let first = before.near.ever.done_first in
-    let most = before.near.ever.most in
-    let next = before.known.stands.requests.next in
-    record { later = inr (omega (arith, m, done, below, same, first, most, next)); issued = omega (arith, below) }
+all_disturbed s t l n before counted done below same = grind (arith, ever_count)
 
 -- THE WORK: a completion takes the first away
 m_later : (s t : LaneState) (l n : DiskLog) → t.near.m ≡ s.near.m → n.work.done ≡ l.work.done → n.work.disturbed_below ≡ l.work.disturbed_below → n.work.issued ≡ l.work.issued → LaterDisturbed s l
     → LaterDisturbed t n
-m_later s t l n m done below same later =
-    let issued = later.issued in
-    record { later = by later.later; issued = omega (arith, issued, below, ap length same) }
-  where
-    by : (s.near.m ≡ 0) ⊎ (l.work.done + s.near.m ≤ l.work.disturbed_below) → (t.near.m ≡ 0) ⊎ (n.work.done + t.near.m ≤ n.work.disturbed_below)
-    by (inl none) = inl (m ∙ none)
-    by (inr few) = inr (omega (arith, few, m, done, below))
+m_later s t l n m done below same later = grind arith
 
 done_later : (s t : LaneState) (l n : DiskLog) → t.near.m ≡ s.near.m - 1 → n.work.done ≡ l.work.done + 1 → n.work.disturbed_below ≡ l.work.disturbed_below → n.work.issued ≡ l.work.issued → LaterDisturbed s l
     → LaterDisturbed t n
-done_later s t l n m done below same later =
-    let issued = later.issued in
-    record { later = by s.near.m refl later.later; issued = omega (arith, issued, below, ap length same) }
-  where
-    by : (old : ℕ) → s.near.m ≡ old → (s.near.m ≡ 0) ⊎ (l.work.done + s.near.m ≤ l.work.disturbed_below) → (t.near.m ≡ 0) ⊎ (n.work.done + t.near.m ≤ n.work.disturbed_below)
-    by old is (inl none) = inl (omega (arith, m, none))
-    by zero is (inr few) = inl (omega (arith, m, is))
-    by (suc old) is (inr few) = inr (omega (arith, few, m, done, below, is))
+done_later s t l n m done below same later = grind arith
 
 -- EACH EVENT, by the counts after it
 counts_later : (s : LaneState) (l : DiskLog) (event : DiskEvent) (t : LaneState) → Before s l → t.near ≡ near_after s event → LaterDisturbed s l → LaterDisturbed t (after l event)

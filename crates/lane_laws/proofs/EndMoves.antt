@@ -1,22 +1,22 @@
 -- Each step of a lane is a move of its client and a move of its server, as ends on a channel.
-use Rattle.std.proofs.Common.{◌≡◌, ℕ, Bool, List, refl, sym, subst}
+use Rattle.std.proofs.Common.{◌≡◌, ℕ, Bool, List, refl, sym, subst, arith}
 use Rattle.ldc_link.specs.declared.phase.Role.TheVariants.{Initiator, Responder}
 use Rattle.ldc_queue.specs.declared.end.End.{End}
 use Rattle.ldc_queue.specs.declared.end.End.TheVariants.{A, B}
 use Rattle.channel_model.specs.TranscriptLog.{TranscriptLog}
-use Rattle.channel_model.specs.WireEvent.{Blocked, Giver, Idle, Joined, Reset, Sent, Took, giver}
+use Rattle.channel_model.specs.WireEvent.{Blocked, Giver, Idle, Joined, Reset, Sent, Took}
 use Rattle.disk_model.specs.DiskEvent.{Desc, DiskEvent, Done, Finished, Moved, OnWire, Published, Stopped, Stored, Switches, Works}
 use Rattle.lane_laws.specs.DiskLog.{after_transcript}
 use Rattle.disk_model.specs.LaneState.{LaneState}
 use Rattle.disk_model.specs.LaneStep.{LaneStep}
 use Rattle.channel_laws.specs.EndStep.{EndHears, EndStep}
-use Rattle.channel_laws.specs.LaneCore.{at_end, move_of, reset_move, transcript_after}
+use Rattle.channel_laws.specs.LaneCore.{move_of, reset_move, transcript_after}
 use Rattle.lane_laws.proofs.ClientMoves.{client_asked, client_begins, client_completed, client_fails, client_hears, client_published, client_same, client_says, client_waits}
 use Rattle.lane_laws.proofs.ServerMoves.{server_begins, server_fails, server_fetched, server_finished, server_hears, server_moved, server_renews, server_same, server_says, server_stored, server_waits}
 use Rattle.lane_laws.specs.ChannelEnds.{client_core, core_event, server_core}
 use Rattle.lane_laws.specs.Sound.{ClientSound}
-use Rattle.lane_laws.proofs.LaneViews.{Beside, ClientActs, ClientAsked, ClientCalled, ClientStays, ClientView, IsApart, IsOwnStep, ServerActs, ServerCalled, ServerRenewed, ServerStays, ServerStopped, ServerView, at_client, at_server, lane_view, reach_of}
-use Rattle.channel_laws.specs.EndCore.{Begins, EndMove, Hears, Says, Stays, Waits}
+use Rattle.lane_laws.proofs.LaneViews.{Beside, ClientActs, ClientAsked, ClientCalled, ClientStays, ClientView, IsOwnStep, ServerActs, ServerCalled, ServerRenewed, ServerStays, ServerStopped, ServerView, at_client, at_server, lane_view, reach_of}
+use Rattle.channel_laws.specs.EndCore.{EndMove, Stays}
 use Rattle.disk_model.specs.ClientStep.{ClientStep}
 use Rattle.disk_model.specs.ServerStep.{ServerStep}
 
@@ -26,21 +26,8 @@ pub record Sound (s t : LaneState) : Type 0 where
   pub behind : ClientSound t.client
 
 -- BESIDE AN END an event is no move of it
-apart_stays : (e f : End) (move : EndMove) → IsApart e f → at_end e f move ≡ Stays
-apart_stays A A move apart = absurd apart
-apart_stays B B move apart = absurd apart
-apart_stays A B move apart = refl
-apart_stays B A move apart = refl
-
 beside_stays : (e : End) (event : DiskEvent) → Beside e event → move_of e (core_event event) ≡ Stays
-beside_stays e (OnWire (Joined f lost)) beside = apart_stays e f Begins beside
-beside_stays e (OnWire (Reset f cause packet lost)) beside = apart_stays e f (reset_move (giver cause) cause packet) beside
-beside_stays e (OnWire (Took f packet opens)) beside = apart_stays e f (Hears packet opens) beside
-beside_stays e (OnWire (Sent f packet opens)) beside = apart_stays e f (Says packet opens) beside
-beside_stays e (OnWire (Blocked f)) beside = apart_stays e f Waits beside
-beside_stays A (Switches Stopped) beside = refl
-beside_stays B (Switches Stopped) beside = absurd beside
-beside_stays e _ beside = refl
+beside_stays e event beside = grind arith
 
 -- ITS CLIENT
 abbrev MovesA : LaneState → LaneState → EndMove → Type 0

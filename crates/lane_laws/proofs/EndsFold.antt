@@ -1,5 +1,5 @@
 -- Along every run both ends are as the lane's log counts them.
-use Rattle.std.proofs.Common.{◌≡◌, ℕ, ◌+◌, ◌≤◌, Bool, true, false, Option, Some, None, List, [], ◌∷◌, ◌++◌, drop, length, refl, sym, ap, ◌∙◌, subst, arith}
+use Rattle.std.proofs.Common.{◌≡◌, ℕ, ◌≤◌, Bool, true, false, Option, Some, None, List, [], ◌∷◌, ◌++◌, drop, length, refl, sym, ap, ◌∙◌, subst, arith}
 use Rattle.std.specs.Prelude.{◌%◌, is_none, is_some, not, ◌&&◌, ◌||◌, ⊤}
 use Rattle.runs.specs.Lawful.{log_of, run_lawful}
 use Rattle.runs.specs.Run.{Run}
@@ -14,16 +14,15 @@ use Rattle.vio_tag.specs.Spelling.{canonical}
 use Rattle.lane_laws.proofs.ServerSpeaking.{server_holds_link}
 use Rattle.lane_laws.specs.Agreement.{ClientEndAgrees, RangeAgrees, ServerEndAgrees}
 use Rattle.lane_laws.specs.BlockLog.{Blockage, Clear, is_stuck}
-use Rattle.disk_model.specs.ClientPutting.{announcement, client_kind, is_announcing}
+use Rattle.disk_model.specs.ClientPutting.{client_kind, is_announcing}
 use Rattle.disk_model.specs.ClientRule as client_rules
 use Rattle.disk_model.specs.ClientState.{ClientSession, ClientState}
 use Rattle.disk_model.specs.DiskEvent.{Desc, DiskEvent, Done, Finished, Moved, OnWire, Published, Stored, Works}
 use Rattle.lane_laws.specs.DiskLog.{DiskLog, after, nothing_yet}
-use Rattle.lane_laws.specs.EndLog.{announced_or_owed, answer_left, client_left, has_begun, infos_heard, left_if, left_of, owed_left, range_in_work, range_left, server_left}
+use Rattle.lane_laws.specs.EndLog.{answer_left, client_left, has_begun, infos_heard, left_if, left_of, owed_left, range_in_work, range_left, server_left}
 use Rattle.disk_model.specs.LaneState.{IsShape, LaneState, Shape, fresh}
 use Rattle.disk_model.specs.LaneStep.{LaneStep}
 use Rattle.disk_model.specs.Offering.{client_offer, server_offer}
-use Rattle.channel_model.specs.Ranges.{wrapped}
 use Rattle.channel_model.specs.Sayings.{half_said, heard}
 use Rattle.disk_model.specs.ServerPutting.{server_holds, server_kind}
 use Rattle.disk_model.specs.ServerRule as server_rules
@@ -36,7 +35,7 @@ use Rattle.lane_laws.proofs.ClientFolds.{ClientIs, client_admits_so, client_begi
 use Rattle.channel_laws.proofs.MessagesHeld.{owed_held}
 use Rattle.lane_laws.proofs.Speaking.{client_blocked_rests, client_blocked_utters, server_blocked_rests, server_blocked_utters, server_holds_owed}
 use Rattle.lane_laws.proofs.ClientTaken.{client_took_what}
-use Rattle.channel_laws.proofs.Apart.{false_is_true, none_is_some, some_is_none}
+use Rattle.channel_laws.proofs.Apart.{none_is_some, some_is_none}
 use Rattle.channel_laws.proofs.PutSayings.{put_says}
 use Rattle.channel_laws.proofs.EndStanding.{hears_sending, open_up}
 use Rattle.lane_laws.proofs.LaneViews.{ClientSide, ServerSide, at_client, at_server, client_keeps, reach_of, server_keeps}
@@ -198,17 +197,9 @@ record Left (k : LinkState) (half : List ℕ) (b : Blockage) : Type 0 where
   owes_is : is_stuck b ≡ true → owes k ≡ true
   left : k.begun ≡ false → 1 ≤ length k.to_send → is_stuck b ≡ true
 
-or_true : (x : Bool) → (x || true) ≡ true
-or_true true = refl
-or_true false = refl
-
 -- it has begun a message of which its link holds some, and none of which it holds nothing
 has : (k : LinkState) (half : List ℕ) (b : Blockage) (xs : List ℕ) (y : Bool) → Left k half b → 1 ≤ length k.to_send → half ≡ xs → is_stuck b ≡ y → has_begun half b ≡ true
-has k half b (byte ∷ xs) y known some at stuck = ap (λ (zs : List ℕ). not (is_empty zs) || is_stuck b) at
-has k half b [] true known some at stuck = ap (λ (z : Bool). not (is_empty half) || z) stuck ∙ or_true (not (is_empty half))
-has k half b [] false known some at stuck =
-    let fresh : k.begun ≡ false = known.begun ∙ ap (λ (zs : List ℕ). not (is_empty zs)) at in
-    false_is_true (sym stuck ∙ known.left fresh some)
+has k half b xs y known some at stuck = grind arith
 
 has_none : (k : LinkState) (half : List ℕ) (b : Blockage) (y : Bool) → Left k half b → is_up k ≡ true → k.to_send ≡ [] → is_stuck b ≡ y → has_begun half b ≡ false
 has_none k half b false known up none stuck = ap (λ (zs : List ℕ). not (is_empty zs) || is_stuck b) (known.free none) ∙ stuck
@@ -252,48 +243,20 @@ client_owed s l both cuts quiet =
 
 client_left_is : (s : LaneState) (l : DiskLog) (o : Option ClientSession) → BothAre s l → Cuts s.client.link l.transcript.client → s.client.session ≡ o
     → s.client.link.to_send ≡ client_left s.client o (half_said l.transcript.client) l.blocked.client
-client_left_is s l None both cuts is = client_owed s l both cuts (ap is_announcing is)
-client_left_is s l (Some session) both cuts is = by session.announcing refl
-  where
-    by : (own : Bool) → session.announcing ≡ own → s.client.link.to_send ≡ announced_or_owed session.announcing s.client session (half_said l.transcript.client) l.blocked.client
-    by false own =
-        client_owed s l both cuts (ap is_announcing is ∙ own)
-        ∙ sym (ap (λ (b : Bool). announced_or_owed b s.client session (half_said l.transcript.client) l.blocked.client) own)
-    by true own =
-        held_left s.client.link (half_said l.transcript.client) (canonical (announcement s.client session)) l.blocked.client (of_client s l both cuts)
-        (both.knows.counted.client.holds session is own) (both.knows.all.sound.own (ap is_announcing is ∙ own))
-        ∙ sym (ap (λ (b : Bool). announced_or_owed b s.client session (half_said l.transcript.client) l.blocked.client) own)
+client_left_is s l o both cuts is = grind (arith, client_owed, held_left)
 
 -- the handshake of each end is what its transcript folds to
 pub client_told : (s : LaneState) (l : DiskLog) → BothAre s l → FoldsSo Initiator (client_core s.client) l.transcript.client → s.client.handshake.last_sid ≡ l.transcript.links % 4294967296
     → s.client.handshake ≡ handshake_of Initiator (client_offer l.shape.blocks l.shape.slots) (l.transcript.links % 4294967296) l.transcript.client
-client_told s l both so sids =
-    let turns = l.transcript.client in
-    let blocks = both.knows.all.stands.blocks ∙ ap (λ (n : Shape). n.blocks) both.knows.all.stands.shape in
-    so.folds.handshake ∙ ap (λ (n : ℕ). handshake_of Initiator (client_offer n s.client.slots) s.client.handshake.last_sid turns) blocks
-    ∙ ap (λ (n : ℕ). handshake_of Initiator (client_offer l.shape.blocks n) s.client.handshake.last_sid turns) both.knows.counted.client.slots
-    ∙ ap (λ (n : ℕ). handshake_of Initiator (client_offer l.shape.blocks l.shape.slots) n turns) sids
+client_told s l both so sids = search
 
 pub server_told : (s : LaneState) (l : DiskLog) → BothAre s l → FoldsSo Responder (server_core s.server) l.transcript.server → s.server.handshake.last_sid ≡ 0
     → s.server.handshake ≡ handshake_of Responder (server_offer l.shape.blocks l.shape.slots) 0 l.transcript.server
-server_told s l both so sids =
-    let turns = l.transcript.server in
-    let counted = both.knows.counted.server in
-    so.folds.handshake ∙ ap (λ (n : ℕ). handshake_of Responder (server_offer n s.server.slots) s.server.handshake.last_sid turns) counted.blocks
-    ∙ ap (λ (n : ℕ). handshake_of Responder (server_offer l.shape.blocks n) s.server.handshake.last_sid turns) counted.slots
-    ∙ ap (λ (n : ℕ). handshake_of Responder (server_offer l.shape.blocks l.shape.slots) n turns) sids
+server_told s l both so sids = search
 
 pub client_end : (s : LaneState) (l : DiskLog) → BothAre s l → FoldsSo Initiator (client_core s.client) l.transcript.client → s.client.handshake.last_sid ≡ l.transcript.links % 4294967296
     → ClientEndAgrees s.client l.shape l.transcript l.blocked.client
-client_end s l both so sids = record {
-  blocks = both.knows.all.stands.blocks ∙ ap (λ (n : Shape). n.blocks) both.knows.all.stands.shape;
-  slots = both.knows.counted.client.slots;
-  role = both.knows.rests.client.stands.link.role_is;
-  phase = so.folds.phase;
-  handshake = client_told s l both so sids;
-  announcing = both.client.announcing;
-  left = client_left_is s l s.client.session both so.stands.link.cuts refl;
-}
+client_end s l both so sids = search (client_left_is)
 
 -- THE SERVER
 pub infos_are : (turns : List Turn) → infos_heard turns ≡ range_count 1 (heard turns)
@@ -302,9 +265,7 @@ infos_are (Said packet ∷ turns) = infos_are turns
 infos_are (Heard_ packet ∷ turns) = omega (arith, infos_are turns, count_heard 1 packet turns)
 
 range_agrees : (slots : ℕ) (o : Option ServerSession) (d : Option ServerCounts) (turns : List Turn) → ServerOrder slots o d turns → ranged o ≡ range_in_work turns → RangeAgrees o turns
-range_agrees slots None d turns order is = tt
-range_agrees slots (Some session) None turns order is = absurd order
-range_agrees slots (Some session) (Some d) turns order is = (order.seq ∙ ap (λ (n : ℕ). wrapped (n + 1)) (sym (infos_are turns)), is)
+range_agrees slots o d turns order is = grind (arith, infos_are)
 
 of_server : (s : LaneState) (l : DiskLog) → BothAre s l → Cuts s.server.link l.transcript.server → Left s.server.link (half_said l.transcript.server) l.blocked.server
 of_server s l both cuts = record { begun = cuts.begun; free = cuts.free; owes_is = both.server.link.owes; left = both.server.link.left }

@@ -1,26 +1,20 @@
 -- A packet that an end takes lowers what remains, after every run of a lane that nobody forged.
-use Rattle.std.proofs.Common.{◌≡◌, ℕ, ◌+◌, ◌-◌, ◌%◌, ◌^◌, ◌<◌, ◌≤◌, inl, inr, Bool, false, Option, Some, List, [], ◌∷◌, ◌++◌, length, map, refl, sym, ap, ◌∙◌, subst, arith}
-use Rattle.std.proofs.lemmas.Nat.{mod_below}
+use Rattle.std.proofs.Common.{◌≡◌, ℕ, ◌+◌, ◌<◌, ◌≤◌, Bool, false, List, [], ◌∷◌, ◌++◌, length, map, refl, ap, ◌∙◌, subst, arith}
 use Rattle.runs.specs.Lawful.{log_append, log_of}
 use Rattle.runs.specs.Run.{Run, run_push}
-use Rattle.ldc_queue.specs.declared.end.ChannelState.{ChannelState}
 use Rattle.ldc_queue.specs.declared.end.ChannelState.TheVariants.{Up}
 use Rattle.ldc_queue.specs.declared.end.End.{End}
 use Rattle.ldc_queue.specs.declared.end.End.TheVariants.{A, B}
 use Rattle.ldc_queue.specs.Transcript.{Heard as Heard_, Turn}
-use Rattle.channel_model.specs.Ranges.{wrapped}
-use Rattle.dring.specs.Slots.{range_length}
-use Rattle.channel_model.specs.Sayings.{heard}
 use Rattle.channel_model.specs.Seeing.{seen}
 use Rattle.channel_model.specs.WireAt.{IsUp}
-use Rattle.channel_model.specs.WireEvent.{Injected, Joined, Poked, Sent, Took}
+use Rattle.channel_model.specs.WireEvent.{Took}
 use Rattle.disk_model.specs.ClientState.{ClientState}
-use Rattle.disk_model.specs.ClientTaking.{acknowledged}
-use Rattle.disk_model.specs.DiskEvent.{DiskEvent, OnWire, Stopped, Switches, Works}
+use Rattle.disk_model.specs.DiskEvent.{DiskEvent, OnWire}
 use Rattle.disk_model.specs.LaneState.{IsShape, LaneState, Shape, fresh}
 use Rattle.disk_model.specs.LaneStep.{LaneStep}
 use Rattle.disk_model.specs.ServerRule as server_rules
-use Rattle.disk_model.specs.ServerState.{ServerSession, ServerState}
+use Rattle.disk_model.specs.ServerState.{ServerState}
 use Rattle.channel_laws.proofs.PacketsTaken.{unforged_took}
 use Rattle.channel_laws.specs.LaneCore.{end_of}
 use Rattle.channel_laws.specs.PacketsLeft.{packets_left}
@@ -34,7 +28,7 @@ use Rattle.channel_model.specs.WireLog.{WireLog}
 use Rattle.lane_laws.proofs.LaneCounting.{Knows, run_knows}
 use Rattle.lane_laws.proofs.OfferedRing.{four_cookies}
 use Rattle.lane_laws.proofs.RangeSums.{sum_front}
-use Rattle.lane_laws.proofs.RemainingClientPuts.{ClientFalls, ClientSpends, falls_lower, same_spends, session_spends}
+use Rattle.lane_laws.proofs.RemainingClientPuts.{ClientFalls, ClientSpends, falls_lower}
 use Rattle.lane_laws.proofs.RemainingRuns.{steps_fall}
 use Rattle.lane_laws.proofs.RemainingServerTakes.{behind_ask, server_turns}
 use Rattle.lane_laws.proofs.RemainingTakes.{client_took_falls, server_took_falls}
@@ -44,8 +38,7 @@ use Rattle.lane_laws.proofs.Ruling.{server_may}
 use Rattle.lane_laws.proofs.ServerCounting.{no_work, opens_new}
 use Rattle.lane_laws.proofs.ServerTaken.{ServerAsked, ServerTook, server_took_what}
 use Rattle.lane_laws.specs.ChannelEnds.{core_event, core_of}
-use Rattle.lane_laws.specs.Counted.{range_sum}
-use Rattle.lane_laws.specs.Remaining.{asked_in, remaining, total}
+use Rattle.lane_laws.specs.Remaining.{asked_in, remaining}
 use Rattle.lane_laws.specs.RemainingSteps.{AllDo, DoesSomething, ServerTurn, total_at}
 use Rattle.lane_laws.specs.RuleFacts.{ServerMay}
 
@@ -59,12 +52,7 @@ took_packets shape events s e packet opens t sound run clean step =
 
 -- THE CLIENT
 took_spends : (s t : ClientState) (turns : List Turn) (packet : List ℕ) → ClientTook s turns packet t → ClientSpends 0 0 s t
-took_spends s t turns packet (inl part) = same_spends s t (ap (λ (c : ClientState). c.pending) part.is) (ap (λ (c : ClientState). c.session) part.is)
-took_spends s t turns packet (inr (inl handshakes)) =
-    same_spends s t (ap (λ (c : ClientState). c.pending) handshakes.is) (ap (λ (c : ClientState). c.session) handshakes.is)
-took_spends s t turns packet (inr (inr acks)) =
-    let next : ClientState = acknowledged (record s { link = acks.link }) acks.ack.session (range_length s.slots acks.ack.start acks.ack.end) in
-    subst (ClientSpends 0 0 s) (sym acks.is) (session_spends 0 0 s next (Some acks.ack.session) acks.ack.session_is (omega arith) (omega arith) (λ asked. omega arith))
+took_spends s t turns packet took = grind arith
 
 pub client_takes : (shape : Shape) (events : List DiskEvent) (s : LaneState) (packet : List ℕ) (opens : Bool) (t : LaneState) → IsShape shape → Run LaneStep (fresh shape) events s → s.wire.forged ≡ false
     → LaneStep s (OnWire (Took A packet opens)) t → ClientFalls 0 0 s.client t.client
@@ -84,10 +72,6 @@ client_falls shape events s packet opens t sound run clean step =
     omega (arith, client_took_falls s packet opens t (falls_lower 0 0 s.client t.client (client_takes shape events s packet opens t sound run clean step)) step)
 
 -- THE SERVER
--- it is asked for more
-more_asked : (slots before behind start end : ℕ) → before < 2 ^ 64 → before ≤ behind → behind ≡ wrapped (before + range_length slots start end) → 1 ≤ slots → slots ≤ 256 → before < behind
-more_asked slots before behind start end small less is some few = omega (arith, small, less, is, few, mod_below (end + slots - start % slots) slots some)
-
 abbrev AsksMore : LaneState → LaneState → Type 0
 AsksMore s t = (asked_in s.server.session < asked_in t.server.session) × (asked_in t.server.session ≤ total_at s.wire.wire.end_a s.client)
 
@@ -95,21 +79,7 @@ asks_more : (s t : LaneState) (l next : DiskLog) (turns : List Turn) (packet : L
     → next.shape.slots ≡ l.shape.slots → t.client ≡ s.client → t.wire.wire.end_a ≡ s.wire.wire.end_a → AskedWithin s l asks.info.session
     → AskedWithin t next (behind_ask s.server asks.info.session asks.info.range)
     → AsksMore s t
-asks_more s t l next turns packet opens asks transcript then_transcript shape client wire was now =
-    let slots = s.server.handshake.draft.peer_slots in
-    let behind : ServerSession = behind_ask s.server asks.info.session asks.info.range in
-    let session_is : t.server.session ≡ Some behind = ap (λ (v : ServerState). v.session) asks.is in
-    let sum_was : asks.info.session.asked ≡ range_sum l.shape.slots 1 (heard turns) = was.asked ∙ ap (λ (x : List Turn). range_sum l.shape.slots 1 (heard x)) transcript in
-    let sum_now : behind.asked ≡ range_sum l.shape.slots 1 (heard turns ++ asks.hears.bytes ∷ []) =
-    now.asked ∙ ap (λ (n : ℕ). range_sum n 1 (heard next.transcript.server)) shape ∙ ap (λ (x : List Turn). range_sum l.shape.slots 1 (heard x)) then_transcript ∙ ap (range_sum l.shape.slots 1) asks.hears.messages in
-    let more : asks.info.session.asked ≤ behind.asked = omega (arith, sum_was, sum_now, sum_front l.shape.slots 1 (heard turns) (asks.hears.bytes ∷ [])) in
-    let above : asks.info.session.asked < behind.asked =
-    more_asked slots asks.info.session.asked behind.asked asks.info.range.start asks.info.range.end was.small more refl (omega (arith, asks.info.ends)) was.slots in
-    let most : total_at s.wire.wire.end_a s.client ≡ total (length s.client.pending) s.client.session = ap (λ (x : ChannelState). total_at x s.client) was.up in
-    let same : total (length t.client.pending) t.client.session ≡ total (length s.client.pending) s.client.session = ap (λ (c : ClientState). total (length c.pending) c.session) client in (
-      subst (λ (o : Option ServerSession). asked_in o < asked_in t.server.session) (sym asks.info.session_is) (subst (λ (o : Option ServerSession). asks.info.session.asked < asked_in o) (sym session_is) above),
-      subst (λ (o : Option ServerSession). asked_in o ≤ total_at s.wire.wire.end_a s.client) (sym session_is) (omega (arith, now.within, most, same)),
-    )
+asks_more s t l next turns packet opens asks transcript then_transcript shape client wire was now = grind (arith, sum_front)
 
 by_asked : (shape : Shape) (events : List DiskEvent) (s : LaneState) (packet : List ℕ) (opens : Bool) (t : LaneState) → IsShape shape → Run LaneStep (fresh shape) events s → s.wire.forged ≡ false → IsUp B s.wire.wire
     → LaneStep s (OnWire (Took B packet opens)) t → ServerAsked s.server (log_of after (nothing_yet shape) events).transcript.server packet t.server opens → AsksMore s t
@@ -153,18 +123,10 @@ took_falls shape events s B packet opens t sound run clean step = server_falls s
 -- EACH STEP by which an end does something
 does_falls : (shape : Shape) (events : List DiskEvent) (s : LaneState) (event : DiskEvent) (t : LaneState) → IsShape shape → Run LaneStep (fresh shape) events s → s.wire.forged ≡ false → LaneStep s event t
     → DoesSomething event → remaining t < remaining s
-does_falls shape events s (OnWire (Took e packet opens)) t sound run clean step does = took_falls shape events s e packet opens t sound run clean step
-does_falls shape events s (OnWire (Joined e lost)) t sound run clean step does = steps_fall shape events s (OnWire (Joined e lost)) t sound run step does
-does_falls shape events s (OnWire (Sent e packet opens)) t sound run clean step does = steps_fall shape events s (OnWire (Sent e packet opens)) t sound run step does
-does_falls shape events s (Works event) t sound run clean step does = steps_fall shape events s (Works event) t sound run step does
-does_falls shape events s _ t sound run clean step does = absurd does
+does_falls shape events s event t sound run clean step does = grind (arith, took_falls, steps_fall)
 
 unforged_wire : (w : WireLog) (event : DiskEvent) → DoesSomething event → (after_wire w event).forged ≡ w.forged
-unforged_wire w (OnWire (Injected e packet)) does = absurd does
-unforged_wire w (OnWire (Poked e at bytes)) does = absurd does
-unforged_wire w (Switches Stopped) does = absurd does
-unforged_wire w (Switches event) does = absurd does
-unforged_wire w _ does = refl
+unforged_wire w event does = grind arith
 
 does_clean : (s : LaneState) (event : DiskEvent) (t : LaneState) → LaneStep s event t → DoesSomething event → s.wire.forged ≡ false → t.wire.forged ≡ false
 does_clean s event t step does clean = ap (λ (x : LaneState). x.wire.forged) (lane_view s event t step).is ∙ unforged_wire s.wire event does ∙ clean

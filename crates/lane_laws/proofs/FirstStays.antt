@@ -1,5 +1,5 @@
 -- A server's region begins at its disk's first block, along every run.
-use Rattle.std.proofs.Common.{◌≡◌, ℕ, Bool, Some, List, [], inl, inr, refl, ap, ◌∙◌}
+use Rattle.std.proofs.Common.{◌≡◌, ℕ, Bool, Some, List, [], refl, ap, ◌∙◌, arith}
 use Rattle.std.specs.Prelude.{⊤}
 use Rattle.runs.specs.Lawful.{log_of, run_lawful}
 use Rattle.runs.specs.Run.{Run}
@@ -27,9 +27,7 @@ held_first : (s : ServerState) (rule : server.ServerRule) (held : ServerState) �
 held_first s rule held is = ap (λ (x : ServerState). x.first) (server_holds_link s rule held is)
 
 took_first : (s : ServerState) (turns : List Turn) (packet : List ℕ) (t : ServerState) (opens : Bool) → ServerTook s turns packet t opens → t.first ≡ s.first
-took_first s turns packet t opens (inl part) = ap (λ (x : ServerState). x.first) part.is
-took_first s turns packet t opens (inr (inl handshakes)) = ap (λ (x : ServerState). x.first) handshakes.is
-took_first s turns packet t opens (inr (inr asks)) = ap (λ (x : ServerState). x.first) asks.is
+took_first s turns packet t opens took = grind arith
 
 -- ITS STEPS, and each event
 steps_first : (s : LaneState) (l : DiskLog) → Knows s l → (event : DiskEvent) (gave : List ℕ) (t : ServerState) (new : List ℕ)

@@ -9,10 +9,10 @@ use Rattle.ldc_queue.specs.Transcript.{Turn}
 use Rattle.vio_tag.specs.declared.cause.Cause.{Cause}
 use Rattle.channel_model.specs.Sayings.{heard}
 use Rattle.channel_model.specs.WireEvent.{Blocked, ByRestart, ByScript, ByStep, ByTick, Declines, Giver, Idle, Injected, Joined, Lost, Poked, Reset, Sent, Took, WireEvent, giver}
-use Rattle.channel_model.specs.WireLog.{WireLog, server_closed, wire_moved}
+use Rattle.channel_model.specs.WireLog.{wire_moved}
 use Rattle.lane_laws.specs.DiskLog.{DiskLog, after, nothing_yet}
 use Rattle.disk_model.specs.ClientState.{joined_client}
-use Rattle.disk_model.specs.DiskEvent.{Asks, Desc, DiskEvent, Done, Finished, Misplaced, Moved, Off, OnWire, Published, Calms, Started, Stopped, Stored, Switched, Switches, Worked, Works}
+use Rattle.disk_model.specs.DiskEvent.{Asks, Desc, DiskEvent, Done, Finished, Misplaced, Moved, OnWire, Published, Calms, Stopped, Stored, Switched, Switches, Worked, Works}
 use Rattle.disk_model.specs.LaneState.{IsShape, LaneState, Shape, fresh}
 use Rattle.disk_model.specs.LaneStep.{CallsReset, LaneStep, ResetBy, TurnStep, WireStep, WorkStep}
 use Rattle.disk_model.specs.ServerState.{ServerState, joined_server, restarted_server}
@@ -20,10 +20,8 @@ use Rattle.lane_laws.proofs.FlightClient.{client_admits_flies, falls_fly}
 use Rattle.lane_laws.proofs.FlightRuns.{InFlight, StepKnown, began, client_anew, client_on, client_wire, end_wire, flight_is, knows_at, log_at, server_anew, server_on, server_wire}
 use Rattle.lane_laws.proofs.LaneViews.{at_client, at_server, calm_same}
 use Rattle.lane_laws.proofs.FlightServer.{server_fetches_flies, server_finishes_flies, server_moves_flies, server_stores_flies}
-use Rattle.lane_laws.proofs.FlightSums.{Flight, client_loses, server_closes, server_loses}
-use Rattle.lane_laws.proofs.LaneCounting.{run_knows}
+use Rattle.lane_laws.proofs.FlightSums.{Flight, client_loses, server_loses}
 use Rattle.lane_laws.proofs.RemainingClientPuts.{completes_falls, publishes_falls}
-use Rattle.lane_laws.proofs.RingRuns.{before}
 use Rattle.lane_laws.proofs.RemainingTakes.{first_gone}
 use Rattle.lane_laws.specs.Budget.{infos_begun}
 use Rattle.lane_laws.specs.Counted.{range_count}
@@ -119,13 +117,7 @@ works s Misplaced t turns sound step flight = absurd step
 
 -- STOPS, and what changes nothing
 turns_fly : (s : LaneState) (event : Switched) (t : LaneState) (turns : List Turn) → TurnStep s event t → InFlight s turns → InFlight t turns
-turns_fly s Stopped t turns step flight =
-    flight_is (record s { wire = server_closed s.wire; server = restarted_server s.server; stopped = true; near = _ }) t turns step.1 (record {
-      few = server_closes s.wire.wire.end_a (client_packets s.client) (server_packets (restarted_server s.server)) (range_count 2 (heard turns)) (infos_begun s.client.session);
-      pieces = tt;
-    })
-turns_fly s Started t turns step flight = flight_is (record s { stopped = false }) t turns step.1 flight
-turns_fly s Off t turns step flight = flight_is s t turns step.1 flight
+turns_fly s event t turns step flight = grind arith
 
 flight_step : (shape : Shape) (events : List DiskEvent) (s : LaneState) (event : DiskEvent) (t : LaneState) → StepKnown shape events s event t → LaneStep s event t
     → InFlight s (log_at shape events).transcript.client → InFlight t (after (log_at shape events) event).transcript.client
@@ -147,14 +139,7 @@ record AlongFlight (shape : Shape) (s : LaneState) (l : DiskLog) : Type 0 where
 
 clean_before : (shape : Shape) (events : List DiskEvent) (s : LaneState) (event : DiskEvent) (t : LaneState) → IsShape shape → Run LaneStep (fresh shape) events s → LaneStep s event t
     → t.wire.forged ≡ false → s.wire.forged ≡ false
-clean_before shape events s event t sound run step clean =
-    let l = log_at shape events in
-    let more : List DiskEvent = events ++ event ∷ [] in
-    let then_run : Run LaneStep (fresh shape) more t = run_push LaneStep (fresh shape) s t events event run step in
-    let behind : log_at shape more ≡ after l event = log_append after (nothing_yet shape) events (event ∷ []) in
-    let now : (after l event).wire.forged ≡ false =
-    ap (λ (x : DiskLog). x.wire.forged) (sym behind) ∙ sym (ap (λ (w : WireLog). w.forged) (run_knows shape more t sound then_run).all.stands.wire) ∙ clean in
-    ap (λ (w : WireLog). w.forged) (run_knows shape events s sound run).all.stands.wire ∙ before l event now
+clean_before shape events s event t sound run step clean = grind arith
 
 along_step : (shape : Shape) → IsShape shape → (s : LaneState) (l : DiskLog) (event : DiskEvent) (t : LaneState) → AlongFlight shape s l → LaneStep s event t → ⊤ × AlongFlight shape t (after l event)
 along_step shape sound s l event t along step = (

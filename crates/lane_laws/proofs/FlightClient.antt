@@ -1,8 +1,8 @@
 -- What a client has still to put, against the INFO that it began: each packet that it puts lowers the one or is the other.
-use Rattle.std.proofs.Common.{◌≡◌, ℕ, ◌+◌, ◌≤◌, sym, subst, arith}
+use Rattle.std.proofs.Common.{ℕ, ◌+◌, ◌≤◌, arith}
 use Rattle.disk_model.specs.ClientState.{ClientState}
 use Rattle.disk_model.specs.ClientStep.{ClientAdmits}
-use Rattle.disk_model.specs.DiskEvent.{Accepted, Admitted, Full, Refused}
+use Rattle.disk_model.specs.DiskEvent.{Admitted}
 use Rattle.lane_laws.proofs.RemainingClientPuts.{ClientFalls}
 use Rattle.lane_laws.specs.Budget.{infos_begun}
 use Rattle.lane_laws.specs.Remaining.{client_packets}
@@ -15,10 +15,5 @@ pub falls_fly : (put by : ℕ) (s t : ClientState) → ClientFalls put by s t �
 falls_fly put by s t falls = omega (arith, falls.packets, falls.spends.infos)
 
 -- WHAT IT IS ASKED
-same_flies : (s t : ClientState) → t ≡ s → ClientFlies 0 s t
-same_flies s t is = subst (ClientFlies 0 s) (sym is) (omega arith)
-
 pub client_admits_flies : (s : ClientState) (event : Admitted) (t : ClientState) → ClientAdmits s event t → ClientFlies 0 s t
-client_admits_flies s (Refused why request) t admits = same_flies s t admits.1
-client_admits_flies s (Full request) t admits = same_flies s t admits.2
-client_admits_flies s (Accepted id request) t admits = subst (ClientFlies 0 s) (sym admits.5) (omega arith)
+client_admits_flies s event t admits = grind arith

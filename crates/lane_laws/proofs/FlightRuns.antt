@@ -8,7 +8,7 @@ use Rattle.ldc_queue.specs.declared.end.End.TheVariants.{A, B}
 use Rattle.ldc_queue.specs.Transcript.{Heard as Heard_, Said as Said_, Turn}
 use Rattle.channel_model.specs.Sayings.{half_heard, heard}
 use Rattle.channel_model.specs.WireEvent.{Blocked, Idle, Joined, Reset, Sent, Took, WireEvent}
-use Rattle.channel_model.specs.WireLog.{WireLog, wire_moved}
+use Rattle.channel_model.specs.WireLog.{wire_moved}
 use Rattle.lane_laws.specs.DiskLog.{DiskLog, after, nothing_yet}
 use Rattle.channel_model.specs.Messages.{range_ended}
 use Rattle.lane_laws.specs.WorkLog.{one_in}
@@ -25,12 +25,12 @@ use Rattle.lane_laws.proofs.FallsInTurn.{client_takes, server_takes}
 use Rattle.lane_laws.proofs.FlightClient.{ClientFlies, falls_fly}
 use Rattle.lane_laws.proofs.FlightServer.{FewPieces, ServerFlies, server_takes_flies}
 use Rattle.lane_laws.proofs.FlightServer as server_flies
-use Rattle.lane_laws.proofs.FlightSums.{Flight, client_begins, client_goes, client_puts_one, client_takes_one, one_longer, server_begins, server_goes, server_puts_one, server_takes_one}
+use Rattle.lane_laws.proofs.FlightSums.{Flight, client_puts_one, client_takes_one, one_longer, server_begins, server_puts_one, server_takes_one}
 use Rattle.lane_laws.proofs.IdleRuns.{client_same, server_same}
 use Rattle.lane_laws.proofs.LaneCounting.{Knows, run_knows}
 use Rattle.lane_laws.proofs.RangeSums.{count_heard}
 use Rattle.lane_laws.proofs.RemainingClientPuts.{blocked_falls, sends_falls}
-use Rattle.lane_laws.proofs.RemainingLane.{begun_answers, begun_packets}
+use Rattle.lane_laws.proofs.RemainingLane.{begun_answers}
 use Rattle.lane_laws.proofs.RemainingServerPuts as server
 use Rattle.lane_laws.proofs.Ruling.{client_may, server_may}
 use Rattle.lane_laws.proofs.ServerSpeaking.{server_holds_up}
@@ -67,11 +67,7 @@ knows_at shape events s event t known = run_knows shape events s known.sound kno
 
 -- AN END that begins
 pub client_anew : (s : LaneState) (c : ClientState) (turns : List Turn) → EndStands Initiator (client_core s.client) turns → c ≡ joined_client s.client → InFlight s turns → Flight (wire_moved s.wire (Joined A 0)) c s.server []
-client_anew s c turns stands is flight = subst (λ (x : ClientState). Flight (wire_moved s.wire (Joined A 0)) x s.server []) (sym is) (record {
-  few = client_begins s.wire.wire.end_a s.wire.wire.end_b s.wire.wire.to_a s.wire.wire.to_b s.wire.lossy (client_packets s.client) (client_packets (joined_client s.client)) (server_packets s.server)
-      (range_count 2 (heard turns)) (infos_begun s.client.session) (begun_packets s.client turns stands) flight.few;
-  pieces = flight.pieces;
-})
+client_anew s c turns stands is flight = grind arith
 
 pub server_anew : (s : LaneState) (v : ServerState) (turns : List Turn) → server_packets v ≡ 8 → v.work ≡ None → InFlight s turns → Flight (wire_moved s.wire (Joined B 0)) s.client v turns
 server_anew s v turns eight none flight = record {
@@ -82,20 +78,10 @@ server_anew s v turns eight none flight = record {
 
 -- AN END that goes on
 pub client_on : (s t : LaneState) (turns : List Turn) → t.wire ≡ s.wire → t.server ≡ s.server → ClientFlies 0 s.client t.client → InFlight s turns → InFlight t turns
-client_on s t turns wire server flies flight =
-    subst (λ (w : WireLog). Flight w t.client t.server turns) (sym wire) (subst (λ (v : ServerState). Flight s.wire t.client v turns) (sym server) (record {
-      few = client_goes s.wire.wire.end_a s.wire.wire.end_b (length s.wire.wire.to_a) (length s.wire.wire.to_b) s.wire.lossy (client_packets s.client) (client_packets t.client) (server_packets s.server)
-          (range_count 2 (heard turns)) (infos_begun s.client.session) (infos_begun t.client.session) flies flight.few;
-      pieces = flight.pieces;
-    }))
+client_on s t turns wire server flies flight = grind arith
 
 pub server_on : (s t : LaneState) (turns : List Turn) → t.wire ≡ s.wire → t.client ≡ s.client → ServerFlies 0 0 s.server t.server → InFlight s turns → InFlight t turns
-server_on s t turns wire client flies flight =
-    subst (λ (w : WireLog). Flight w t.client t.server turns) (sym wire) (subst (λ (c : ClientState). Flight s.wire c t.server turns) (sym client) (record {
-      few = server_goes s.wire.wire.end_a s.wire.wire.end_b (length s.wire.wire.to_a) (length s.wire.wire.to_b) s.wire.lossy (client_packets s.client) (server_packets s.server) (server_packets t.server)
-          (range_count 2 (heard turns)) (infos_begun s.client.session) flies.packets flight.few;
-      pieces = flies.pieces flight.pieces;
-    }))
+server_on s t turns wire client flies flight = grind arith
 
 -- THE CLIENT takes a packet
 one_most : (range : Option (List ℕ)) → one_in range ≤ 1

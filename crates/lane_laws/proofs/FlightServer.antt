@@ -1,25 +1,22 @@
 -- What a server has still to put: each packet that it puts lowers it, and a packet that it takes raises it by one at most; and its descriptor
 -- in work has at most eight pieces left.
-use Rattle.std.proofs.Common.{◌≡◌, ℕ, ◌+◌, ◌≤◌, inl, inr, Bool, Option, Some, None, List, refl, sym, ap, subst, arith}
-use Rattle.std.specs.Prelude.{◌&&◌, is_none, ⊤}
+use Rattle.std.proofs.Common.{◌≡◌, ℕ, ◌+◌, ◌≤◌, inl, inr, Bool, Option, Some, None, List, sym, ap, subst, arith}
+use Rattle.std.specs.Prelude.{⊤}
 use Rattle.cookie_copy.specs.declared.fault.CopyFault.{CopyFault}
 use Rattle.ldc_queue.specs.Transcript.{Turn}
-use Rattle.channel_laws.specs.EndCore.{holds}
-use Rattle.channel_laws.specs.PacketsLeft.{packets_left}
 use Rattle.vdisk_msg.specs.Descriptor as slot_says
 use Rattle.vdisk_msg.specs.Pieces.{unit_count}
 use Rattle.channel_model.specs.Seeing.{Seen}
-use Rattle.disk_model.specs.ServerRule.{Fetches, Serves}
-use Rattle.disk_model.specs.ServerState.{Progress, ServerSession, ServerState, Work}
+use Rattle.disk_model.specs.ServerRule.{Fetches}
+use Rattle.disk_model.specs.ServerState.{ServerSession, ServerState, Work}
 use Rattle.disk_model.specs.ServerStep.{ServerFetches, ServerFinishes, ServerMoves, ServerStores}
 use Rattle.cookie_copy.specs.Reach.{Reach}
 use Rattle.disk_model.specs.ServerWork.{desc_of}
 use Rattle.lane_laws.proofs.RemainingServerPuts.{ServerFalls}
-use Rattle.lane_laws.proofs.RemainingServerSteps.{Less, few_pieces, moves_less, stores_less}
+use Rattle.lane_laws.proofs.RemainingServerSteps.{few_pieces, moves_less, stores_less}
 use Rattle.lane_laws.proofs.Ruling.{server_may}
 use Rattle.lane_laws.proofs.ServerTaken.{ServerTook}
 use Rattle.lane_laws.specs.Budget.{range_left}
-use Rattle.lane_laws.specs.ChannelEnds.{answers_to_begin, server_core}
 use Rattle.lane_laws.specs.Remaining.{pieces_left, server_packets}
 use Rattle.lane_laws.specs.RemainingSteps.{ServerTurn}
 use Rattle.lane_laws.specs.RuleFacts.{ServerMay}
@@ -42,9 +39,7 @@ falls_fly put s t falls = record { packets = omega (arith, falls.packets); piece
 
 -- IT TAKES one
 took_work : (s t : ServerState) (turns : List Turn) (packet : List ℕ) (opens : Bool) → ServerTook s turns packet t opens → t.work ≡ s.work
-took_work s t turns packet opens (inl part) = ap (λ (v : ServerState). v.work) part.is
-took_work s t turns packet opens (inr (inl handshakes)) = ap (λ (v : ServerState). v.work) handshakes.is
-took_work s t turns packet opens (inr (inr asks)) = ap (λ (v : ServerState). v.work) asks.is
+took_work s t turns packet opens took = grind arith
 
 turn_packets : (most : ℕ) (v u : ServerState) → ServerTurn most v u → server_packets u + 0 ≤ server_packets v + 1
 turn_packets most v u (inl hears) = omega (arith, hears.packets)
@@ -56,15 +51,7 @@ server_takes_flies most s t turns packet opens turn took = record { packets = tu
 -- ITS WORK
 works_flies : (s : ServerState) (session : Option ServerSession) (work : Option Work) → range_left session ≡ range_left s.session → (FewPieces s.work → FewPieces work)
     → ServerFlies 0 0 s (record s { session = session; work = work })
-works_flies s session work range pieces = record {
-  packets = omega (arith, ap (λ (n : ℕ). packets_left (server_core s) + answers_to_begin (holds s.link && is_none s.handshake.owed) n) range);
-  pieces = pieces;
-}
-
-fewer_pieces : (s : ServerState) (work : Work) (next : Progress) → s.work ≡ Some work → Less work next work.progress → FewPieces s.work → FewPieces (Some (record work { progress = next }))
-fewer_pieces s work next is less few =
-    let now : pieces_left (unit_count (desc_of work).size) work.progress ≤ 8 = subst FewPieces is few in
-    omega (arith, less, now)
+works_flies s session work range pieces = grind arith
 
 pub server_fetches_flies : (s : ServerState) (at : Seen) (reach : Reach) (slot : ℕ) (bytes : List ℕ) (t : ServerState) (new : List ℕ) → ServerFetches s at reach slot bytes t new → ServerFlies 0 0 s t
 server_fetches_flies s at reach slot bytes t new step =
@@ -72,21 +59,11 @@ server_fetches_flies s at reach slot bytes t new step =
     subst (ServerFlies 0 0 s) (sym step.is) (works_flies s _ _ (ap range_left (sym may.1)) (λ few. few_pieces (slot_says.disk_desc_of bytes) s.blocks))
 
 pub server_moves_flies : (s : ServerState) (at : Seen) (reach : Reach) (unit : ℕ) (why : Option CopyFault) (t : ServerState) (new : List ℕ) → ServerMoves s at reach unit why t new → ServerFlies 0 0 s t
-server_moves_flies s at reach unit why t new step =
-    let may : ServerMay s at (Serves step.session step.work) = subst (ServerMay s at) step.rule (server_may s at) in
-    subst (ServerFlies 0 0 s) (sym step.is)
-    (works_flies s s.session (Some (record step.work { progress = step.next })) refl
-    (fewer_pieces s step.work step.next may.2 (moves_less step.work.progress step.work reach unit why step.next new step.moves)))
+server_moves_flies s at reach unit why t new step = grind (arith, server_may, moves_less)
 
 pub server_stores_flies : (s : ServerState) (at : Seen) (operation block count : ℕ) (failed : Bool) (gave : List ℕ) (t : ServerState) → ServerStores s at operation block count failed gave t
     → ServerFlies 0 0 s t
-server_stores_flies s at operation block count failed gave t step =
-    let may : ServerMay s at (Serves step.session step.work) = subst (ServerMay s at) step.rule (server_may s at) in
-    subst (ServerFlies 0 0 s) (sym step.is)
-    (works_flies s s.session (Some (record step.work { progress = step.next })) refl
-    (fewer_pieces s step.work step.next may.2 (stores_less step.work.progress step.work operation block count failed gave step.next step.stores)))
+server_stores_flies s at operation block count failed gave t step = grind (arith, server_may, stores_less)
 
 pub server_finishes_flies : (s : ServerState) (at : Seen) (reach : Reach) (slot status : ℕ) (t : ServerState) (new : List ℕ) → ServerFinishes s at reach slot status t new → ServerFlies 0 0 s t
-server_finishes_flies s at reach slot status t new step =
-    let may : ServerMay s at (Serves step.session step.work) = subst (ServerMay s at) step.rule (server_may s at) in
-    subst (ServerFlies 0 0 s) (sym step.is) (works_flies s _ None (ap range_left (sym may.1)) (λ few. tt))
+server_finishes_flies s at reach slot status t new step = grind (arith, server_may)

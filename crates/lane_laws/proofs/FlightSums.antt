@@ -1,10 +1,10 @@
 -- How many packets wait and are still to be put on a lane that nobody forged, against those that were answered: the two ends begin with 17
 -- packets of their own, and each INFO brings two more, its own and its answer. What happens to a channel keeps it so.
-use Rattle.std.proofs.Common.{◌≡◌, ℕ, ◌+◌, ◌≤◌, Bool, true, false, List, [], ◌∷◌, ◌++◌, length, refl, arith, length-append}
+use Rattle.std.proofs.Common.{◌≡◌, ℕ, ◌+◌, ◌≤◌, Bool, true, List, [], ◌∷◌, ◌++◌, length, arith, length-append}
 use Rattle.ldc_queue.specs.declared.end.ChannelState.{ChannelState}
 use Rattle.ldc_queue.specs.declared.end.ChannelState.TheVariants.{Down, Resetting, Up}
 use Rattle.ldc_queue.specs.Transcript.{Turn}
-use Rattle.ldc_queue.specs.Wire.{peer_behind, queue_behind, upset}
+use Rattle.ldc_queue.specs.Wire.{peer_behind, queue_behind}
 use Rattle.channel_model.specs.Sayings.{heard}
 use Rattle.channel_model.specs.WireLog.{WireLog, lossy_behind}
 use Rattle.disk_model.specs.ClientState.{ClientState}
@@ -32,60 +32,23 @@ pub record Flight (w : WireLog) (c : ClientState) (v : ServerState) (turns : Lis
 
 -- THE CLIENT puts a packet, takes one, and goes on
 pub client_puts_one : (x y : ChannelState) (a b more : ℕ) (lossy : Bool) (c t v q i j : ℕ) → x ≡ Up → more ≡ b + 1 → t + 1 + i ≤ c + j → FewFly x y a b lossy c v q i → FewFly x y a more lossy t v q j
-client_puts_one Up y a b more lossy c t v q i j up one flies few = omega (arith, one, flies, few)
-client_puts_one Down y a b more lossy c t v q i j up one flies few = absurd (cc up)
-client_puts_one Resetting y a b more lossy c t v q i j up one flies few = absurd (cc up)
+client_puts_one x y a b more lossy c t v q i j up one flies few = grind arith
 
 pub client_takes_one : (x y : ChannelState) (a less b : ℕ) (lossy : Bool) (c t v q p i j : ℕ) → x ≡ Up → less + 1 ≡ a → t + 0 + i ≤ c + j → p ≤ q + 1 → FewFly x y a b lossy c v q i
     → FewFly x y less b lossy t v p j
-client_takes_one Up y a less b lossy c t v q p i j up one flies answers few = omega (arith, one, flies, answers, few)
-client_takes_one Down y a less b lossy c t v q p i j up one flies answers few = absurd (cc up)
-client_takes_one Resetting y a less b lossy c t v q p i j up one flies answers few = absurd (cc up)
-
-pub client_goes : (x y : ChannelState) (a b : ℕ) (lossy : Bool) (c t v q i j : ℕ) → t + 0 + i ≤ c + j → FewFly x y a b lossy c v q i → FewFly x y a b lossy t v q j
-client_goes Up y a b lossy c t v q i j flies few = omega (arith, flies, few)
-client_goes Down y a b lossy c t v q i j flies few = few
-client_goes Resetting y a b lossy c t v q i j flies few = few
+client_takes_one x y a less b lossy c t v q p i j up one flies answers few = grind arith
 
 -- THE SERVER likewise
 pub server_puts_one : (x y : ChannelState) (a more b : ℕ) (lossy : Bool) (c v u q i : ℕ) → y ≡ Up → more ≡ a + 1 → u + 1 ≤ v + 0 → FewFly x y a b lossy c v q i → FewFly x y more b lossy c u q i
-server_puts_one x Up a more b lossy c v u q i up one flies few = omega (arith, one, flies, few)
-server_puts_one x Down a more b lossy c v u q i up one flies few = absurd (cc up)
-server_puts_one x Resetting a more b lossy c v u q i up one flies few = absurd (cc up)
+server_puts_one x y a more b lossy c v u q i up one flies few = grind arith
 
 pub server_takes_one : (x y : ChannelState) (a b less : ℕ) (lossy : Bool) (c v u q i : ℕ) → y ≡ Up → less + 1 ≡ b → u + 0 ≤ v + 1 → FewFly x y a b lossy c v q i → FewFly x y a less lossy c u q i
-server_takes_one x Up a b less lossy c v u q i up one flies few = omega (arith, one, flies, few)
-server_takes_one x Down a b less lossy c v u q i up one flies few = absurd (cc up)
-server_takes_one x Resetting a b less lossy c v u q i up one flies few = absurd (cc up)
-
-pub server_goes : (x y : ChannelState) (a b : ℕ) (lossy : Bool) (c v u q i : ℕ) → u + 0 ≤ v + 0 → FewFly x y a b lossy c v q i → FewFly x y a b lossy c u q i
-server_goes x Up a b lossy c v u q i flies few = omega (arith, flies, few)
-server_goes x Down a b lossy c v u q i flies few = few
-server_goes x Resetting a b lossy c v u q i flies few = few
+server_takes_one x y a b less lossy c v u q i up one flies few = grind arith
 
 -- AN END BEGINS, or is closed
-begins_small : (y : ChannelState) (v : ℕ) → live_count (upset y) 8 v ≡ 8
-begins_small Up v = refl
-begins_small _ v = refl
-
-begins_large : (x : ChannelState) (n c : ℕ) → live_count (upset x) n c ≡ n
-begins_large Up n c = refl
-begins_large _ n c = refl
-
-pub client_begins : (x y : ChannelState) (to_a to_b : List (List ℕ)) (lossy : Bool) (c t v q i : ℕ) → t ≡ 9 → FewFly x y (length to_a) (length to_b) lossy c v q i
-    → FewFly Up (peer_behind x y) (length (queue_behind x to_a)) (length (queue_behind x to_b)) (lossy_behind x lossy) t v 0 0
-client_begins Up y to_a to_b lossy c t v q i nine few = omega (arith, nine, begins_small y v)
-client_begins Down y to_a to_b lossy c t v q i nine few = omega (arith, nine, few)
-client_begins Resetting y to_a to_b lossy c t v q i nine few = omega (arith, nine, few)
-
 pub server_begins : (x y : ChannelState) (to_a to_b : List (List ℕ)) (lossy : Bool) (c v u q i : ℕ) → u ≡ 8 → FewFly x y (length to_a) (length to_b) lossy c v q i
     → FewFly (peer_behind y x) Up (length (queue_behind y to_a)) (length (queue_behind y to_b)) (lossy_behind y lossy) c u q i
-server_begins x Up to_a to_b lossy c v u q i eight few = omega (arith, eight, begins_large x 9 c, begins_large x 0 q)
-server_begins x Down to_a to_b lossy c v u q i eight few = omega (arith, eight, few)
-server_begins x Resetting to_a to_b lossy c v u q i eight few = omega (arith, eight, few)
-
-pub server_closes : (x : ChannelState) (c v q i : ℕ) → FewFly (upset x) Down 0 0 false c v q i
-server_closes x c v q i = omega (arith, begins_large x 9 c, begins_large x 0 q)
+server_begins x y to_a to_b lossy c v u q i eight few = grind arith
 
 -- A PACKET IS LOST
 

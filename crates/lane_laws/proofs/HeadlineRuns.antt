@@ -1,21 +1,19 @@
 -- Along every run of a lane with its image: what completed reads show, and what the image holds.
-use Rattle.std.proofs.Common.{◌≡◌, ℕ, zero, suc, ◌+◌, ◌-◌, ◌*◌, ◌≤◌, ◌⊎◌, false, Some, None, List, [], ◌∷◌, drop, take, length, inl, inr, refl, sym, ap, ◌∙◌, subst, arith}
+use Rattle.std.proofs.Common.{◌≡◌, ℕ, zero, suc, ◌+◌, ◌-◌, ◌*◌, ◌≤◌, ◌⊎◌, false, Some, List, [], ◌∷◌, drop, take, length, inl, inr, refl, sym, ap, ◌∙◌, subst, arith}
 use Rattle.std.specs.Prelude.{slice_get, ⊤}
 use Rattle.std.proofs.lemmas.List.{drop_all, take-append-le, take_all}
-use Rattle.std.proofs.lemmas.Option.{slice_get_within}
 use Rattle.runs.specs.Lawful.{log_of, run_lawful}
 use Rattle.runs.specs.Run.{Run}
 use Rattle.vdisk_msg.specs.declared.request.Request.{Request}
 use Rattle.vdisk_msg.specs.declared.request.Request.TheVariants.{Flush, Read, Write}
-use Rattle.vdisk_msg.specs.Requests.{AreSound, defect}
+use Rattle.vdisk_msg.specs.Requests.{AreSound}
 use Rattle.channel_model.specs.WireLog.{WireLog}
 use Rattle.lane_laws.specs.DiskLog.{DiskLog, after, nothing_yet}
-use Rattle.disk_model.specs.DiskEvent.{Accepted, Asks, DiskEvent, Done, OnWire, Published, Stopped, Switches, Works}
+use Rattle.disk_model.specs.DiskEvent.{DiskEvent, Done, Works}
 use Rattle.disk_model.specs.LaneState.{IsShape, LaneState, Shape, fresh}
 use Rattle.disk_model.specs.LaneStep.{LaneStep}
 use Rattle.lane_laws.proofs.RingClientSteps.{got_at}
 use Rattle.lane_laws.proofs.RingRuns.{before as clean_before}
-use Rattle.lane_laws.proofs.StandingSteps.{wired_keeps}
 use Rattle.lane_laws.specs.Standing.{LaneInvariant, RequestsStand}
 use Rattle.lane_laws.specs.Blocks.{after_requests, block_at}
 use Rattle.lane_laws.specs.Headline.{CompletionShows, HoldsDone, Imaged, ImagedStep, LastWrite, LaterWrite, PendingWrite, ShowsLast, done_content, fresh_image}
@@ -45,21 +43,9 @@ front_content first issued done (request ∷ pending) is some =
     sym (after_append first (take done issued) request) ∙ ap (after_requests first) (sym (take_more issued done request got)) ∙ ap (λ (n : ℕ). after_requests first (take n issued)) (sym next)
 
 -- what an event does to it is what it does to the content
-same_done : (first : List ℕ) (s : LaneState) (l : DiskLog) (event : DiskEvent) → (after l event).work.done ≡ l.work.done → (after l event).work.issued ≡ l.work.issued
-    → content_after s (done_content first l) event ≡ done_content first l → content_after s (done_content first l) event ≡ done_content first (after l event)
-same_done first s l event done issued is =
-    is ∙ ap (λ (n : ℕ). after_requests first (take n l.work.issued)) (sym done) ∙ ap (λ (xs : List Request). after_requests first (take (after l event).work.done xs)) (sym issued)
-
 behind_done : (first : List ℕ) (s : LaneState) (l : DiskLog) (event : DiskEvent) (t : LaneState) → RequestsStand s.client l.work → LaneStep s event t
     → content_after s (done_content first l) event ≡ done_content first (after l event)
-behind_done first s l (OnWire event) t stands step =
-    let keeps = wired_keeps l.shape.slots l.transcript l.work event in same_done first s l (OnWire event) keeps.done keeps.issued refl
-behind_done first s l (Asks (Accepted id request)) t stands step = ap (after_requests first) (sym (take-append-le l.work.done l.work.issued (request ∷ []) stands.done))
-behind_done first s l (Works (Done id operation status bytes)) t stands step =
-    let within = slice_get_within s.client.pending 0 step.step.request step.step.front in
-    front_content first l.work.issued l.work.done s.client.pending stands.pending (omega (arith, within))
-behind_done first s l (Switches Stopped) t stands step = refl
-behind_done first s l _ t stands step = refl
+behind_done first s l event t stands step = grind (arith, take-append-le, front_content)
 
 -- EACH REQUEST that was accepted was admitted
 sound_take : (blocks : ℕ) (requests : List Request) (n : ℕ) → AreSound blocks requests → AreSound blocks (take n requests)
@@ -72,12 +58,7 @@ blocks_are shape s l disk stands = stands.blocks ∙ ap (λ (x : Shape). x.block
 
 sound_behind : (blocks : ℕ) (s : LaneState) (l : DiskLog) (event : DiskEvent) (t : LaneState) → s.client.blocks ≡ blocks → AreSound blocks l.work.issued → LaneStep s event t
     → AreSound blocks (after l event).work.issued
-sound_behind blocks s l (OnWire event) t same sound step = subst (AreSound blocks) (sym (wired_keeps l.shape.slots l.transcript l.work event).issued) sound
-sound_behind blocks s l (Asks (Accepted id request)) t same sound step =
-    sound_push blocks l.work.issued request sound (subst (λ (n : ℕ). defect n request ≡ None) same step.0.0) step.0.2
-sound_behind blocks s l (Works (Published id)) t same sound step = sound
-sound_behind blocks s l (Switches Stopped) t same sound step = sound
-sound_behind blocks s l _ t same sound step = sound
+sound_behind blocks s l event t same sound step = grind (arith, sound_push)
 
 -- ALONG A RUN with the image
 record AlongImage (shape : Shape) (first : List ℕ) (a : Imaged) (l : DiskLog) : Type 0 where

@@ -1,5 +1,5 @@
 -- An end that rests has nothing to do, as the log counts it.
-use Rattle.std.proofs.Common.{◌≡◌, ℕ, zero, suc, ◌-◌, ◌≤◌, false, Option, Some, None, List, [], ◌∷◌, length, refl, sym, ap, ◌∙◌, subst, arith, length-drop}
+use Rattle.std.proofs.Common.{◌≡◌, ℕ, zero, suc, ◌-◌, ◌≤◌, false, Option, Some, None, List, [], ◌∷◌, length, sym, ap, ◌∙◌, subst, arith, length-drop}
 use Rattle.std.specs.Prelude.{nat_lt, slice_get}
 use Rattle.std.proofs.lemmas.Bool.Decides.{nat_tests}
 use Rattle.ldc_queue.specs.declared.end.End.{End}
@@ -10,24 +10,21 @@ use Rattle.channel_model.specs.WireEvent.{Idle}
 use Rattle.channel_model.specs.WireLog.{WireLog}
 use Rattle.channel_laws.proofs.Apart.{some_same}
 use Rattle.channel_laws.proofs.EndsAtRest.{none_waits}
-use Rattle.lane_laws.specs.Agreement.{ClientAgrees, ServerAgrees, WorkAgrees}
+use Rattle.lane_laws.specs.Agreement.{ClientAgrees}
 use Rattle.lane_laws.specs.DiskLog.{DiskLog}
 use Rattle.lane_laws.specs.QuietLaws.{ClientIsIdle, EndIsIdle, IdleAt, ServerIsIdle}
 use Rattle.lane_laws.specs.WorkLaws.{IfClient, IfServer}
-use Rattle.lane_laws.specs.WorkLog.{ClientCounts, ServerCounts}
+use Rattle.lane_laws.specs.WorkLog.{ClientCounts}
 use Rattle.disk_model.specs.ClientState.{ClientSession}
 use Rattle.disk_model.specs.DiskEvent.{DiskEvent, OnWire}
 use Rattle.disk_model.specs.LaneState.{LaneState}
 use Rattle.disk_model.specs.LaneStep.{EndOnWire, LaneStep}
-use Rattle.disk_model.specs.ServerState.{ServerSession, Work}
 use Rattle.lane_laws.proofs.Sharing.{in_order}
-use Rattle.lane_laws.specs.Counted.{InServerOrder, RangeStands}
 use Rattle.lane_laws.specs.Sound.{InOrder}
-use Rattle.lane_laws.proofs.Counting.{OfServer, of_client, of_server}
+use Rattle.lane_laws.proofs.Counting.{of_client}
 use Rattle.lane_laws.proofs.IdleRules.{ServerIdles, client_idles, server_idles}
 use Rattle.lane_laws.proofs.RuleTests.{ClientIdles}
-use Rattle.lane_laws.proofs.WorkNumbers.{Grounded, order_of}
-use Rattle.lane_laws.proofs.ServerPutCounting.{work_most as finished_descs}
+use Rattle.lane_laws.proofs.WorkNumbers.{Grounded}
 use Rattle.lane_laws.proofs.LaneViews.{at_client, at_server}
 
 pub not_below : (a b : ℕ) → nat_lt a b ≡ false → b ≤ a
@@ -41,15 +38,7 @@ past_all (one ∷ requests) (suc n) none = omega (arith, past_all requests n non
 -- the session of the log is the state's
 pub some_client : (o : Option ClientSession) (done : ℕ) (k : Option ClientCounts) (P : ClientCounts → Type 0) → ClientAgrees o done k
     → ((session : ClientSession) (c : ClientCounts) → o ≡ Some session → k ≡ Some c → P c) → IfClient k P
-some_client o done None P agrees holds = tt
-some_client None done (Some c) P agrees holds = absurd agrees
-some_client (Some session) done (Some c) P agrees holds = holds session c refl refl
-
-pub some_server : (o : Option ServerSession) (work : Option Work) (d : Option ServerCounts) (P : ServerCounts → Type 0) → ServerAgrees o work d
-    → ((session : ServerSession) (c : ServerCounts) → o ≡ Some session → d ≡ Some c → P c) → IfServer d P
-some_server o work None P agrees holds = tt
-some_server None work (Some c) P agrees holds = absurd agrees
-some_server (Some session) work (Some c) P agrees holds = holds session c refl refl
+some_client o done k P agrees holds = grind arith
 
 pub idle_client : (s : LaneState) (l : DiskLog) → Grounded s l → ClientIdles s.client (at_client s) → IfClient l.work.client (ClientIsIdle l)
 idle_client s l grounded idles =
@@ -71,27 +60,8 @@ idle_client s l grounded idles =
     }))
 
 -- a server without a range has finished and answered all
-no_work : (work : Option Work) (c : ServerCounts) → WorkAgrees work c → c.asked ≡ c.answered → c.answered ≤ c.finished → c.descs ≤ c.asked → c.owed ≡ []
-no_work None c agrees all answered descs = agrees.0
-no_work (Some work) c agrees all answered descs = absurd (omega (arith, agrees.2, all, answered, descs))
-
 pub idle_server : (s : LaneState) (l : DiskLog) → Grounded s l → ServerIdles s.server (at_server s) → IfServer l.work.server ServerIsIdle
-idle_server s l grounded idles =
-    some_server s.server.session s.server.work l.work.server ServerIsIdle grounded.knows.counted.server.agrees (λ session c is has.
-    let of : OfServer session s.server.work l.work.server =
-    of_server s.server.session session s.server.work l.work.server is grounded.knows.counted.server.agrees in
-    let both : Some of.counts ≡ Some c = sym of.is ∙ has in
-    let same : of.counts ≡ c = some_same both in
-    let order : InServerOrder l.shape.slots session of.counts l.transcript.server =
-    order_of l.shape.slots s.server.session session l.work.server of.counts l.transcript.server is of.is grounded.knows.counted.server.order in
-    let all : of.counts.answered ≡ of.counts.asked =
-    subst (λ (r : Option _). RangeStands l.shape.slots r of.counts) (idles.range session is) order.range in
-    let finished = finished_descs s.server.work of.counts of.work_agrees in
-    subst ServerIsIdle same (record {
-      nothing_owed = no_work s.server.work of.counts of.work_agrees (sym all) order.finished order.descs;
-      fetched = omega (arith, all, order.finished, order.descs, finished);
-      answered = omega (arith, all, order.finished, order.descs, finished);
-    }))
+idle_server s l grounded idles = grind arith
 
 pub same_waiting : (e : End) (s : LaneState) (l : DiskLog) → Grounded s l → waiting_for e s.wire.wire ≡ [] → waiting_for e l.wire.wire ≡ []
 same_waiting e s l grounded none = ap (λ (w : WireLog). waiting_for e w.wire) (sym grounded.knows.all.stands.wire) ∙ none

@@ -1,13 +1,13 @@
 -- What is known where an end's next step is to rest: nothing waits for it, and its session has nothing to do. And where a client's is to
 -- announce: it has published all that is pending.
-use Rattle.std.proofs.Common.{◌≡◌, false, Some, None, subst}
+use Rattle.std.proofs.Common.{◌≡◌, false, Some, None, arith}
 use Rattle.ldc_link.specs.Putting.{owes}
 use Rattle.disk_model.specs.ClientRule as client
 use Rattle.disk_model.specs.ClientState.{ClientSession, ClientState}
 use Rattle.channel_model.specs.Seeing.{Seen}
 use Rattle.disk_model.specs.ServerRule as server
 use Rattle.disk_model.specs.ServerState.{ServerSession, ServerState}
-use Rattle.lane_laws.proofs.RuleTests.{ClientIdles, PublishedAll, ServerTested, client_test, server_tested}
+use Rattle.lane_laws.proofs.RuleTests.{ClientIdles, PublishedAll, client_test, server_tested}
 
 pub client_idles : (s : ClientState) (at : Seen) → client.client_rule s at ≡ client.Idles → ClientIdles s at
 client_idles s at rule = client_test s at client.Idles rule
@@ -22,6 +22,4 @@ pub record ServerIdles (s : ServerState) (at : Seen) : Type 0 where
   pub range : (session : ServerSession) → s.session ≡ Some session → session.range ≡ None
 
 pub server_idles : (s : ServerState) (at : Seen) → server.server_rule s at ≡ server.Idles → ServerIdles s at
-server_idles s at rule =
-    let test : ServerTested s at server.Idles = subst (ServerTested s at) rule (server_tested s at) in
-    record { free = test.1.free; owed = test.1.owed; first = test.2; range = test.1.range }
+server_idles s at rule = grind (arith, server_tested)

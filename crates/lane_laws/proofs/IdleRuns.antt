@@ -1,5 +1,5 @@
 -- Along every run: where the last event was an idle step of an end, resting is still that end's next step.
-use Rattle.std.proofs.Common.{◌≡◌, ℕ, List, sym, ap, ◌∙◌, subst, Some}
+use Rattle.std.proofs.Common.{◌≡◌, ℕ, List, sym, subst, Some, arith}
 use Rattle.std.specs.Prelude.{⊤}
 use Rattle.runs.specs.Lawful.{log_of, run_lawful}
 use Rattle.runs.specs.Run.{Run}
@@ -23,15 +23,11 @@ with_server s v memory = record s { server = v; memory = memory }
 -- an idle step leaves the lane as it was
 pub client_same : (s : LaneState) (t : LaneState) → EndOnWire A s (Idle A) t → t ≡ s
 unfolding with_client
-client_same s t step =
-    let is : t ≡ with_client s t.client t.memory = step.is in
-    is ∙ ap (λ (c : ClientState). with_client s c t.memory) step.step.1 ∙ ap (λ (m : List ℕ). with_client s s.client m) step.step.2
+client_same s t step = grind arith
 
 pub server_same : (s : LaneState) (t : LaneState) → EndOnWire B s (Idle B) t → t ≡ s
 unfolding with_server
-server_same s t step =
-    let is : t ≡ with_server s t.server t.memory = step.1.is in
-    is ∙ ap (λ (v : ServerState). with_server s v t.memory) step.1.step.1.1 ∙ ap (λ (m : List ℕ). with_server s s.server m) step.1.step.1.2
+server_same s t step = grind arith
 
 idle_end : (e : End) (s : LaneState) (t : LaneState) → EndOnWire e s (Idle e) t → IdleAgrees t (Some e)
 idle_end A s t step = subst (λ (x : LaneState). IdleAgrees x (Some A)) (sym (client_same s t step)) step.step.0

@@ -1,10 +1,10 @@
 -- What remains on a lane that nobody forged is at most 36 and 16 for each pending request, and where a packet was lost at most 69 and 32.
-use Rattle.std.proofs.Common.{◌≡◌, ℕ, ◌+◌, ◌-◌, ◌*◌, ◌≤◌, Bool, true, false, Option, Some, None, List, [], ◌∷◌, length, refl, ap, arith}
+use Rattle.std.proofs.Common.{◌≡◌, ℕ, ◌+◌, ◌*◌, ◌≤◌, Bool, true, false, Option, Some, None, List, length, refl, arith}
 use Rattle.std.specs.Prelude.{is_some}
 use Rattle.runs.specs.Lawful.{log_of}
 use Rattle.runs.specs.Run.{Run}
 use Rattle.ldc_queue.specs.declared.end.ChannelState.{ChannelState}
-use Rattle.ldc_queue.specs.declared.end.ChannelState.TheVariants.{Down, Resetting, Up}
+use Rattle.ldc_queue.specs.declared.end.ChannelState.TheVariants.{Up}
 use Rattle.vio_tag.specs.declared.message.MsgBody.TheVariants.{Ver}
 use Rattle.vio_handshake.specs.Messages.{ack, info}
 use Rattle.channel_model.specs.Sayings.{heard}
@@ -22,14 +22,9 @@ use Rattle.lane_laws.proofs.LifeBound.{RequestsLeft, by_sessions}
 use Rattle.lane_laws.specs.Budget.{infos_begun}
 use Rattle.lane_laws.specs.Counted.{one_where, range_count}
 use Rattle.lane_laws.specs.LaneTranscripts.{transcript_behind}
-use Rattle.lane_laws.specs.Remaining.{absent, asked_by, asked_in, client_left, client_packets, life, remaining, requests_left, second_life, server_left, server_packets, serving_left, total}
+use Rattle.lane_laws.specs.Remaining.{absent, asked_by, client_left, client_packets, life, remaining, second_life, server_left, server_packets}
 use Rattle.lane_laws.proofs.HeardFront.{unheard_client, unheard_server}
-use Rattle.channel_laws.specs.Grounds.{Among}
-use Rattle.vio_tag.specs.declared.message.Message.{Message}
-
-not_among : (message : Message) (messages : List (List ℕ)) → messages ≡ [] → Among message messages → ⊥
-not_among message [] is among = among
-not_among message (bytes ∷ messages) is among = absurd (cc is)
+use Rattle.channel_laws.proofs.Sessions.{not_among}
 
 -- an end that is up has no session where the other isn't
 closed_by : {X : Type 0} (o : Option X) → (is_some o ≡ true → ⊥) → o ≡ None
@@ -57,52 +52,11 @@ record Facts (x y : ChannelState) (a b : ℕ) (lossy : Bool) (c : ClientState) (
   server : y ≡ Up → (x ≡ Up → ⊥) → v.session ≡ None
   both : x ≡ Up → y ≡ Up → RequestsLeft c.session v.session v.work (length c.pending) answers
 
-one_at_most : (lossy : Bool) → one_where lossy ≤ 1
-one_at_most true = omega arith
-one_at_most false = omega arith
-
 abbrev Most : ChannelState → ChannelState → ℕ → ℕ → Bool → ClientState → ServerState → Type 0
 Most x y a b lossy c v = absent x + absent y + a + b + client_left x (asked_by y v) c + server_left y v + 3 * one_where lossy ≤ 36 + 16 * length c.pending
 
-both_up : (a b : ℕ) (lossy : Bool) (c : ClientState) (v : ServerState) (answers : ℕ) → Facts Up Up a b lossy c v answers → Most Up Up a b lossy c v
-both_up a b lossy c v answers facts =
-    sums a b (client_packets c) (server_packets v) answers (one_where lossy) (infos_begun c.session) (requests_left (length c.pending) c.session) (total (length c.pending) c.session - asked_in v.session)
-    (serving_left v.work v.session) (length c.pending) facts.few (facts.both refl refl) (one_at_most lossy)
-  where
-    sums : (a b p q answers lost infos requests rest serving pending : ℕ) → a + b + p + q + answers + lost ≤ 17 + infos
-        → requests + 12 * rest + serving + 2 * infos ≤ 16 * pending + 2 * answers → lost ≤ 1
-        → 0 + 0 + a + b + (2 * p + requests + 12 * rest) + (2 * q + serving) + 3 * lost ≤ 36 + 16 * pending
-    sums a b p q answers lost infos requests rest serving pending few left one = omega (arith, few, left, one)
-
-client_up : (a b : ℕ) (lossy : Bool) (c : ClientState) (answers : ℕ) → c.session ≡ None → a + b + client_packets c + 8 + answers + one_where lossy ≤ 17 + infos_begun c.session
-    → 0 + 1 + a + b + client_left Up 0 c + 16 + 3 * one_where lossy ≤ 36 + 16 * length c.pending
-client_up a b lossy c answers none few =
-    sums a b (client_packets c) answers (one_where lossy) (infos_begun c.session) (requests_left (length c.pending) c.session) (total (length c.pending) c.session) (length c.pending) few (one_at_most lossy)
-    (ap infos_begun none) (ap (requests_left (length c.pending)) none) (ap (total (length c.pending)) none)
-  where
-    sums : (a b p answers lost infos requests all pending : ℕ) → a + b + p + 8 + answers + lost ≤ 17 + infos → lost ≤ 1 → infos ≡ 0 → requests ≡ 4 * pending → all ≡ pending
-        → 0 + 1 + a + b + (2 * p + requests + 12 * (all - 0)) + 16 + 3 * lost ≤ 36 + 16 * pending
-    sums a b p answers lost infos requests all pending few one zero four same = omega (arith, few, one, zero, four, same)
-
-server_up : (a b : ℕ) (lossy : Bool) (c : ClientState) (v : ServerState) → v.session ≡ None → a + b + 9 + server_packets v + 0 + one_where lossy ≤ 17 + 0
-    → 1 + 0 + a + b + (18 + 4 * length c.pending + 12 * (length c.pending - asked_in v.session)) + (2 * server_packets v + serving_left v.work v.session) + 3 * one_where lossy ≤ 36 + 16 * length c.pending
-server_up a b lossy c v none few =
-    sums a b (server_packets v) (one_where lossy) (asked_in v.session) (serving_left v.work v.session) (length c.pending) few (one_at_most lossy) (ap asked_in none) (ap (serving_left v.work) none)
-  where
-    sums : (a b q lost asked serving pending : ℕ) → a + b + 9 + q + 0 + lost ≤ 17 + 0 → lost ≤ 1 → asked ≡ 0 → serving ≡ 0
-        → 1 + 0 + a + b + (18 + 4 * pending + 12 * (pending - asked)) + (2 * q + serving) + 3 * lost ≤ 36 + 16 * pending
-    sums a b q lost asked serving pending few one zero none = omega (arith, few, one, zero, none)
-
-none_up : (a b lost pending : ℕ) → a + b + 9 + 8 + 0 + lost ≤ 17 + 0 → 1 + 1 + a + b + (18 + 4 * pending + 12 * (pending - 0)) + 16 + 3 * lost ≤ 36 + 16 * pending
-none_up a b lost pending few = omega (arith, few)
-
 most_in : (x y : ChannelState) (a b : ℕ) (lossy : Bool) (c : ClientState) (v : ServerState) (answers : ℕ) → Facts x y a b lossy c v answers → Most x y a b lossy c v
-most_in Up Up a b lossy c v answers facts = both_up a b lossy c v answers facts
-most_in Up Down a b lossy c v answers facts = client_up a b lossy c answers (facts.client refl (λ up. cc up)) facts.few
-most_in Up Resetting a b lossy c v answers facts = client_up a b lossy c answers (facts.client refl (λ up. cc up)) facts.few
-most_in Down Up a b lossy c v answers facts = server_up a b lossy c v (facts.server refl (λ up. cc up)) facts.few
-most_in Resetting Up a b lossy c v answers facts = server_up a b lossy c v (facts.server refl (λ up. cc up)) facts.few
-most_in _ _ a b lossy c v answers facts = none_up a b (one_where lossy) (length c.pending) facts.few
+most_in x y a b lossy c v answers facts = grind arith
 
 life_most : (shape : Shape) (events : List DiskEvent) (s : LaneState) → IsShape shape → Run LaneStep (fresh shape) events s → s.wire.forged ≡ false
     → life s.wire.wire s.client s.server + 3 * one_where s.wire.lossy ≤ 36 + 16 * length s.client.pending

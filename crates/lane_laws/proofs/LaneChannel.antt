@@ -1,10 +1,9 @@
 -- What holds of two ends on a channel holds of a disk's lane: what is said and heard, its links, its sids.
-use Rattle.std.proofs.Common.{◌≡◌, ℕ, ◌%◌, false, List, [], ◌∷◌, ◌++◌, refl, sym, ap, ◌∙◌, subst, map, arith}
+use Rattle.std.proofs.Common.{◌≡◌, ℕ, ◌%◌, false, List, [], ◌∷◌, ◌++◌, refl, ap, ◌∙◌, subst, map, arith}
 use Rattle.runs.specs.Lawful.{Lawful, log_append, log_of}
 use Rattle.runs.specs.Run.{Run, run_push}
 use Rattle.ldc_link.specs.declared.phase.Role.{Role}
 use Rattle.ldc_link.specs.declared.phase.Role.TheVariants.{Initiator, Responder}
-use Rattle.ldc_queue.specs.declared.end.End.TheVariants.{A}
 use Rattle.ldc_queue.specs.Transcript.{Turn}
 use Rattle.vio_handshake.specs.declared.session.Offer.{Offer}
 use Rattle.vio_handshake.specs.Offers.{Match}
@@ -12,9 +11,9 @@ use Rattle.lane_laws.proofs.EndMoves.{transcript_same}
 use Rattle.channel_model.proofs.SameSayings.{half_heard_is}
 use Rattle.lane_laws.specs.Agreement.{LinkAgrees}
 use Rattle.channel_model.specs.TranscriptLog.{TranscriptLog}
-use Rattle.channel_model.specs.WireAt.{WireHeardAt, WireSaidAt, counts_next}
-use Rattle.channel_model.specs.WireEvent.{Joined, Reset, Sent, Took, WireEvent}
-use Rattle.disk_model.specs.DiskEvent.{DiskEvent, OnWire, Stopped, Switches}
+use Rattle.channel_model.specs.WireAt.{WireHeardAt, WireSaidAt}
+use Rattle.channel_model.specs.WireEvent.{WireEvent}
+use Rattle.disk_model.specs.DiskEvent.{DiskEvent, OnWire}
 use Rattle.lane_laws.specs.DiskLog.{DiskLog, after, after_transcript, nothing_yet}
 use Rattle.disk_model.specs.LaneState.{IsShape, LaneState, Shape, fresh}
 use Rattle.disk_model.specs.LaneStep.{LaneStep}
@@ -103,22 +102,12 @@ no_sids shape events s sound run =
     last_sid_none shape.entries (asks_of shape) (answers_of shape) (map core_event events) (core_of s) (lane_fits shape sound) (lane_cores shape events s sound run)
 
 pub link_agrees : (role : Role) (c : EndCore) (turns : List Turn) → EndStands role c turns → LinkAgrees c.link turns
-link_agrees role c turns stands = record {
-  put = stands.link.follows.puts ∙ ap counts_next (sym (count_said_is turns));
-  take = stands.link.follows.takes ∙ ap counts_next (sym (count_heard_is turns));
-  heard = stands.link.follows.half ∙ sym (half_heard_is turns);
-  seen = stands.link.seen;
-  begun = stands.link.cuts.begun;
-  nothing_below = λ down. (stands.below down).left;
-  offers = stands.link.follows.offers;
-}
+link_agrees role c turns stands = grind (arith, count_said_is, count_heard_is, half_heard_is)
 
 -- WHERE NOBODY FORGED both links stand at one place, both handshakes too, and the two ends converse
 pub lane_links : (shape : Shape) (events : List DiskEvent) (s : LaneState) → IsShape shape → Run LaneStep (fresh shape) events s → s.wire.forged ≡ false
     → LinksAt Initiator (sides_of (core_of s) (transcript_in shape events))
-lane_links shape events s sound run clean =
-    subst (λ (l : TranscriptLog). LinksAt Initiator (sides_of (core_of s) l)) (said_in_log shape events)
-    (links_placed shape.entries (asks_of shape) (answers_of shape) (map core_event events) (core_of s) (lane_fits shape sound) (lane_cores shape events s sound run) clean)
+lane_links shape events s sound run clean = grind (arith, said_in_log, links_placed, lane_fits, lane_cores)
 
 pub matched : (shape : Shape) → IsShape shape → Match (asks_of shape) (answers_of shape)
 matched shape sound = offers_match shape.blocks shape.slots (omega (arith, sound.some_slots)) sound.most_slots (omega (arith, sound.most_blocks))
@@ -171,17 +160,8 @@ lane_meets_other shape events s sound run clean =
     }
 
 -- THE CLIENT'S LAST SID is how often its link came up
-wire_coming : (event : WireEvent) (l : TranscriptLog) → comings_after l.links (core_event (OnWire event)) ≡ (after_transcript l (OnWire event)).links
-wire_coming (Sent A packet opens) l = refl
-wire_coming (Reset A cause packet lost) l = refl
-wire_coming (Joined A lost) l = refl
-wire_coming (Took A packet opens) l = refl
-wire_coming _ l = refl
-
 coming : (event : DiskEvent) (l : TranscriptLog) → comings_after l.links (core_event event) ≡ (after_transcript l event).links
-coming (OnWire event) l = wire_coming event l
-coming (Switches Stopped) l = refl
-coming _ l = refl
+coming event l = grind arith
 
 comings : (l : DiskLog) (events : List DiskEvent) → log_of comings_after l.transcript.links (map core_event events) ≡ (log_of after l events).transcript.links
 comings l [] = refl

@@ -1,5 +1,5 @@
 -- Each event of a lane leaves the sessions of both ends counting what they said and heard, as its log does.
-use Rattle.std.proofs.Common.{◌≡◌, ℕ, ◌-◌, ◌≤◌, length, Bool, Option, None, List, [], ◌∷◌, refl, sym, ap, ◌∙◌, subst, arith}
+use Rattle.std.proofs.Common.{◌≡◌, ℕ, ◌-◌, ◌≤◌, length, Bool, Option, None, List, [], ◌∷◌, sym, ap, ◌∙◌, subst, arith}
 use Rattle.std.specs.Prelude.{⊤}
 use Rattle.runs.specs.Lawful.{log_of, run_lawful}
 use Rattle.runs.specs.Run.{Run}
@@ -177,24 +177,7 @@ knows_step s l event t knows step = (
 )
 
 pub fresh_counted : (shape : Shape) → LaneCounted (fresh shape) (nothing_yet shape)
-fresh_counted shape = record {
-  client = record {
-    slots = refl;
-    holds = λ session is on. absurd (cc);
-    announced = refl;
-    infos = refl;
-    acked = refl;
-    agrees = tt;
-  };
-  server = record {
-    slots = refl;
-    blocks = refl;
-    holds = λ owing some. absurd (omega (arith, some));
-    order = record { asked = refl; answered = refl; infos = refl };
-    unit = tt;
-    agrees = refl;
-  };
-}
+fresh_counted shape = grind arith
 
 pub run_knows : (shape : Shape) (events : List DiskEvent) (s : LaneState) → IsShape shape → Run LaneStep (fresh shape) events s → Knows s (log_of after (nothing_yet shape) events)
 run_knows shape events s sound run =

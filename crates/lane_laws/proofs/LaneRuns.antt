@@ -138,18 +138,10 @@ contents_step shape sound s l event t holds step = (
 )
 
 fresh_near : (shape : Shape) → NearStands (fresh shape) (nothing_yet shape)
-fresh_near shape = record {
-  k = refl;
-  m = omega arith;
-  ever = record { done_first = omega arith; most = omega arith; session = λ session is. absurd (cc is) };
-}
+fresh_near shape = grind arith
 
 fresh_contents : (shape : Shape) → ContentsStand (view_of (fresh shape))
-fresh_contents shape = record {
-  writes = λ session is i below request got. absurd (cc is);
-  work = λ work is request got. absurd (cc is);
-  none = λ is. refl;
-}
+fresh_contents shape = grind arith
 
 pub run_contents : (shape : Shape) (events : List DiskEvent) (s : LaneState) → IsShape shape → Run LaneStep (fresh shape) events s → AlongContents shape s (log_of after (nothing_yet shape) events)
 run_contents shape events s sound run =

@@ -1,6 +1,6 @@
 -- WHAT AN EVENT IS to a lane's client, to its server and to the client's memory, each in few ways, and what it makes of all else. A proof
 -- goes by these ways, and by the events of an end only where that end acts.
-use Rattle.std.proofs.Common.{◌≡◌, ℕ, ◌+◌, ◌≤◌, Bool, true, false, Option, None, List, [], length, refl, sym, ap, ◌∙◌, subst}
+use Rattle.std.proofs.Common.{◌≡◌, ℕ, ◌+◌, ◌≤◌, Bool, true, false, Option, None, List, [], length, refl, sym, ap, ◌∙◌, subst, arith}
 use Rattle.std.specs.Prelude.{◌||◌, ⊤}
 use Rattle.ldc_queue.specs.declared.end.End.{End}
 use Rattle.ldc_queue.specs.declared.end.End.TheVariants.{A, B}
@@ -282,29 +282,10 @@ abbrev pub server_side : DiskLog → ServerSide
 server_side l = record { turns = l.transcript.server; blocked = l.blocked.server; counts = l.work.server }
 
 pub client_side_stays : (l : DiskLog) (event : DiskEvent) → Beside A event → client_side (after l event) ≡ client_side l
-client_side_stays l (OnWire (Joined A lost)) beside = absurd beside
-client_side_stays l (OnWire (Reset A cause packet lost)) beside = absurd beside
-client_side_stays l (OnWire (Took A packet opens)) beside = absurd beside
-client_side_stays l (OnWire (Sent A packet opens)) beside = absurd beside
-client_side_stays l (OnWire (Blocked A)) beside = absurd beside
-client_side_stays l (Asks (Accepted id request)) beside = absurd beside
-client_side_stays l (Works (Published id)) beside = absurd beside
-client_side_stays l (Works (Done id operation status bytes)) beside = absurd beside
-client_side_stays l (Switches Stopped) beside = refl
-client_side_stays l _ beside = refl
+client_side_stays l event beside = grind arith
 
 pub server_side_stays : (l : DiskLog) (event : DiskEvent) → Beside B event → server_side (after l event) ≡ server_side l
-server_side_stays l (OnWire (Joined B lost)) beside = absurd beside
-server_side_stays l (OnWire (Reset B cause packet lost)) beside = absurd beside
-server_side_stays l (OnWire (Took B packet opens)) beside = absurd beside
-server_side_stays l (OnWire (Sent B packet opens)) beside = absurd beside
-server_side_stays l (OnWire (Blocked B)) beside = absurd beside
-server_side_stays l (Asks (Accepted id request)) beside = refl
-server_side_stays l (Works (Published id)) beside = refl
-server_side_stays l (Works (Done id operation status bytes)) beside = refl
-server_side_stays l (Works event) beside = absurd beside
-server_side_stays l (Switches Stopped) beside = absurd beside
-server_side_stays l _ beside = refl
+server_side_stays l event beside = grind arith
 
 asked_side : (l : DiskLog) (request : Admitted) → client_side (after l (Asks request)) ≡ client_side l
 asked_side l (Accepted id request) = refl

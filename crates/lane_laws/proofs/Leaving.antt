@@ -1,20 +1,19 @@
 -- What the packets of a client leave of its session's places, and what those of a server leave of its descriptor in work.
-use Rattle.std.proofs.Common.{◌≡◌, ℕ, ◌+◌, Bool, true, false, Option, Some, None, List, inl, inr, refl, sym, ap, ◌∙◌, subst}
+use Rattle.std.proofs.Common.{◌≡◌, ℕ, Bool, true, false, Option, Some, None, List, inl, inr, refl, sym, ap, ◌∙◌, subst, arith}
 use Rattle.ldc_link.specs.Following.{Follows}
 use Rattle.ldc_queue.specs.Transcript.{Turn}
-use Rattle.disk_model.specs.ClientPutting.{announced, client_holds, client_kind, opened_if, session_behind}
+use Rattle.disk_model.specs.ClientPutting.{client_holds, client_kind, opened_if, session_behind}
 use Rattle.disk_model.specs.ClientRule as client
 use Rattle.disk_model.specs.ClientState.{ClientSession, ClientState, first_id, opened_session}
 use Rattle.disk_model.specs.ClientStep.{ClientSends}
 use Rattle.disk_model.specs.ClientTaking.{ClientTakes, GoesOn}
-use Rattle.channel_model.specs.EndPuts.{ComesUp, EndsOwn, EndsHandshake, Goes, PutKind, put_opens}
+use Rattle.channel_model.specs.EndPuts.{EndsHandshake, PutKind, put_opens}
 use Rattle.channel_model.specs.Seeing.{Seen}
 use Rattle.disk_model.specs.ServerPutting.{server_holds}
 use Rattle.disk_model.specs.ServerRule as server
 use Rattle.disk_model.specs.ServerState.{ServerState}
 use Rattle.disk_model.specs.ServerStep.{ServerSends}
 use Rattle.disk_model.specs.ServerTaking.{ServerTakes, GoesOn as ServerGoesOn}
-use Rattle.channel_laws.proofs.Apart.{none_is_some, some_same}
 use Rattle.lane_laws.proofs.ServerSpeaking.{server_holds_link}
 use Rattle.lane_laws.proofs.ClientTaken.{ClientTook, client_took_what}
 use Rattle.lane_laws.proofs.Ruling.{client_may}
@@ -26,28 +25,14 @@ use Rattle.lane_laws.proofs.Changes.{Keeps}
 pub keeps_same : (before now : Option ClientSession) → now ≡ before → Keeps before now
 keeps_same before now same = λ session is. record { was = session; there = sym same ∙ is; completed = refl; published = refl }
 
-pub keeps_none : (before : Option ClientSession) → Keeps before None
-keeps_none before = λ session is. absurd (cc is)
-
 pub keeps_some : (before : Option ClientSession) (one other : ClientSession) → before ≡ Some one → other.completed ≡ one.completed → other.published ≡ one.published → Keeps before (Some other)
-keeps_some before one other there completed published = λ session is.
-    let same : other ≡ session = some_same is in
-    record {
-      was = one;
-      there = there;
-      completed = ap (λ (x : ClientSession). x.completed) (sym same) ∙ completed;
-      published = ap (λ (x : ClientSession). x.published) (sym same) ∙ published;
-    }
+keeps_some before one other there completed published = grind arith
 
 pub keeps_both : (before middle now : Option ClientSession) → Keeps before middle → Keeps middle now → Keeps before now
 keeps_both before middle now first second = λ session is.
     let late = second session is in
     let early = first late.was late.there in
     record { was = early.was; there = early.there; completed = late.completed ∙ early.completed; published = late.published ∙ early.published }
-
-keeps_announced : (session : Option ClientSession) → Keeps session (announced session)
-keeps_announced None = keeps_none None
-keeps_announced (Some session) = keeps_some (Some session) session (record session { announced = session.published; infos = session.infos + 1; announcing = false }) refl refl refl
 
 -- THE CLIENT
 pub record ClientLeaves (c t : ClientState) : Type 0 where
@@ -70,24 +55,11 @@ took_leaves c turns packet t (inr (inr acked)) = record {
 pub client_took : (c : ClientState) (turns : List Turn) (packet : List ℕ) (t : ClientState) → Follows c.link turns → c.link.whole ≡ None → ClientTakes c packet (GoesOn t) → ClientLeaves c t
 client_took c turns packet t follows none takes = took_leaves c turns packet t (client_took_what c turns packet t follows none takes)
 
-held_is : (c one other : ClientState) → Some one ≡ Some other → ClientLeaves c one → ClientLeaves c other
-held_is c one other is leaves = let same : one ≡ other = some_same is in subst (λ (x : ClientState). ClientLeaves c x) same leaves
-
 pub held_leaves : (c : ClientState) (at : Seen) (rule : client.ClientRule) (held : ClientState) → ClientMay c at rule → client_holds rule c ≡ Some held → ClientLeaves c held
-held_leaves c at client.Puts held may is = held_is c c held is (leaves_same c c refl)
-held_leaves c at (client.Says message) held may is = held_is c _ held is (record { ever = refl; keeps = keeps_same c.session c.session refl })
-held_leaves c at (client.Announces session) held may is = held_is c _ held is (record { ever = refl; keeps = keeps_some c.session session _ may.3 refl refl })
-held_leaves c at _ held may is = none_is_some is
-
-opened_not : (b : Bool) (c : ClientState) → b ≡ false → Keeps c.session (opened_if b c)
-opened_not false c is = keeps_same c.session c.session refl
-opened_not true c is = absurd (cc is)
+held_leaves c at rule held may is = grind arith
 
 put_keeps : (kind : PutKind) (c : ClientState) → put_opens kind c.handshake ≡ false → Keeps c.session (session_behind kind c)
-put_keeps EndsOwn c is = keeps_announced c.session
-put_keeps Goes c is = keeps_same c.session c.session refl
-put_keeps ComesUp c is = keeps_same c.session c.session refl
-put_keeps EndsHandshake c is = opened_not (put_opens EndsHandshake c.handshake) c is
+put_keeps kind c is = grind arith
 
 pub client_sent : (c : ClientState) (at : Seen) (memory packet : List ℕ) (t : ClientState) (new : List ℕ) → ClientSends c at memory packet false t new → ClientLeaves c t
 client_sent c at memory packet t new sends =
@@ -119,9 +91,7 @@ client_opened c at memory packet t new sends =
 
 -- THE SERVER
 took_work : (s : ServerState) (turns : List Turn) (packet : List ℕ) (t : ServerState) (opens : Bool) → ServerTook s turns packet t opens → t.work ≡ s.work
-took_work s turns packet t opens (inl part) = ap (λ (x : ServerState). x.work) part.is
-took_work s turns packet t opens (inr (inl handshakes)) = ap (λ (x : ServerState). x.work) handshakes.is
-took_work s turns packet t opens (inr (inr asks)) = ap (λ (x : ServerState). x.work) asks.is
+took_work s turns packet t opens took = grind arith
 
 pub server_took : (s : ServerState) (turns : List Turn) (packet : List ℕ) (t : ServerState) (opens : Bool) → Follows s.link turns → s.link.whole ≡ None
     → ServerTakes s packet (ServerGoesOn t opens) → t.work ≡ s.work

@@ -8,7 +8,7 @@ use Rattle.ldc_queue.specs.declared.end.End.TheVariants.{A, B}
 use Rattle.ldc_queue.specs.OneStream.{IsFront}
 use Rattle.channel_model.specs.Sayings.{heard, said}
 use Rattle.channel_model.specs.TranscriptLog.{TranscriptLog}
-use Rattle.lane_laws.specs.Agreement.{ServerAgrees, ServerCountsAgree, WorkAgrees}
+use Rattle.lane_laws.specs.Agreement.{ServerCountsAgree, WorkAgrees}
 use Rattle.lane_laws.specs.DiskLog.{DiskLog, after, nothing_yet}
 use Rattle.lane_laws.specs.WorkLog.{ServerCounts}
 use Rattle.disk_model.specs.ClientState.{ClientSession}
@@ -69,16 +69,8 @@ record Serving (s : LaneState) (l : DiskLog) (session : ServerSession) : Type 0 
   work : WorkAgrees s.server.work counts
   order : InServerOrder l.shape.slots session counts l.transcript.server
 
-serving_by : (q : Option ServerCounts) (s : LaneState) (l : DiskLog) (session : ServerSession) → l.work.server ≡ q → ServerAgrees (Some session) s.server.work q
-    → ServerOrder l.shape.slots (Some session) q l.transcript.server → Serving s l session
-serving_by None s l session is agrees order = absurd agrees
-serving_by (Some d) s l session is agrees order = record { counts = d; is = is; agree = agrees.0; work = agrees.1; order = order }
-
 serving_of : (s : LaneState) (l : DiskLog) (session : ServerSession) → Knows s l → s.server.session ≡ Some session → Serving s l session
-serving_of s l session knows is =
-    let server = knows.counted.server in
-    serving_by l.work.server s l session refl (subst (λ (p : Option ServerSession). ServerAgrees p s.server.work l.work.server) is server.agrees)
-    (subst (λ (p : Option ServerSession). ServerOrder l.shape.slots p l.work.server l.transcript.server) is server.order)
+serving_of s l session knows is = grind arith
 
 working_more : (work : Option Work) (d : ServerCounts) → WorkAgrees work d → d.descs ≤ d.asked → work ≢ None → d.finished + 1 ≤ d.asked
 working_more None d agrees most some = absurd (some refl)

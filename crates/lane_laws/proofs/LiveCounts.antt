@@ -4,7 +4,6 @@ use Rattle.ldc_queue.specs.declared.end.ChannelState.{ChannelState}
 use Rattle.ldc_queue.specs.declared.end.ChannelState.TheVariants.{Down, Resetting, Up}
 use Rattle.ldc_queue.specs.Wire.{peer_behind}
 use Rattle.lane_laws.specs.WorkLog.{ClientCounts, ServerCounts, change_client, change_server}
-use Rattle.lane_laws.proofs.SlotsStepping.{upset_not}
 
 -- the counts of a server whose end is up
 abbrev pub counts_while : ChannelState → Option ServerCounts → Option ServerCounts
@@ -25,9 +24,7 @@ kis_server _ _ g _ done k same is = is
 
 pub kis_client : (q : Option ServerCounts) (f : ClientCounts → ClientCounts) (o : Option ClientCounts) (done k : ℕ) → ((c : ClientCounts) → (f c).base ≡ c.base) → KIs q o done k
     → KIs q (change_client f o) done k
-kis_client None f o done k same is = is
-kis_client (Some d) f None done k same is = is
-kis_client (Some d) f (Some c) done k same is = omega (arith, is, same c)
+kis_client q f o done k same is = grind arith
 
 pub kis_none : (q : Option ServerCounts) (o : Option ClientCounts) (done : ℕ) → q ≡ None → KIs q o done 0
 kis_none None o done none = refl
@@ -43,12 +40,8 @@ not_live x Up (Some d) alive not = absurd (not (alive d refl refl))
 not_live x _ _ alive not = refl
 
 pub not_up : (x : ChannelState) (q : Option ServerCounts) → x ≢ Up → counts_while x q ≡ None
-not_up Down q not = refl
-not_up Resetting q not = refl
-not_up Up q not = absurd (not refl)
+not_up x q not = grind arith
 
 -- after an end that was configured the other isn't up, or stays as it was
 pub peer_not_live : (x y : ChannelState) (q : Option ServerCounts) → ((d : ServerCounts) → y ≡ Up → q ≡ Some d → x ≡ Up) → counts_while (peer_behind x y) q ≡ None
-peer_not_live Up y q alive = not_up (peer_behind Up y) q (upset_not y)
-peer_not_live Down y q alive = not_live Down y q alive (λ up. absurd (cc up))
-peer_not_live Resetting y q alive = not_live Resetting y q alive (λ up. absurd (cc up))
+peer_not_live x y q alive = grind arith

@@ -9,10 +9,9 @@ use Rattle.map_table.specs.declared.table.Entry.{Entry}
 use Rattle.vdisk_msg.proofs.Repeated.{length-repeated}
 use Rattle.vdisk_msg.proofs.Written.{is_admitted}
 use Rattle.vdisk_msg.specs.declared.request.Request.{Request}
-use Rattle.vdisk_msg.specs.declared.request.Request.TheVariants.{Flush, Read, Write}
 use Rattle.vdisk_msg.specs.Descriptor as slot_says
 use Rattle.vdisk_msg.specs.Requested.{buffer_cookies, buffer_place, descriptor_of, size_of}
-use Rattle.vdisk_msg.specs.Requests.{defect, given_count, written}
+use Rattle.vdisk_msg.specs.Requests.{defect, given_count}
 use Rattle.vio_bytes.proofs.Putting.{length-put_at}
 use Rattle.vio_bytes.specs.Place.{put_at}
 use Rattle.disk_model.specs.ClientStep.{filled_buffer, published_memory}
@@ -48,10 +47,7 @@ admitted_size blocks request none = (is_admitted blocks request none).most
 
 pub filled_long : (request : Request) (slots slot : ℕ) (memory : List ℕ) → size_of request ≤ 32768 → slot < slots → length memory ≡ memory_long slots
     → length (filled_buffer request (buffer_place slots slot) memory) ≡ length memory
-filled_long (Read block count) slots slot memory few below long = refl
-filled_long (Write block count fill) slots slot memory few below long =
-    length-put_at (buffer_place slots slot) (written fill count) memory (omega (arith, length-repeated fill 0 (512 * count), few, below, long))
-filled_long Flush slots slot memory few below long = refl
+filled_long request slots slot memory few below long = grind (arith, length-put_at, length-repeated)
 
 pub published_long : (blocks slots slot id : ℕ) (request : Request) (memory : List ℕ) → defect blocks request ≡ None → slot < slots → length memory ≡ memory_long slots
     → length (published_memory slots slot id request memory) ≡ length memory
@@ -63,6 +59,4 @@ published_long blocks slots slot id request memory none below long =
 -- what a read gives is within it too
 pub given_within : (blocks slots slot : ℕ) (request : Request) (memory : List ℕ) → defect blocks request ≡ None → slot < slots → length memory ≡ memory_long slots
     → buffer_place slots slot + given_count request ≤ length memory
-given_within blocks slots slot (Read block count) memory none below long = omega (arith, admitted_size blocks (Read block count) none, below, long)
-given_within blocks slots slot (Write block count fill) memory none below long = omega (arith, below, long)
-given_within blocks slots slot Flush memory none below long = omega (arith, below, long)
+given_within blocks slots slot request memory none below long = grind arith

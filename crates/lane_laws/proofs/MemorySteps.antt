@@ -1,6 +1,6 @@
 -- Each event of a lane keeps the length of the client's memory, and what is pending sound.
-use Rattle.std.proofs.Common.{◌≡◌, ℕ, ◌-◌, ◌*◌, ◌<◌, Bool, true, false, Option, Some, None, List, [], ◌∷◌, ◌++◌, length, drop, refl, sym, ap, ◌∙◌, subst, arith, inl, inr}
-use Rattle.std.specs.Prelude.{slice_get, zero, suc, if◌then◌else◌, ◌==◌}
+use Rattle.std.proofs.Common.{◌≡◌, ℕ, ◌-◌, ◌*◌, ◌<◌, Bool, true, false, Option, Some, None, List, [], ◌∷◌, ◌++◌, length, refl, sym, ap, ◌∙◌, subst, arith, inl, inr}
+use Rattle.std.specs.Prelude.{slice_get, zero, suc, if◌then◌else◌}
 use Rattle.std.proofs.lemmas.Nat.{mod_below}
 use Rattle.cookie_copy.specs.declared.fault.CopyFault.{CopyFault}
 use Rattle.dring.specs.Slots.{free_slots}
@@ -20,7 +20,7 @@ use Rattle.disk_model.specs.ClientPutting.{client_opens}
 use Rattle.disk_model.specs.ClientRule.{Publishes, client_rule}
 use Rattle.disk_model.specs.ClientState.{ClientState, slot_in}
 use Rattle.disk_model.specs.ClientStep.{ClientAdmits, ClientCompletes, ClientPublishes, ClientSends, ClientStep, completed_slot}
-use Rattle.disk_model.specs.DiskEvent.{Accepted, Admitted, Desc, DiskEvent, Done, Finished, Full, Moved, OnWire, Published, Refused, Stored, Works}
+use Rattle.disk_model.specs.DiskEvent.{Admitted, Desc, DiskEvent, Finished, Moved, OnWire, Stored, Works}
 use Rattle.disk_model.specs.LaneState.{LaneState}
 use Rattle.disk_model.specs.LaneStep.{LaneStep}
 use Rattle.channel_model.specs.Seeing.{seen}
@@ -31,9 +31,9 @@ use Rattle.cookie_copy.specs.Reach.{Reach}
 use Rattle.disk_model.specs.ServerWork.{EndFails, MovesIn, data_cookies, given_memory, header_of, slot_at, with_done, with_status}
 use Rattle.vdisk_msg.specs.Requested as asks_for
 use Rattle.lane_laws.proofs.MemoryStanding.{cleared_long, freed_long, given_within, moved_long, published_long, word_long}
-use Rattle.lane_laws.proofs.Requesting.{KeepsRequests, held_kept, published_kept}
-use Rattle.lane_laws.proofs.LaneViews.{ClientActs, ClientAsked, ClientCalled, ClientStays, ClientView, ClientWrites, MemoryPoked, MemoryStays, MemoryView, ServerWrites, at_client, at_server, lane_view, reach_of}
-use Rattle.lane_laws.proofs.StandingSteps.{client_kept, joined_client_kept, same_client}
+use Rattle.lane_laws.proofs.Requesting.{held_kept}
+use Rattle.lane_laws.proofs.LaneViews.{ClientView, MemoryView, at_client, at_server, lane_view, reach_of}
+use Rattle.lane_laws.proofs.StandingSteps.{client_kept}
 use Rattle.lane_laws.proofs.Ruling.{client_may}
 use Rattle.lane_laws.specs.MemoryStands.{MemoryStands, memory_long}
 use Rattle.lane_laws.specs.RuleFacts.{ClientMay}
@@ -64,10 +64,7 @@ work_long _ s session work r cause new fails = absurd fails
 
 fails_long : (rule : server_rules.ServerRule) (s : ServerState) (r : Reach) (cause : Cause) (packet : Option (List ℕ)) (new : List ℕ) → ServerFails rule s r cause packet new
     → length new ≡ length r.memory
-fails_long (server_rules.Takes bytes) s r cause packet new fails = ap length fails.2
-fails_long (server_rules.Fetches session) s r cause packet new fails = ap length fails.2
-fails_long (server_rules.Serves session work) s r cause packet new fails = work_long work.progress s session work r cause new fails.1
-fails_long _ s r cause packet new fails = absurd fails
+fails_long rule s r cause packet new fails = grind (arith, work_long)
 
 given_long : (fault : Option CopyFault) (work : Work) (r : Reach) (u : ℕ) (bytes : List ℕ) → length (given_memory fault work r u bytes) ≡ length r.memory
 given_long None work r u bytes = moved_long r.table r.memory (data_cookies work) (8192 * u) bytes
@@ -105,15 +102,7 @@ done_long s r slot work status =
 
 -- THE MEMORY after each event
 client_long : (s : LaneState) → MemoryStands s → (event : DiskEvent) (t : ClientState) (new : List ℕ) → ClientStep s.client (at_client s) s.memory event t new → length new ≡ length s.memory
-client_long s stands (OnWire (Joined A lost)) t new step = ap length step.3
-client_long s stands (OnWire (Took A packet opens)) t new step = ap length step.3
-client_long s stands (OnWire (Sent A packet opens)) t new step = sent_long s packet opens t new stands.long step
-client_long s stands (OnWire (Blocked A)) t new step = ap length step.2
-client_long s stands (OnWire (Idle A)) t new step = ap length step.2
-client_long s stands (OnWire (Reset A cause packet lost)) t new step = ap length step.3
-client_long s stands (Works (Published id)) t new step = published s id t new stands step
-client_long s stands (Works (Done id operation status bytes)) t new step = completed s id operation status bytes t new stands step
-client_long s stands _ t new step = absurd step
+client_long s stands event t new step = grind (arith, sent_long, published, completed)
 
 server_long : (s : LaneState) (event : DiskEvent) (gave : List ℕ) (t : ServerState) (new : List ℕ) → ServerStep s.server (at_server s) (reach_of s) gave event t new → length new ≡ length s.memory
 server_long s (OnWire (Joined B lost)) gave t new step = ap length step.3
@@ -129,10 +118,7 @@ server_long s (Works (Finished slot status)) gave t new step = ap length step.0.
 server_long s _ gave t new step = absurd step
 
 memory_same : (s t : LaneState) (event : DiskEvent) → MemoryStands s → MemoryView s t event → length t.memory ≡ length s.memory
-memory_same s t _ stands (ClientWrites event step) = client_long s stands event t.client t.memory step
-memory_same s t _ stands (ServerWrites event gave step) = server_long s event gave t.server t.memory step
-memory_same s t _ stands (MemoryPoked at bytes within is) = ap length is ∙ length-put_at at bytes s.memory within
-memory_same s t _ stands (MemoryStays event is) = ap length is
+memory_same s t event stands view = grind (arith, client_long, server_long, length-put_at)
 
 -- WHAT A COMPLETION CARRIES
 carried_if : (b : Bool) (blocks slots slot : ℕ) (request : Request) (memory : List ℕ) → defect blocks request ≡ None → slot < slots → length memory ≡ memory_long slots
@@ -143,51 +129,26 @@ carried_if false blocks slots slot request memory none below long = refl
 
 pub carried_long : (s : LaneState) (id operation status : ℕ) (bytes : List ℕ) (t : ClientState) (new : List ℕ) → MemoryStands s
     → (step : ClientCompletes s.client (seen A s.shape.entries s.wire.wire) s.memory id operation status bytes t new) → length bytes ≡ carried_count status step.request
-carried_long s id operation status bytes t new stands step =
-    ap length step.bytes_are
-    ∙ carried_if (status == 0) s.client.blocks s.client.slots (completed_slot s.client step.session) step.request s.memory
-    (got_sound s.client.blocks s.client.pending 0 step.request stands.sound step.front) (mod_below step.session.completed s.client.slots stands.some) stands.long
+carried_long s id operation status bytes t new stands step = grind (arith, carried_if)
 
 -- REQUESTS that stay, and one more
 record KeepsSound (c t : ClientState) : Type 0 where
   sound : AreSound t.blocks t.pending
   slots : t.slots ≡ c.slots
 
-kept_sound : (c t : ClientState) → AreSound c.blocks c.pending → KeepsRequests c t → KeepsSound c t
-kept_sound c t sound kept = record {
-  sound = subst (λ (b : ℕ). AreSound b t.pending) (sym kept.blocks) (subst (AreSound c.blocks) (sym kept.pending) sound);
-  slots = kept.slots;
-}
-
 pub sound_push : (blocks : ℕ) (requests : List Request) (request : Request) → AreSound blocks requests → defect blocks request ≡ None → IsRequest request → AreSound blocks (requests ++ request ∷ [])
 sound_push blocks [] request sound admitted fill = (admitted, fill, tt)
 sound_push blocks (first ∷ requests) request sound admitted fill = (sound.0, sound.1, sound_push blocks requests request sound.2 admitted fill)
 
-sound_drop : (blocks : ℕ) (requests : List Request) → AreSound blocks requests → AreSound blocks (drop 1 requests)
-sound_drop blocks [] sound = tt
-sound_drop blocks (first ∷ requests) sound = sound.2
-
 admits_sound : (c : ClientState) (request : Admitted) (t : ClientState) → AreSound c.blocks c.pending → ClientAdmits c request t → KeepsSound c t
-admits_sound c (Refused why request) t sound admits = kept_sound c t sound (same_client c t admits.1)
-admits_sound c (Full request) t sound admits = kept_sound c t sound (same_client c t admits.2)
-admits_sound c (Accepted id request) t sound admits = record {
-  sound = subst (λ (x : ClientState). AreSound x.blocks x.pending) (sym admits.5) (sound_push c.blocks c.pending request sound admits.0 admits.2);
-  slots = ap (λ (x : ClientState). x.slots) admits.5;
-}
+admits_sound c request t sound admits = grind (arith, sound_push)
 
 steps_sound : (s : LaneState) → AreSound s.client.blocks s.client.pending → (event : DiskEvent) (t : ClientState) (new : List ℕ) → ClientStep s.client (at_client s) s.memory event t new
     → KeepsSound s.client t
-steps_sound s sound (OnWire event) t new step = kept_sound s.client t sound (client_kept s event t new step)
-steps_sound s sound (Works (Published id)) t new step = kept_sound s.client t sound (published_kept s.client (at_client s) s.memory id t new step)
-steps_sound s sound (Works (Done id operation status bytes)) t new step =
-    subst (KeepsSound s.client) (sym step.is) (record { sound = sound_drop s.client.blocks s.client.pending sound; slots = refl })
-steps_sound s sound _ t new step = absurd step
+steps_sound s sound event t new step = grind (arith, client_kept)
 
 pending_sound : (s t : LaneState) (event : DiskEvent) → AreSound s.client.blocks s.client.pending → ClientView s t event → KeepsSound s.client t.client
-pending_sound s t _ sound (ClientActs event own does) = steps_sound s sound event t.client t.memory does
-pending_sound s t _ sound (ClientAsked request admits) = admits_sound s.client request t.client sound admits
-pending_sound s t _ sound (ClientCalled cause begins is) = kept_sound s.client t.client sound (joined_client_kept s.client t.client is)
-pending_sound s t _ sound (ClientStays event beside is) = kept_sound s.client t.client sound (same_client s.client t.client is)
+pending_sound s t event sound view = grind (arith, steps_sound, admits_sound)
 
 pub memory_step : (s : LaneState) (event : DiskEvent) (t : LaneState) → MemoryStands s → LaneStep s event t → MemoryStands t
 memory_step s event t stands step =

@@ -1,6 +1,5 @@
 -- A message of its session for which an end of a disk resets itself says why.
-use Rattle.std.proofs.Common.{◌≡◌, ℕ, Bool, true, false, None, List, refl, ap, ◌∙◌, subst}
-use Rattle.std.specs.Prelude.{◌==◌, if◌then◌else◌}
+use Rattle.std.proofs.Common.{◌≡◌, ℕ, true, None, List, ap, ◌∙◌, subst, arith}
 use Rattle.vio_bytes.specs.Place.{number_at}
 use Rattle.vio_tag.specs.declared.cause.Cause.{Cause}
 use Rattle.vio_tag.specs.declared.cause.Cause.TheVariants as the_cause
@@ -12,18 +11,13 @@ use Rattle.disk_model.specs.ClientState.{ClientState}
 use Rattle.channel_model.specs.Ranges.{is_other}
 use Rattle.disk_model.specs.ServerState.{ServerState, SlotRange}
 use Rattle.channel_model.specs.ResetSays.{IsOther, MessageSays}
-use Rattle.channel_laws.proofs.LinkResets.{other_number}
 use Rattle.channel_laws.proofs.HandshakeResets.{Spelled}
 use Rattle.lane_laws.proofs.ClientAnswers as client
 use Rattle.lane_laws.proofs.ServerAnswers as server
 
 -- what is another than was expected
 is_other_why : (expected found there : ℕ) → is_other expected found ≡ true → found ≡ there → IsOther expected found there
-is_other_why expected found there is same = (same, λ equal. other_number expected found (not_same (expected == found) is) equal)
-  where
-    not_same : (b : Bool) → (if b then false else true) ≡ true → b ≡ false
-    not_same true test = absurd (cc)
-    not_same false test = refl
+is_other_why expected found there is same = grind arith
 
 -- what its bytes say of a range of slots
 record SaysRange (bytes : List ℕ) (seq ident start end state : ℕ) : Type 0 where

@@ -13,9 +13,9 @@ use Rattle.channel_model.specs.WireLog.{WireLog, wire_moved}
 use Rattle.channel_laws.proofs.Apart.{ends_differ}
 use Rattle.lane_laws.specs.Agreement.{NearAgrees}
 use Rattle.lane_laws.specs.DiskLog.{DiskLog, after, nothing_yet}
-use Rattle.lane_laws.specs.NearLog.{NearLog, stored_more}
-use Rattle.disk_model.specs.ClientState.{ClientState, ever_published_count}
-use Rattle.disk_model.specs.DiskEvent.{Accepted, Admitted, Asks, Desc, DiskEvent, Done, Finished, Full, Misplaced, Moved, Off, OnWire, Published, Refused, Calms, Started, Stopped, Stored, Switches, Worked, Works}
+use Rattle.lane_laws.specs.NearLog.{stored_more}
+use Rattle.disk_model.specs.ClientState.{ClientState}
+use Rattle.disk_model.specs.DiskEvent.{Accepted, Admitted, Asks, Desc, DiskEvent, Done, Finished, Misplaced, Moved, Off, OnWire, Published, Calms, Started, Stopped, Stored, Switches, Worked, Works}
 use Rattle.disk_model.specs.LaneState.{IsShape, LaneState, NearCounts, Shape, fresh, near_disturbed, risen}
 use Rattle.disk_model.specs.LaneStep.{LaneStep, WireStep, WorkStep, stored_blocks}
 use Rattle.channel_model.specs.Seeing.{seen}
@@ -45,33 +45,12 @@ pub record NearSame (s : LaneState) (l : DiskLog) : Type 0 where
 
 -- what stays
 stays : (s t : LaneState) (l n : DiskLog) → t.near ≡ s.near → n.near ≡ l.near → t.client.ever_published ≡ s.client.ever_published → n.work.done ≡ l.work.done → LaneRoom t → NearSame s l → NearSame t n
-stays s t l n near log ever done room same =
-    let p = same.p in
-    let log_p : n.near.p ≡ l.near.p = ap (λ (x : NearLog). x.p) log in
-    record {
-      k = ap (λ (x : NearCounts). x.k) near ∙ same.k ∙ sym (ap (λ (x : NearLog). x.k) log);
-      m = ap (λ (x : NearCounts). x.m) near ∙ same.m ∙ sym (ap (λ (x : NearLog). x.m) log);
-      u = ap (λ (x : NearCounts). x.u) near ∙ same.u ∙ sym (ap (λ (x : NearLog). x.u) log);
-      p = omega (arith, ever, done, p, log_p);
-      room = room;
-    }
+stays s t l n near log ever done room same = search
 
 -- and what is disturbed
 turned_down : (s t : LaneState) (l n : DiskLog) → Before s l → t.near ≡ near_disturbed s.client → n.near ≡ record { k = 0; m = l.near.p; u = 0; p = l.near.p } → t.client.ever_published ≡ s.client.ever_published
     → n.work.done ≡ l.work.done → LaneRoom t → NearSame s l → NearSame t n
-turned_down s t l n before near log ever done room same =
-    let p = same.p in
-    let count = ever_count s l before.known.stands in
-    let log_p : n.near.p ≡ l.near.p = ap (λ (x : NearLog). x.p) log in
-    let log_m : n.near.m ≡ l.near.p = ap (λ (x : NearLog). x.m) log in
-    let m : t.near.m ≡ ever_published_count s.client = ap (λ (x : NearCounts). x.m) near in
-    record {
-      k = ap (λ (x : NearCounts). x.k) near ∙ sym (ap (λ (x : NearLog). x.k) log);
-      m = omega (arith, m, count, p, log_m);
-      u = ap (λ (x : NearCounts). x.u) near ∙ sym (ap (λ (x : NearLog). x.u) log);
-      p = omega (arith, ever, done, p, log_p);
-      room = room;
-    }
+turned_down s t l n before near log ever done room same = grind (arith, ever_count)
 
 -- THE WIRE
 wire_stays : (s : LaneState) (l : DiskLog) (event : WireEvent) (t : LaneState) → Before s l → StepFacts s l (OnWire event) t → OpensNot event → Undisturbed event
@@ -184,9 +163,7 @@ parts_room s t wire server near room =
     lane_room t _ s.near.u (ap (λ (w : WireLog). work_while w.wire.end_b t.server.work) wire ∙ ap (λ (v : ServerState). work_while s.wire.wire.end_b v.work) server) (ap (λ (x : NearCounts). x.u) near) room
 
 asks_ever : (s : LaneState) (event : Admitted) (t : LaneState) → LaneStep s (Asks event) t → t.client.ever_published ≡ s.client.ever_published
-asks_ever s (Accepted id request) t step = ap (λ (c : ClientState). c.ever_published) step.0.5
-asks_ever s (Full request) t step = ap (λ (c : ClientState). c.ever_published) step.0.2
-asks_ever s (Refused why request) t step = ap (λ (c : ClientState). c.ever_published) step.0.1
+asks_ever s event t step = grind arith
 
 asks_log : (l : DiskLog) (event : Admitted) → (after l (Asks event)).work.done ≡ l.work.done
 asks_log l (Accepted id request) = refl

@@ -1,5 +1,5 @@
 -- On a lane that nobody forged what is finished, and what was published in an earlier session, was published; and what completes is finished.
-use Rattle.std.proofs.Common.{◌≡◌, ◌⊎◌, ℕ, ◌-◌, ◌≤◌, false, None, List, inl, inr, sym, ap, ◌∙◌, arith}
+use Rattle.std.proofs.Common.{◌≡◌, ◌⊎◌, ℕ, ◌-◌, ◌≤◌, false, None, List, sym, ap, ◌∙◌, arith}
 use Rattle.runs.specs.Lawful.{Lawful, log_of}
 use Rattle.runs.specs.Run.{Run}
 use Rattle.disk_model.specs.DiskEvent.{DiskEvent, Done, Works}
@@ -10,9 +10,9 @@ use Rattle.lane_laws.specs.NearLaws.{NearAt, NearInOrder}
 use Rattle.channel_model.specs.WireLog.{WireLog}
 use Rattle.lane_laws.proofs.AlongRuns.{reached_lawful}
 use Rattle.lane_laws.proofs.LaneRuns.{before_of, run_contents}
-use Rattle.lane_laws.proofs.LiveCounts.{counts_while, zero_where}
+use Rattle.lane_laws.proofs.LiveCounts.{counts_while}
 use Rattle.lane_laws.proofs.NearAgreeing.{run_agrees}
-use Rattle.lane_laws.proofs.PlacedViews.{IsLive, live, live_or_not, placed}
+use Rattle.lane_laws.proofs.PlacedViews.{IsLive, live_or_not}
 use Rattle.lane_laws.proofs.ReachedFacts.{all_behind}
 use Rattle.lane_laws.proofs.StandingRuns.{pending_is}
 use Rattle.lane_laws.proofs.Standing.{Before, ever_count}
@@ -22,16 +22,7 @@ use Rattle.lane_laws.specs.NearInLane.{NearInLane}
 -- WHAT IS FINISHED was published
 finished_most : (s : LaneState) (l : DiskLog) → Before s l → (counts_while l.wire.wire.end_b l.work.server ≡ None) ⊎ IsLive l.wire.wire.end_b l.work.server
     → s.near.k ≤ s.client.ever_published - l.work.done
-finished_most s l before (inl none) =
-    let zero = zero_where (counts_while l.wire.wire.end_b l.work.server) l.work.client l.work.done s.near.k none before.near.k in
-    omega (arith, zero)
-finished_most s l before (inr is) =
-    let on = live s l is.counts before is.up is.there in
-    let ever = before.near.ever.session on.session on.there in
-    let published = (placed s l before).published on.session on.there in
-    let completed = on.agree.completed in
-    let base = on.agree.base in
-    omega (arith, ever, published, completed, base)
+finished_most s l before is = grind arith
 
 before_at : (shape : Shape) (events : List DiskEvent) (s : LaneState) → IsShape shape → Run LaneStep (fresh shape) events s
     → (log_of after (nothing_yet shape) events).wire.forged ≡ false → Before s (log_of after (nothing_yet shape) events)

@@ -1,6 +1,5 @@
 -- Along every run of a lane that nobody forged and whose store didn't fail the image stays near, and a completion shows its content.
-use Rattle.std.proofs.Common.{◌≡◌, ℕ, zero, suc, ◌+◌, ◌-◌, ◌*◌, ◌<◌, ◌≤◌, ◌⊎◌, Bool, false, Some, List, ◌∷◌, drop, length, inl, inr, refl, sym, ap, ◌∙◌, subst, arith}
-use Rattle.std.specs.Prelude.{slice_get}
+use Rattle.std.proofs.Common.{◌≡◌, ℕ, ◌+◌, ◌-◌, ◌*◌, ◌<◌, ◌≤◌, ◌⊎◌, Bool, false, List, ◌∷◌, drop, length, inl, inr, refl, sym, ap, ◌∙◌, subst, arith}
 use Rattle.vdisk_msg.specs.declared.request.Request.{Request}
 use Rattle.vdisk_msg.specs.declared.request.Request.TheVariants.{Flush, Read, Write}
 use Rattle.vdisk_msg.specs.Requested.{buffer_of, buffer_place}
@@ -9,7 +8,6 @@ use Rattle.vio_bytes.proofs.Ranges.{length-range_at, range_at-range_at}
 use Rattle.vio_bytes.specs.Range.{range_at}
 use Rattle.runs.specs.Lawful.{log_of}
 use Rattle.runs.specs.Run.{Run}
-use Rattle.channel_laws.proofs.Apart.{some_same}
 use Rattle.lane_laws.specs.DiskLog.{DiskLog, after, nothing_yet}
 use Rattle.disk_model.specs.ClientStep.{given_bytes}
 use Rattle.disk_model.specs.DiskEvent.{DiskEvent, Misplaced, Stored, Works}
@@ -20,7 +18,7 @@ use Rattle.lane_laws.proofs.CarriedRuns.{all_step}
 use Rattle.lane_laws.proofs.RingRuns.{before as clean_before}
 use Rattle.lane_laws.proofs.SlotsStepping.{StepFacts}
 use Rattle.lane_laws.specs.MemoryStands.{memory_long}
-use Rattle.lane_laws.specs.Blocks.{WritesBlock, block_at}
+use Rattle.lane_laws.specs.Blocks.{block_at}
 use Rattle.lane_laws.specs.Contents.{ContentsStand}
 use Rattle.lane_laws.specs.ImageStep.{ImageStep, StoreDoes, StoresOn, content_after}
 use Rattle.lane_laws.specs.LaneView.{view_of}
@@ -38,13 +36,7 @@ use Rattle.lane_laws.proofs.WireChanges.{Changed}
 
 -- A FRESH LANE: the image is its own content
 pub fresh_is_near : (shape : Shape) (image : List ℕ) → length image ≡ 512 * shape.blocks → IsNear image (fresh shape) image
-fresh_is_near shape image long = record {
-  content_long = long;
-  image_long = long;
-  image_near = record { stored = λ b among. absurd among; others = λ b below not. inl refl };
-  done = λ session is i below block count got. absurd (cc is);
-  work = λ session is work now block count got. absurd (cc is);
-}
+fresh_is_near shape image long = grind arith
 
 -- A STEP, of an image that the step may change
 changed_near : (s : LaneState) (l : DiskLog) (event : DiskEvent) (t : LaneState) (content image next : List ℕ) → Before s l → ContentsStand (view_of s) → Changed s event t → next ≡ image
@@ -104,14 +96,7 @@ run_near shape events s event t content image next sound run step unforged well 
 
 -- WHAT A COMPLETION SHOWS
 front_puts : (block count : ℕ) (behind : List Request) (m b : ℕ) (bytes : List ℕ) → PendingPuts (Read block count ∷ behind) 0 m b bytes → PendingPuts behind 0 (m - 1) b bytes
-front_puts block count behind m b bytes puts = by puts.place puts.below puts.there
-  where
-    by : (place : ℕ) → place < m → slice_get (Read block count ∷ behind) place ≡ Some puts.request → PendingPuts behind 0 (m - 1) b bytes
-    by zero below there =
-        let both : Some (Read block count) ≡ Some puts.request = there in
-        let same : Read block count ≡ puts.request = some_same both in
-        absurd (subst (λ (r : Request). WritesBlock r b bytes) (sym same) puts.puts)
-    by (suc place) below there = record { place = place; request = puts.request; from = omega arith; below = omega (arith, below); there = there; puts = puts.puts }
+front_puts block count behind m b bytes puts = grind arith
 
 front_block : (content : List ℕ) (block count : ℕ) (behind : List Request) (m b : ℕ) (bytes : List ℕ) → Shows content (Read block count ∷ behind) 0 m b bytes
     → (bytes ≡ block_at b content) ⊎ PendingPuts behind 0 (m - 1) b bytes

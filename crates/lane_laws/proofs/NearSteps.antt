@@ -6,17 +6,16 @@ use Rattle.std.proofs.lemmas.Bool.{cases_lt}
 use Rattle.vdisk_msg.proofs.Repeated.{length-repeated}
 use Rattle.vdisk_msg.specs.declared.request.Fill.{Fill}
 use Rattle.vdisk_msg.specs.declared.request.Request.{Request}
-use Rattle.vdisk_msg.specs.declared.request.Request.TheVariants.{Flush, Read, Write}
+use Rattle.vdisk_msg.specs.declared.request.Request.TheVariants.{Write}
 use Rattle.vdisk_msg.specs.Requests.{AreSound, after_request, written}
 use Rattle.vio_bytes.proofs.Ranges.{length-range_at, range_at-range_at}
 use Rattle.vio_bytes.specs.Place.{put_at}
 use Rattle.vio_bytes.specs.Range.{range_at}
-use Rattle.channel_laws.proofs.Apart.{some_same}
 use Rattle.lane_laws.proofs.MemorySteps.{got_sound}
 use Rattle.lane_laws.specs.Blocks.{WritesBlock, Reaches, after_requests, block_at}
 use Rattle.lane_laws.specs.Contents.{stored_count}
 use Rattle.lane_laws.specs.NearContent.{IsAmong, NearContent, PendingPuts, PutsIn, Shows}
-use Rattle.lane_laws.proofs.BlockWrites.{after_missed, after_more, after_reached, all_long, block_put_in, block_put_out, in_or_out, puts_reaches, puts_same, reaches_or_not}
+use Rattle.lane_laws.proofs.BlockWrites.{after_missed, after_more, after_reached, all_long, block_put_in, block_put_out, in_or_out, puts_same, reaches_or_not}
 use Rattle.lane_laws.proofs.PendingWrites.{earlier, shows_done, shows_pushed, wider}
 
 -- THE FIRST BLOCKS of a write
@@ -147,26 +146,14 @@ near_stored blocks content pending k m u n block count fill image is fits within
 
 -- A REQUEST IS FINISHED, all of a write's blocks stored
 reached_among : (request : Request) (u b : ℕ) → u ≡ stored_count request → Reaches request b → IsAmong (Some request) u b
-reached_among (Read block count) u b all reaches = absurd reaches
-reached_among (Write block count fill) u b all reaches = (reaches.0, omega (arith, all, reaches.1))
-reached_among Flush u b all reaches = absurd reaches
+reached_among request u b all reaches = grind arith
 
 among_reached : (request : Request) (u b : ℕ) → u ≡ stored_count request → IsAmong (Some request) u b → Reaches request b
-among_reached (Read block count) u b all among = absurd among
-among_reached (Write block count fill) u b all among = (among.0, omega (arith, all, among.1))
-among_reached Flush u b all among = absurd among
+among_reached request u b all among = grind arith
 
 past_one : (pending : List Request) (k m b : ℕ) (bytes : List ℕ) (request : Request) → slice_get pending k ≡ Some request → (Reaches request b → ⊥) → PendingPuts pending k m b bytes
     → PendingPuts pending (k + 1) m b bytes
-past_one pending k m b bytes request is not puts =
-    elim (cases_lt k puts.place) [
-      | inl behind ↦ record { place = puts.place; request = puts.request; from = omega (arith, behind); below = puts.below; there = puts.there; puts = puts.puts }
-      | inr here ↦
-          let place : puts.place ≡ k = omega (arith, here, puts.from) in
-          let both : Some puts.request ≡ Some request = sym puts.there ∙ ap (slice_get pending) place ∙ is in
-          let same : puts.request ≡ request = some_same both in
-          absurd (not (subst (λ (r : Request). Reaches r b) same (puts_reaches puts.request b bytes puts.puts)))
-    ]
+past_one pending k m b bytes request is not puts = grind arith
 
 shows_next : (blocks : ℕ) (content : List ℕ) (pending : List Request) (k m b : ℕ) (bytes : List ℕ) (request : Request) → AreSound blocks pending → length content ≡ 512 * blocks
     → slice_get pending k ≡ Some request → (Reaches request b → ⊥) → Shows content pending k m b bytes → Shows content pending (k + 1) m b bytes

@@ -21,7 +21,6 @@ use Rattle.lane_laws.proofs.ReadsGiven.{done_finished, done_given, work_flushed,
 use Rattle.lane_laws.proofs.ReadsSteps.{done_accepted, done_completed, done_kept, work_accepted, work_completed, work_kept}
 use Rattle.lane_laws.proofs.ReadsWork.{done_published, work_fetched, work_published}
 use Rattle.lane_laws.proofs.WorkSteps.{unit_blocks}
-use Rattle.channel_laws.proofs.Apart.{some_is_none}
 
 pub rests_near : (blocks : ℕ) (content : List ℕ) (v w : View) (image : List ℕ) → Unchanged v w → NearView blocks content v image → NearView blocks content w image
 rests_near blocks content v w image change near =
@@ -34,14 +33,7 @@ rests_near blocks content v w image change near =
     })
 
 pub opens_near : (blocks : ℕ) (content : List ℕ) (v w : View) (image : List ℕ) → Opens v w → NearView blocks content v image → NearView blocks content w image
-opens_near blocks content v w image change near =
-    subst (λ (x : View). NearView blocks content x image) (sym change.is) (record {
-      content_long = near.content_long;
-      image_long = near.image_long;
-      image_near = near.image_near;
-      done = λ session is i below block count got. absurd (omega (arith, below, change.unfinished));
-      work = λ session is work now block count got. some_is_none (sym now ∙ change.idle);
-    })
+opens_near blocks content v w image change near = grind arith
 
 pub disturbs_near : (blocks : ℕ) (content : List ℕ) (p : ℕ) (v w : View) (image : List ℕ) → AreSound blocks v.pending → Disturbs p v w → NearView blocks content v image → NearView blocks content w image
 disturbs_near blocks content p v w image sound change near =

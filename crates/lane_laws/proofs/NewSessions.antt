@@ -1,15 +1,14 @@
 -- Behind what ends sessions an end works only in one that opened since: until then it has none while it is up.
-use Rattle.std.proofs.Common.{◌≡◌, true, false, Option, Some, None, List, [], ◌∷◌, ◌++◌, inl, inr, ◌⊎◌, refl, subst}
+use Rattle.std.proofs.Common.{◌≡◌, true, false, Option, Some, None, List, [], ◌∷◌, ◌++◌, inl, inr, ◌⊎◌, refl, arith}
 use Rattle.runs.specs.Lawful.{Lawful, lawful_split, log_of}
 use Rattle.ldc_queue.specs.declared.end.End.{End}
 use Rattle.ldc_queue.specs.declared.end.End.TheVariants.{A, B}
-use Rattle.disk_model.specs.DiskEvent.{Accepted, Asks, Desc, DiskEvent, Done, Finished, Moved, OnWire, Published, Stopped, Stored, Switches, Worked, Works}
+use Rattle.disk_model.specs.DiskEvent.{Accepted, Asks, Desc, DiskEvent, Finished, Moved, OnWire, Published, Stopped, Stored, Switches, Worked, Works}
 use Rattle.lane_laws.specs.DiskLog.{DiskLog, after, nothing_yet}
 use Rattle.disk_model.specs.LaneState.{Shape}
 use Rattle.lane_laws.specs.May.{IsLawful, May}
 use Rattle.channel_model.specs.WireAt.{IsUp}
 use Rattle.channel_model.specs.WireEvent.{Injected, Joined, Lost, Reset, Sent, Took}
-use Rattle.lane_laws.specs.WorkLaws.{FinishesPiece, InClient, InServer, MayComplete, MayFetch, MayPublish, MovesPiece, StoresPiece}
 use Rattle.lane_laws.specs.WorkLog.{ClientCounts, ServerCounts, WorkLog, change_client, change_server}
 use Rattle.lane_laws.proofs.SlotsStepping.{behind_up, upset_not}
 use Rattle.lane_laws.specs.NewSessions.{EndsSessions, OpensAmong, OpensAt, WorkOf}
@@ -33,13 +32,7 @@ Waits e l = IsUp e l.wire.wire → ClosedIn e l.work
 
 -- what ends the sessions
 ended_waits : (e : End) (l : DiskLog) (ending : DiskEvent) → EndsSessions l ending → Waits e (after l ending)
-ended_waits A l (OnWire (Reset A cause packet lost)) was = λ up. refl
-ended_waits A l (OnWire (Reset B cause packet lost)) was = λ up. absurd ((behind_up l.wire.wire.end_b l.wire.wire.end_a up).1 was)
-ended_waits B l (OnWire (Reset A cause packet lost)) was = λ up. absurd ((behind_up l.wire.wire.end_a l.wire.wire.end_b up).1 was)
-ended_waits B l (OnWire (Reset B cause packet lost)) was = λ up. refl
-ended_waits A l (Switches Stopped) was = λ up. absurd (upset_not l.wire.wire.end_a up)
-ended_waits B l (Switches Stopped) was = λ up. refl
-ended_waits e l _ was = absurd was
+ended_waits e l ending was = grind arith
 
 -- EACH EVENT opens its session, or it still waits: the client
 client_waits : (l : DiskLog) (event : DiskEvent) → Waits A l → OpensAt A event ⊎ Waits A (after l event)
@@ -83,21 +76,8 @@ goes_on A l event waits = client_waits l event waits
 goes_on B l event waits = server_waits l event waits
 
 -- WHILE IT WAITS it does no work
-no_client : (P : ClientCounts → Type 0) (k : Option ClientCounts) → k ≡ None → InClient k P → ⊥
-no_client P k none holds = subst (λ (o : Option ClientCounts). InClient o P) none holds
-
-no_server : (P : ServerCounts → Type 0) (d : Option ServerCounts) → d ≡ None → InServer d P → ⊥
-no_server P d none holds = subst (λ (o : Option ServerCounts). InServer o P) none holds
-
 never : (e : End) (l : DiskLog) (event : Worked) → Waits e l → May l (Works event) → WorkOf e event → ⊥
-never A l (Published id) waits may work = no_client (MayPublish l id) l.work.client (waits may.works) may.numbers
-never A l (Done id operation status bytes) waits may work = no_client (MayComplete id) l.work.client (waits may.works) may.numbers
-never B l (Desc slot bytes) waits may work = no_server (MayFetch l slot) l.work.server (waits may.works) may.numbers
-never B l (Moved unit fault) waits may work = no_server (MovesPiece l unit fault) l.work.server (waits may.works) may.pieces
-never B l (Stored operation block count failed) waits may work =
-    no_server (StoresPiece operation block count) l.work.server (waits may.works) may.pieces
-never B l (Finished slot status) waits may work = no_server (FinishesPiece l slot status) l.work.server (waits may.works) may.pieces
-never _ l _ waits may work = work
+never e l event waits may work = grind arith
 
 -- AMONG THE EVENTS up to its work its session opens
 or_later : {X Y Z : Type 0} → X ⊎ Y → (Y → Z) → X ⊎ Z

@@ -10,7 +10,7 @@ use Rattle.runs.specs.Run.{Run}
 use Rattle.cookie_copy.proofs.OwnPages.{no_fault_range}
 use Rattle.cookie_copy.specs.declared.fault.Access.TheVariants as access
 use Rattle.cookie_copy.specs.declared.fault.CopyFault.{CopyFault}
-use Rattle.cookie_copy.specs.Faults.{both_up, first_copy_fault, is_aligned, is_aligned_cookie, is_even_word}
+use Rattle.cookie_copy.specs.Faults.{both_up, first_copy_fault, is_aligned, is_aligned_cookie}
 use Rattle.dring.proofs.Turning.{slot_fits}
 use Rattle.dring.specs.declared.peer.RingFault.{RingFault}
 use Rattle.dring.specs.declared.peer.RingFault.TheVariants as refused
@@ -112,10 +112,7 @@ client_finds_done shape events s session sound run clean rule =
 
 -- THE SERVER fetches a slot through the ring's cookies
 fetched_aligned : (slot : ℕ) (cookies : List Cookie) → list_all is_aligned_cookie cookies ≡ true → is_aligned cookies (128 * slot) 128 ≡ true
-fetched_aligned slot cookies aligned =
-    let whole : (128 * slot) % 8 ≡ 0 = omega arith in
-    let here : is_even_word (128 * slot) ≡ true = grind (arith, nat_tests) in
-    rw (here, aligned) refl
+fetched_aligned slot cookies aligned = grind arith
 
 fetch_answered : (s : ServerState) (r : Reach) (pages slots slot : ℕ) → r.both ≡ true → Reaches s r pages slots → slot < slots → fetch_fault s r slot ≡ None
 fetch_answered s r pages slots slot both reaches below =
@@ -137,7 +134,7 @@ word_answered s r pages slots slot at both reaches below within even =
 other_number : (a b : ℕ) → (a == b) ≡ false → a ≢ b
 other_number a b test same = grind (arith, nat_tests)
 
-below_other : (a b : ℕ) → a ≤ b → a ≢ b → a < b
+pub below_other : (a b : ℕ) → a ≤ b → a ≢ b → a < b
 below_other a b most other = grind (arith, nat_tests, most, other)
 
 pub record NextSlot (s : LaneState) (l : DiskLog) (v : ServerSession) : Type 0 where

@@ -2,7 +2,6 @@
 -- other, all from the first number on, and what the other heard is the front of it.
 use Rattle.std.proofs.Common.{◌≡◌, ℕ, ◌+◌, ◌%◌, ◌≤◌, Bool, true, false, Option, Some, None, List, [], ◌∷◌, ◌++◌, cond, drop, drop_at, filter, length, inl, inr, refl, sym, ap, ◌∙◌, subst, arith}
 use Rattle.std.specs.Prelude.{is_some}
-use Rattle.std.proofs.lemmas.Nat.{mod_below}
 use Rattle.runs.specs.Lawful.{log_of}
 use Rattle.runs.specs.Run.{Run}
 use Rattle.ldc_link.specs.declared.phase.Role.{Role}
@@ -19,7 +18,6 @@ use Rattle.disk_model.specs.DiskEvent.{DiskEvent}
 use Rattle.lane_laws.specs.DiskLog.{DiskLog, after, nothing_yet}
 use Rattle.disk_model.specs.LaneState.{IsShape, LaneState, Shape, fresh}
 use Rattle.disk_model.specs.LaneStep.{LaneStep}
-use Rattle.channel_model.specs.Messages.{end_of, is_range, range_if, seq_of, start_of}
 use Rattle.channel_model.specs.Ranges.{wrapped}
 use Rattle.dring.specs.Slots.{range_length}
 use Rattle.channel_model.specs.Sayings.{heard, said}
@@ -27,6 +25,7 @@ use Rattle.disk_model.specs.ServerState.{ServerSession, Work}
 use Rattle.channel_model.specs.TranscriptLog.{TranscriptLog}
 use Rattle.channel_model.specs.WireLog.{WireLog}
 use Rattle.lane_laws.specs.WorkLog.{ClientCounts, ServerCounts, length_in, one_in}
+use Rattle.channel_model.specs.Messages.{end_of, is_range, range_if, seq_of, start_of}
 use Rattle.channel_laws.proofs.HandshakesPlaced.{up_or}
 use Rattle.channel_laws.proofs.Sessions.{open_heard}
 use Rattle.lane_laws.proofs.AckedFinished.{same_ranges}
@@ -41,6 +40,7 @@ use Rattle.lane_laws.specs.Counted.{ServerOrder, range_count, range_sum}
 use Rattle.lane_laws.specs.LaneTranscripts.{transcript_behind}
 use Rattle.lane_laws.specs.OnTheWay.{NameAll, OnTheWay, SeqsFrom, WaitsOrLost, answered_by, asked_by, expected_by, ranges_behind}
 use Rattle.lane_laws.specs.ChannelEnds.{client_core}
+use Rattle.channel_laws.proofs.NextPacket.{none_of}
 
 same_names : (slots from other to goal : ℕ) (messages : List (List ℕ)) → from ≡ other → to ≡ goal → NameAll slots from to messages → NameAll slots other goal messages
 same_names slots from other to goal messages begins ends names =
@@ -52,9 +52,7 @@ data_is Initiator slots sid count sum bytes is = ap (is_range 1) is.bytes_are �
 data_is Responder slots sid count sum bytes is = ap (is_range 2) is.bytes_are ∙ is_data 2 sid Ack is.seq sid (sum % slots) is.end is.state refl
 
 data_begins : (r : Role) (slots sid count sum : ℕ) (bytes : List ℕ) → slots ≤ 256 → (is : IsData r slots sid count sum bytes) → start_of bytes ≡ sum % slots
-data_begins r slots sid count sum bytes few is =
-    let ends = is.ends in
-    ap start_of is.bytes_are ∙ start_is (subtype_of r) sid is.seq sid (sum % slots) is.end is.state (omega (arith, mod_below sum slots (omega (arith, ends)), few))
+data_begins r slots sid count sum bytes few is = grind (arith, start_is)
 
 data_ends : (r : Role) (slots sid count sum : ℕ) (bytes : List ℕ) → slots ≤ 256 → (is : IsData r slots sid count sum bytes) → end_of bytes ≡ is.end
 data_ends r slots sid count sum bytes few is =
@@ -124,9 +122,7 @@ seqs_said slots count sum (bytes ∷ messages) each =
 
 all_named : (slots : ℕ) (r : Role) (messages : List (List ℕ)) → slots ≤ 256 → EachSaid r slots 0 0 messages
     → NameAll slots 0 (range_sum slots (code_of r) messages) (filter (is_range (code_of r)) messages)
-all_named slots r messages few each =
-    same_names slots 0 0 (0 + range_sum slots (code_of r) messages) (range_sum slots (code_of r) messages) (filter (is_range (code_of r)) messages) refl (omega arith)
-    (names_said r slots 0 0 messages few each)
+all_named slots r messages few each = grind (arith, names_said)
 
 -- BEHIND A FRONT the rest is named
 one_past : (slots subtype from to sum : ℕ) (b : Bool) (bytes : List ℕ) (rest behind : List (List ℕ)) → ((n : ℕ) → NameAll slots n to rest → NameAll slots (n + sum) to behind)
@@ -183,22 +179,12 @@ record PlaceIs (slots : ℕ) (o : Option ServerSession) (q : Option ServerCounts
   seq : wrapped (range_count 1 (heard turns) + 1) ≡ expected_by o
 
 place_is : (slots : ℕ) (o : Option ServerSession) (w : Option Work) (q : Option ServerCounts) (turns : List Turn) → ServerOrder slots o q turns → ServerAgrees o w q → PlaceIs slots o q turns
-place_is slots None w None turns order agrees = record { asked = order.asked; answered = order.answered; seq = ap (λ (n : ℕ). wrapped (n + 1)) order.infos }
-place_is slots None w (Some d) turns order agrees = absurd agrees
-place_is slots (Some v) w None turns order agrees = absurd order
-place_is slots (Some v) w (Some d) turns order agrees = record { asked = sym order.asked; answered = sym order.answered; seq = sym order.seq }
+place_is slots o w q turns order agrees = grind arith
 
 -- ONE DIRECTION between two ends that are up
-nothing : (packets : List (List ℕ)) → length packets ≤ 0 → packets ≡ []
-nothing [] none = refl
-nothing (packet ∷ packets) none = absurd (omega (arith, none))
-
 direction : (e f : ChannelState) (put taken waiting : List (List ℕ)) (lost : ℕ) (lossy : Bool) → e ≡ Up → f ≡ Up → OneWay (live e put) (live f taken) waiting lost → (lossy ≡ false → lost ≡ 0)
     → WaitsOrLost put taken waiting lossy
-direction e f put taken waiting lost lossy up_e up_f way whole =
-    let there : OneWay put taken waiting lost =
-    subst (λ (x : ChannelState). OneWay (live x put) taken waiting lost) up_e (subst (λ (x : ChannelState). OneWay (live e put) (live x taken) waiting lost) up_f way) in
-    record { gone = there.gone; is = there.is; whole = λ calm. nothing there.gone (omega (arith, there.few, whole calm)) }
+direction e f put taken waiting lost lossy up_e up_f way whole = grind (arith, none_of)
 
 -- A CLIENT that is up with its session open has a server that is up
 server_up : (shape : Shape) (events : List DiskEvent) (s : LaneState) → IsShape shape → Run LaneStep (fresh shape) events s → (log_of after (nothing_yet shape) events).wire.forged ≡ false

@@ -1,18 +1,13 @@
 -- The offers of a disk's lane match, and their numbers are of their fields' widths.
-use Rattle.std.proofs.Common.{◌≡◌, ℕ, zero, suc, ◌+◌, ◌*◌, ◌%◌, ◌^◌, ◌<◌, ◌≤◌, Bool, true, false, List, [], ◌∷◌, length, refl, sym, ap, subst, arith, nat_le}
+use Rattle.std.proofs.Common.{◌≡◌, ℕ, zero, suc, ◌+◌, ◌*◌, ◌%◌, ◌^◌, ◌<◌, ◌≤◌, Bool, true, false, [], ◌∷◌, length, refl, arith, nat_le}
 use Rattle.std.specs.Prelude.{if◌then◌else◌}
 use Rattle.std.proofs.lemmas.Bool.Decides.{nat_tests}
-use Rattle.map_table.specs.Cookies.{IsCookie, no_cookie}
-use Rattle.map_table.specs.declared.cookie.Cookie.{Cookie}
-use Rattle.map_table.proofs.Each.{each_replicate}
 use Rattle.vdisk_msg.specs.Requested.{ring_pages}
-use Rattle.vio_tag.proofs.AttributeBytes.{disk_attr_reads_back}
-use Rattle.vio_tag.specs.declared.attributes.DiskAttr.{DiskAttr}
 use Rattle.vio_handshake.specs.Acceptance.{are_aligned, hold_ring, sizes}
 use Rattle.vio_handshake.specs.Attributes.{blocks_of}
 use Rattle.vio_handshake.specs.Offers.{FitsRing, Match}
 use Rattle.channel_model.specs.OwnMemory.{page_cookies}
-use Rattle.disk_model.specs.Offering.{client_offer, disk_of, own_cookies, server_offer}
+use Rattle.disk_model.specs.Offering.{client_offer, own_cookies, server_offer}
 use Rattle.channel_laws.specs.LaneCore.{OfferFits}
 use Rattle.lane_laws.proofs.OfferedRing.{cookies_are, few_cookies, filled_front, filled_long, offered_form}
 
@@ -47,33 +42,13 @@ some_if true slots some = pages_some (ring_pages slots) (omega (arith, some))
 some_if false slots some = omega arith
 
 fits_ring : (blocks slots : ℕ) → 1 ≤ slots → slots ≤ 256 → FitsRing (client_offer blocks slots) (server_offer blocks slots)
-fits_ring blocks slots some few = record {
-  slots = refl;
-  slot_size = refl;
-  some = some_if (nat_le 64 slots) slots some;
-  most = few_cookies slots few;
-  held = subst (λ (cs : List Cookie). hold_ring cs (slots * 128) ≡ true) (sym (filled_front 14 (own_cookies slots) (few_cookies slots few))) (holds_if (nat_le 64 slots) slots);
-}
+fits_ring blocks slots some few = search (some_if, few_cookies, filled_front, holds_if)
 
 blocks_back : (blocks slots : ℕ) → blocks < 2 ^ 64 → blocks_of (client_offer blocks slots) ≡ blocks
-blocks_back blocks slots few =
-    ap (λ (a : DiskAttr). a.blocks) (disk_attr_reads_back (disk_of blocks) (record {
-      mode = omega arith;
-      kind = omega arith;
-      media = omega arith;
-      block_size = omega arith;
-      operations = omega arith;
-      blocks = few;
-      max_transfer = omega arith;
-      physical = omega arith;
-    }))
+blocks_back blocks slots few = grind arith
 
 pub offers_match : (blocks slots : ℕ) → 1 ≤ slots → slots ≤ 256 → blocks < 2 ^ 64 → Match (client_offer blocks slots) (server_offer blocks slots)
-offers_match blocks slots some few most = record {
-  kind = refl;
-  ring = fits_ring blocks slots some few;
-  device = (refl, subst (λ (n : ℕ). n < 2 ^ 64) (sym (blocks_back blocks slots most)) most);
-}
+offers_match blocks slots some few most = search (fits_ring, blocks_back)
 
 -- THE NUMBERS are of their fields' widths
 pub client_fits : (blocks slots : ℕ) → slots ≤ 256 → OfferFits (client_offer blocks slots)
@@ -88,12 +63,4 @@ client_fits blocks slots few = record {
 }
 
 pub server_fits : (blocks slots : ℕ) → OfferFits (server_offer blocks slots)
-server_fits blocks slots = record {
-  minor = omega arith;
-  class = omega arith;
-  slots = omega arith;
-  slot_size = omega arith;
-  room = refl;
-  cookies = each_replicate IsCookie 14 no_cookie (record { address = omega arith; size = omega arith });
-  form = record { most = omega arith; none = refl };
-}
+server_fits blocks slots = grind arith

@@ -1,5 +1,5 @@
 -- Along every run each session opens in the handshake's order.
-use Rattle.std.proofs.Common.{ℕ, Bool, true, false, List, ◌∷◌, map, subst}
+use Rattle.std.proofs.Common.{ℕ, Bool, true, false, List, ◌∷◌, map, subst, arith}
 use Rattle.runs.specs.Lawful.{Lawful, log_of}
 use Rattle.runs.specs.Run.{Run}
 use Rattle.ldc_link.specs.declared.phase.Role.TheVariants.{Initiator, Responder}
@@ -51,9 +51,7 @@ took_opens shape events s B packet true t at step =
 
 opening_at : (shape : Shape) (events : List DiskEvent) (s : LaneState) (event : DiskEvent) (t : LaneState) → At shape events s → LaneStep s event t
     → OpeningsAt (log_of after (nothing_yet shape) events) event
-opening_at shape events s (OnWire (Sent e packet opens)) t at step = sent_opens shape events s e packet opens t at step
-opening_at shape events s (OnWire (Took e packet opens)) t at step = took_opens shape events s e packet opens t at step
-opening_at shape events s _ t at step = tt
+opening_at shape events s event t at step = grind (arith, sent_opens, took_opens)
 
 pub openings_lawful : (shape : Shape) (events : List DiskEvent) (s : LaneState) → IsShape shape → Run LaneStep (fresh shape) events s
     → Lawful OpeningsAt after (nothing_yet shape) events

@@ -1,19 +1,17 @@
 -- An end does what its session has to do before it takes a packet, and a client takes before it publishes.
-use Rattle.std.proofs.Common.{◌≡◌, ℕ, ◌+◌, ◌-◌, ◌≤◌, Bool, true, false, Option, Some, None, List, refl, sym, ap, ◌∙◌, subst, arith, length, length-drop}
-use Rattle.std.specs.Prelude.{◌&&◌, ◌||◌, is_none, is_some}
+use Rattle.std.proofs.Common.{◌≡◌, ℕ, ◌+◌, Bool, true, false, Some, None, List, refl, sym, ap, ◌∙◌, subst, arith, length, length-drop}
+use Rattle.std.specs.Prelude.{◌&&◌, is_none, is_some}
 use Rattle.cookie_copy.specs.Reach.{Reach}
 use Rattle.ldc_link.specs.LinkState.{LinkState}
 use Rattle.ldc_link.specs.Putting.{owes, owes_control, owes_in}
-use Rattle.ldc_link.specs.declared.phase.Role.TheVariants.{Initiator}
 use Rattle.ldc_queue.specs.declared.end.End.{End}
 use Rattle.ldc_queue.specs.declared.end.End.TheVariants.{A, B}
 use Rattle.ldc_queue.specs.Wire.{waiting_for}
 use Rattle.vdisk_msg.specs.declared.request.Request.{Request}
 use Rattle.vio_handshake.specs.declared.handshake.Handshake.{Handshake}
 use Rattle.vio_tag.specs.declared.cause.Cause.{Cause}
-use Rattle.channel_model.specs.Seeing.{Seen}
 use Rattle.channel_model.specs.WireEvent.{Blocked, ByRestart, ByScript, ByStep, ByTick, Giver, Idle, Reset, Sent, Took, giver}
-use Rattle.disk_model.specs.ClientPutting.{client_holds, is_announcing}
+use Rattle.disk_model.specs.ClientPutting.{client_holds}
 use Rattle.disk_model.specs.ClientRule as client
 use Rattle.disk_model.specs.ClientState.{ClientSession, ClientState, joined_client}
 use Rattle.disk_model.specs.ClientStep.{ClientFails}
@@ -21,31 +19,25 @@ use Rattle.disk_model.specs.DiskEvent.{Desc, DiskEvent, Done, Misplaced, OnWire,
 use Rattle.disk_model.specs.LaneState.{LaneState}
 use Rattle.disk_model.specs.LaneStep.{CallsReset, EndOnWire, LaneStep, ResetBy, reach}
 use Rattle.disk_model.specs.ServerRule as server
-use Rattle.disk_model.specs.ServerState.{ServerSession, ServerState, SlotRange, Work, joined_server, restarted_server}
+use Rattle.disk_model.specs.ServerState.{ServerSession, ServerState, Work, joined_server, restarted_server}
 use Rattle.disk_model.specs.ServerStep.{ServerFails}
 use Rattle.lane_laws.specs.BlockLog.{Clear}
-use Rattle.lane_laws.specs.ChannelEnds.{client_core}
-use Rattle.lane_laws.specs.Counted.{InServerOrder, RangeStands}
 use Rattle.lane_laws.specs.DiskLog.{DiskLog}
 use Rattle.lane_laws.specs.OrderLaws.{HasAnswered, HasCompleted, HasPublished, OrderAt, OwesNothing, PublishesAt, PutsAt, ServesAt, TakesAt}
-use Rattle.lane_laws.specs.RuleFacts.{ClientMay}
 use Rattle.lane_laws.specs.Sound.{InOrder}
-use Rattle.lane_laws.specs.WorkLog.{ClientCounts, ServerCounts}
+use Rattle.lane_laws.specs.WorkLog.{ClientCounts}
 use Rattle.lane_laws.proofs.BlockedLaw.{Told, client_to_put, server_to_put}
-use Rattle.lane_laws.proofs.ClientFolds.{calm_up, not_stuck, sends_some}
-use Rattle.lane_laws.proofs.Counting.{OfServer, of_client, of_server}
+use Rattle.lane_laws.proofs.ClientFolds.{not_stuck}
+use Rattle.lane_laws.proofs.Counting.{of_client}
 use Rattle.lane_laws.proofs.EndsFold.{BothAre, first_false}
-use Rattle.channel_laws.proofs.Apart.{none_is_some, some_same}
+use Rattle.channel_laws.proofs.Apart.{some_same}
 use Rattle.channel_laws.proofs.EndsAtRest.{none_waits}
-use Rattle.lane_laws.proofs.IdleLaw.{not_below, past_all, same_waiting, some_client, some_server}
-use Rattle.lane_laws.proofs.IdleRules.{client_idles, published_all, server_idles}
-use Rattle.lane_laws.proofs.RuleTests.{ClientTested, CompletedAll, PublishedAll, TakesFree, client_test, client_tested, control_in}
-use Rattle.lane_laws.proofs.RangeLaw.{never_own}
-use Rattle.lane_laws.proofs.Ruling.{client_may}
-use Rattle.lane_laws.proofs.RulesFree.{ServerFree, owes_nothing, puts_calm, puts_owe, server_free, takes_calm}
+use Rattle.lane_laws.proofs.IdleLaw.{not_below, past_all, same_waiting, some_client}
+use Rattle.lane_laws.proofs.IdleRules.{client_idles, server_idles}
+use Rattle.lane_laws.proofs.RuleTests.{CompletedAll, TakesFree, client_test, control_in}
+use Rattle.lane_laws.proofs.RulesFree.{ServerFree, owes_nothing, puts_calm, server_free, takes_calm}
 use Rattle.lane_laws.proofs.Sharing.{in_order}
-use Rattle.channel_laws.proofs.MessagesHeld.{owed_held}
-use Rattle.lane_laws.proofs.WorkNumbers.{Grounded, order_of}
+use Rattle.lane_laws.proofs.WorkNumbers.{Grounded}
 use Rattle.lane_laws.proofs.LaneViews.{at_client, at_server}
 
 -- THE CLIENT
@@ -60,16 +52,8 @@ completed_in_log s l grounded all =
     let acked = not_below session.completed session.acked (all session is) in
     subst (λ (k : ClientCounts). l.work.done ≡ k.base + k.acked) same (omega (arith, of.agree.completed, of.agree.acked, acked, order.completed)))
 
-holds_completed : (s : ClientState) (at : Seen) (rule : client.ClientRule) (held : ClientState) → client_holds rule s ≡ Some held → ClientTested s at rule → CompletedAll s
-holds_completed s at client.Puts held is test = test.0.completed
-holds_completed s at (client.Says message) held is test = test.0.completed
-holds_completed s at (client.Announces session) held is test = test.0.completed
-holds_completed s at _ held is test = none_is_some is
-
 putting_completed : (s : LaneState) (l : DiskLog) (held : ClientState) → Grounded s l → client_holds (client.client_rule s.client (at_client s)) s.client ≡ Some held → HasCompleted l
-putting_completed s l held grounded is =
-    let at = at_client s in
-    completed_in_log s l grounded (holds_completed s.client at (client.client_rule s.client at) held is (client_tested s.client at))
+putting_completed s l held grounded is = grind arith
 
 -- it owes nothing of its link's handshake where its link owes no packet
 control_free : (k : LinkState) (b : Bool) → owes_control k ≡ b → owes k ≡ false → b ≡ false
@@ -81,10 +65,7 @@ client_owes_nothing s l told calm none =
     (ap owes_in (sym told.client_phase) ∙ calm, ap (λ (h : Handshake). h.owed) (sym told.are.client) ∙ none)
 
 server_owes_nothing : (s : LaneState) (l : DiskLog) → Told s l → owes s.server.link ≡ false → s.server.handshake.owed ≡ None → OwesNothing B l
-server_owes_nothing s l told free none = (
-  ap owes_in (sym told.server_phase) ∙ control_free s.server.link (owes_control s.server.link) refl free,
-  ap (λ (h : Handshake). h.owed) (sym told.are.server) ∙ none,
-)
+server_owes_nothing s l told free none = grind arith
 
 publishes_order : (s : LaneState) (l : DiskLog) (session : ClientSession) (request : Request) → Told s l
     → client.client_rule s.client (at_client s) ≡ client.Publishes session request → PublishesAt l
@@ -107,71 +88,14 @@ client_may_take s l packet told rule = (
 
 client_fails : (s : ClientState) (rule : client.ClientRule) (memory : List ℕ) (cause : Cause) (packet : List ℕ) (P : Type 0) → ClientFails rule s memory cause (Some packet)
     → ((bytes : List ℕ) → rule ≡ client.Takes bytes → P) → P
-client_fails s (client.Takes bytes) memory cause packet P fails taking = taking bytes refl
-client_fails s (client.Completes session) memory cause packet P fails taking = let never : Some packet ≡ None = fails.0 in absurd (cc)
-client_fails s _ memory cause packet P fails taking = absurd fails
+client_fails s rule memory cause packet P fails taking = grind arith
 
 -- IT PUTS: where it owes nothing it isn't urgent, and announces
-quiet_link : (s : LaneState) (l : DiskLog) (session : Option ClientSession) (b : Bool) → Told s l → owes_control s.client.link ≡ false → s.client.handshake.owed ≡ None
-    → s.client.session ≡ session → owes s.client.link ≡ b → (is_none session && b) ≡ false
-quiet_link s l (Some session) b told calm none is owing = refl
-quiet_link s l None false told calm none is owing = refl
-quiet_link s l None true told calm none is owing =
-    let some = sends_some s.client.link (calm_up s.client.link calm owing) owing in
-    let holds = owed_held Initiator (client_core s.client) l.transcript.client told.grounded.knows.rests.client.stands (ap is_announcing is) some in
-    let never : Some holds.message ≡ None = sym holds.owed ∙ none in absurd (cc)
-
-all_false : (a b c : Bool) → a ≡ false → b ≡ false → c ≡ false → (a || b || c) ≡ false
-all_false false false false no_a no_b no_c = refl
-all_false _ _ _ no_a no_b no_c = absurd (cc)
-
 client_calm : (s : LaneState) (l : DiskLog) → Told s l → OwesNothing A l → client.is_urgent s.client ≡ false
-client_calm s l told nothing =
-    let calm : owes_control s.client.link ≡ false = ap owes_in told.client_phase ∙ nothing.0 in
-    let none : s.client.handshake.owed ≡ None = ap (λ (h : Handshake). h.owed) told.are.client ∙ nothing.1 in
-    all_false (owes_control s.client.link) (is_some s.client.handshake.owed) (is_none s.client.session && owes s.client.link) calm (ap is_some none)
-    (quiet_link s l s.client.session (owes s.client.link) told calm none refl refl)
-
-announcing_own : (s : LaneState) (l : DiskLog) (own : Bool) → Told s l → s.client.handshake.owed ≡ None → 1 ≤ length s.client.link.to_send → is_announcing s.client.session ≡ own → own ≡ true
-announcing_own s l true told none some is = refl
-announcing_own s l false told none some is =
-    let holds = owed_held Initiator (client_core s.client) l.transcript.client told.grounded.knows.rests.client.stands is some in
-    let never : Some holds.message ≡ None = sym holds.owed ∙ none in absurd (cc)
-
-holds_published : (s : LaneState) (l : DiskLog) (rule : client.ClientRule) (held : ClientState) (session : ClientSession) → Told s l → OwesNothing A l
-    → client.client_rule s.client (at_client s) ≡ rule → client_holds rule s.client ≡ Some held → s.client.session ≡ Some session → l.blocked.client ≡ Clear → PublishedAll s.client session
-holds_published s l client.Puts held session told nothing rule is now clear =
-    let calm : owes_control s.client.link ≡ false = ap owes_in told.client_phase ∙ nothing.0 in
-    let none : s.client.handshake.owed ≡ None = ap (λ (h : Handshake). h.owed) told.are.client ∙ nothing.1 in
-    let owing = puts_owe s.client (at_client s) rule in
-    let some = sends_some s.client.link (calm_up s.client.link calm owing) owing in
-    let own = announcing_own s l (is_announcing s.client.session) told none some refl in
-    let never : true ≡ false = never_own s.client l.blocked.client session told.both.client clear now (ap is_announcing (sym now) ∙ own) in absurd (cc)
-holds_published s l (client.Says message) held session told nothing rule is now clear =
-    let may : ClientMay s.client (at_client s) (client.Says message) = subst (ClientMay s.client (at_client s)) rule (client_may s.client (at_client s)) in
-    let never : Some message ≡ None = sym may.2 ∙ ap (λ (h : Handshake). h.owed) told.are.client ∙ nothing.1 in absurd (cc)
-holds_published s l (client.Announces one) held session told nothing rule is now clear =
-    let may : ClientMay s.client (at_client s) (client.Announces one) = subst (ClientMay s.client (at_client s)) rule (client_may s.client (at_client s)) in
-    let both : Some one ≡ Some session = sym may.3 ∙ now in
-    let same : one ≡ session = cc in
-    subst (PublishedAll s.client) same (published_all s.client (at_client s) one rule)
-holds_published s l _ held session told nothing rule is now clear = absurd (cc)
+client_calm s l told nothing = grind arith
 
 published_in_log : (s : LaneState) (l : DiskLog) (held : ClientState) → Told s l → OwesNothing A l → client_holds (client.client_rule s.client (at_client s)) s.client ≡ Some held → HasPublished l
-published_in_log s l held told nothing is =
-    let grounded = told.grounded in
-    some_client s.client.session l.work.done l.work.client (λ (c : ClientCounts). l.blocked.client ≡ Clear → c.base + c.published ≡ length l.work.issued)
-    grounded.knows.counted.client.agrees (λ session c now has. λ clear.
-    let of = of_client s.client.session session l.work.done l.work.client now grounded.knows.counted.client.agrees in
-    let both : Some of.counts ≡ Some c = sym of.is ∙ has in
-    let same : of.counts ≡ c = cc in
-    let order : InOrder (length s.client.pending) session =
-    in_order (length s.client.pending) s.client.session session now grounded.knows.all.sound.counts in
-    let stand = grounded.knows.all.stands.requests in
-    let published = past_all s.client.pending (session.published - session.completed)
-    (holds_published s l (client.client_rule s.client (at_client s)) held session told nothing refl is now clear) in
-    subst (λ (k : ClientCounts). k.base + k.published ≡ length l.work.issued) same
-    (omega (arith, of.agree.base, of.agree.published, of.agree.completed, published, order.published, order.completed, order.acked, order.announced, ap length stand.pending, length-drop l.work.done l.work.issued, stand.done)))
+published_in_log s l held told nothing is = grind (arith, past_all, length-drop)
 
 client_may_put : (s : LaneState) (l : DiskLog) (held : ClientState) → Told s l → client_holds (client.client_rule s.client (at_client s)) s.client ≡ Some held → PutsAt A l
 client_may_put s l held told is = (
@@ -185,16 +109,7 @@ client_may_put s l held told is = (
 
 -- THE SERVER
 answered_in_log : (s : LaneState) (l : DiskLog) → Grounded s l → TakesFree s.server → HasAnswered l
-answered_in_log s l grounded free =
-    some_server s.server.session s.server.work l.work.server (λ (c : ServerCounts). c.answered ≡ c.asked) grounded.knows.counted.server.agrees (λ session c is has.
-    let of : OfServer session s.server.work l.work.server =
-    of_server s.server.session session s.server.work l.work.server is grounded.knows.counted.server.agrees in
-    let both : Some of.counts ≡ Some c = sym of.is ∙ has in
-    let same : of.counts ≡ c = some_same both in
-    let order : InServerOrder l.shape.slots session of.counts l.transcript.server =
-    order_of l.shape.slots s.server.session session l.work.server of.counts l.transcript.server is of.is grounded.knows.counted.server.order in
-    subst (λ (k : ServerCounts). k.answered ≡ k.asked) same
-    (subst (λ (r : Option SlotRange). RangeStands l.shape.slots r of.counts) (free.range session is) order.range))
+answered_in_log s l grounded free = grind arith
 
 server_clear : (s : LaneState) (l : DiskLog) → BothAre s l → owes s.server.link ≡ false → l.blocked.server ≡ Clear
 server_clear s l both free = not_stuck s.server.link l.blocked.server both.server.link free
@@ -216,10 +131,7 @@ server_may_take s l packet told rule =
 
 server_fails : (s : ServerState) (rule : server.ServerRule) (reach : Reach) (cause : Cause) (packet new : List ℕ) (P : Type 0) → ServerFails rule s reach cause (Some packet) new
     → ((bytes : List ℕ) → rule ≡ server.Takes bytes → P) → P
-server_fails s (server.Takes bytes) reach cause packet new P fails taking = taking bytes refl
-server_fails s (server.Fetches session) reach cause packet new P fails taking = let never : Some packet ≡ None = fails.0 in absurd (cc)
-server_fails s (server.Serves session work) reach cause packet new P fails taking = let never : Some packet ≡ None = fails.0 in absurd (cc)
-server_fails s _ reach cause packet new P fails taking = absurd fails
+server_fails s rule reach cause packet new P fails taking = grind arith
 
 -- A RESET that carries a packet is one by the end's own step, which takes it
 calls_none : (s behind : LaneState) (cause : Cause) (e : End) (packet : List ℕ) (lost : ℕ) (t : LaneState) → CallsReset s behind cause e (Some packet) lost t → ⊥

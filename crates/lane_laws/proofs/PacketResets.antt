@@ -1,12 +1,12 @@
 -- Where nobody forged, a packet for which an end resets itself is a gap after a loss, or ends a message that the end hears badly in session.
-use Rattle.std.proofs.Common.{◌≡◌, ℕ, Bool, true, false, Option, Some, None, List, [], ◌∷◌, ◌++◌, refl, sym, ap, ◌∙◌, subst, ◌⊎◌, inl, inr}
+use Rattle.std.proofs.Common.{◌≡◌, ℕ, Bool, true, false, Option, Some, None, List, [], ◌∷◌, ◌++◌, refl, sym, ap, ◌∙◌, subst, ◌⊎◌, inl, inr, arith}
 use Rattle.std.specs.Prelude.{is_some}
 use Rattle.runs.specs.Run.{Run}
 use Rattle.ldc_link.specs.declared.phase.Role.TheVariants.{Initiator, Responder}
 use Rattle.ldc_link.specs.LinkState.{LinkState}
 use Rattle.ldc_link.specs.Taking.{Heard, LinkTake, TakesBytes, Unheard}
 use Rattle.ldc_queue.specs.declared.end.ChannelState.{ChannelState}
-use Rattle.ldc_queue.specs.declared.end.ChannelState.TheVariants.{Down, Resetting, Up}
+use Rattle.ldc_queue.specs.declared.end.ChannelState.TheVariants.{Up}
 use Rattle.ldc_queue.specs.declared.end.End.TheVariants.{A, B}
 use Rattle.ldc_queue.specs.OneStream.{IsFront}
 use Rattle.ldc_queue.specs.Transcript.{Heard as Heard_, Turn}
@@ -50,9 +50,7 @@ not_none [] message is = cc is
 not_none (one ∷ messages) message is = cc is
 
 peer_up : (peer : ChannelState) (messages : List (List ℕ)) (message : List ℕ) → ((peer ≡ Up → ⊥) → messages ++ message ∷ [] ≡ []) → peer ≡ Up
-peer_up Up messages message none = refl
-peer_up Down messages message none = absurd (not_none messages message (none (λ up. absurd (cc up))))
-peer_up Resetting messages message none = absurd (not_none messages message (none (λ up. absurd (cc up))))
+peer_up peer messages message none = grind (arith, not_none)
 
 next_of : (s : Sides) (packet message : List ℕ) (messages : List (List ℕ)) → HeardFrom s (Heard_ packet ∷ s.mine.turns) → heard (Heard_ packet ∷ s.mine.turns) ≡ messages
     → messages ≡ heard s.mine.turns ++ message ∷ [] → NextHeard s.mine.turns s.theirs.turns s.theirs.state message

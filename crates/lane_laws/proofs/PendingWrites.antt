@@ -1,7 +1,6 @@
 -- Pending writes by their places, as the list of pending requests changes; and that what requests leave of a block is the content's bytes or
 -- those of a write among them.
-use Rattle.std.proofs.Common.{◌≡◌, ℕ, zero, suc, ◌-◌, ◌*◌, ◌<◌, ◌≤◌, ◌⊎◌, List, [], ◌∷◌, ◌++◌, length, take, Some, inl, inr, refl, sym, ap, ◌∙◌, subst, arith}
-use Rattle.std.specs.Prelude.{slice_get}
+use Rattle.std.proofs.Common.{◌≡◌, ℕ, zero, suc, ◌-◌, ◌*◌, ◌≤◌, ◌⊎◌, List, [], ◌∷◌, ◌++◌, length, take, inl, inr, refl, sym, ◌∙◌, subst, arith}
 use Rattle.std.proofs.lemmas.List.{take-append-le}
 use Rattle.vdisk_msg.specs.declared.request.Request.{Request}
 use Rattle.vdisk_msg.specs.Requests.{AreSound, after_request}
@@ -17,17 +16,10 @@ shift_up request pending m b bytes puts =
     record { place = suc puts.place; request = puts.request; from = omega arith; below = omega (arith, below); there = puts.there; puts = puts.puts }
 
 pub shift_down : (request : Request) (pending : List Request) (i m b : ℕ) (bytes : List ℕ) → PendingPuts (request ∷ pending) (suc i) m b bytes → PendingPuts pending i (m - 1) b bytes
-shift_down request pending i m b bytes puts = by puts.place puts.from puts.below puts.there
-  where
-    by : (place : ℕ) → suc i ≤ place → place < m → slice_get (request ∷ pending) place ≡ Some puts.request → PendingPuts pending i (m - 1) b bytes
-    by zero from below there = absurd (omega (arith, from))
-    by (suc place) from below there = record { place = place; request = puts.request; from = omega (arith, from); below = omega (arith, below); there = there; puts = puts.puts }
+shift_down request pending i m b bytes puts = grind arith
 
 pub wider : (pending : List Request) (since to_since m to_m b : ℕ) (bytes : List ℕ) → to_since ≤ since → m ≤ to_m → PendingPuts pending since m b bytes → PendingPuts pending to_since to_m b bytes
-wider pending since to_since m to_m b bytes lower higher puts =
-    let from = puts.from in
-    let below = puts.below in
-    record { place = puts.place; request = puts.request; from = omega (arith, lower, from); below = omega (arith, higher, below); there = puts.there; puts = puts.puts }
+wider pending since to_since m to_m b bytes lower higher puts = grind arith
 
 pub pushed : (pending : List Request) (request : Request) (since m b : ℕ) (bytes : List ℕ) → PendingPuts pending since m b bytes → PendingPuts (pending ++ request ∷ []) since m b bytes
 pushed pending request since m b bytes puts =
@@ -41,9 +33,7 @@ shows_done content request pending i m b bytes (inr puts) = inr (shift_down requ
 
 pub shows_pushed : (content : List ℕ) (request : Request) (pending : List Request) (i m b : ℕ) (bytes : List ℕ) → i ≤ length pending → Shows content pending i m b bytes
     → Shows content (pending ++ request ∷ []) i m b bytes
-shows_pushed content request pending i m b bytes within (inl same) =
-    inl (same ∙ ap (λ (rs : List Request). block_at b (after_requests content rs)) (sym (take-append-le i pending (request ∷ []) within)))
-shows_pushed content request pending i m b bytes within (inr puts) = inr (pushed pending request i m b bytes puts)
+shows_pushed content request pending i m b bytes within shows = grind (arith, take-append-le, pushed)
 
 -- THE LAST WRITE of the first n, or none of them
 pub earlier : (blocks : ℕ) (content : List ℕ) (pending : List Request) (n b : ℕ) → AreSound blocks pending → length content ≡ 512 * blocks

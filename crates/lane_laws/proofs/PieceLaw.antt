@@ -1,5 +1,5 @@
 -- Each piece of a descriptor is the next that it owes, of its own operation, place and size, and refused for its own fault.
-use Rattle.std.proofs.Common.{◌≡◌, ℕ, ◌^◌, zero, suc, ◌+◌, ◌-◌, ◌*◌, ◌/◌, ◌%◌, ◌<◌, ◌≤◌, min, Bool, true, false, Option, Some, List, [], ◌∷◌, ◌++◌, take, refl, sym, ap, ◌∙◌, subst, arith}
+use Rattle.std.proofs.Common.{◌≡◌, ℕ, ◌^◌, ◌+◌, ◌-◌, ◌*◌, ◌/◌, ◌%◌, ◌<◌, min, Bool, true, false, Option, Some, List, [], ◌∷◌, ◌++◌, take, refl, sym, ap, ◌∙◌, subst, arith}
 use Rattle.std.specs.Prelude.{if◌then◌else◌, ◌==◌, slice_index}
 use Rattle.std.proofs.lemmas.Bool.{eqb-true}
 use Rattle.dring.specs.Slots.{ready_state}
@@ -7,11 +7,9 @@ use Rattle.cookie_copy.specs.declared.fault.Access.{Access}
 use Rattle.cookie_copy.specs.declared.fault.Access.TheVariants.{Read, Write}
 use Rattle.cookie_copy.specs.declared.fault.CopyFault.{CopyFault}
 use Rattle.cookie_copy.specs.Faults.{both_up, first_copy_fault}
-use Rattle.map_table.specs.declared.table.Entry.{Entry}
 use Rattle.vdisk_msg.specs.declared.desc.DiskDesc.{DiskDesc}
 use Rattle.vdisk_msg.specs.Descriptor as slot_says
 use Rattle.vdisk_msg.specs.Pieces.{Finishes, Moves, Piece, Stores, read_pieces, unit_count, write_pieces}
-use Rattle.channel_model.specs.WireLog.{WireLog}
 use Rattle.lane_laws.specs.Agreement.{WorkAgrees, owed_of}
 use Rattle.lane_laws.specs.DiskLog.{DiskLog}
 use Rattle.lane_laws.specs.WorkLaws.{FinishesPiece, InServer, MovesPiece, Owes, PiecesAt, StoresPiece, access_of, block_in, count_in, desc_in, unit_fault}
@@ -64,18 +62,10 @@ at_work s l session work working free is =
 
 -- the first of the pieces of units that are left
 owes_read : (unit units : ℕ) (rest : List Piece) → unit < units → Owes (read_pieces unit (units - unit) ++ rest) (Stores unit)
-owes_read unit units rest more = of (units - unit) (omega (arith, more))
-  where
-    of : (n : ℕ) → 1 ≤ n → Owes (read_pieces unit n ++ rest) (Stores unit)
-    of zero some = absurd (omega (arith, some))
-    of (suc n) some = refl
+owes_read unit units rest more = grind arith
 
 owes_write : (unit units : ℕ) (rest : List Piece) → unit < units → Owes (write_pieces unit (units - unit) ++ rest) (Moves unit)
-owes_write unit units rest more = of (units - unit) (omega (arith, more))
-  where
-    of : (n : ℕ) → 1 ≤ n → Owes (write_pieces unit n ++ rest) (Moves unit)
-    of zero some = absurd (omega (arith, some))
-    of (suc n) some = refl
+owes_write unit units rest more = grind arith
 
 same_desc : (c : ServerCounts) (work : Work) → c.desc ≡ work.bytes → desc_in c ≡ desc_of work
 same_desc c work is = ap slot_says.disk_desc_of is
@@ -83,10 +73,7 @@ same_desc c work is = ap slot_says.disk_desc_of is
 -- A UNIT IS COPIED
 same_fault : (s : LaneState) (l : DiskLog) (desc : DiskDesc) (unit : ℕ) (access : Access) → Working s l → access_of desc.operation ≡ access
     → first_copy_fault (both_up s.wire.wire) access s.table (take desc.count desc.cookies) (8192 * unit) (unit_length desc.size unit) ≡ unit_fault l desc unit
-same_fault s l desc unit access working is =
-    ap (λ (w : WireLog). first_copy_fault (both_up w.wire) access s.table (take desc.count desc.cookies) (8192 * unit) (unit_length desc.size unit)) working.grounded.knows.all.stands.wire
-    ∙ ap (λ (t : List (Option Entry)). first_copy_fault (both_up l.wire.wire) access t (take desc.count desc.cookies) (8192 * unit) (unit_length desc.size unit)) working.table
-    ∙ ap (λ (a : Access). first_copy_fault (both_up l.wire.wire) a (own_table (pages_of l.shape)) (take desc.count desc.cookies) (8192 * unit) (unit_length desc.size unit)) (sym is)
+same_fault s l desc unit access working is = search
 
 moves_in : (progress : Progress) (s : LaneState) (l : DiskLog) (work : Work) (unit : ℕ) (why : Option CopyFault) (next : Progress) (new : List ℕ) → Working s l
     → UnitIn (unit_count (desc_of work).size) progress → UnitIs (desc_of work) progress → MovesIn progress work (reach s (at_server s).both) unit why next new

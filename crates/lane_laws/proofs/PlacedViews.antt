@@ -2,7 +2,7 @@
 use Rattle.std.proofs.Common.{◌≡◌, ℕ, ◌+◌, ◌*◌, ◌%◌, ◌<◌, ◌≤◌, ◌⊎◌, Option, Some, None, List, drop, length, inl, inr, refl, sym, ap, ◌∙◌, subst, arith, length-drop}
 use Rattle.std.specs.Prelude.{slice_get}
 use Rattle.ldc_queue.specs.declared.end.ChannelState.{ChannelState}
-use Rattle.ldc_queue.specs.declared.end.ChannelState.TheVariants.{Down, Resetting, Up}
+use Rattle.ldc_queue.specs.declared.end.ChannelState.TheVariants.{Up}
 use Rattle.vdisk_msg.specs.declared.request.Request.{Request}
 use Rattle.vdisk_msg.specs.Requested.{ring_pages}
 use Rattle.lane_laws.specs.Agreement.{ClientAgrees, ClientCountsAgree, ServerAgrees}
@@ -22,9 +22,9 @@ use Rattle.lane_laws.specs.RingAgreed.{OneRing, ring_in}
 use Rattle.lane_laws.specs.RingSlots.{HoldsIssued}
 use Rattle.lane_laws.specs.LaneView.{view_of, work_while}
 use Rattle.lane_laws.proofs.Changes.{Placed}
-use Rattle.lane_laws.proofs.LiveCounts.{KIs, counts_while, zero_where}
+use Rattle.lane_laws.proofs.LiveCounts.{KIs, counts_while}
 use Rattle.lane_laws.proofs.Standing.{Before}
-use Rattle.channel_laws.proofs.Apart.{some_is_none, some_same}
+use Rattle.channel_laws.proofs.Apart.{some_same}
 
 -- a server that works, or none does
 pub record IsLive (x : ChannelState) (q : Option ServerCounts) : Type 0 where
@@ -37,25 +37,15 @@ live_or_not Up (Some d) = inr (record { counts = d; up = refl; there = refl })
 live_or_not _ _ = inl refl
 
 pub live_work : (x : ChannelState) (w : Option Work) (work : Work) → work_while x w ≡ Some work → (x ≡ Up) × (w ≡ Some work)
-live_work Up w work is = (refl, is)
-live_work Down w work is = absurd (cc is)
-live_work Resetting w work is = absurd (cc is)
+live_work x w work is = grind arith
 
 k_number : (x : ChannelState) (q : Option ServerCounts) (o : Option ClientCounts) (done k : ℕ) (d : ServerCounts) (c : ClientCounts) → x ≡ Up → q ≡ Some d → o ≡ Some c → KIs (counts_while x q) o done k
     → c.base + d.finished ≡ done + k
-k_number Down q o done k d c up is open_is kis = absurd (cc up)
-k_number Resetting q o done k d c up is open_is kis = absurd (cc up)
-k_number Up q o done k d c up is open_is kis =
-    let one : KIs (Some d) o done k = subst (λ (r : Option ServerCounts). KIs r o done k) is kis in
-    let both : KIs (Some d) (Some c) done k = subst (λ (r : Option ClientCounts). KIs (Some d) r done k) open_is one in
-    both
+k_number x q o done k d c up is open_is kis = grind arith
 
 -- THE CLIENT'S SESSION, by the log's
 client_there : (o : Option ClientSession) (done : ℕ) (q : Option ClientCounts) (k : ClientCounts) → q ≡ Some k → ClientAgrees o done q → (c : ClientSession) × (o ≡ Some c) × ClientCountsAgree c done k
-client_there None done None k is agrees = absurd (cc is)
-client_there None done (Some x) k is agrees = absurd agrees
-client_there (Some c) done None k is agrees = absurd agrees
-client_there (Some c) done (Some x) k is agrees = let same : x ≡ k = some_same is in (c, refl, subst (ClientCountsAgree c done) same agrees)
+client_there o done q k is agrees = grind arith
 
 -- WHERE A SERVER WORKS the client's session is open, and the server's count tells what is finished
 pub record Live (s : LaneState) (l : DiskLog) (d : ServerCounts) : Type 0 where
@@ -78,9 +68,7 @@ live s l d before up is =
     }
 
 work_counts : (o : Option ServerSession) (w : Option Work) (q : Option ServerCounts) (work : Work) → w ≡ Some work → ServerAgrees o w q → (v : ServerSession) × (o ≡ Some v)
-work_counts None w None work is agrees = some_is_none (sym is ∙ agrees)
-work_counts None w (Some c) work is agrees = absurd agrees
-work_counts (Some v) w q work is agrees = (v, refl)
+work_counts o w q work is agrees = grind arith
 
 -- THE DESCRIPTOR IN WORK is that of the request after those that are finished
 pub record Working (s : LaneState) (l : DiskLog) (work : Work) : Type 0 where
@@ -105,19 +93,6 @@ number_of completed k finished done base counted number = omega arith
 
 below_session : (at finished descs asked published other own : ℕ) → at ≡ finished → descs ≡ finished + 1 → descs ≤ asked → asked ≤ published → published ≡ other → own ≡ other → at < own
 below_session at finished descs asked published other own is single few within same counted = omega arith
-
-none_pending : (k pending : ℕ) → k ≡ 0 → k ≤ pending
-none_pending k pending zero = omega arith
-
-none_published : (k completed acked announced published : ℕ) → k ≡ 0 → completed ≤ acked → acked ≤ announced → announced ≤ published → completed + k ≤ published
-none_published k completed acked announced published zero few fewer more = omega arith
-
-few_published : (k completed finished descs asked published own done base : ℕ) → own ≡ published → done ≡ base + completed → asked ≤ published → descs ≤ asked → base + finished ≡ done + k
-    → finished ≤ descs → completed + k ≤ own
-few_published k completed finished descs asked published own done base counted from within few number first = omega arith
-
-few_pending : (k completed own pending : ℕ) → completed + k ≤ own → own ≤ completed + pending → k ≤ pending
-few_pending k completed own pending few most = omega arith
 
 pub working : (s : LaneState) (l : DiskLog) (work : Work) → Before s l → work_while s.wire.wire.end_b s.server.work ≡ Some work → Working s l work
 working s l work before is =
@@ -167,47 +142,7 @@ record Finished (s : LaneState) (l : DiskLog) : Type 0 where
   published : (session : ClientSession) → s.client.session ≡ Some session → session.completed + s.near.k ≤ session.published
 
 finished_by : (s : LaneState) (l : DiskLog) → Before s l → (counts_while l.wire.wire.end_b l.work.server ≡ None) ⊎ IsLive l.wire.wire.end_b l.work.server → Finished s l
-finished_by s l before (inl none) =
-    let zero = zero_where (counts_while l.wire.wire.end_b l.work.server) l.work.client l.work.done s.near.k none before.near.k in
-    record {
-      pending = none_pending s.near.k (length s.client.pending) zero;
-      published = λ session is.
-          let order = in_order s l session before.known is in
-          let completed = order.completed in
-          let acked = order.acked in
-          let announced = order.announced in
-          none_published s.near.k session.completed session.acked session.announced session.published zero completed acked announced;
-    }
-finished_by s l before (inr is) =
-    let on = live s l is.counts before is.up is.there in
-    let order = in_order s l on.session before.known on.there in
-    let most = order.published in
-    let counted = on.agree.completed in
-    let published = on.agree.published in
-    let asked = on.one.asked in
-    let descs = on.one.descs in
-    let number = on.number in
-    let first = finished_descs s l is.counts before is.there in
-    let few : on.session.completed + s.near.k ≤ on.session.published =
-    few_published s.near.k on.session.completed is.counts.finished is.counts.descs is.counts.asked on.one.client.published on.session.published l.work.done on.one.client.base published counted asked
-    descs number first in
-    record {
-      pending = few_pending s.near.k on.session.completed on.session.published (length s.client.pending) few most;
-      published = λ session there.
-          let two : Some on.session ≡ Some session = sym on.there ∙ there in
-          let same : on.session ≡ session = some_same two in
-          subst (λ (x : ClientSession). x.completed + s.near.k ≤ x.published) same few;
-    }
-  where
-    counts_first : (o : Option ServerSession) (w : Option Work) (q : Option ServerCounts) (d : ServerCounts) → q ≡ Some d → ServerAgrees o w q → d.finished ≤ d.descs
-    counts_first None w None d there agrees = absurd (cc there)
-    counts_first None w (Some c) d there agrees = absurd agrees
-    counts_first (Some v) w None d there agrees = absurd agrees
-    counts_first (Some v) None (Some c) d there agrees = let same : c ≡ d = some_same there in subst (λ (x : ServerCounts). x.finished ≤ x.descs) same (omega (arith, agrees.1.1))
-    counts_first (Some v) (Some work) (Some c) d there agrees = let same : c ≡ d = some_same there in subst (λ (x : ServerCounts). x.finished ≤ x.descs) same (omega (arith, agrees.1.2))
-
-    finished_descs : (s : LaneState) (l : DiskLog) (d : ServerCounts) → Before s l → l.work.server ≡ Some d → d.finished ≤ d.descs
-    finished_descs s l d before there = counts_first s.server.session s.server.work l.work.server d there before.known.agree.server
+finished_by s l before is = grind arith
 
 below_pending : (k completed own pending : ℕ) → completed + k < own → own ≤ completed + pending → k < pending
 below_pending k completed own pending few most = omega arith

@@ -1,10 +1,10 @@
 -- What an event of the wire leaves of a lane, but for the packet by which a client's session opens.
-use Rattle.std.proofs.Common.{◌≡◌, ℕ, true, false, Option, None, List, refl, sym, ap, ◌∙◌, subst}
+use Rattle.std.proofs.Common.{◌≡◌, ℕ, true, false, Option, None, List, sym, ap, ◌∙◌, arith}
 use Rattle.ldc_queue.specs.declared.end.End.TheVariants.{A, B}
 use Rattle.channel_model.specs.WireEvent.{Blocked, Idle, Joined, Reset, Sent, Took, WireEvent}
 use Rattle.lane_laws.specs.DiskLog.{DiskLog}
 use Rattle.disk_model.specs.ClientRule as client
-use Rattle.disk_model.specs.ClientState.{ClientSession, ClientState, joined_client}
+use Rattle.disk_model.specs.ClientState.{ClientState, joined_client}
 use Rattle.disk_model.specs.LaneState.{LaneState}
 use Rattle.disk_model.specs.LaneStep.{WireStep, near_on_wire}
 use Rattle.disk_model.specs.ServerRule as server
@@ -16,8 +16,7 @@ use Rattle.disk_model.specs.DiskEvent.{OnWire}
 use Rattle.disk_model.specs.ServerStep.{ServerStep}
 use Rattle.lane_laws.proofs.RingLeaves.{OpensNot}
 use Rattle.lane_laws.proofs.Ruling.{client_may}
-use Rattle.lane_laws.proofs.Changes.{Keeps}
-use Rattle.lane_laws.proofs.Leaving.{ClientLeaves, client_sent, client_took, held_leaves, keeps_none, leaves_same, server_held, server_sent, server_took}
+use Rattle.lane_laws.proofs.Leaving.{ClientLeaves, client_sent, client_took, held_leaves, leaves_same, server_held, server_sent, server_took}
 
 -- the descriptor in work is dropped by a server that begins anew
 abbrev pub work_on_wire : WireEvent → Option Work → Option Work
@@ -31,10 +30,7 @@ pub record QuietWire (s : LaneState) (event : WireEvent) (t : LaneState) : Type 
   pub work : t.server.work ≡ work_on_wire event s.server.work
 
 joined_leaves : (c t : ClientState) → t ≡ joined_client c → ClientLeaves c t
-joined_leaves c t is = record {
-  ever = ap (λ (x : ClientState). x.ever_published) is;
-  keeps = subst (λ (o : Option ClientSession). Keeps c.session o) (sym (ap (λ (x : ClientState). x.session) is)) (keeps_none c.session);
-}
+joined_leaves c t is = grind arith
 
 -- THE CLIENT's part
 client_leaves : (s : LaneState) (l : DiskLog) (event : WireEvent) (t : ClientState) (new : List ℕ) → Knows s l → OpensNot event
@@ -66,9 +62,7 @@ server_keeps_work s l (Reset B cause packet lost) gave t new knows step = ap (λ
 server_keeps_work s l _ gave t new knows step = absurd step
 
 beside_work : (event : WireEvent) (work : Option Work) → WireBeside B event → work_on_wire event work ≡ work
-beside_work (Joined B lost) work beside = absurd beside
-beside_work (Reset B cause packet lost) work beside = absurd beside
-beside_work _ work beside = refl
+beside_work event work beside = grind arith
 
 server_quiet : (s t : LaneState) (l : DiskLog) (event : WireEvent) → Knows s l → ServerView s t (OnWire event) → t.server.work ≡ work_on_wire event s.server.work
 server_quiet s t l event knows (ServerActs _ gave own does) = server_keeps_work s l event gave t.server t.memory knows does

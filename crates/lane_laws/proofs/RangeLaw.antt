@@ -1,9 +1,8 @@
 -- The ranges that an end says and hears. An INFO that is said has the next number, begins where the one before it ended and names all that
 -- was published since; one that is heard is the next too. An ACK that is heard names announced ones alone, and one that is said is that of the
 -- range in work, the last of it finished.
-use Rattle.std.proofs.Common.{◌≡◌, ◌≢◌, ℕ, ◌+◌, ◌-◌, ◌%◌, ◌^◌, ◌<◌, ◌≤◌, Bool, true, false, Option, Some, None, List, ◌∷◌, ◌++◌, drop, length, length-drop, refl, sym, ap, ◌∙◌, subst, arith, inl, inr, ◌⊎◌}
-use Rattle.std.specs.Prelude.{is_none, is_some, ◌&&◌, ◌==◌, if◌then◌else◌, slice_get}
-use Rattle.std.proofs.lemmas.Bool.Decides.{nat_tests}
+use Rattle.std.proofs.Common.{◌≡◌, ◌≢◌, ℕ, ◌+◌, ◌-◌, ◌%◌, ◌^◌, ◌<◌, ◌≤◌, Bool, true, Option, Some, None, List, ◌∷◌, ◌++◌, drop, length, length-drop, refl, sym, ap, ◌∙◌, subst, arith, inl, inr, ◌⊎◌}
+use Rattle.std.specs.Prelude.{is_none, is_some}
 use Rattle.std.proofs.lemmas.Nat.{mod_below}
 use Rattle.ldc_packet.specs.declared.packet.Subtype.{Subtype}
 use Rattle.ldc_packet.specs.Spelling.{subtype_code}
@@ -13,7 +12,6 @@ use Rattle.ldc_queue.specs.declared.end.End.TheVariants.{A, B}
 use Rattle.ldc_queue.specs.Transcript as turn
 use Rattle.ldc_queue.specs.Transcript.{Turn}
 use Rattle.vio_bytes.specs.Place.{number_at}
-use Rattle.vio_tag.specs.declared.cause.Cause.TheVariants as the_cause
 use Rattle.vio_tag.specs.declared.message.Message.{Message}
 use Rattle.vio_tag.specs.declared.message.MsgBody.TheVariants.{DringData}
 use Rattle.vio_tag.specs.Spelling.{SpellsBody, canonical, envelope_code, subtype_at}
@@ -22,11 +20,11 @@ use Rattle.channel_model.specs.WireEvent.{Sent, Took}
 use Rattle.lane_laws.proofs.ServerSpeaking.{server_holds_link}
 use Rattle.lane_laws.specs.DiskLog.{DiskLog}
 use Rattle.lane_laws.specs.BlockLog.{Blockage, Clear}
-use Rattle.lane_laws.specs.EndLog.{ident_of, is_stuck_with_own, range_in_work, state_of}
+use Rattle.lane_laws.specs.EndLog.{ident_of, range_in_work, state_of}
 use Rattle.channel_model.specs.Messages.{end_of, ended_by, range_ended, range_in, seq_of, sid_of, start_of}
 use Rattle.lane_laws.specs.WorkLaws.{Acknowledges, AcknowledgesRange, Announces, AsksFor, HearsNoOther, IfRange, NamesOwn, NamesRing, OfClientRange, OfServerRange, RangesAt, client_handshake, server_handshake}
 use Rattle.lane_laws.specs.WorkLog.{ClientCounts, ServerCounts}
-use Rattle.disk_model.specs.ClientPutting.{announcement, announcing, client_holds, client_kind, holding, is_announcing}
+use Rattle.disk_model.specs.ClientPutting.{client_holds, client_kind, is_announcing}
 use Rattle.disk_model.specs.ClientRule as client_rules
 use Rattle.disk_model.specs.ClientState.{ClientSession, ClientState, slot_in}
 use Rattle.disk_model.specs.ClientStep.{ClientSends}
@@ -44,7 +42,6 @@ use Rattle.channel_model.specs.Ranges.{wrapped}
 use Rattle.dring.specs.Slots.{range_length}
 use Rattle.disk_model.specs.ServerState.{ServerState, SlotRange}
 use Rattle.disk_model.specs.ServerStep.{ServerSends}
-use Rattle.channel_laws.proofs.Apart.{none_is_some, some_same, true_is_false}
 use Rattle.channel_laws.proofs.TurnCases.{heard_none, heard_some, said_none, said_some}
 use Rattle.lane_laws.proofs.ClientFolds.{ClientIs}
 use Rattle.lane_laws.proofs.ClientPuts.{putting}
@@ -70,7 +67,7 @@ use Rattle.ldc_link.specs.declared.phase.Role.TheVariants.{Initiator}
 use Rattle.lane_laws.specs.ChannelEnds.{client_core}
 use Rattle.channel_laws.specs.Cuts.{CarriesOwed}
 use Rattle.lane_laws.specs.Counted.{ClientCounted, HoldsAnswer, InServerOrder, RangeStands, ServerCounted}
-use Rattle.channel_laws.specs.HandshakeFits.{MayOwe, OwedFits}
+use Rattle.channel_laws.specs.HandshakeFits.{OwedFits}
 use Rattle.channel_laws.proofs.MessagesHeld.{owed_held}
 use Rattle.lane_laws.proofs.Speaking.{server_blocked_rests, server_holds_owed}
 use Rattle.lane_laws.specs.LaneRests.{ClientRests, ServerRests}
@@ -89,10 +86,7 @@ goes_none k turns packet same = ap (range_in k) (said_none turns packet same)
 
 owed_none : (k : ℕ) (phase : Phase) (owed : Option Message) (link : LinkState) (turns : List Turn) (packet : List ℕ) → (k ≡ 1) ⊎ (k ≡ 2) → OwedFits phase owed
     → CarriesOwed owed (half_said turns ++ link.to_send) → SaysWhole link turns packet → range_ended k (half_said turns) packet ≡ None
-owed_none k phase owed link turns packet kind fits holds last =
-    let bytes = half_said turns ++ link.to_send in
-    let may : MayOwe phase holds.message.subtype holds.message.body = subst (OwedFits phase) holds.owed fits in
-    ap (range_in k) (said_some turns packet bytes last.messages) ∙ ap (λ (xs : List ℕ). range_in k (Some xs)) holds.is ∙ owed_no_range phase k holds.message kind may
+owed_none k phase owed link turns packet kind fits holds last = grind (arith, said_some, owed_no_range)
 
 -- the end's own range, as it is said
 record SaysRange (k : ℕ) (turns : List Turn) (packet bytes : List ℕ) (sid seq ident start end state : ℕ) : Type 0 where
@@ -107,16 +101,7 @@ record SaysRange (k : ℕ) (turns : List Turn) (packet bytes : List ℕ) (sid se
 says_range : (k n : ℕ) (s : Subtype) (seq ident start end state : ℕ) (link : LinkState) (turns : List Turn) (packet : List ℕ) → subtype_code s ≡ k → seq < 2 ^ 64 → start < 2 ^ 32 → end < 2 ^ 32
     → half_said turns ++ link.to_send ≡ canonical (record { subtype = s; sid = n; body = DringData seq ident start end state }) → SaysWhole link turns packet
     → SaysRange k turns packet (half_said turns ++ link.to_send) n seq ident start end state
-says_range k n s seq ident start end state link turns packet kind small_seq small_start small_end is last = record {
-  of_session = ap sid_of is ∙ sid_is s n seq ident start end state;
-  of_ring = ap ident_of is ∙ ident_is s n seq ident start end state;
-  range = ap (range_in k) (said_some turns packet (half_said turns ++ link.to_send) last.messages) ∙ ap (λ (xs : List ℕ). range_in k (Some xs)) is ∙ said_is k n s seq ident start end state kind
-      ∙ ap (λ (xs : List ℕ). Some xs) (sym is);
-  numbered = ap seq_of is ∙ seq_is s n seq ident start end state small_seq;
-  starts = ap start_of is ∙ start_is s n seq ident start end state small_start;
-  ends = ap end_of is ∙ end_is s n seq ident start end state small_end;
-  states = ap state_of is ∙ state_is s n seq ident start end state;
-}
+says_range k n s seq ident start end state link turns packet kind small_seq small_start small_end is last = grind (arith, sid_is, ident_is, said_some, said_is, seq_is, start_is, end_is, state_is)
 
 -- what both handshakes are by the log
 pub record AreTold (s : LaneState) (l : DiskLog) : Type 0 where
@@ -124,49 +109,19 @@ pub record AreTold (s : LaneState) (l : DiskLog) : Type 0 where
   pub server : s.server.handshake ≡ server_handshake l
 
 -- it names the ring of its end, whose handshake is the log's
-same_sid : (n : ℕ) → sid_fault (Some n) n ≡ None
-same_sid n =
-    let same : (n == n) ≡ true = grind (arith, nat_tests) in ap (λ (b : Bool). if b then None else Some (the_cause.Sid n n)) same
-
 names_own : (h g : Handshake) (bytes : List ℕ) (named : Handshake → ℕ) → h ≡ g → sid_of bytes ≡ h.draft.sid % 2 ^ 32 → ident_of bytes ≡ named h % 2 ^ 64 → NamesOwn g (named g) bytes
-names_own h g bytes named same sid ident = record {
-  sid_is = ap (λ (n : ℕ). sid_fault (Some (g.draft.sid % 2 ^ 32)) n) (sid ∙ ap (λ (x : Handshake). x.draft.sid % 2 ^ 32) same) ∙ same_sid (g.draft.sid % 2 ^ 32);
-  ident_is = ident ∙ ap (λ (x : Handshake). named x % 2 ^ 64) same;
-}
+names_own h g bytes named same sid ident = grind arith
 
 client_shaken : (s : ClientState) (rule : client_rules.ClientRule) (held : ClientState) → client_holds rule s ≡ Some held → held.handshake ≡ s.handshake
-client_shaken s client_rules.Puts held is = let same : s ≡ held = some_same is in ap (λ (x : ClientState). x.handshake) (sym same)
-client_shaken s (client_rules.Says message) held is = let same : holding message s ≡ held = some_same is in ap (λ (x : ClientState). x.handshake) (sym same)
-client_shaken s (client_rules.Announces one) held is =
-    let same : announcing one (holding (announcement s one) s) ≡ held = some_same is in ap (λ (x : ClientState). x.handshake) (sym same)
-client_shaken s _ held is = none_is_some is
+client_shaken s rule held is = grind arith
 
 server_shaken : (s : ServerState) (rule : server_rules.ServerRule) (held : ServerState) → server_holds rule s ≡ Some held → held.handshake ≡ s.handshake
 server_shaken s rule held is = ap (λ (x : ServerState). x.handshake) (server_holds_link s rule held is)
 
 -- AN INFO THAT IS SAID. A client that isn't blocked announces only once all that is pending is published.
-pub never_own : (s : ClientState) (b : Blockage) (session : ClientSession) → ClientIs s b → b ≡ Clear → s.session ≡ Some session → session.announcing ≡ true → true ≡ false
-never_own s b session stands clear is own =
-    let now : is_announcing (Some session) ≡ (true && is_stuck_with_own b s.handshake.owed) =
-    subst (λ (o : Option ClientSession). is_announcing o ≡ (is_some o && is_stuck_with_own b s.handshake.owed)) is stands.announcing in
-    let not : is_announcing (Some session) ≡ false = subst (λ (x : Blockage). is_announcing (Some session) ≡ (true && is_stuck_with_own x s.handshake.owed)) clear now in
-    sym own ∙ not
-
 holds_all : (s : ClientState) (at : Seen) (rule : client_rules.ClientRule) (held : ClientState) (b : Blockage) (session : ClientSession) → client_rules.client_rule s at ≡ rule
     → client_holds rule s ≡ Some held → ClientIs s b → b ≡ Clear → held.session ≡ Some session → session.announcing ≡ true → PublishedAll held session
-holds_all s at client_rules.Puts held b session rule is stands clear now own =
-    let same : s ≡ held = some_same is in
-    true_is_false (never_own s b session stands clear (ap (λ (x : ClientState). x.session) same ∙ now) own)
-holds_all s at (client_rules.Says message) held b session rule is stands clear now own =
-    let same : holding message s ≡ held = some_same is in
-    true_is_false (never_own s b session stands clear (ap (λ (x : ClientState). x.session) same ∙ now) own)
-holds_all s at (client_rules.Announces one) held b session rule is stands clear now own =
-    let same : announcing one (holding (announcement s one) s) ≡ held = some_same is in
-    let both : Some (record one { announcing = true }) ≡ Some session = ap (λ (x : ClientState). x.session) same ∙ now in
-    let counts : record one { announcing = true } ≡ session = cc in
-    subst (λ (x : ClientState). PublishedAll x session) same
-    (subst (λ (x : ClientSession). slice_get s.pending (x.published - x.completed) ≡ None) counts (published_all s at one rule))
-holds_all s at _ held b session rule is stands clear now own = none_is_some is
+holds_all s at rule held b session is_holds is stands clear now own = grind (arith, published_all)
 
 record Pending (l : DiskLog) (held : ClientState) : Type 0 where
   pending : held.pending ≡ drop l.work.done l.work.issued
@@ -248,10 +203,7 @@ said_info s l packet opens t new both told sends =
 -- A RANGE THAT IS HEARD names the end's ring
 names_ring : (h g : Handshake) (sid : ℕ) (bytes : List ℕ) (ident : ℕ) → sid ≡ sid_of bytes → h ≡ g → sid_fault h.sid sid ≡ None → ident_of bytes ≡ ident
     → (named : Handshake → ℕ) → ident ≡ named h → NamesRing g.sid (named g) bytes
-names_ring h g sid bytes ident is same known names named own = record {
-  sid_is = ap (λ (x : Handshake). sid_fault x.sid (sid_of bytes)) (sym same) ∙ ap (sid_fault h.sid) (sym is) ∙ known;
-  ident_is = names ∙ own ∙ ap named same;
-}
+names_ring h g sid bytes ident is same known names named own = search
 
 -- AN ACK THAT IS HEARD
 abbrev HearsAck : DiskLog → List ℕ → Type 0
@@ -262,24 +214,7 @@ IsBody bytes seq ident start end state = SpellsBody bytes (DringData seq ident s
 
 acknowledges : (l : DiskLog) (packet : List ℕ) (s t : ClientState) → s.handshake ≡ client_handshake l → ClientCounted l.shape s l.transcript.client l.work.done l.work.client
     → ClientAcked s l.transcript.client packet t → HearsAck l packet
-acknowledges l packet s t shaken counted acked =
-    let session = acked.ack.session in
-    let slots = l.shape.slots in
-    let bytes = acked.hears.bytes in
-    let of : OfClient session l.work.done l.work.client = of_client s.session session l.work.done l.work.client acked.ack.session_is counted.agrees in
-    let fields : IsBody bytes acked.ack.seq acked.ack.ident acked.ack.start acked.ack.end acked.ack.state = subst (SpellsBody bytes) acked.ack.body_is acked.hears.spells.body in
-    let spans : range_length s.slots acked.ack.start acked.ack.end ≡ range_length slots (start_of bytes) (end_of bytes) =
-    ap (λ (n : ℕ). range_length n acked.ack.start acked.ack.end) counted.slots ∙ ap (λ (x : ℕ). range_length slots x acked.ack.end) fields.2 ∙ ap (range_length slots (start_of bytes)) fields.3 in
-    if_some (range_ended 2 (half_heard l.transcript.client) packet) _ bytes
-    (ap (range_in 2) (heard_some l.transcript.client packet bytes acked.hears.messages)
-    ∙ range_is 2 bytes (acked.hears.spells.envelope ∙ ap envelope_code acked.ack.body_is) (acked.hears.spells.subtype ∙ ap subtype_code acked.ack.subtype_is))
-    (in_client l.work.client of.counts (λ (k : ClientCounts). Acknowledges slots (client_handshake l) k bytes) of.is (record {
-      names = names_ring s.handshake (client_handshake l) acked.message.sid bytes s.handshake.draft.ident_own acked.hears.spells.sid shaken acked.ack.sid_is
-          (sym fields.1 ∙ acked.ack.ident_is) (λ (h : Handshake). h.draft.ident_own) refl;
-      begins = sym fields.2 ∙ acked.ack.begins ∙ ap (λ (n : ℕ). session.acked % n) counted.slots ∙ ap (λ (n : ℕ). n % slots) of.agree.acked;
-      ends = omega (arith, fields.3, acked.ack.ends, counted.slots);
-      announced = omega (arith, spans, acked.ack.within, of.agree.acked, of.agree.announced);
-    }))
+acknowledges l packet s t shaken counted acked = grind (arith, heard_some)
 
 heard_ack : (l : DiskLog) (packet : List ℕ) (s t : ClientState) → s.handshake ≡ client_handshake l → ClientCounted l.shape s l.transcript.client l.work.done l.work.client → ClientTook s l.transcript.client packet t
     → HearsAck l packet
@@ -398,10 +333,7 @@ no_message turns packet message none some = let never : None ≡ Some message = 
 
 whole_is : (turns : List Turn) (packet message : List ℕ) (one : Message) (hears : HearsMessage turns packet one) → number_at 2 2 hears.bytes ≢ 0x0101
     → ended_by (half_heard turns) packet ≡ Some message → number_at 2 2 message ≢ 0x0101
-whole_is turns packet message one hears not some =
-    let both : Some hears.bytes ≡ Some message = sym (heard_some turns packet hears.bytes hears.messages) ∙ some in
-    let same : hears.bytes ≡ message = cc in
-    subst (λ (xs : List ℕ). number_at 2 2 xs ≢ 0x0101) same not
+whole_is turns packet message one hears not some = grind (arith, heard_some)
 
 client_no_other : (s t : ClientState) (turns : List Turn) (packet : List ℕ) → ClientTook s turns packet t → HearsNoOther 2 turns packet
 client_no_other s t turns packet (inl part) = record {

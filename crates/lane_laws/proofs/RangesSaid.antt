@@ -1,18 +1,14 @@
 -- Which messages name a range of slots, and which agree to RDX: by their bytes, as they were heard and as they are said.
-use Rattle.std.proofs.Common.{◌≡◌, ◌≢◌, ℕ, zero, suc, ◌%◌, ◌^◌, ◌<◌, ◌≤◌, ◌⊎◌, inl, inr, Bool, true, false, Some, None, List, [], ◌∷◌, refl, sym, ap, ◌∙◌, subst, arith}
-use Rattle.std.specs.Int.{byte_at}
-use Rattle.std.specs.Prelude.{◌&&◌, ◌==◌, ⊤}
-use Rattle.std.proofs.lemmas.Bool.{eqb-true}
-use Rattle.std.proofs.lemmas.Bool.Decides.{nat_tests}
+use Rattle.std.proofs.Common.{◌≡◌, ◌≢◌, ℕ, ◌%◌, ◌^◌, ◌<◌, ◌⊎◌, Bool, true, false, Some, None, List, refl, sym, ap, ◌∙◌, arith}
+use Rattle.std.specs.Prelude.{◌==◌, ⊤}
 use Rattle.ldc_packet.specs.declared.packet.Subtype.{Subtype}
-use Rattle.ldc_packet.specs.declared.packet.Subtype.TheVariants.{Nack}
 use Rattle.ldc_packet.specs.Spelling.{subtype_code}
 use Rattle.vio_tag.proofs.Canonical.{canonical_spells}
 use Rattle.vio_tag.specs.declared.message.Message.{Message}
 use Rattle.vio_tag.specs.declared.message.MsgBody.{MsgBody}
-use Rattle.vio_tag.specs.declared.message.MsgBody.TheVariants.{Attr, DringData, DringReg, DringUnreg, Mcast, Plain, Rdx, Ver}
+use Rattle.vio_tag.specs.declared.message.MsgBody.TheVariants.{DringData, Plain}
 use Rattle.vio_tag.specs.Form.{HasForm, IsWellFormed}
-use Rattle.vio_tag.specs.Spelling.{SpellsBody, SpellsMessage, canonical, envelope_at, envelope_code, subtype_at}
+use Rattle.vio_tag.specs.Spelling.{SpellsMessage, canonical, envelope_at, envelope_code, subtype_at}
 use Rattle.vio_handshake.specs.declared.handshake.Phase.{Phase}
 use Rattle.vio_bytes.specs.Place.{big_bytes, number_at}
 use Rattle.channel_model.specs.Messages.{end_of, is_range, range_if, range_in, seq_of, sid_of, start_of}
@@ -31,46 +27,22 @@ IsNoPlain _ = ⊤
 
 pub envelope_reads : (s : Subtype) (n : ℕ) (b : MsgBody) → IsNoPlain b → envelope_at (canonical (record { subtype = s; sid = n; body = b })) ≡ envelope_code b
 unfolding canonical
-envelope_reads s n (Ver major minor class) not = refl
-envelope_reads s n (Attr bytes) not = refl
-envelope_reads s n (DringReg ident slots slot_size options count cookies) not = refl
-envelope_reads s n (DringUnreg ident) not = refl
-envelope_reads s n Rdx not = refl
-envelope_reads s n (DringData seq ident start end state) not = refl
-envelope_reads s n (Mcast set count addresses) not = refl
-envelope_reads s n (Plain envelope) not = absurd not
+envelope_reads s n b not = grind arith
 
 pub subtype_reads : (m : Message) → subtype_at (canonical m) ≡ subtype_code m.subtype
 unfolding canonical
 subtype_reads m = omega arith
-
--- what the bytes say of their kind
-pub record IsOf (bytes : List ℕ) (s : Subtype) (b : MsgBody) : Type 0 where
-  pub envelope : envelope_at bytes ≡ envelope_code b
-  pub subtype : subtype_at bytes ≡ subtype_code s
 
 -- NO RANGE
 abbrev pub IsNoData : MsgBody → Type 0
 IsNoData (DringData seq ident start end state) = ⊥
 IsNoData _ = ⊤
 
-other_code : (b : MsgBody) → IsNoData b → IsNoPlain b → envelope_code b ≢ 0x0042
-other_code (DringData seq ident start end state) not plain is = absurd not
-other_code (Plain envelope) not plain is = absurd plain
-other_code _ not plain is = absurd (omega (arith, is))
-
 pub formed_code : (b : MsgBody) → IsNoData b → HasForm b → envelope_code b ≢ 0x0042
-formed_code (Plain envelope) not (inl form) is = absurd (omega (arith, is, form))
-formed_code (Plain envelope) not (inr form) is = absurd (omega (arith, is, form))
-formed_code (DringData seq ident start end state) not form is = absurd not
-formed_code _ not form is = absurd (omega (arith, is))
+formed_code b not form is = grind arith
 
 unequal : (a b : ℕ) → a ≢ b → (a == b) ≡ false
-unequal a b not = if_not (a == b) refl
-  where
-    if_not : (test : Bool) → (a == b) ≡ test → test ≡ false
-    if_not true is = absurd (not (eqb-true a b is))
-    if_not false is = refl
+unequal a b not = grind arith
 
 no_range : (k : ℕ) (bytes : List ℕ) → is_range k bytes ≡ false → range_in k (Some bytes) ≡ None
 no_range k bytes is = ap (λ (b : Bool). range_if b bytes) is
@@ -79,11 +51,7 @@ pub other_envelope : (k : ℕ) (bytes : List ℕ) → envelope_at bytes ≢ 0x00
 other_envelope k bytes not = no_range k bytes (rw (unequal (envelope_at bytes) 0x0042 not) refl)
 
 pub other_subtype : (k : ℕ) (bytes : List ℕ) → subtype_at bytes ≢ k → range_in k (Some bytes) ≡ None
-other_subtype k bytes not = no_range k bytes (and_false (envelope_at bytes == 0x0042) (subtype_at bytes == k) (unequal (subtype_at bytes) k not))
-  where
-    and_false : (a b : Bool) → b ≡ false → (a && b) ≡ false
-    and_false true b is = is
-    and_false false b is = refl
+other_subtype k bytes not = grind arith
 
 -- a message of the handshake that was heard
 pub heard_no_range : (k : ℕ) (bytes : List ℕ) (m : Message) → SpellsMessage bytes m → IsWellFormed m → IsNoData m.body → range_in k (Some bytes) ≡ None
@@ -99,11 +67,7 @@ no_data h g message opens took = apart_data message.body (row_apart h g message 
 
 -- NO MESSAGE OF GROUPS
 no_group : (b : MsgBody) → (IsOfSession b → ⊥) → HasForm b → envelope_code b ≢ 0x0101
-no_group (Plain envelope) apart (inl form) is = absurd (omega (arith, is, form))
-no_group (Plain envelope) apart (inr form) is = absurd (omega (arith, is, form))
-no_group (DringData seq ident start end state) apart form is = absurd (apart tt)
-no_group (Mcast set count addresses) apart form is = absurd (apart tt)
-no_group _ apart form is = absurd (omega (arith, is))
+no_group b apart form is = grind arith
 
 pub heard_no_group : (bytes : List ℕ) (m : Message) (h g : Handshake) (opens : Bool) → SpellsMessage bytes m → IsWellFormed m → HandshakeTook h m g opens → number_at 2 2 bytes ≢ 0x0101
 heard_no_group bytes m h g opens spells form took is = no_group m.body (row_apart h g m opens took.row) form (sym spells.envelope ∙ is)
@@ -114,43 +78,21 @@ data_no_group bytes m seq ident start end state spells body is =
 
 -- what a handshake owes
 owed_in : (phase : Phase) (k n : ℕ) (s : Subtype) (b : MsgBody) → (k ≡ 1) ⊎ (k ≡ 2) → MayOwe phase s b → range_in k (Some (canonical (record { subtype = s; sid = n; body = b }))) ≡ None
-owed_in phase k n Nack b kind may =
-    other_subtype k (canonical (record { subtype = Nack; sid = n; body = b }))
-    (λ (is : subtype_at (canonical (record { subtype = Nack; sid = n; body = b })) ≡ k). never kind (sym (subtype_reads (record { subtype = Nack; sid = n; body = b })) ∙ is))
-  where
-    never : (k ≡ 1) ⊎ (k ≡ 2) → 4 ≡ k → ⊥
-    never (inl one) is = absurd (omega (arith, one, is))
-    never (inr two) is = absurd (omega (arith, two, is))
-owed_in phase k n s (DringData seq ident start end state) kind may = absurd may
-owed_in phase k n s (Plain envelope) kind may = absurd may
-owed_in phase k n s (Mcast set count addresses) kind may = absurd may
-owed_in phase k n s b kind may = other_envelope k (canonical (record { subtype = s; sid = n; body = b })) (λ is. other_code b tt tt (sym (envelope_reads s n b tt) ∙ is))
+owed_in phase k n s b kind may = grind (arith, subtype_reads, envelope_reads)
 
 pub owed_no_range : (phase : Phase) (k : ℕ) (m : Message) → (k ≡ 1) ⊎ (k ≡ 2) → MayOwe phase m.subtype m.body → range_in k (Some (canonical m)) ≡ None
 owed_no_range phase k m kind may = owed_in phase k m.sid m.subtype m.body kind may
 
 -- A RANGE, as it was heard
 test_is : (k : ℕ) (bytes : List ℕ) → envelope_at bytes ≡ 0x0042 → subtype_at bytes ≡ k → is_range k bytes ≡ true
-test_is k bytes envelope subtype = rw (envelope, subtype) (same_test k)
-  where
-    same_test : (n : ℕ) → (true && n == n) ≡ true
-    same_test n = let same : (n == n) ≡ true = grind (arith, nat_tests) in same
+test_is k bytes envelope subtype = grind arith
 
 pub range_is : (k : ℕ) (bytes : List ℕ) → envelope_at bytes ≡ 0x0042 → subtype_at bytes ≡ k → range_in k (Some bytes) ≡ Some bytes
 range_is k bytes envelope subtype = ap (λ (b : Bool). range_if b bytes) (test_is k bytes envelope subtype)
 
 pub heard_range : (slots k : ℕ) (bytes : List ℕ) (m : Message) (seq ident start end state : ℕ) → SpellsMessage bytes m → subtype_code m.subtype ≡ k
     → m.body ≡ DringData seq ident start end state → length_in slots (range_in k (Some bytes)) ≡ range_length slots start end
-heard_range slots k bytes m seq ident start end state spells kind body =
-    let envelope : envelope_at bytes ≡ 0x0042 = spells.envelope ∙ ap envelope_code body in
-    let fields : SpellsBody bytes (DringData seq ident start end state) = subst (SpellsBody bytes) body spells.body in
-    ap (length_in slots) (range_is k bytes envelope (spells.subtype ∙ kind))
-    ∙ ap (λ (n : ℕ). range_length slots n (end_of bytes)) (sym fields.2) ∙ ap (λ (n : ℕ). range_length slots start n) (sym fields.3)
-
-pub heard_one : (k : ℕ) (bytes : List ℕ) (m : Message) (seq ident start end state : ℕ) → SpellsMessage bytes m → subtype_code m.subtype ≡ k
-    → m.body ≡ DringData seq ident start end state → one_in (range_in k (Some bytes)) ≡ 1
-heard_one k bytes m seq ident start end state spells kind body =
-    ap one_in (range_is k bytes (spells.envelope ∙ ap envelope_code body) (spells.subtype ∙ kind))
+heard_range slots k bytes m seq ident start end state spells kind body = grind (arith, range_is)
 
 -- and as it is said: three of its fields are read back, whatever the others are
 abbrev range_bytes : Subtype → ℕ → ℕ → ℕ → ℕ → ℕ → ℕ → List ℕ
@@ -207,28 +149,6 @@ state_is s n seq ident start end state =
     same_state s n seq ident start end state ∙ sym (state_spells s (state % 256) (omega arith)).body.4
 
 -- the sid and the number of the ring, as many bytes of them as their fields have
-four_bytes : (n : ℕ) → big_bytes 4 n ≡ big_bytes 4 (n % 2 ^ 32)
-four_bytes n =
-    let third : byte_at 3 n ≡ byte_at 3 (n % 2 ^ 32) = omega arith in
-    let second : byte_at 2 n ≡ byte_at 2 (n % 2 ^ 32) = omega arith in
-    let first : byte_at 1 n ≡ byte_at 1 (n % 2 ^ 32) = omega arith in
-    let last : byte_at 0 n ≡ byte_at 0 (n % 2 ^ 32) = omega arith in
-    by_bytes (byte_at 3 n) (byte_at 3 (n % 2 ^ 32)) (byte_at 2 n) (byte_at 2 (n % 2 ^ 32)) (byte_at 1 n) (byte_at 1 (n % 2 ^ 32)) (byte_at 0 n) (byte_at 0 (n % 2 ^ 32)) third second first last
-  where
-    by_bytes : (a e b f c g d h : ℕ) → a ≡ e → b ≡ f → c ≡ g → d ≡ h → a ∷ b ∷ c ∷ d ∷ [] ≡ e ∷ f ∷ g ∷ h ∷ []
-    by_bytes a e b f c g d h one two three four = cc
-
-more_bytes : (k n : ℕ) → k ≤ 8 → big_bytes k n ≡ big_bytes k (n % 2 ^ 64)
-more_bytes zero n few = refl
-more_bytes (suc k) n few = on (byte_at k n) (byte_at k (n % 2 ^ 64)) (big_bytes k n) (big_bytes k (n % 2 ^ 64)) (same_byte k (omega (arith, few))) (more_bytes k n (omega (arith, few)))
-  where
-    on : (x y : ℕ) (xs ys : List ℕ) → x ≡ y → xs ≡ ys → x ∷ xs ≡ y ∷ ys
-    on x y xs ys one others = cc
-
-    same_byte : (i : ℕ) → i < 8 → byte_at i n ≡ byte_at i (n % 2 ^ 64)
-    same_byte (suc (suc (suc (suc (suc (suc (suc (suc i)))))))) few = absurd (omega (arith, few))
-    same_byte _ few = omega arith
-
 with_names : Subtype → ℕ → ℕ → Message
 with_names s n ident = record { subtype = s; sid = n; body = DringData 0 ident 0 0 0 }
 
@@ -240,27 +160,16 @@ with_ident : (s : Subtype) (n seq ident start end state : ℕ) → ident_of (ran
 unfolding canonical
 with_ident s n seq ident start end state = refl
 
-names_spell : (s : Subtype) (n ident : ℕ) → n < 2 ^ 32 → ident < 2 ^ 64 → SpellsMessage (canonical (with_names s n ident)) (record { subtype = s; sid = n; body = DringData 0 ident 0 0 0 })
-unfolding with_names
-names_spell s n ident small_sid small_ident =
-    canonical_spells (record { subtype = s; sid = n; body = DringData 0 ident 0 0 0 }) tt (small_sid, (omega arith, small_ident, omega arith, omega arith, omega arith))
-
 pub sid_is : (s : Subtype) (n seq ident start end state : ℕ) → sid_of (range_bytes s n seq ident start end state) ≡ n % 2 ^ 32
 unfolding with_names
-sid_is s n seq ident start end state =
-    with_sid s n seq ident start end state ∙ ap (number_at 4 0) (four_bytes n) ∙ sym (with_sid s (n % 2 ^ 32) 0 0 0 0 0)
-    ∙ sym (names_spell s (n % 2 ^ 32) 0 (omega arith) (omega arith)).sid
+sid_is s n seq ident start end state = grind (arith, with_sid)
 
 pub ident_is : (s : Subtype) (n seq ident start end state : ℕ) → ident_of (range_bytes s n seq ident start end state) ≡ ident % 2 ^ 64
 unfolding with_names
-ident_is s n seq ident start end state =
-    with_ident s n seq ident start end state ∙ ap (number_at 8 0) (more_bytes 8 ident (omega arith)) ∙ sym (with_ident s 0 0 (ident % 2 ^ 64) 0 0 0)
-    ∙ sym (names_spell s 0 (ident % 2 ^ 64) (omega arith) (omega arith)).body.1
+ident_is s n seq ident start end state = grind (arith, with_ident)
 
 pub is_data : (k n : ℕ) (s : Subtype) (seq ident start end state : ℕ) → subtype_code s ≡ k → is_range k (range_bytes s n seq ident start end state) ≡ true
-is_data k n s seq ident start end state kind =
-    test_is k (range_bytes s n seq ident start end state) (envelope_reads s n (DringData seq ident start end state) tt)
-    (subtype_reads (record { subtype = s; sid = n; body = DringData seq ident start end state }) ∙ kind)
+is_data k n s seq ident start end state kind = search (test_is, envelope_reads, subtype_reads)
 
 pub said_is : (k n : ℕ) (s : Subtype) (seq ident start end state : ℕ) → subtype_code s ≡ k
     → range_in k (Some (range_bytes s n seq ident start end state)) ≡ Some (range_bytes s n seq ident start end state)
@@ -269,10 +178,7 @@ said_is k n s seq ident start end state kind =
 
 pub said_range : (slots k n : ℕ) (s : Subtype) (seq ident start end state : ℕ) → subtype_code s ≡ k → start < 2 ^ 32 → end < 2 ^ 32
     → length_in slots (range_in k (Some (canonical (record { subtype = s; sid = n; body = DringData seq ident start end state })))) ≡ range_length slots start end
-said_range slots k n s seq ident start end state kind small_start small_end =
-    ap (length_in slots) (said_is k n s seq ident start end state kind)
-    ∙ ap (λ (x : ℕ). range_length slots x (end_of (range_bytes s n seq ident start end state))) (start_is s n seq ident start end state small_start)
-    ∙ ap (λ (x : ℕ). range_length slots start x) (end_is s n seq ident start end state small_end)
+said_range slots k n s seq ident start end state kind small_start small_end = search (said_is, start_is, end_is)
 
 pub said_one : (k n : ℕ) (s : Subtype) (seq ident start end state : ℕ) → subtype_code s ≡ k
     → one_in (range_in k (Some (canonical (record { subtype = s; sid = n; body = DringData seq ident start end state })))) ≡ 1

@@ -1,8 +1,7 @@
 -- What each end of a lane that nobody forged said since it last began: messages of its handshake, and ranges of its session, each from the slot on
 -- where those before it end. So what an end in session hears next is the next of them.
-use Rattle.std.proofs.Common.{◌≡◌, ℕ, ◌+◌, ◌-◌, ◌%◌, ◌^◌, ◌<◌, ◌≤◌, ◌⊎◌, inl, inr, true, false, Option, Some, None, List, [], ◌∷◌, ◌++◌, refl, sym, ap, ◌∙◌, subst, arith}
+use Rattle.std.proofs.Common.{◌≡◌, ℕ, ◌+◌, ◌%◌, ◌^◌, ◌<◌, ◌≤◌, ◌⊎◌, inl, inr, true, false, Option, Some, List, [], ◌∷◌, ◌++◌, refl, sym, ap, ◌∙◌, subst, arith}
 use Rattle.std.specs.Prelude.{is_none, is_some, ⊤}
-use Rattle.std.proofs.lemmas.Nat.{mod_below}
 use Rattle.runs.specs.Lawful.{Lawful, log_of}
 use Rattle.runs.specs.Run.{Run}
 use Rattle.ldc_link.specs.declared.phase.Role.{Role}
@@ -26,10 +25,10 @@ use Rattle.channel_model.specs.Messages.{range_in}
 use Rattle.channel_model.specs.Ranges.{wrapped}
 use Rattle.channel_model.specs.Sayings.{half_said, heard, said}
 use Rattle.channel_model.specs.Seeing.{seen}
-use Rattle.channel_model.specs.WireEvent.{Joined, Reset, Sent, Took, WireEvent}
+use Rattle.channel_model.specs.WireEvent.{Sent, WireEvent}
 use Rattle.channel_model.specs.WireLog.{WireLog}
 use Rattle.disk_model.specs.ClientPutting.{client_kind, is_announcing}
-use Rattle.disk_model.specs.ClientState.{ClientState, slot_in}
+use Rattle.disk_model.specs.ClientState.{ClientState}
 use Rattle.disk_model.specs.DiskEvent.{DiskEvent, OnWire, Stopped, Switches}
 use Rattle.disk_model.specs.LaneState.{IsShape, LaneState, Shape, fresh}
 use Rattle.disk_model.specs.LaneStep.{LaneStep}
@@ -39,8 +38,8 @@ use Rattle.disk_model.specs.ServerState.{ServerState, SlotRange}
 use Rattle.channel_laws.proofs.Apart.{some_is_none}
 use Rattle.channel_laws.proofs.Conversations.{held_phase}
 use Rattle.channel_laws.proofs.EndResting.{held_handshake}
-use Rattle.channel_laws.proofs.EndStanding.{held_stands, open_up, owing_up}
-use Rattle.channel_laws.proofs.HandshakePlaces.{AtPlace, IsOwn, deal, open_place, owes_at, owes_none, owes_not, same_at, who}
+use Rattle.channel_laws.proofs.EndStanding.{held_stands, owing_up}
+use Rattle.channel_laws.proofs.HandshakePlaces.{AtPlace, IsOwn, deal, owes_at, owes_none, owes_not, same_at, who}
 use Rattle.channel_laws.proofs.HandshakesPlaced.{next_own, own_envelope}
 use Rattle.channel_laws.specs.EndCore.{EndCore}
 use Rattle.channel_laws.specs.EndStep.{EndWaits}
@@ -65,7 +64,7 @@ use Rattle.lane_laws.proofs.ServerMoves.{server_waits}
 use Rattle.lane_laws.proofs.ServerPutCounting.{server_holds_counting, none_is}
 use Rattle.lane_laws.specs.ChannelEnds.{client_core, server_core}
 use Rattle.channel_laws.specs.Cuts.{CarriesOwed}
-use Rattle.lane_laws.specs.Counted.{ClientCounted, HoldsAnswer, InServerOrder, RangeStands, ServerCounted, ServerOrder, announced_of, infos_of, range_count, range_sum}
+use Rattle.lane_laws.specs.Counted.{ClientCounted, HoldsAnswer, InServerOrder, RangeStands, ServerCounted, range_count, range_sum}
 use Rattle.lane_laws.specs.DiskLog.{DiskLog, after, nothing_yet}
 use Rattle.lane_laws.specs.WorkLog.{ServerCounts, length_in, one_in}
 
@@ -177,30 +176,13 @@ owed_apart role d held turns bytes here holds = by_turn (here.at (owing_up role 
         ]
 
 draft_there : (role : Role) (d : Deal) (held : EndCore) (turns : List Turn) → HeldAt role d held turns → held.is_open ≡ true → held.handshake.draft ≡ (handshake_at false d role AllSaid).draft
-draft_there role d held turns here opened =
-    let at = here.at (open_up role held turns here.stands opened) in
-    ap (λ (h : Handshake). h.draft) at.is ∙ ap (λ (n : Place). (handshake_at false d role n).draft) (open_place false d role held turns here.stands at opened)
+draft_there role d held turns here opened = grind arith
 
 -- THE CLIENT'S OWN is an INFO
 own_data : (shape : Shape) (d : Deal) (held : ClientState) (turns : List Turn) (l : DiskLog) (bytes : List ℕ) → 1 ≤ shape.slots → HeldAt Initiator d (client_core held) turns
     → ClientCounted shape held turns l.work.done l.work.client → OwnInfo held bytes
     → IsData Initiator shape.slots d.sid (range_count 1 (said turns)) (range_sum shape.slots 1 (said turns)) bytes
-own_data shape d held turns l bytes some here counted info =
-    let s = info.session in
-    let sum = range_sum shape.slots 1 (said turns) in
-    let draft = draft_there Initiator d (client_core held) turns here (ap is_some info.is) in
-    let start : slot_in held s.announced ≡ sum % shape.slots =
-    ap (λ (n : ℕ). s.announced % n) counted.slots ∙ ap (λ (x : ℕ). x % shape.slots) (ap announced_of (sym info.is) ∙ counted.announced) in
-    record {
-      seq = wrapped (s.infos + 1);
-      end = slot_in held (s.published - 1);
-      state = 1;
-      number = ap (λ (x : ℕ). wrapped (x + 1)) (ap infos_of (sym info.is) ∙ counted.infos);
-      ends = omega (arith, ap (λ (n : ℕ). (s.published - 1) % n) counted.slots, mod_below (s.published - 1) shape.slots some);
-      bytes_are = info.bytes_are
-          ∙ ap (λ (x : Session). canonical (record { subtype = Info; sid = x.sid; body = DringData (wrapped (s.infos + 1)) x.ident_own (slot_in held s.announced) (slot_in held (s.published - 1)) 1 })) draft
-          ∙ ap (λ (x : ℕ). canonical (record { subtype = Info; sid = d.sid; body = DringData (wrapped (s.infos + 1)) d.sid x (slot_in held (s.published - 1)) 1 })) start;
-    }
+own_data shape d held turns l bytes some here counted info = grind arith
 
 -- THE SERVER'S is the answer to its range
 answer_data : (shape : Shape) (d : Deal) (held : ServerState) (turns : List Turn) (bytes : List ℕ) (c : ServerCounts) → IsShape shape → HeldAt Responder d (server_core held) turns
@@ -265,9 +247,7 @@ client_tells EndsHandshake l d held packet some small here counted says =
 answered_data : (l : DiskLog) (d : Deal) (held : ServerState) (bytes : List ℕ) (q : Option ServerCounts) → IsShape l.shape → HeldAt Responder d (server_core held) l.transcript.server
     → ServerCounted l.shape held l.transcript.server q → HoldsAnswer held bytes
     → IsData Responder l.shape.slots d.sid (range_count 2 (said l.transcript.server)) (range_sum l.shape.slots 2 (said l.transcript.server)) bytes
-answered_data l d held bytes None sound here counted a =
-    let never : ServerOrder l.shape.slots (Some a.session) None l.transcript.server = subst (λ o. ServerOrder l.shape.slots o None l.transcript.server) a.session_is counted.order in absurd never
-answered_data l d held bytes (Some c) sound here counted a = answer_data l.shape d held l.transcript.server bytes c sound here counted a
+answered_data l d held bytes q sound here counted a = grind (arith, answer_data)
 
 server_tells : (kind : PutKind) (l : DiskLog) (d : Deal) (held : ServerState) (packet : List ℕ) → IsShape l.shape → d.sid < 2 ^ 32 → HeldAt Responder d (server_core held) l.transcript.server
     → ServerCounted l.shape held l.transcript.server l.work.server → PutSays kind (is_none held.handshake.owed) held.link l.transcript.server packet
@@ -328,24 +308,10 @@ pub record TheyTell (l : DiskLog) : Type 0 where
   pub server : EachSaid Responder l.shape.slots 0 0 (said l.transcript.server)
 
 tells_more : (r : Role) (slots : ℕ) (told now : List (List ℕ)) → Tells r slots told now → EachSaid r slots 0 0 told → EachSaid r slots 0 0 now
-tells_more r slots told now (inl same) each = subst (EachSaid r slots 0 0) (sym same) each
-tells_more r slots told now (inr one) each =
-    let k = code_of r in
-    subst (EachSaid r slots 0 0) (sym one.is)
-    (each_more r slots 0 0 told one.bytes each
-    (same_either r slots (range_count k told) (0 + range_count k told) (range_sum slots k told) (0 + range_sum slots k told) one.bytes (omega arith) (omega arith) one.what))
+tells_more r slots told now tells each = grind (arith, each_more)
 
 wire_told : (l : DiskLog) (event : WireEvent) → WireTellsAt l event → TheyTell l → TheyTell (after l (OnWire event))
-wire_told l (Sent A packet opens) may tell =
-    record { client = tells_more Initiator l.shape.slots (said l.transcript.client) (said (Said packet ∷ l.transcript.client)) may tell.client; server = tell.server }
-wire_told l (Sent B packet opens) may tell =
-    record { client = tell.client; server = tells_more Responder l.shape.slots (said l.transcript.server) (said (Said packet ∷ l.transcript.server)) may tell.server }
-wire_told l (Took A packet opens) may tell = record { client = tell.client; server = tell.server }
-wire_told l (Joined A lost) may tell = record { client = tt; server = tell.server }
-wire_told l (Joined B lost) may tell = record { client = tell.client; server = tt }
-wire_told l (Reset A cause packet lost) may tell = record { client = tt; server = tell.server }
-wire_told l (Reset B cause packet lost) may tell = record { client = tell.client; server = tt }
-wire_told l _ may tell = record { client = tell.client; server = tell.server }
+wire_told l event may tell = grind (arith, tells_more)
 
 told_step : (l : DiskLog) (event : DiskEvent) → TellsAt l event → TheyTell l → TheyTell (after l event)
 told_step l (OnWire event) may tell = wire_told l event may tell
@@ -363,9 +329,7 @@ told l (event ∷ events) lawful clean tell =
 
 pub they_tell : (shape : Shape) (events : List DiskEvent) (s : LaneState) → IsShape shape → Run LaneStep (fresh shape) events s → (log_of after (nothing_yet shape) events).wire.forged ≡ false
     → TheyTell (log_of after (nothing_yet shape) events)
-they_tell shape events s sound run clean =
-    told (nothing_yet shape) events
-    (reached_lawful MayTell shape (λ more x event t along step. tells_at shape more x event t sound along step) events s run) clean (λ c. record { client = tt; server = tt })
+they_tell shape events s sound run clean = search (told, reached_lawful, tells_at)
 
 -- AN END IN SESSION hears the next of the ranges
 same_sid : (m : Message) → sid_at (canonical m) ≡ sid_at (canonical (record { subtype = m.subtype; sid = m.sid; body = Rdx }))
@@ -376,10 +340,7 @@ sid_reads : (m : Message) → m.sid < 2 ^ 32 → sid_at (canonical m) ≡ m.sid
 sid_reads m small = same_sid m ∙ sym (canonical_spells (record { subtype = m.subtype; sid = m.sid; body = Rdx }) tt (small, tt)).sid
 
 same_sids : (m : Message) (bytes : List ℕ) (d : Deal) → bytes ≡ canonical m → m.sid < 2 ^ 32 → d.sid < 2 ^ 32 → IsOwn d bytes → m.sid ≡ d.sid
-same_sids m bytes d is small there own =
-    let one : sid_at bytes ≡ m.sid = ap sid_at is ∙ sid_reads m small in
-    let two : sid_at bytes ≡ own.message.sid = ap sid_at own.is ∙ sid_reads own.message (omega (arith, own.sid, there)) in
-    sym one ∙ two ∙ own.sid
+same_sids m bytes d is small there own = grind (arith, sid_reads)
 
 pub next_data : (shape : Shape) (role : Role) (s : Sides) (bytes : List ℕ) → (on : OnLane shape role s) → s.mine.state ≡ Up → s.mine.core.is_open ≡ true → s.theirs.state ≡ Up
     → IsFront (heard s.mine.turns ++ bytes ∷ []) (said s.theirs.turns) → EachSaid (other role) shape.slots 0 0 (said s.theirs.turns)

@@ -129,9 +129,7 @@ work_gathered content v w change shows =
 
 pub work_stored : (content : List ℕ) (v w : View) → (change : Storing v w) → WorkShows content v
     → WorkShows content (record v { work = Some (record change.serves.work { progress = gathers_next (512 * change.count) change.unit }); u = v.u + length change.bytes / 512 })
-work_stored content v w change shows =
-    work_served content change.session (Writes change.unit change.bytes) (gathers_next (512 * change.count) change.unit) (Write change.block change.count change.fill) (v.u + length change.bytes / 512) v.buffers v w
-    change.serves (λ block n same old. absurd (cc same)) shows
+work_stored content v w change shows = grind arith
 
 pub work_flushed : (content : List ℕ) (v w : View) → (change : Flushing v w) → WorkShows content v → WorkShows content (record v { work = Some (record change.serves.work { progress = Ends 0 }) })
 work_flushed content v w change shows = work_served content change.session Flushes (Ends 0) Flush v.u v.buffers v w change.serves (λ block n same old. absurd (cc same)) shows

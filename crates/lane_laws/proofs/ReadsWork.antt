@@ -14,8 +14,7 @@ use Rattle.vio_bytes.proofs.Ranges.{range_at-put_at_inside, range_at-put_at_outs
 use Rattle.vio_bytes.specs.Place.{put_at}
 use Rattle.vio_bytes.specs.Range.{range_at}
 use Rattle.disk_model.specs.ClientState.{ClientSession}
-use Rattle.disk_model.specs.ServerState.{Ends, Gives, Progress, Reads, Work}
-use Rattle.channel_laws.proofs.Apart.{some_same}
+use Rattle.disk_model.specs.ServerState.{Ends, Gives, Progress, Reads}
 use Rattle.lane_laws.proofs.MemorySteps.{got_sound}
 use Rattle.lane_laws.specs.Contents.{ContentsStand, ProgressIs}
 use Rattle.lane_laws.specs.LaneView.{View, place_of}
@@ -23,9 +22,8 @@ use Rattle.lane_laws.specs.NearContent.{Shows}
 use Rattle.lane_laws.specs.ReadsNear.{BlocksShow, DoneShow, UnitsShow, WorkShows}
 use Rattle.lane_laws.proofs.BlockWrites.{admitted_blocks}
 use Rattle.lane_laws.proofs.Buffers.{other_buffer, other_slot}
-use Rattle.lane_laws.proofs.Changes.{Fetches, Placed, Publishes, Serves, filled, first_of}
+use Rattle.lane_laws.proofs.Changes.{Fetches, Placed, Publishes, Serves, filled}
 use Rattle.lane_laws.proofs.ContentsSteps.{same_place}
-use Rattle.lane_laws.proofs.SlotBytes.{same_request as same_got}
 
 -- OTHER BYTES that are the same where the blocks stand
 pub blocks_moved : (content : List ℕ) (pending : List Request) (m k block n place : ℕ) (buffers new : List ℕ)
@@ -35,12 +33,7 @@ blocks_moved content pending m k block n place buffers new same show = λ b belo
 units_moved : (progress : Progress) (content : List ℕ) (pending : List Request) (m k u block count place : ℕ) (buffers new : List ℕ) → ProgressIs progress u (Read block count)
     → ((b : ℕ) → b < count → range_at (place + 512 * b) 512 new ≡ range_at (place + 512 * b) 512 buffers) → UnitsShow progress content pending m k block count place buffers
     → UnitsShow progress content pending m k block count place new
-units_moved (Reads unit) content pending m k u block count place buffers new is same show =
-    blocks_moved content pending m k block (16 * unit) place buffers new (λ b below. same b (omega (arith, below, is.1))) show
-units_moved (Gives unit bytes) content pending m k u block count place buffers new is same show =
-    (blocks_moved content pending m k block (16 * unit) place buffers new (λ b below. same b (omega (arith, below, is.1))) show.0, show.1)
-units_moved (Ends status) content pending m k u block count place buffers new is same show = blocks_moved content pending m k block count place buffers new same show
-units_moved _ content pending m k u block count place buffers new is same show = tt
+units_moved progress content pending m k u block count place buffers new is same show = grind arith
 
 -- A REQUEST IS PUBLISHED, into a buffer of its own
 filled_other : (slots a b p n : ℕ) (request : Request) (buffers : List ℕ) → a ≢ b → b < slots → 32768 * slots ≤ length buffers → size_of request ≤ 32768 → 32768 * a ≤ p → p + n ≤ 32768 * a + 32768
@@ -94,33 +87,15 @@ work_published blocks content v w placed stand change shows = λ session is work
     (λ b less. publish_leaves blocks v w placed change v.k block count b (placed.served c change.there work now) got less) (shows c change.there work now block count got))
 
 -- A DESCRIPTOR IS FETCHED: nothing of a read is moved yet
-first_shows : (request : Request) (progress : Progress) (content : List ℕ) (pending : List Request) (m k block count place : ℕ) (buffers : List ℕ) → progress ≡ first_of request
-    → request ≡ Read block count → UnitsShow progress content pending m k block count place buffers
-first_shows request progress content pending m k block count place buffers first is =
-    let reads : progress ≡ Reads 0 = first ∙ ap first_of is in
-    subst (λ (p : Progress). UnitsShow p content pending m k block count place buffers) (sym reads) (λ b below. absurd (omega (arith, below)))
-
 pub work_fetched : (content : List ℕ) (v w : View) → (change : Fetches v w) → WorkShows content (record v { work = Some change.work })
-work_fetched content v w change = λ session is work now block count got.
-    let same : change.work ≡ work = some_same now in
-    let progress : work.progress ≡ first_of change.request = ap (λ (x : Work). x.progress) (sym same) ∙ change.first in
-    first_shows change.request work.progress content v.pending v.m v.k block count (place_of v.slots session v.k) v.buffers progress (same_got v.pending v.k change.request (Read block count) change.next got)
+work_fetched content v w change = grind arith
 
 -- AND GOES ON
 pub work_served : (content : List ℕ) (session : ClientSession) (from to : Progress) (request : Request) (u : ℕ) (buffers : List ℕ) (v w : View) → (change : Serves session from to request u buffers v w)
     → ((block count : ℕ) → request ≡ Read block count → UnitsShow from content v.pending v.m v.k block count (place_of v.slots session v.k) v.buffers
     → UnitsShow to content v.pending v.m v.k block count (place_of v.slots session v.k) buffers)
     → WorkShows content v → WorkShows content (record v { work = Some (record change.work { progress = to }); u = u; buffers = buffers })
-work_served content session from to request u buffers v w change goes shows = λ other is work now block count got.
-    let both : Some session ≡ Some other = sym change.there ∙ is in
-    let same : session ≡ other = some_same both in
-    let one : record change.work { progress = to } ≡ work = cc now in
-    let progress : to ≡ work.progress = ap (λ (x : Work). x.progress) one in
-    let old : UnitsShow from content v.pending v.m v.k block count (place_of v.slots session v.k) v.buffers =
-    subst (λ (p : Progress). UnitsShow p content v.pending v.m v.k block count (place_of v.slots session v.k) v.buffers) change.progress (shows session change.there change.work change.now block count got) in
-    let new = goes block count (same_got v.pending v.k request (Read block count) change.next got) old in
-    subst (λ (x : ClientSession). UnitsShow work.progress content v.pending v.m v.k block count (place_of v.slots x v.k) buffers) same
-    (subst (λ (p : Progress). UnitsShow p content v.pending v.m v.k block count (place_of v.slots session v.k) buffers) progress new)
+work_served content session from to request u buffers v w change goes shows = grind arith
 
 -- a read's unit is copied out
 given_blocks : (content : List ℕ) (pending : List Request) (m k block unit n place : ℕ) (bytes buffers : List ℕ) → n ≤ 16 * unit + length bytes / 512 → place + 8192 * unit + length bytes ≤ length buffers

@@ -1,5 +1,5 @@
 -- An end that finds no room for its packet leaves what remains: the message that its link holds then was owed before.
-use Rattle.std.proofs.Common.{◌≡◌, ℕ, ◌+◌, ◌≤◌, Bool, List, length, sym, ap, subst, arith}
+use Rattle.std.proofs.Common.{◌≡◌, ◌≤◌, Bool, List, sym, subst, arith}
 use Rattle.runs.specs.Lawful.{log_of}
 use Rattle.runs.specs.Run.{Run}
 use Rattle.ldc_queue.specs.declared.end.ChannelState.TheVariants.{Up}
@@ -18,32 +18,21 @@ use Rattle.disk_model.specs.ServerState.{ServerState}
 use Rattle.lane_laws.proofs.ClientHolding.{holds_up}
 use Rattle.lane_laws.proofs.LaneCounting.{Knows, run_knows}
 use Rattle.lane_laws.proofs.RemainingClientPuts.{ClientLowers, blocked_falls, falls_lower}
-use Rattle.lane_laws.proofs.RemainingLane.{asked_same, client_falls, left, second_less, server_falls}
+use Rattle.lane_laws.proofs.RemainingLane.{left}
 use Rattle.lane_laws.proofs.LaneViews.{at_client, at_server}
 use Rattle.lane_laws.proofs.RemainingServerPuts as server
 use Rattle.lane_laws.proofs.RemainingServerPuts.{ServerLowers}
 use Rattle.lane_laws.proofs.Ruling.{client_may, server_may}
 use Rattle.lane_laws.proofs.ServerSpeaking.{server_holds_up}
-use Rattle.lane_laws.specs.Remaining.{absent, asked_by, client_left, remaining, second_life, server_left}
+use Rattle.lane_laws.specs.Remaining.{remaining}
 
 -- THE CLIENT
 client_waits : (w : Wire) (lossy : Bool) (c t : ClientState) (v : ServerState) → w.end_a ≡ Up → ClientLowers 0 c t → left w lossy t v ≤ left w lossy c v
-client_waits w lossy c t v up lower =
-    sums (absent w.end_a + absent w.end_b + length w.to_a + length w.to_b) (client_left w.end_a (asked_by w.end_b v) t) (client_left w.end_a (asked_by w.end_b v) c) (server_left w.end_b v)
-    (second_life lossy (length t.pending)) (second_life lossy (length c.pending)) (client_falls w.end_a (asked_by w.end_b v) c t 0 up lower)
-    (second_less lossy (length t.pending) (length c.pending) lower.pending)
-  where
-    sums : (rest few many other less more : ℕ) → few + 0 ≤ many → less ≤ more → rest + few + other + less ≤ rest + many + other + more
-    sums rest few many other less more falls second = omega (arith, falls, second)
+client_waits w lossy c t v up lower = grind arith
 
 -- THE SERVER
 server_waits : (w : Wire) (lossy : Bool) (c : ClientState) (v u : ServerState) → w.end_b ≡ Up → ServerLowers 0 v u → left w lossy c u ≤ left w lossy c v
-server_waits w lossy c v u up lower =
-    sums (absent w.end_a + absent w.end_b + length w.to_a + length w.to_b) (client_left w.end_a (asked_by w.end_b u) c) (client_left w.end_a (asked_by w.end_b v) c) (server_left w.end_b u)
-    (server_left w.end_b v) (second_life lossy (length c.pending)) (ap (λ (n : ℕ). client_left w.end_a n c) (asked_same w.end_b v u lower.asked)) (server_falls w.end_b v u 0 up lower)
-  where
-    sums : (rest one other few many second : ℕ) → one ≡ other → few + 0 ≤ many → rest + one + few + second ≤ rest + other + many + second
-    sums rest one other few many second same falls = omega (arith, same, falls)
+server_waits w lossy c v u up lower = grind arith
 
 -- THE LANE
 stays_is : (s t u : LaneState) → t ≡ u → remaining u ≤ remaining s → remaining t ≤ remaining s

@@ -1,11 +1,10 @@
 -- What remains on a lane that begins: at most so much, exactly.
-use Rattle.std.proofs.Common.{◌≡◌, ℕ, ◌+◌, ◌-◌, ◌*◌, ◌≤◌, ◌<◌, Bool, true, Option, List, length, refl, sym, ap, ◌∙◌, subst, arith}
-use Rattle.ldc_queue.specs.declared.end.ChannelState.{ChannelState}
-use Rattle.ldc_queue.specs.declared.end.ChannelState.TheVariants.{Down, Up}
+use Rattle.std.proofs.Common.{◌≡◌, ℕ, ◌+◌, ◌*◌, ◌<◌, Bool, true, Option, List, length, refl, sym, ap, ◌∙◌, subst, arith}
+use Rattle.ldc_queue.specs.declared.end.ChannelState.TheVariants.{Up}
 use Rattle.ldc_queue.specs.declared.end.End.{End}
 use Rattle.ldc_queue.specs.declared.end.End.TheVariants.{A, B}
 use Rattle.ldc_queue.specs.Transcript.{Turn}
-use Rattle.ldc_queue.specs.Wire.{Wire, upset}
+use Rattle.ldc_queue.specs.Wire.{Wire}
 use Rattle.ldc_link.specs.declared.phase.Role.TheVariants.{Initiator, Responder}
 use Rattle.channel_model.specs.TranscriptLog.{TranscriptLog}
 use Rattle.channel_laws.specs.Standing.{EndStands}
@@ -18,8 +17,8 @@ use Rattle.disk_model.specs.DiskEvent.{OnWire}
 use Rattle.disk_model.specs.LaneState.{LaneState, Shape, fresh, near_disturbed}
 use Rattle.disk_model.specs.LaneStep.{CallsReset, EndOnWire, LaneStep, ResetBy}
 use Rattle.disk_model.specs.ServerState.{ServerState, joined_server, restarted_server}
-use Rattle.lane_laws.proofs.RemainingLane.{begun_client, begun_server, joined_a, joined_b, left}
-use Rattle.lane_laws.specs.Remaining.{absent, asked_by, asked_in, client_left, life, remaining, second_life, server_left}
+use Rattle.lane_laws.proofs.RemainingLane.{begun_server, joined_a, joined_b, left}
+use Rattle.lane_laws.specs.Remaining.{asked_in, remaining, server_left}
 use Rattle.lane_laws.specs.ChannelEnds.{client_core, server_core}
 
 -- both ends stand by their roles
@@ -30,46 +29,15 @@ pub record EndsStand (s : LaneState) (transcript : TranscriptLog) : Type 0 where
 pub fresh_remains : (shape : Shape) → remaining (fresh shape) ≡ 36
 fresh_remains shape = omega arith
 
--- the peer of an end that is reset isn't up
-away : (e : ChannelState) → absent (upset e) ≡ 1
-away Up = refl
-away _ = refl
-
-away_asked : (e : ChannelState) (v : ServerState) → asked_by (upset e) v ≡ 0
-away_asked Up v = refl
-away_asked _ v = refl
-
-away_server : (e : ChannelState) (v : ServerState) → server_left (upset e) v ≡ 16
-away_server Up v = refl
-away_server _ v = refl
-
-away_client : (e : ChannelState) (asked : ℕ) (c : ClientState) → client_left (upset e) asked c ≡ client_left Down asked c
-away_client Up asked c = refl
-away_client _ asked c = refl
-
 -- THE CLIENT is reset, which was up
 begins_a : (w : Wire) (lossy : Bool) (c : ClientState) (v : ServerState) (turns : List Turn) → EndStands Initiator (client_core c) turns → w.end_a ≡ Up
     → left (joined_a w.end_a w) (lossy_behind w.end_a lossy) (joined_client c) v ≡ 35 + 16 * length c.pending
-begins_a w lossy c v turns stands up =
-    subst (λ (x : ChannelState). left (joined_a x w) (lossy_behind x lossy) (joined_client c) v ≡ 35 + 16 * length c.pending) (sym up)
-    (begins_sum (absent (upset w.end_b)) (client_left Up (asked_by (upset w.end_b) v) (joined_client c)) (server_left (upset w.end_b) v) (length c.pending)
-    (away w.end_b)
-    (ap (λ (n : ℕ). client_left Up n (joined_client c)) (away_asked w.end_b v) ∙ begun_client c turns 0 stands)
-    (away_server w.end_b v))
-  where
-    begins_sum : (there one other pending : ℕ) → there ≡ 1 → one ≡ 18 + 4 * pending + 12 * (pending - 0) → other ≡ 16 → 0 + there + 0 + 0 + one + other + 0 ≡ 35 + 16 * pending
-    begins_sum there one other pending there_is one_is other_is = omega (arith, there_is, one_is, other_is)
+begins_a w lossy c v turns stands up = grind arith
 
 -- THE SERVER is reset, which was up
 begins_b : (w : Wire) (lossy : Bool) (c : ClientState) (u : ServerState) → server_left Up u ≡ 16 → asked_in u.session ≡ 0 → w.end_b ≡ Up
     → left (joined_b w.end_b w) (lossy_behind w.end_b lossy) c u ≡ 35 + 16 * length c.pending
-begins_b w lossy c u begun none up =
-    subst (λ (x : ChannelState). left (joined_b x w) (lossy_behind x lossy) c u ≡ 35 + 16 * length c.pending) (sym up)
-    (begins_sum (absent (upset w.end_a)) (client_left (upset w.end_a) (asked_in u.session) c) (server_left Up u) (length c.pending) (away w.end_a)
-    (away_client w.end_a (asked_in u.session) c ∙ ap (λ (n : ℕ). client_left Down n c) none) begun)
-  where
-    begins_sum : (there one other pending : ℕ) → there ≡ 1 → one ≡ 18 + 4 * pending + 12 * (pending - 0) → other ≡ 16 → there + 0 + 0 + 0 + one + other + 0 ≡ 35 + 16 * pending
-    begins_sum there one other pending there_is one_is other_is = omega (arith, there_is, one_is, other_is)
+begins_b w lossy c u begun none up = grind arith
 
 -- A RESET, whoever gave it
 begins_is : (s t u : LaneState) (pending : ℕ) → t ≡ u → remaining u ≡ 35 + 16 * pending → remaining t ≡ 35 + 16 * pending
@@ -88,15 +56,11 @@ by_step B s cause packet lost t transcript stand up step =
 
 client_called : (s : LaneState) (cause : Cause) (packet : Option (List ℕ)) (lost : ℕ) (t : LaneState) (transcript : TranscriptLog) → EndsStand s transcript → s.wire.wire.end_a ≡ Up
     → CallsReset s (record s { client = joined_client s.client }) cause A packet lost t → remaining t ≡ 35 + 16 * length s.client.pending
-client_called s cause packet lost t transcript stand up calls =
-    begins_is s t (record s { client = joined_client s.client; wire = wire_moved s.wire (Reset A cause packet lost); near = near_disturbed s.client }) (length s.client.pending) calls.2
-    (begins_a s.wire.wire s.wire.lossy s.client s.server transcript.client stand.client up)
+client_called s cause packet lost t transcript stand up calls = search (begins_is, begins_a)
 
 server_called : (s : LaneState) (u : ServerState) (cause : Cause) (packet : Option (List ℕ)) (lost : ℕ) (t : LaneState) → server_left Up u ≡ 16 → asked_in u.session ≡ 0
     → s.wire.wire.end_b ≡ Up → CallsReset s (record s { server = u }) cause B packet lost t → remaining t ≡ 35 + 16 * length s.client.pending
-server_called s u cause packet lost t begun none up calls =
-    begins_is s t (record s { server = u; wire = wire_moved s.wire (Reset B cause packet lost); near = near_disturbed s.client }) (length s.client.pending) calls.2
-    (begins_b s.wire.wire s.wire.lossy s.client u begun none up)
+server_called s u cause packet lost t begun none up calls = search (begins_is, begins_b)
 
 reset_by : (by : Giver) (e : End) (s : LaneState) (cause : Cause) (packet : Option (List ℕ)) (lost : ℕ) (t : LaneState) (transcript : TranscriptLog) → EndsStand s transcript
     → IsUp e s.wire.wire → ResetBy by e s cause packet lost t → remaining t ≡ 35 + 16 * length s.client.pending
@@ -114,17 +78,6 @@ pub reset_remains : (s : LaneState) (e : End) (cause : Cause) (packet : Option (
 reset_remains s e cause packet lost t transcript stand up step = reset_by (giver cause) e s cause packet lost t transcript stand up step
 
 -- where a packet was lost, that is less than remained
-above : (n m k : ℕ) → m ≡ k → k ≤ n + m
-above n m k is = omega (arith, is)
-
 pub reset_falls : (s : LaneState) (e : End) (cause : Cause) (packet : Option (List ℕ)) (lost : ℕ) (t : LaneState) (transcript : TranscriptLog) → EndsStand s transcript → IsUp e s.wire.wire
     → s.wire.lossy ≡ true → LaneStep s (OnWire (Reset e cause packet lost)) t → remaining t < remaining s
-reset_falls s e cause packet lost t transcript stand up lossy step =
-    let begins = reset_remains s e cause packet lost t transcript stand up step in
-    let second : second_life s.wire.lossy (length s.client.pending) ≡ 36 + 16 * length s.client.pending = ap (λ (b : Bool). second_life b (length s.client.pending)) lossy in
-    let most : 36 + 16 * length s.client.pending ≤ remaining s =
-    above (life s.wire.wire s.client s.server) (second_life s.wire.lossy (length s.client.pending)) (36 + 16 * length s.client.pending) second in
-    falls_by (remaining t) (remaining s) (length s.client.pending) begins most
-  where
-    falls_by : (less more pending : ℕ) → less ≡ 35 + 16 * pending → 36 + 16 * pending ≤ more → less < more
-    falls_by less more pending begins most = omega (arith, begins, most)
+reset_falls s e cause packet lost t transcript stand up lossy step = grind (arith, reset_remains)

@@ -1,29 +1,26 @@
 -- What a client has left of its session as it holds a message, puts a packet, publishes or completes a request: with the packets that its end has
 -- still to put, what remains falls.
-use Rattle.std.proofs.Common.{◌≡◌, ℕ, ◌+◌, ◌-◌, ◌*◌, ◌≤◌, ◌<◌, Bool, true, false, Option, Some, None, List, [], length, drop, refl, sym, ap, ◌∙◌, subst, arith, length-drop}
-use Rattle.std.specs.Prelude.{is_some, max, nat_le}
+use Rattle.std.proofs.Common.{◌≡◌, ℕ, ◌+◌, ◌-◌, ◌*◌, ◌≤◌, Bool, true, false, Option, Some, None, List, length, drop, refl, sym, ◌∙◌, subst, arith, length-drop}
+use Rattle.std.specs.Prelude.{is_some, max}
 use Rattle.ldc_link.specs.declared.phase.LinkPhase.{LinkPhase}
-use Rattle.ldc_link.specs.declared.phase.LinkPhase.TheVariants as phase
 use Rattle.ldc_link.specs.declared.phase.Role.TheVariants.{Initiator}
 use Rattle.ldc_link.specs.LinkState.{LinkState}
 use Rattle.ldc_queue.specs.declared.end.ChannelState.TheVariants.{Up}
 use Rattle.ldc_queue.specs.Transcript.{Turn}
-use Rattle.vdisk_msg.specs.declared.request.Request.{Request}
 use Rattle.vio_handshake.specs.Rules.{opens_by_put}
-use Rattle.disk_model.specs.ClientPutting.{announced, announcement, announcing, client_holds, client_kind, client_put, holding, is_announcing, opened_if, session_behind}
-use Rattle.disk_model.specs.ClientRule.{Announces, ClientRule, Completes, Publishes, Puts, Says, client_rule}
+use Rattle.disk_model.specs.ClientPutting.{announced, client_holds, client_kind, client_put, is_announcing, opened_if, session_behind}
+use Rattle.disk_model.specs.ClientRule.{Announces, ClientRule, Completes, Publishes, client_rule}
 use Rattle.disk_model.specs.ClientState.{ClientSession, ClientState}
 use Rattle.disk_model.specs.ClientStep.{ClientCompletes, ClientPublishes, ClientSends}
-use Rattle.channel_model.specs.EndPuts.{ComesUp, EndsOwn, EndsHandshake, Goes, PutKind, ending, kind_in}
+use Rattle.channel_model.specs.EndPuts.{ComesUp, EndsOwn, EndsHandshake, Goes, PutKind, kind_in}
 use Rattle.channel_model.specs.Seeing.{Seen}
-use Rattle.channel_laws.proofs.Apart.{none_is_some, some_same}
-use Rattle.channel_laws.proofs.EndStanding.{held_stands, open_up, up_empty}
-use Rattle.channel_laws.proofs.PacketsLeft.{loud_none, opening_shut, owing_none, own_most, says_packets, stays_packets, waits_packets}
+use Rattle.channel_laws.proofs.EndStanding.{held_stands}
+use Rattle.channel_laws.proofs.PacketsLeft.{opening_shut, says_packets, stays_packets, waits_packets}
 use Rattle.channel_laws.specs.EndCore.{EndCore}
 use Rattle.channel_laws.specs.EndStep.{Holding, Holds}
 use Rattle.channel_laws.specs.PacketsLeft.{own_in}
 use Rattle.channel_laws.specs.Standing.{EndStands}
-use Rattle.lane_laws.proofs.ClientHolding.{client_held, not_own}
+use Rattle.lane_laws.proofs.ClientHolding.{client_held}
 use Rattle.lane_laws.proofs.ClientMoves.{client_completed, client_published, client_says, client_waits}
 use Rattle.lane_laws.proofs.ClientSteps.{client_sends, front_some}
 use Rattle.lane_laws.proofs.RulesFree.{puts_owe}
@@ -58,112 +55,42 @@ pub record ClientLowers (by : ℕ) (s t : ClientState) : Type 0 where
   pub lowers : (asked : ℕ) → client_left Up asked t + by ≤ client_left Up asked s
 
 pub falls_lower : (put by : ℕ) (s t : ClientState) → ClientFalls put by s t → ClientLowers (2 * put + by) s t
-falls_lower put by s t falls = record {
-  pending = falls.spends.pending;
-  lowers = λ asked. sums (client_packets t) (client_packets s) put falls.own by (requests_left (length t.pending) t.session) (requests_left (length s.pending) s.session)
-      (12 * (total (length t.pending) t.session - asked)) (12 * (total (length s.pending) s.session - asked)) falls.packets (falls.spends.left asked);
-}
-  where
-    sums : (few many put own by less more rest_less rest_more : ℕ) → few + put ≤ many + own → less + rest_less + (2 * own + by) ≤ more + rest_more
-        → 2 * few + less + rest_less + (2 * put + by) ≤ 2 * many + more + rest_more
-    sums few many put own by less more rest_less rest_more packets left = omega (arith, packets, left)
+falls_lower put by s t falls = grind arith
 
 pub session_spends : (own by : ℕ) (s t : ClientState) (open_one : Option ClientSession) → s.session ≡ open_one → length t.pending ≤ length s.pending
     → infos_begun t.session ≡ infos_begun open_one + own
     → ((asked : ℕ) → session_left (length t.pending) t.session asked + (2 * own + by) ≤ session_left (length s.pending) open_one asked) → ClientSpends own by s t
-session_spends own by s t open_one is pending infos left = record {
-  pending = pending;
-  infos = infos ∙ ap (λ (o : Option ClientSession). infos_begun o + own) (sym is);
-  left = λ asked. subst (λ (o : Option ClientSession). session_left (length t.pending) t.session asked + (2 * own + by) ≤ session_left (length s.pending) o asked) (sym is) (left asked);
-}
+session_spends own by s t open_one is pending infos left = grind arith
 
 pub same_spends : (s t : ClientState) → t.pending ≡ s.pending → t.session ≡ s.session → ClientSpends 0 0 s t
-same_spends s t pending session =
-    session_spends 0 0 s t t.session (sym session) (omega (arith, ap length pending)) (none_more (infos_begun t.session))
-    (λ asked. subst (λ (xs : List Request). session_left (length xs) t.session asked + (2 * 0 + 0) ≤ session_left (length s.pending) t.session asked) (sym pending) (omega arith))
-  where
-    none_more : (n : ℕ) → n ≡ n + 0
-    none_more n = omega arith
+same_spends s t pending session = grind arith
 
 then_spends : (own : ℕ) (s h t : ClientState) → ClientSpends own 0 s h → ClientSpends 0 0 h t → ClientSpends own 0 s t
-then_spends own s h t first next = record {
-  pending = omega (arith, first.pending, next.pending);
-  infos = both (infos_begun t.session) (infos_begun h.session) (infos_begun s.session) own first.infos next.infos;
-  left = λ asked. sums (session_left (length t.pending) t.session asked) (session_left (length h.pending) h.session asked) (session_left (length s.pending) s.session asked) own
-      (first.left asked) (next.left asked);
-}
-  where
-    both : (a b c own : ℕ) → b ≡ c + own → a ≡ b + 0 → a ≡ c + own
-    both a b c own one two = omega (arith, one, two)
-
-    sums : (a b c own : ℕ) → b + (2 * own + 0) ≤ c → a + (2 * 0 + 0) ≤ b → a + (2 * own + 0) ≤ c
-    sums a b c own one two = omega (arith, one, two)
+then_spends own s h t first next = grind arith
 
 -- IT HOLDS a message: an INFO where it announces
 abbrev begun_by : ClientRule → ℕ
 begun_by (Announces session) = 1
 begun_by _ = 0
 
-announced_less : (pending completed published few many rest : ℕ) → few + 1 ≤ many → many ≤ pending + completed
-    → ((pending + completed) - published) + 2 * ((pending + completed) - many) + pending + rest + (2 * 1 + 0)
-    ≤ ((pending + completed) - published) + 2 * ((pending + completed) - few) + pending + rest
-announced_less pending completed published few many rest more most = omega (arith, more, most)
-
-announces_spends : (s : ClientState) (session : ClientSession) → s.session ≡ Some session → session.announcing ≡ false → session.announced < session.published
-    → CountsInOrder (length s.pending) s.session → ClientSpends 1 0 s (announcing session (holding (announcement s session) s))
-announces_spends s session is quiet more counts =
-    let order : InOrder (length s.pending) session = in_order (length s.pending) s.session session is counts in
-    let one : one_if session.announcing ≡ 0 = ap one_if quiet in
-    session_spends 1 0 s (announcing session (holding (announcement s session) s)) (Some session) is (omega arith) (omega (arith, one))
-    (λ asked. announced_less (length s.pending) session.completed session.published (session.announced + one_if session.announcing) (session.announced + 1)
-    (12 * ((length s.pending + session.completed) - asked)) (omega (arith, one)) (omega (arith, more, order.published)))
-
-to_the : (own : ℕ) (s one other : ClientState) → Some one ≡ Some other → ClientSpends own 0 s one → ClientSpends own 0 s other
-to_the own s one other is spends = let same : one ≡ other = some_same is in subst (ClientSpends own 0 s) same spends
-
 holds_spend : (s : ClientState) (at : Seen) (rule : ClientRule) (held : ClientState) (turns : List Turn) → ClientMay s at rule → client_holds rule s ≡ Some held → ClientSound s
     → EndStands Initiator (client_core s) turns → ClientSpends (begun_by rule) 0 s held
-holds_spend s at Puts held turns may holds sound stands = to_the 0 s s held holds (same_spends s s refl refl)
-holds_spend s at (Says message) held turns may holds sound stands = to_the 0 s (holding message s) held holds (same_spends s (holding message s) refl refl)
-holds_spend s at (Announces session) held turns may holds sound stands =
-    let empty : s.link.to_send ≡ [] = up_empty s.link (open_up Initiator (client_core s) turns stands (ap is_some may.3)) may.1 in
-    let quiet : session.announcing ≡ false = ap is_announcing (sym may.3) ∙ not_own (is_announcing s.session) s.link.to_send sound.own empty in
-    to_the 1 s (announcing session (holding (announcement s session) s)) held holds (announces_spends s session may.3 quiet may.4 sound.counts)
-holds_spend s at _ held turns may holds sound stands = none_is_some holds
+holds_spend s at rule held turns may holds sound stands = grind arith
 
 own_begun : (s : ClientState) (at : Seen) (rule : ClientRule) (held : ClientState) (core : EndCore) (what : Holding) → client_rule s at ≡ rule → ClientMay s at rule
     → client_holds rule s ≡ Some held → Holds (client_core s) what core → own_in what ≤ begun_by rule
-own_begun s at Puts held core what rule may holds is = omega (arith, loud_none (client_core s) core what (puts_owe s at rule) is)
-own_begun s at (Says message) held core what rule may holds is = omega (arith, owing_none (client_core s) core message what may.2 is)
-own_begun s at (Announces session) held core what rule may holds is = own_most what
-own_begun s at _ held core what rule may holds is = none_is_some holds
+own_begun s at rule held core what is_holds may holds is = grind (arith, puts_owe)
 
 -- IT PUTS a packet: all that is published is announced by the last of its INFO, and its session may open by one of its handshake
-ends_own : (b own : Bool) → ending b own ≡ EndsOwn → own ≡ true
-ends_own true true is = refl
-ends_own true false is = absurd (cc is)
-ends_own false own is = absurd (cc is)
-
 own_in_kind : (ph : LinkPhase) (k : LinkState) (own : Bool) → kind_in ph k own ≡ EndsOwn → own ≡ true
-own_in_kind phase.Established k own is = ends_own (nat_le (length k.to_send) 56) own is
-own_in_kind phase.OwesRdx k own is = absurd (cc is)
-own_in_kind _ k own is = absurd (cc is)
+own_in_kind ph k own is = grind arith
 
 abbrev behind : ClientState → Option ClientSession → ClientState
 behind c session = record (client_put c) { session = session }
 
-fewer_left : (pending completed published few rest : ℕ) → few ≤ published
-    → ((pending + completed) - published) + 2 * ((pending + completed) - (published + 0)) + pending + rest + (2 * 0 + 0)
-    ≤ ((pending + completed) - published) + 2 * ((pending + completed) - few) + pending + rest
-fewer_left pending completed published few rest less = omega (arith, less)
-
 announced_spends : (c : ClientState) (open_one : Option ClientSession) → c.session ≡ open_one → is_announcing open_one ≡ true → CountsInOrder (length c.pending) open_one
     → ClientSpends 0 0 c (behind c (announced open_one))
-announced_spends c None is own counts = absurd (cc own)
-announced_spends c (Some s) is own counts =
-    let one : one_if s.announcing ≡ 1 = ap one_if own in
-    session_spends 0 0 c (behind c (announced (Some s))) (Some s) is (omega arith) (omega (arith, one))
-    (λ asked. fewer_left (length c.pending) s.completed s.published (s.announced + one_if s.announcing) (12 * ((length c.pending + s.completed) - asked)) (omega (arith, one, counts.own own)))
+announced_spends c open_one is own counts = grind arith
 
 opened_spends : (b : Bool) (c : ClientState) → (b ≡ true → c.session ≡ None) → ClientSpends 0 0 c (behind c (opened_if b c))
 opened_spends true c closed = session_spends 0 0 c (behind c (opened_if true c)) None (closed refl) (omega arith) refl (λ asked. omega arith)
@@ -245,10 +172,7 @@ publishes_falls s at memory id t new sound step =
 completed_sum : (few many completed published announced asked : ℕ) → few + 1 ≡ many
     → ((few + (completed + 1)) - published) + 2 * ((few + (completed + 1)) - announced) + few + 12 * ((few + (completed + 1)) - asked) + (2 * 0 + 1)
     ≤ ((many + completed) - published) + 2 * ((many + completed) - announced) + many + 12 * ((many + completed) - asked)
-completed_sum few many completed published announced asked one =
-    let same : few + (completed + 1) ≡ many + completed = omega (arith, one) in
-    subst (λ (n : ℕ). (n - published) + 2 * (n - announced) + few + 12 * (n - asked) + (2 * 0 + 1)
-    ≤ ((many + completed) - published) + 2 * ((many + completed) - announced) + many + 12 * ((many + completed) - asked)) (sym same) (omega (arith, one))
+completed_sum few many completed published announced asked one = grind arith
 
 pub completes_falls : (s : ClientState) (at : Seen) (memory : List ℕ) (id operation status : ℕ) (bytes : List ℕ) (t : ClientState) (new : List ℕ)
     → ClientCompletes s at memory id operation status bytes t new → ClientFalls 0 1 s t

@@ -29,13 +29,7 @@ pub record ServerFalls (put : ℕ) (s t : ServerState) : Type 0 where
   pub work : t.work ≡ s.work
 
 pub falls_lower : (put : ℕ) (s t : ServerState) → ServerFalls put s t → ServerLowers (2 * put) s t
-falls_lower put s t falls = record {
-  asked = falls.asked;
-  lowers = sums (server_packets t) (server_packets s) put (serving_left t.work t.session) (serving_left s.work s.session) falls.packets falls.serving;
-}
-  where
-    sums : (few many put less more : ℕ) → few + put ≤ many → less ≡ more → 2 * few + less + 2 * put ≤ 2 * many + more
-    sums few many put less more packets same = omega (arith, packets, same)
+falls_lower put s t falls = grind arith
 
 -- HOLDING a message
 record SameWork (s held : ServerState) : Type 0 where

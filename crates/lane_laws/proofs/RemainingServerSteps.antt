@@ -1,25 +1,24 @@
 -- The work of a server: what remains falls.
-use Rattle.std.proofs.Common.{◌≡◌, ◌≢◌, ℕ, ◌^◌, ◌+◌, ◌-◌, ◌*◌, ◌%◌, ◌/◌, ◌≤◌, ◌<◌, Bool, true, false, Option, Some, None, List, refl, sym, ap, ◌∙◌, subst, arith}
-use Rattle.std.specs.Prelude.{not, nat_le, nat_lt, ◌&&◌, ◌||◌, ◌==◌, if◌then◌else◌}
-use Rattle.std.proofs.lemmas.Bool.{eqb-false, leb-true, ltb-true}
+use Rattle.std.proofs.Common.{◌≡◌, ◌≢◌, ℕ, ◌^◌, ◌+◌, ◌-◌, ◌*◌, ◌%◌, ◌≤◌, ◌<◌, Bool, true, false, Option, Some, None, List, refl, sym, subst, arith}
+use Rattle.std.specs.Prelude.{nat_lt, ◌==◌, if◌then◌else◌}
+use Rattle.std.proofs.lemmas.Bool.{eqb-false, ltb-true}
 use Rattle.cookie_copy.specs.declared.fault.CopyFault.{CopyFault}
-use Rattle.vdisk_msg.specs.Check.{first_defect, has_size, holds_cookies, is_allowed, is_within, moves_data}
+use Rattle.vdisk_msg.specs.Check.{first_defect, moves_data}
 use Rattle.vdisk_msg.specs.declared.desc.DescFault.{DescFault}
-use Rattle.vdisk_msg.specs.declared.desc.DescFault.TheVariants as fault
 use Rattle.vdisk_msg.specs.declared.desc.DiskDesc.{DiskDesc}
 use Rattle.vdisk_msg.specs.Descriptor as slot_says
 use Rattle.vdisk_msg.specs.Pieces.{unit_count}
 use Rattle.channel_model.specs.Ranges.{wrapped}
 use Rattle.channel_model.specs.Seeing.{Seen}
 use Rattle.disk_model.specs.ServerRule.{Fetches, Serves, server_rule}
-use Rattle.disk_model.specs.ServerState.{Ends, Flushes, Gathers, Gives, Progress, Reads, ServerSession, ServerState, SlotRange, Work, Writes}
+use Rattle.disk_model.specs.ServerState.{Ends, Gathers, Gives, Progress, Reads, ServerSession, ServerState, Work}
 use Rattle.disk_model.specs.ServerStep.{ServerFetches, ServerFinishes, ServerMoves, ServerStores}
 use Rattle.cookie_copy.specs.Reach.{Reach}
-use Rattle.disk_model.specs.ServerWork.{MovesIn, StoresIn, checked_progress, desc_of, first_progress, gathered, gathers_next, given, or_ends}
+use Rattle.disk_model.specs.ServerWork.{MovesIn, StoresIn, checked_progress, desc_of, first_progress, gathered, given}
 use Rattle.lane_laws.proofs.RemainingServerPuts.{ServerLowers}
 use Rattle.lane_laws.proofs.RulesFree.{ServerFree, server_free}
 use Rattle.lane_laws.proofs.RuleTests.{ServesFree}
-use Rattle.lane_laws.specs.Remaining.{asked_in, pieces_left, server_packets, serving_left, unfinished, work_left}
+use Rattle.lane_laws.specs.Remaining.{pieces_left, unfinished, work_left}
 use Rattle.lane_laws.specs.RemainingSteps.{CountsFit}
 
 -- WHERE A SERVER WORKS: in its session, with some descriptor that it was asked for and didn't finish
@@ -40,20 +39,7 @@ serves_working s at session work rule = working_of s session (Some work) (subst 
 -- A SESSION and a work of which less is left, with the same range and the same that was asked
 works_lower : (s : ServerState) (session next : ServerSession) (work later_work : Option Work) → Working s session work → next.range ≡ session.range → next.asked ≡ session.asked
     → work_left (unfinished next) later_work + 1 ≤ work_left (unfinished session) work → ServerLowers 1 s (record s { session = Some next; work = later_work })
-works_lower s session next work later_work working range asked fall =
-    let before : serving_left s.work s.session ≡ work_left (unfinished session) work =
-    ap (λ (w : Option Work). serving_left w s.session) working.work_is ∙ ap (serving_left work) working.session_is in
-    let packets : server_packets (record s { session = Some next; work = later_work }) ≡ server_packets s =
-    ap (λ (n : Option SlotRange). server_packets (record s { session = Some (record next { range = n }) })) range
-    ∙ ap (λ (o : Option ServerSession). server_packets (record s { session = o })) (sym working.session_is) in
-    record {
-      asked = asked ∙ ap asked_in (sym working.session_is);
-      lowers = both_sums (server_packets (record s { session = Some next; work = later_work })) (server_packets s) (work_left (unfinished next) later_work) (work_left (unfinished session) work)
-          (serving_left s.work s.session) packets before fall;
-    }
-  where
-    both_sums : (a b less more was : ℕ) → a ≡ b → was ≡ more → less + 1 ≤ more → 2 * a + less + 1 ≤ 2 * b + was
-    both_sums a b less more was same is fall = omega (arith, same, is, fall)
+works_lower s session next work later_work working range asked fall = grind arith
 
 -- PIECES
 reads_less : (b : Bool) (size unit : ℕ) → nat_lt (unit + 1) (unit_count size) ≡ b → pieces_left (unit_count size) (if b then Reads (unit + 1) else Ends 0) + 1 ≤ 1 + 2 * (unit_count size - (unit + 1))
@@ -81,21 +67,9 @@ moves_less (Gives u bytes) work reach unit why next new moves = subst (λ (x : P
 moves_less (Gathers u) work reach unit why next new moves = subst (λ (x : Progress). Less work x (Gathers u)) (sym moves.2) (gathered_less why work reach u)
 moves_less _ work reach unit why next new moves = absurd moves
 
-or_ends_less : (failed : Bool) (work : Work) (next progress : Progress) → Less work next progress → Less work (Ends 5) progress → Less work (or_ends failed next) progress
-or_ends_less true work next progress less fails = fails
-or_ends_less false work next progress less fails = less
-
 pub stores_less : (progress : Progress) (work : Work) (operation block count : ℕ) (failed : Bool) (gave : List ℕ) (next : Progress)
     → StoresIn progress work operation block count failed gave next → Less work next progress
-stores_less (Reads u) work operation block count failed gave next stores =
-    subst (λ (x : Progress). Less work x (Reads u)) (sym stores.2) (or_ends_less failed work (Gives u gave) (Reads u) (omega arith) (omega arith))
-stores_less (Writes u bytes) work operation block count failed gave next stores =
-    subst (λ (x : Progress). Less work x (Writes u bytes)) (sym stores.2)
-    (or_ends_less failed work (gathers_next (desc_of work).size u) (Writes u bytes)
-    (gathers_less (nat_lt (u + 1) (unit_count (desc_of work).size)) (desc_of work).size u refl) (omega arith))
-stores_less Flushes work operation block count failed gave next stores =
-    subst (λ (x : Progress). Less work x Flushes) (sym stores.4) (or_ends_less failed work (Ends 0) Flushes (omega arith) (omega arith))
-stores_less _ work operation block count failed gave next stores = absurd stores
+stores_less progress work operation block count failed gave next stores = grind (arith, gathers_less)
 
 progress_lowers : (s : ServerState) (at : Seen) (session : ServerSession) (work : Work) (next : Progress) → server_rule s at ≡ Serves session work → Less work next work.progress
     → ServerLowers 1 s (record s { work = Some (record work { progress = next }) })
@@ -117,43 +91,11 @@ stores_lowers s at operation block count failed gave t step =
     (progress_lowers s at step.session step.work step.next step.rule (stores_less step.work.progress step.work operation block count failed gave step.next step.stores))
 
 -- WHAT IS FETCHED has at most eight pieces
-no_defect : (b : Bool) (why : DescFault) (rest : Option DescFault) → (if b then Some why else rest) ≡ None → (b ≡ false) × (rest ≡ None)
-no_defect true why rest is = absurd (cc)
-no_defect false why rest is = (refl, is)
-
-not_false : (b : Bool) → not b ≡ false → b ≡ true
-not_false true is = refl
-not_false false is = absurd (cc)
-
-middle_true : (a b c : Bool) → (a && b && c) ≡ true → b ≡ true
-middle_true true true c is = refl
-middle_true false true c is = refl
-middle_true true false c is = absurd (cc)
-middle_true false false c is = absurd (cc)
-
 sound_size : (desc : DiskDesc) (blocks : ℕ) → moves_data desc.operation ≡ true → first_defect desc blocks 0x0e ≡ None → desc.size ≤ 32768
-sound_size desc blocks moves sound =
-    let allowed = no_defect (not (is_allowed desc.operation 0x0e)) fault.Operation _ sound in
-    let moved : (if not true then None else (if not (holds_cookies desc.count) then Some fault.Cookies else if not (has_size desc.size) then Some fault.Size
-    else if not (is_within desc.offset (desc.size / 512) blocks) then Some fault.Range else None)) ≡ None =
-    subst (λ (b : Bool). (if not b then None else (if not (holds_cookies desc.count) then Some fault.Cookies else if not (has_size desc.size) then Some fault.Size
-    else if not (is_within desc.offset (desc.size / 512) blocks) then Some fault.Range else None)) ≡ None) moves allowed.1 in
-    let held = no_defect (not (holds_cookies desc.count)) fault.Cookies _ moved in
-    let sized = no_defect (not (has_size desc.size)) fault.Size _ held.1 in
-    leb-true desc.size 32768 (middle_true (nat_lt 0 desc.size) (nat_le desc.size 32768) (desc.size % 512 == 0) (not_false (has_size desc.size) sized.0))
-
-few_units : (size : ℕ) → size ≤ 32768 → unit_count size ≤ 4
-few_units size most = omega (arith, most)
-
-few_of : (reads writes : Bool) (units : ℕ) → ((reads || writes) ≡ true → units ≤ 4) → pieces_left units (if reads then Reads 0 else if writes then Gathers 0 else Flushes) ≤ 8
-few_of true writes units few = omega (arith, few refl)
-few_of false true units few = omega (arith, few refl)
-few_of false false units few = omega arith
+sound_size desc blocks moves sound = grind arith
 
 few_checked : (defect : Option DescFault) (desc : DiskDesc) (blocks : ℕ) → first_defect desc blocks 0x0e ≡ defect → pieces_left (unit_count desc.size) (checked_progress defect desc) ≤ 8
-few_checked (Some why) desc blocks is = omega arith
-few_checked None desc blocks is =
-    few_of (desc.operation == 1) (desc.operation == 2) (unit_count desc.size) (λ moves. few_units desc.size (sound_size desc blocks moves is))
+few_checked defect desc blocks is = grind (arith, sound_size)
 
 pub few_pieces : (desc : DiskDesc) (blocks : ℕ) → pieces_left (unit_count desc.size) (first_progress blocks desc) ≤ 8
 few_pieces desc blocks = few_checked (first_defect desc blocks 0x0e) desc blocks refl

@@ -12,7 +12,7 @@ use Rattle.lane_laws.proofs.ServerAnswers.{opened_or}
 use Rattle.lane_laws.proofs.ServerTaken.{ServerAsked, ServerTook}
 use Rattle.lane_laws.specs.Budget.{one_range, range_left}
 use Rattle.lane_laws.specs.ChannelEnds.{server_core}
-use Rattle.lane_laws.specs.Remaining.{asked_in, pieces_left, server_packets, serving_left, unfinished, work_left}
+use Rattle.lane_laws.specs.Remaining.{asked_in, server_packets, serving_left, unfinished, work_left}
 use Rattle.lane_laws.specs.RemainingSteps.{ServerIsAsked, ServerTurn}
 use Rattle.lane_laws.proofs.ServerMoves.{answers_less}
 
@@ -42,11 +42,7 @@ behind_ask v session range =
     record session { asked = wrapped (session.asked + range_length v.handshake.draft.peer_slots range.start range.end); seq = wrapped (session.seq + 1); range = Some range }
 
 more_work : (work : Option Work) (n m d : ℕ) → n ≤ m + d → work_left n work ≤ work_left m work + 10 * d
-more_work None n m d more = omega (arith, more)
-more_work (Some work) n m d more = more_pieces (pieces_left _ work.progress) n m d more
-  where
-    more_pieces : (p n m d : ℕ) → n ≤ m + d → p + 1 + 10 * (n - 1) ≤ p + 1 + 10 * (m - 1) + 10 * d
-    more_pieces p n m d more = omega (arith, more)
+more_work work n m d more = grind arith
 
 more_unfinished : (before behind finished : ℕ) → before < behind
     → ((behind + 2 ^ 64) - finished) % 2 ^ 64 ≤ ((before + 2 ^ 64) - finished) % 2 ^ 64 + (behind - before)

@@ -1,17 +1,16 @@
 -- What a client's step does to its requests.
-use Rattle.std.proofs.Common.{◌≡◌, ℕ, ◌+◌, ◌<◌, Bool, true, false, Option, Some, None, List, [], ◌∷◌, ◌++◌, length, drop, refl, sym, ap, ◌∙◌, subst, arith, length-drop, length-append}
+use Rattle.std.proofs.Common.{◌≡◌, ℕ, ◌+◌, ◌<◌, Bool, Some, List, [], ◌∷◌, ◌++◌, length, drop, refl, sym, ap, ◌∙◌, subst, arith, length-drop, length-append}
 use Rattle.std.specs.Prelude.{zero, suc, slice_get}
 use Rattle.std.proofs.lemmas.List.{drop-append-le, drop-drop}
 use Rattle.vdisk_msg.specs.declared.request.Request.{Request}
 use Rattle.vdisk_msg.specs.Requests.{operation_of}
-use Rattle.channel_laws.proofs.Apart.{none_is_some, some_same}
 use Rattle.lane_laws.specs.WorkLog.{WorkLog}
-use Rattle.disk_model.specs.ClientPutting.{announced, announcement, announcing, client_holds, client_kind, client_put, holding, opened_if, session_behind}
-use Rattle.disk_model.specs.ClientRule.{Announces, ClientRule, Completes, Publishes, Puts, Says, client_rule}
-use Rattle.disk_model.specs.ClientState.{ClientSession, ClientState, first_id, joined_client}
+use Rattle.disk_model.specs.ClientPutting.{client_holds, client_kind, client_put, session_behind}
+use Rattle.disk_model.specs.ClientRule.{ClientRule, Completes, client_rule}
+use Rattle.disk_model.specs.ClientState.{ClientState, first_id, joined_client}
 use Rattle.disk_model.specs.ClientStep.{ClientCompletes, ClientPublishes, ClientSends}
 use Rattle.disk_model.specs.ClientTaking.{ClientTakes, GoesOn}
-use Rattle.channel_model.specs.EndPuts.{ComesUp, EndsOwn, EndsHandshake, Goes, PutKind, put_opens}
+use Rattle.channel_model.specs.EndPuts.{PutKind}
 use Rattle.channel_model.specs.Seeing.{Seen}
 use Rattle.lane_laws.proofs.ClientHearing.{took_by}
 use Rattle.lane_laws.proofs.Ruling.{client_may}
@@ -38,48 +37,12 @@ took_kept c packet t takes =
     record { pending = by.pending; next = by.next; blocks = by.blocks; slots = by.slots; session = λ done first stands. by.keeps done stands }
 
 -- a session after a packet that was put
-announced_stands : (done : ℕ) (session : Option ClientSession) → SessionStands done session → SessionStands done (announced session)
-announced_stands done None stands = tt
-announced_stands done (Some s) stands = stands
-
-opened_stands : (b : Bool) (c : ClientState) (done : ℕ) → done ≡ first_id c → SessionStands done c.session → SessionStands done (opened_if b c)
-opened_stands true c done first stands = omega (arith, first)
-opened_stands false c done first stands = stands
-
-behind_stands : (kind : PutKind) (c : ClientState) (done : ℕ) → done ≡ first_id c → SessionStands done c.session → SessionStands done (session_behind kind c)
-behind_stands EndsOwn c done first stands = announced_stands done c.session stands
-behind_stands Goes c done first stands = stands
-behind_stands ComesUp c done first stands = stands
-behind_stands EndsHandshake c done first stands = opened_stands (put_opens EndsHandshake c.handshake) c done first stands
-
 put_kept : (c : ClientState) (kind : PutKind) (t : ClientState) → t.session ≡ session_behind kind c → t.pending ≡ c.pending → t.next_id ≡ c.next_id
     → t.blocks ≡ c.blocks → t.slots ≡ c.slots → KeepsRequests c t
-put_kept c kind t session pending next blocks slots = record {
-  pending = pending;
-  next = next;
-  blocks = blocks;
-  slots = slots;
-  session = λ done first stands. subst (SessionStands done) (sym session) (behind_stands kind c done first stands);
-}
-
-held_is : (c one other : ClientState) → Some one ≡ Some other → KeepsRequests c one → KeepsRequests c other
-held_is c one other is kept = let same : one ≡ other = some_same is in subst (λ (x : ClientState). KeepsRequests c x) same kept
-
-announcing_kept : (c : ClientState) (session : ClientSession) → c.session ≡ Some session → KeepsRequests c (announcing session (holding (announcement c session) c))
-announcing_kept c session is = record {
-  pending = refl;
-  next = refl;
-  blocks = refl;
-  slots = refl;
-  session = λ done first stands. subst (SessionStands done) is stands;
-}
+put_kept c kind t session pending next blocks slots = grind arith
 
 pub held_kept : (c : ClientState) (at : Seen) (rule : ClientRule) (held : ClientState) → ClientMay c at rule → client_holds rule c ≡ Some held → KeepsRequests c held
-held_kept c at Puts held may is = held_is c c held is (stays_kept c)
-held_kept c at (Says message) held may is =
-    held_is c (holding message c) held is (record { pending = refl; next = refl; blocks = refl; slots = refl; session = λ done first stands. stands })
-held_kept c at (Announces session) held may is = held_is c (announcing session (holding (announcement c session) c)) held is (announcing_kept c session may.3)
-held_kept c at _ held may is = none_is_some is
+held_kept c at rule held may is = grind arith
 
 -- one after the other
 both_kept : (c m t : ClientState) → KeepsRequests c m → KeepsRequests m t → KeepsRequests c t
@@ -101,43 +64,23 @@ sent_kept c at memory packet opens t new sends =
     subst (λ (x : ClientState). KeepsRequests c x) (sym sends.is) (both_kept c sends.held (client_put sends.held) held put)
 
 pub published_kept : (c : ClientState) (at : Seen) (memory : List ℕ) (id : ℕ) (t : ClientState) (new : List ℕ) → ClientPublishes c at memory id t new → KeepsRequests c t
-published_kept c at memory id t new step =
-    let may : ClientMay c at (Publishes step.session step.request) = subst (ClientMay c at) step.rule (client_may c at) in
-    subst (λ (x : ClientState). KeepsRequests c x) (sym step.is)
-    (record { pending = refl; next = refl; blocks = refl; slots = refl; session = λ done first stands. subst (SessionStands done) may.1 stands })
+published_kept c at memory id t new step = grind (arith, client_may)
 
 -- REQUESTS THAT STAND: the first that isn't done is the number of those that are
 pub first_done : (c : ClientState) (w : WorkLog) → RequestsStand c w → w.done ≡ first_id c
 first_done c w stand = omega (arith, stand.next, stand.done, ap length stand.pending, length-drop w.done w.issued)
 
 pub kept_stand : (c t : ClientState) (w : WorkLog) → RequestsStand c w → KeepsRequests c t → RequestsStand t w
-kept_stand c t w stand kept = record {
-  pending = kept.pending ∙ stand.pending;
-  next = kept.next ∙ stand.next;
-  done = stand.done;
-  session = kept.session w.done (first_done c w stand) stand.session;
-}
+kept_stand c t w stand kept = grind (arith, first_done)
 
 -- the log's other counts play no part
 pub same_stand : (c : ClientState) (w x : WorkLog) → x.issued ≡ w.issued → x.done ≡ w.done → RequestsStand c w → RequestsStand c x
-same_stand c w x issued done stand = record {
-  pending = stand.pending ∙ ap (λ (n : ℕ). drop n w.issued) (sym done) ∙ ap (λ (xs : List Request). drop x.done xs) (sym issued);
-  next = stand.next ∙ ap length (sym issued);
-  done = omega (arith, done, ap length issued, stand.done);
-  session = subst (λ (n : ℕ). SessionStands n c.session) (sym done) stand.session;
-}
+same_stand c w x issued done stand = grind arith
 
 -- one that is accepted is the last
 pub accepted_stand : (c : ClientState) (w : WorkLog) (request : Request) → RequestsStand c w
     → RequestsStand (record c { pending = c.pending ++ request ∷ []; next_id = c.next_id + 1 }) (record w { issued = w.issued ++ request ∷ [] })
-accepted_stand c w request stand =
-    let longer = length-append w.issued (request ∷ []) in
-    record {
-      pending = ap (λ (xs : List Request). xs ++ request ∷ []) stand.pending ∙ sym (drop-append-le w.done w.issued (request ∷ []) stand.done);
-      next = omega (arith, longer, stand.next);
-      done = omega (arith, longer, stand.done);
-      session = stand.session;
-    }
+accepted_stand c w request stand = grind (arith, length-append, drop-append-le)
 
 -- one that is done is the first of those that are pending
 got_dropped : (xs : List Request) (n : ℕ) (request : Request) → slice_get (drop n xs) 0 ≡ Some request → slice_get xs n ≡ Some request

@@ -1,7 +1,6 @@
 -- What a client's work does to the ring in session: a request is READY in the next slot, and the slot of a done one is FREE.
-use Rattle.std.proofs.Common.{◌≡◌, ◌≢◌, ℕ, ◌+◌, ◌-◌, ◌*◌, ◌%◌, ◌^◌, ◌<◌, ◌≤◌, List, [], ◌∷◌, length, drop, set, Option, Some, None, inl, inr, refl, sym, ap, ◌∙◌, subst, arith}
+use Rattle.std.proofs.Common.{◌≡◌, ◌≢◌, ℕ, ◌+◌, ◌-◌, ◌*◌, ◌%◌, ◌^◌, ◌<◌, ◌≤◌, List, [], ◌∷◌, length, drop, set, Option, Some, None, refl, sym, ap, ◌∙◌, subst, arith}
 use Rattle.std.specs.Prelude.{slice_get, slice_index, zero, suc}
-use Rattle.std.proofs.lemmas.Bool.{cases_lt}
 use Rattle.std.proofs.lemmas.Nat.{mod_below}
 use Rattle.std.proofs.lemmas.Option.{slice_get_within}
 use Rattle.dring.specs.Slots.{OneSlot, done_state, free_state, slot_bytes}
@@ -18,7 +17,7 @@ use Rattle.disk_model.specs.ClientRule as client_rules
 use Rattle.disk_model.specs.ClientState.{ClientSession}
 use Rattle.disk_model.specs.ClientStep.{published_memory}
 use Rattle.disk_model.specs.DiskEvent.{Done, Published, Works}
-use Rattle.disk_model.specs.LaneState.{LaneState, Shape}
+use Rattle.disk_model.specs.LaneState.{LaneState}
 use Rattle.disk_model.specs.LaneStep.{WorkStep}
 use Rattle.channel_model.specs.Seeing.{seen}
 use Rattle.lane_laws.proofs.MemorySteps.{got_sound}
@@ -60,42 +59,17 @@ in_order s l session known is = subst (CountsInOrder (length s.client.pending)) 
 pub publishing : (s : LaneState) (l : DiskLog) (id : ℕ) (session : ClientSession) (request : Request) → Known s l → s.client.session ≡ Some session
     → (k : OfClient session l.work.done l.work.client) → id ≡ session.base + session.published → slice_get s.client.pending (session.published - session.completed) ≡ Some request
     → Publishing s l id session k.counts request
-publishing s l id session request known is k id_is_number next =
-    let order = in_order s l session known is in
-    let completed = order.completed in
-    let acked = order.acked in
-    let announced = order.announced in
-    let base = k.agree.base in
-    let published = k.agree.published in
-    let done = k.agree.completed in
-    let within = slice_get_within s.client.pending (session.published - session.completed) request next in
-    let place : l.work.done + (session.published - session.completed) ≡ id = omega (arith, completed, acked, announced, base, done, id_is_number) in
-    record {
-      accepted =
-          subst (λ (n : ℕ). slice_get l.work.issued n ≡ Some request) place
-          (sym (got_at l.work.issued l.work.done (session.published - session.completed))
-          ∙ subst (λ (xs : List Request). slice_get xs (session.published - session.completed) ≡ Some request) known.stands.requests.pending next);
-      admitted =
-          subst (λ (b : ℕ). defect b request ≡ None) (known.stands.blocks ∙ ap (λ (x : Shape). x.blocks) known.stands.shape)
-          (got_sound s.client.blocks s.client.pending (session.published - session.completed) request known.memory.sound next);
-      number = omega (arith, base, published, id_is_number);
-      since = omega (arith, completed, acked, announced, base, done, id_is_number);
-      turn = omega (arith, within, completed, acked, announced, base, published, done, known.sound.pending, slots_are s l known.stands);
-    }
+publishing s l id session request known is k id_is_number next = grind (arith, slice_get_within, got_at, got_sound)
 
 -- the session after it, and what of ids stays
 abbrev one_more : ClientCounts → ClientCounts
 one_more c = record c { published = c.published + 1 }
 
 ids_more : (slots done : ℕ) (k : ClientCounts) (slot id : ℕ) → IdStands slots done k slot id → IdStands slots done (one_more k) slot id
-ids_more slots done k slot id stands =
-    let below = stands.below in
-    record { based = stands.based; since = stands.since; below = omega (arith, below); slot_is = stands.slot_is }
+ids_more slots done k slot id stands = grind arith
 
 new_id : (slots done : ℕ) (k : ClientCounts) (id : ℕ) → k.base ≤ done → done ≤ id → id ≡ k.base + k.published → IdStands slots done (one_more k) (k.published % slots) id
-new_id slots done k id based since number =
-    let place : k.published ≡ id - k.base = omega (arith, number) in
-    record { based = based; since = since; below = omega (arith, number); slot_is = ap (λ (x : ℕ). x % slots) place }
+new_id slots done k id based since number = grind arith
 
 pub published_in_ring : (s : LaneState) (l : DiskLog) (id : ℕ) (t : LaneState) → Known s l → length l.work.issued < 2 ^ 64 → WorkStep s (Published id) t
     → InRing t (after l (Works (Published id)))
@@ -217,14 +191,7 @@ base_of None = 0
 base_of (Some k) = k.base
 
 ids_fewer : (slots done : ℕ) (k : ClientCounts) (slot : ℕ) → slot ≢ (done - k.base) % slots → (id : ℕ) → IdStands slots done k slot id → IdStands slots (done + 1) k slot id
-ids_fewer slots done k slot other id stands =
-    let since = stands.since in
-    let based = stands.based in
-    let below = stands.below in
-    elim (cases_lt done id) [
-      | inl less ↦ record { based = omega (arith, based); since = omega (arith, less); below = below; slot_is = stands.slot_is }
-      | inr past ↦ let same : id ≡ done = omega (arith, past, since) in absurd (other (stands.slot_is ∙ ap (λ (x : ℕ). (x - k.base) % slots) same))
-    ]
+ids_fewer slots done k slot other id stands = grind arith
 
 pub completed_in_ring : (s : LaneState) (l : DiskLog) (id operation status : ℕ) (bytes : List ℕ) (t : LaneState) → Known s l → WorkStep s (Done id operation status bytes) t
     → InRing t (after l (Works (Done id operation status bytes)))

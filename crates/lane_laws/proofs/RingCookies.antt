@@ -12,9 +12,9 @@ use Rattle.map_table.specs.declared.table.Entry.{Entry}
 use Rattle.cookie_copy.specs.declared.fault.Access.{Access}
 use Rattle.cookie_copy.specs.declared.fault.CopyFault.{CopyFault}
 use Rattle.cookie_copy.specs.declared.fault.CopyFault.TheVariants.{Channel, BadAlign, Short}
-use Rattle.cookie_copy.specs.Faults.{first_address_fault, first_copy_fault, held, is_aligned, is_aligned_cookie, is_even_word}
+use Rattle.cookie_copy.specs.Faults.{first_copy_fault, held, is_aligned_cookie, is_even_word}
 use Rattle.cookie_copy.specs.Following.{FollowOn}
-use Rattle.cookie_copy.specs.Moved.{moved_spots, spots}
+use Rattle.cookie_copy.specs.Moved.{spots}
 use Rattle.vdisk_msg.specs.Requested.{buffer_cookies, cookie_count, ring_pages}
 use Rattle.channel_model.specs.OwnMemory.{page_cookies}
 use Rattle.disk_model.specs.Offering.{own_cookies}
@@ -49,9 +49,7 @@ pub record RingBytes (slots : ℕ) (cookies : List Cookie) : Type 0 where
   pub aligned : list_all is_aligned_cookie cookies ≡ true
 
 one_aligned : (slots : ℕ) → list_all is_aligned_cookie (record { address = 0; size = 128 * slots } ∷ []) ≡ true
-one_aligned slots =
-    let here : is_even_word (128 * slots) ≡ true = even_word (128 * slots) (omega arith) in
-    rw (here) refl
+one_aligned slots = grind arith
 
 ring_bytes_if : (b : Bool) (slots : ℕ) → RingBytes slots (if b then page_cookies 0 (ring_pages slots) else record { address = 0; size = 128 * slots } ∷ [])
 ring_bytes_if true slots =
@@ -121,11 +119,7 @@ up_if false rest is = absurd (cc is)
 
 pub copy_held : (up : Bool) (access : Access) (table : List (Option Entry)) (cookies : List Cookie) (offset n : ℕ) → first_copy_fault up access table cookies offset n ≡ None
     → offset + n ≤ held cookies
-copy_held up access table cookies offset n none =
-    leb-true (offset + n) (held cookies)
-    (held_if up (is_aligned cookies offset n) (nat_le (offset + n) (held cookies)) (first_address_fault access table (moved_spots cookies offset n)) none)
+copy_held up access table cookies offset n none = search (leb-true, held_if)
 
 pub copy_up : (up : Bool) (access : Access) (table : List (Option Entry)) (cookies : List Cookie) (offset n : ℕ) → first_copy_fault up access table cookies offset n ≡ None → up ≡ true
-copy_up up access table cookies offset n none =
-    up_if up
-    (cond (not (is_aligned cookies offset n)) (Some BadAlign) (cond (not (nat_le (offset + n) (held cookies))) (Some Short) (first_address_fault access table (moved_spots cookies offset n)))) none
+copy_up up access table cookies offset n none = search (up_if)

@@ -8,7 +8,7 @@ use Rattle.dring.specs.Slots.{OneSlot, slot_bytes}
 use Rattle.ldc_queue.specs.declared.end.End.TheVariants.{B}
 use Rattle.vdisk_msg.specs.Descriptor as slot_says
 use Rattle.vdisk_msg.specs.Requested.{buffer_place, size_of}
-use Rattle.lane_laws.specs.Agreement.{WorkAgrees, owed_of}
+use Rattle.lane_laws.specs.Agreement.{owed_of}
 use Rattle.lane_laws.specs.DiskLog.{DiskLog, after}
 use Rattle.lane_laws.specs.RingLog.{Accepted, Done, SlotLog, finished_at, id_at}
 use Rattle.lane_laws.specs.WorkLog.{ClientCounts, ServerCounts, change_server}
@@ -30,7 +30,7 @@ use Rattle.lane_laws.proofs.Ruling.{server_may}
 use Rattle.lane_laws.proofs.SlotBytes.{Sizes, ended_holds, fetched_cookies, request_size}
 use Rattle.lane_laws.specs.MemoryStands.{memory_long}
 use Rattle.lane_laws.specs.RingAgreed.{InRing, ring_in}
-use Rattle.lane_laws.specs.RingSlots.{HoldsIssued, IdStands, IdsStand, InWork, OwesStatus, RingHolds, RingOf, SameSlots, SlotStands, StatusStands, WorkStands}
+use Rattle.lane_laws.specs.RingSlots.{HoldsIssued, IdStands, IdsStand, InWork, RingHolds, RingOf, SameSlots, SlotStands, StatusStands, WorkStands}
 use Rattle.lane_laws.specs.RuleFacts.{ServerMay}
 use Rattle.lane_laws.proofs.ServerEndCounting.{finished_log}
 
@@ -42,11 +42,7 @@ pub record HasWork (s : LaneState) (l : DiskLog) (w : Work) (d : ServerCounts) :
   pub one : d.descs ≡ d.finished + 1
 
 pub has_work : (s : LaneState) (l : DiskLog) (v : ServerSession) (w : Work) → Known s l → (work : AtWork s l v) → s.server.work ≡ Some w → HasWork s l w work.of.counts
-has_work s l v w known work is =
-    let d = work.of.counts in
-    let agrees : WorkAgrees (Some w) d = subst (λ (o : Option Work). WorkAgrees o d) is work.of.work in
-    let stands : WorkStands (ring_in l) l.ring (Some d) = subst (WorkStands (ring_in l) l.ring) work.of.open_is (known.ring.work work.up) in
-    record { inside = stands agrees.2; desc = agrees.0; owed = agrees.1; one = agrees.2 }
+has_work s l v w known work is = grind arith
 
 pub work_below : (s : LaneState) (l : DiskLog) (d : ServerCounts) → Known s l → d.finished % l.shape.slots < l.shape.slots
 work_below s l d known = mod_below d.finished l.shape.slots (some_slots s l known)
@@ -82,11 +78,7 @@ moved_in_ring s l unit fault t known step =
 -- THE END
 owed_small : (s : LaneState) (l : DiskLog) (w : Work) (d : ServerCounts) (status : ℕ) → StatusStands l.work.server → l.work.server ≡ Some d → HasWork s l w d → w.progress ≡ Ends status
     → status < 2 ^ 32
-owed_small s l w d status stands is has ends =
-    let small : OwesStatus d.owed = subst StatusStands is stands in
-    let last : OwesStatus (owed_of (slot_says.disk_desc_of w.bytes) (Ends status)) =
-    subst (λ (p : Progress). OwesStatus (owed_of (slot_says.disk_desc_of w.bytes) p)) ends (subst OwesStatus has.owed small) in
-    last.0
+owed_small s l w d status stands is has ends = grind arith
 
 pub finished_in_ring : (s : LaneState) (l : DiskLog) (slot status : ℕ) (t : LaneState) → Known s l → WorkStep s (Finished slot status) t
     → InRing t (after l (Works (Finished slot status)))

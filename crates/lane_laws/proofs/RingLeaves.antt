@@ -1,21 +1,18 @@
 -- The log of the ring after an event that leaves its slots as they are: what is known of bytes, numbers and work carries over.
-use Rattle.std.proofs.Common.{◌≡◌, ℕ, ◌+◌, Bool, true, false, List, Option, Some, None, ◌⊎◌, inl, inr, refl, sym, ap, ◌∙◌, subst, arith}
-use Rattle.std.specs.Prelude.{⊤, ◌-◌, ◌%◌, slice_get}
-use Rattle.ldc_queue.specs.declared.end.ChannelState.{ChannelState}
-use Rattle.ldc_queue.specs.declared.end.ChannelState.TheVariants.{Down, Resetting, Up}
-use Rattle.ldc_queue.specs.declared.end.End.TheVariants.{A, B}
-use Rattle.ldc_queue.specs.Wire.{peer_behind}
-use Rattle.channel_model.specs.WireEvent.{Injected, Joined, Lost, Reset, Sent, Took, WireEvent}
+use Rattle.std.proofs.Common.{◌≡◌, ℕ, false, List, Option, Some, None, ◌⊎◌, inl, inr, sym, subst, arith}
+use Rattle.std.specs.Prelude.{⊤}
+use Rattle.ldc_queue.specs.declared.end.ChannelState.TheVariants.{Up}
+use Rattle.ldc_queue.specs.declared.end.End.TheVariants.{A}
+use Rattle.channel_model.specs.WireEvent.{Sent, Took, WireEvent}
 use Rattle.vdisk_msg.specs.declared.request.Request.{Request}
 use Rattle.lane_laws.specs.DiskLog.{DiskLog, after}
-use Rattle.lane_laws.specs.RingLog.{Accepted, SlotLog}
-use Rattle.lane_laws.specs.WorkLog.{ClientCounts, ServerCounts, change_client, change_server, opened_counts}
+use Rattle.lane_laws.specs.RingLog.{SlotLog}
+use Rattle.lane_laws.specs.WorkLog.{ClientCounts, ServerCounts}
 use Rattle.disk_model.specs.LaneState.{LaneState}
-use Rattle.lane_laws.proofs.StandingSteps.{wired_keeps}
-use Rattle.disk_model.specs.DiskEvent.{Accepted as Accepted_, Asks, Desc, DiskEvent, Done, Finished, Moved, OnWire, Published, Stopped, Stored, Switches, Works}
+use Rattle.disk_model.specs.DiskEvent.{Accepted as Accepted_, Asks, Desc, DiskEvent, Done, Finished, OnWire, Published, Works}
 use Rattle.lane_laws.proofs.RingTable.{map_stands, same_holds}
 use Rattle.lane_laws.specs.RingAgreed.{InRing, ring_in}
-use Rattle.lane_laws.specs.RingSlots.{HoldsIssued, IdStands, IdsStand, InWork, RingHolds, RingOf, SameSlots, WorkStands}
+use Rattle.lane_laws.specs.RingSlots.{IdStands, IdsStand, RingHolds, RingOf, SameSlots, WorkStands}
 
 -- the client's ids stay, or its session is gone
 abbrev pub KeepsIds : Option ClientCounts → Option ClientCounts → Type 0
@@ -46,16 +43,7 @@ pub record LeavesRing (l : DiskLog) (event : DiskEvent) : Type 0 where
 
 -- WHAT CARRIES OVER
 same_ids : (slots done : ℕ) (c d : ClientCounts) (slot : ℕ) → d.base ≡ c.base → d.published ≡ c.published → (id : ℕ) → IdStands slots done c slot id → IdStands slots done d slot id
-same_ids slots done c d slot base published id stands =
-    let since = stands.since in
-    let based = stands.based in
-    let below = stands.below in
-    record {
-      based = omega (arith, base, based);
-      since = since;
-      below = omega (arith, base, published, below);
-      slot_is = stands.slot_is ∙ ap (λ (b : ℕ). (id - b) % slots) (sym base);
-    }
+same_ids slots done c d slot base published id stands = grind arith
 
 ids_kept : (slots done : ℕ) (ring : List SlotLog) (o q : Option ClientCounts) → KeepsIds o q → IdsStand slots done ring o → IdsStand slots done ring q
 ids_kept slots done ring None None keeps stand = tt
@@ -63,24 +51,8 @@ ids_kept slots done ring (Some c) None keeps stand = tt
 ids_kept slots done ring None (Some d) keeps stand = absurd keeps
 ids_kept slots done ring (Some c) (Some d) keeps stand = λ slot is got. map_stands slots done done c d slot (same_ids slots done c d slot keeps.0 keeps.1) is (stand slot is got)
 
-work_same : (r : RingOf) (ring : List SlotLog) (c d : ServerCounts) → SameWork c d → (c.descs ≡ c.finished + 1 → InWork r ring c) → d.descs ≡ d.finished + 1 → InWork r ring d
-work_same r ring c d same stands one =
-    let descs = same.descs in
-    let finished = same.finished in
-    let work = stands (omega (arith, descs, finished, one)) in
-    record {
-      id = work.id;
-      stands = subst (λ (f : ℕ). slice_get ring (f % r.slots) ≡ Some (Accepted work.id)) (sym finished) work.stands;
-      fetched = subst (λ (bytes : List ℕ). HoldsIssued r (d.finished % r.slots) work.id 2 0 bytes) (sym same.desc)
-          (subst (λ (f : ℕ). HoldsIssued r (f % r.slots) work.id 2 0 c.desc) (sym finished) work.fetched);
-    }
-
 work_kept : (r : RingOf) (ring : List SlotLog) (o q : Option ServerCounts) → KeepsWork o q → WorkStands r ring o → WorkStands r ring q
-work_kept r ring None None keeps stand = tt
-work_kept r ring (Some c) None keeps stand = tt
-work_kept r ring None (Some d) keeps stand = λ one. absurd (omega (arith, keeps, one))
-work_kept r ring (Some c) (Some d) (inl none) stand = λ one. absurd (omega (arith, none, one))
-work_kept r ring (Some c) (Some d) (inr same) stand = work_same r ring c d same stand
+work_kept r ring o q keeps stand = grind arith
 
 -- where the server's end is up after it
 work_live : (r : RingOf) (ring : List SlotLog) (o q : Option ServerCounts) (up : Type 0) → KeepsWork o q → (up → WorkStands r ring o) → up ⊎ (q ≡ None) → WorkStands r ring q
@@ -103,44 +75,6 @@ leaves_stand s l event t leaves same ring = record {
 }
 
 -- EACH KIND of change
-pub ids_gone : (o : Option ClientCounts) → KeepsIds o None
-ids_gone None = tt
-ids_gone (Some c) = tt
-
-pub ids_stay : (o : Option ClientCounts) → KeepsIds o o
-ids_stay None = tt
-ids_stay (Some c) = (refl, refl)
-
-pub ids_changed : (f : ClientCounts → ClientCounts) (o : Option ClientCounts) → ((c : ClientCounts) → (f c).base ≡ c.base) → ((c : ClientCounts) → (f c).published ≡ c.published)
-    → KeepsIds o (change_client f o)
-ids_changed f None base published = tt
-ids_changed f (Some c) base published = (base c, published c)
-
-pub work_gone : (o : Option ServerCounts) → KeepsWork o None
-work_gone None = tt
-work_gone (Some c) = tt
-
-pub work_stays : (o : Option ServerCounts) → KeepsWork o o
-work_stays None = tt
-work_stays (Some c) = inr (record { descs = refl; finished = refl; desc = refl })
-
-pub work_changed : (f : ServerCounts → ServerCounts) (o : Option ServerCounts) → ((c : ServerCounts) → SameWork c (f c)) → KeepsWork o (change_server f o)
-work_changed f None same = tt
-work_changed f (Some c) same = inr (same c)
-
-pub work_opened : (b : Bool) (sid : ℕ) (f : ServerCounts → ServerCounts) (o : Option ServerCounts) → ((c : ServerCounts) → SameWork c (f c))
-    → KeepsWork o (opened_counts b sid (change_server f o))
-work_opened true sid f None same = refl
-work_opened true sid f (Some c) same = inl refl
-work_opened false sid f o same = work_changed f o same
-
-peer_up : (a b : ChannelState) → peer_behind a b ≡ Up → b ≡ Up
-peer_up Up Up is = refl
-peer_up Up Down is = absurd (cc is)
-peer_up Up Resetting is = absurd (cc is)
-peer_up Down b is = is
-peer_up Resetting b is = is
-
 -- EVENTS that leave the ring: no packet by which the client's session opens, no request, and of the work only pieces
 abbrev pub OpensNot : WireEvent → Type 0
 OpensNot (Sent A packet opens) = opens ≡ false
@@ -156,61 +90,12 @@ Leaves (Works (Desc slot bytes)) = ⊥
 Leaves (Works (Finished slot status)) = ⊥
 Leaves _ = ⊤
 
--- the slots, and the requests
-log_left : (l : DiskLog) (event : DiskEvent) → Leaves event → ((after l event).ring ≡ l.ring) × ((after l event).work.issued ≡ l.work.issued) × ((after l event).work.done ≡ l.work.done)
-log_left l (OnWire event) leaves = let keeps = wired_keeps l.shape.slots l.transcript l.work event in (slots_left event leaves, keeps.issued, keeps.done)
-  where
-    slots_left : (event : WireEvent) → OpensNot event → (after l (OnWire event)).ring ≡ l.ring
-    slots_left (Sent A packet true) not = absurd (cc not)
-    slots_left (Sent A packet false) not = refl
-    slots_left _ not = refl
-log_left l (Asks (Accepted_ id request)) leaves = absurd leaves
-log_left l (Works (Published id)) leaves = absurd leaves
-log_left l (Works (Done id operation status bytes)) leaves = absurd leaves
-log_left l (Works (Desc slot bytes)) leaves = absurd leaves
-log_left l (Works (Finished slot status)) leaves = absurd leaves
-log_left l (Switches Stopped) leaves = (refl, refl, refl)
-log_left l _ leaves = (refl, refl, refl)
-
 -- the counts of both ends
 ids_left : (l : DiskLog) (event : DiskEvent) → Leaves event → KeepsIds l.work.client (after l event).work.client
-ids_left l (OnWire (Joined A lost)) leaves = ids_gone l.work.client
-ids_left l (OnWire (Reset A cause packet lost)) leaves = ids_gone l.work.client
-ids_left l (OnWire (Took A packet false)) leaves = ids_changed _ l.work.client (λ c. refl) (λ c. refl)
-ids_left l (OnWire (Took A packet true)) leaves = absurd (cc leaves)
-ids_left l (OnWire (Sent A packet false)) leaves = ids_changed _ l.work.client (λ c. refl) (λ c. refl)
-ids_left l (OnWire (Sent A packet true)) leaves = absurd (cc leaves)
-ids_left l (Asks (Accepted_ id request)) leaves = absurd leaves
-ids_left l (Works (Published id)) leaves = absurd leaves
-ids_left l (Switches Stopped) leaves = ids_stay l.work.client
-ids_left l _ leaves = ids_stay l.work.client
+ids_left l event leaves = grind arith
 
 work_left : (l : DiskLog) (event : DiskEvent) → Leaves event → KeepsWork l.work.server (after l event).work.server
-work_left l (OnWire (Joined B lost)) leaves = work_gone l.work.server
-work_left l (OnWire (Reset B cause packet lost)) leaves = work_gone l.work.server
-work_left l (OnWire (Took B packet opens)) leaves = work_opened opens _ _ l.work.server (λ c. record { descs = refl; finished = refl; desc = refl })
-work_left l (OnWire (Sent B packet opens)) leaves = work_opened opens _ _ l.work.server (λ c. record { descs = refl; finished = refl; desc = refl })
-work_left l (Asks (Accepted_ id request)) leaves = absurd leaves
-work_left l (Works (Desc slot bytes)) leaves = absurd leaves
-work_left l (Works (Finished slot status)) leaves = absurd leaves
-work_left l (Works (Moved unit fault)) leaves = work_changed _ l.work.server (λ c. record { descs = refl; finished = refl; desc = refl })
-work_left l (Works (Stored operation block count failed)) leaves = work_changed _ l.work.server (λ c. record { descs = refl; finished = refl; desc = refl })
-work_left l (Switches Stopped) leaves = work_gone l.work.server
-work_left l _ leaves = work_stays l.work.server
-
-live_left : (l : DiskLog) (event : DiskEvent) → (after l event).wire.wire.end_b ≡ Up → (l.wire.wire.end_b ≡ Up) ⊎ ((after l event).work.server ≡ None)
-live_left l (OnWire (Joined A lost)) up = inl (peer_up l.wire.wire.end_a l.wire.wire.end_b up)
-live_left l (OnWire (Reset A cause packet lost)) up = inl (peer_up l.wire.wire.end_a l.wire.wire.end_b up)
-live_left l (OnWire (Joined B lost)) up = inr refl
-live_left l (OnWire (Reset B cause packet lost)) up = inr refl
-live_left l (OnWire (Took A packet opens)) up = inl up
-live_left l (OnWire (Sent A packet opens)) up = inl up
-live_left l (OnWire (Lost A packet)) up = inl up
-live_left l (OnWire (Injected A packet)) up = inl up
-live_left l (Switches Stopped) up = inr refl
-live_left l _ up = inl up
+work_left l event leaves = grind arith
 
 pub event_leaves : (l : DiskLog) (event : DiskEvent) → Leaves event → LeavesRing l event
-event_leaves l event leaves =
-    let log = log_left l event leaves in
-    record { ring = log.0; issued = log.1; done = log.2; client = ids_left l event leaves; server = work_left l event leaves; live = live_left l event }
+event_leaves l event leaves = grind (arith, ids_left, work_left)

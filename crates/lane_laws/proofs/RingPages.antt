@@ -1,5 +1,5 @@
 -- The table that grants each page of a lane's memory stays as it began, whoever meddles.
-use Rattle.std.proofs.Common.{◌≡◌, ℕ, ◌+◌, ◌<◌, ◌≤◌, List, Option, Some, None, sym, ap, ◌∙◌, subst, arith}
+use Rattle.std.proofs.Common.{◌≡◌, ℕ, ◌<◌, ◌≤◌, List, Option, Some, None, sym, ap, ◌∙◌, subst, arith}
 use Rattle.std.proofs.lemmas.List.FromFn.{get_or-map-range_with_len, length-map-range_with_len}
 use Rattle.std.proofs.lemmas.List.{get_or_past}
 use Rattle.std.specs.Prelude.{slice_index_or, [], ◌∷◌}
@@ -27,15 +27,10 @@ same_pages s event t step =
 
 -- THE TABLE as it began
 own_within : (pages index : ℕ) → index < pages → slice_index_or (own_table pages) index None ≡ Some (own_entry index)
-own_within pages index below =
-    let f : ℕ → Option Entry = λ (page : ℕ). Some (own_entry page) in
-    let same : 0 + index ≡ index = omega arith in
-    get_or-map-range_with_len f 0 pages index index None below same
+own_within pages index below = grind (arith, get_or-map-range_with_len)
 
 own_past : (pages index : ℕ) → pages ≤ index → slice_index_or (own_table pages) index None ≡ None
-own_past pages index past =
-    let f : ℕ → Option Entry = λ (page : ℕ). Some (own_entry page) in
-    get_or_past (own_table pages) index None (omega (arith, length-map-range_with_len f 0 pages, past))
+own_past pages index past = search (get_or_past, length-map-range_with_len)
 
 pub own_is_identity : (pages : ℕ) → pages ≤ 1028 → IsIdentity (own_table pages) pages
 own_is_identity pages few = record { few = few; each = own_within pages; others = own_past pages }

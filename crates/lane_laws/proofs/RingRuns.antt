@@ -1,7 +1,7 @@
 -- Where the sessions agree before an event and after it, the event keeps that each slot of the ring has the bytes and the number that
 -- the log of the ring says.
 use Rattle.std.proofs.Common.{◌≡◌, ℕ, ◌+◌, ◌-◌, ◌*◌, ◌^◌, ◌<◌, ◌≤◌, Bool, true, false, List, [], ◌∷◌, ◌++◌, length, replicate, take, Option, Some, None, sym, ap, ◌∙◌, subst, arith, length-append}
-use Rattle.std.specs.Prelude.{if◌then◌else◌, ◌==◌, slice_get, zero, suc}
+use Rattle.std.specs.Prelude.{if◌then◌else◌, slice_get, zero, suc}
 use Rattle.std.proofs.lemmas.List.{drop-replicate, length-replicate, take-replicate}
 use Rattle.std.proofs.lemmas.Option.{slice_get_within}
 use Rattle.cookie_copy.specs.Identity.{IsIdentity}
@@ -9,37 +9,31 @@ use Rattle.cookie_copy.specs.declared.fault.CopyFault.{CopyFault}
 use Rattle.dring.proofs.Turning.{slot_fits}
 use Rattle.dring.specs.Slots.{slot_bytes}
 use Rattle.map_table.specs.declared.table.Entry.{Entry}
-use Rattle.ldc_queue.specs.declared.end.End.TheVariants.{B}
 use Rattle.vdisk_msg.specs.Check.{first_defect}
 use Rattle.vdisk_msg.specs.declared.desc.DescFault.{DescFault}
-use Rattle.vdisk_msg.specs.declared.desc.DescFault.TheVariants.{Operation}
 use Rattle.vdisk_msg.specs.declared.desc.DiskDesc.{DiskDesc}
-use Rattle.vdisk_msg.specs.Pieces.{Finishes, Moves, Piece, Stores, checked_pieces, operation_pieces, pieces, read_pieces, refusal_status, unit_count, write_pieces}
+use Rattle.vdisk_msg.specs.Pieces.{Finishes, Moves, Piece, Stores, checked_pieces, pieces, read_pieces, write_pieces}
 use Rattle.channel_model.specs.TranscriptLog.{TranscriptLog}
-use Rattle.channel_model.specs.WireEvent.{Injected, Joined, Poked, Reset, Sent, Took, WireEvent}
+use Rattle.channel_model.specs.WireEvent.{WireEvent}
 use Rattle.channel_laws.proofs.Apart.{some_same}
 use Rattle.lane_laws.specs.Agreement.{RingAgrees, SlotAgrees}
 use Rattle.lane_laws.specs.DiskLog.{DiskLog, after, nothing_yet}
-use Rattle.lane_laws.specs.RingLog.{Free, SlotLog, Zeros, no_ring}
-use Rattle.lane_laws.specs.WorkLog.{ServerCounts, WorkLog, change_server, moved_rest, opened_counts, rest_of, stored_rest, work_wired}
-use Rattle.disk_model.specs.DiskEvent.{Accepted, Admitted, Asks, Desc, DiskEvent, Finished, Full, Moved, OnWire, Published, Refused, Stopped, Stored, Switches, Works}
+use Rattle.lane_laws.specs.RingLog.{SlotLog, Zeros, no_ring}
+use Rattle.lane_laws.specs.WorkLog.{ServerCounts, WorkLog, change_server, moved_rest, rest_of, stored_rest, work_wired}
+use Rattle.disk_model.specs.DiskEvent.{Accepted, Admitted, Asks, Desc, DiskEvent, Finished, Moved, OnWire, Stopped, Stored, Switches, Works}
 use Rattle.disk_model.specs.LaneState.{IsShape, LaneState, Shape, fresh, pages_of}
 use Rattle.disk_model.specs.LaneStep.{LaneStep}
 use Rattle.lane_laws.proofs.CarriedRuns.{AllStand}
 use Rattle.lane_laws.proofs.RingPages.{few_pages, own_is_identity, same_pages}
 use Rattle.lane_laws.proofs.RingSteps.{event_in_ring}
 use Rattle.lane_laws.proofs.RingWork.{Known}
-use Rattle.lane_laws.proofs.StandingSteps.{wired_keeps}
 use Rattle.lane_laws.specs.RingAgreed.{RingStands, SessionsAgree, ring_in}
 use Rattle.lane_laws.specs.RingSlots.{OwesStatus, RingHolds, RingOf, SlotHolds, StatusStands}
 use Rattle.lane_laws.specs.Standing.{LaneInvariant}
 
 -- A STATUS that is owed has 4 bytes
 rest_status : (owed : List Piece) → OwesStatus owed → OwesStatus (rest_of owed)
-rest_status [] small = tt
-rest_status (Finishes status ∷ rest) small = small.1
-rest_status (Moves unit ∷ rest) small = small
-rest_status (Stores unit ∷ rest) small = small
+rest_status owed small = grind arith
 
 moved_status : (fault : Option CopyFault) (owed : List Piece) → OwesStatus owed → OwesStatus (moved_rest fault owed)
 moved_status None owed small = rest_status owed small
@@ -68,14 +62,8 @@ operation_status true write units = read_status 0 units
 operation_status false true units = write_status 0 units
 operation_status false false units = tt
 
-refused_status : (fault : DescFault) → refusal_status fault < 2 ^ 32
-refused_status Operation = omega arith
-refused_status _ = omega arith
-
 checked_status : (fault : Option DescFault) (desc : DiskDesc) → OwesStatus (checked_pieces fault desc)
-checked_status None desc =
-    end_status (operation_pieces desc.operation (unit_count desc.size)) (operation_status (desc.operation == 1) (desc.operation == 2) (unit_count desc.size))
-checked_status (Some fault) desc = (refused_status fault, tt)
+checked_status fault desc = grind (arith, end_status, operation_status)
 
 pieces_status : (desc : DiskDesc) (blocks mask : ℕ) → OwesStatus (pieces desc blocks mask)
 unfolding pieces
@@ -85,16 +73,8 @@ changed_status : (f : ServerCounts → ServerCounts) (o : Option ServerCounts) �
 changed_status f None keeps stands = tt
 changed_status f (Some c) keeps stands = keeps c stands
 
-opened_status : (b : Bool) (sid : ℕ) (o : Option ServerCounts) → StatusStands o → StatusStands (opened_counts b sid o)
-opened_status true sid o stands = tt
-opened_status false sid o stands = stands
-
 wire_status : (slots : ℕ) (transcript : TranscriptLog) (w : WorkLog) (event : WireEvent) → StatusStands w.server → StatusStands (work_wired slots transcript w event).server
-wire_status slots transcript w (Joined B lost) stands = tt
-wire_status slots transcript w (Reset B cause packet lost) stands = tt
-wire_status slots transcript w (Took B packet opens) stands = opened_status opens _ _ (changed_status _ w.server (λ c small. small) stands)
-wire_status slots transcript w (Sent B packet opens) stands = opened_status opens _ _ (changed_status _ w.server (λ c small. small) stands)
-wire_status slots transcript w _ stands = stands
+wire_status slots transcript w event stands = grind arith
 
 statuses : (l : DiskLog) (event : DiskEvent) → StatusStands l.work.server → StatusStands (after l event).work.server
 statuses l (OnWire event) stands = wire_status l.shape.slots l.transcript l.work event stands
@@ -107,42 +87,21 @@ statuses l (Switches Stopped) stands = tt
 statuses l _ stands = stands
 
 -- THE IDS are below 2^64
-issued_wired : (slots : ℕ) (transcript : TranscriptLog) (w : WorkLog) (event : WireEvent) → length w.issued < 2 ^ 64 → length (work_wired slots transcript w event).issued < 2 ^ 64
-issued_wired slots transcript w event few = omega (arith, ap length (wired_keeps slots transcript w event).issued, few)
-
 issued_asked : (s : LaneState) (l : DiskLog) (event : Admitted) (t : LaneState) → LaneInvariant s l → length l.work.issued < 2 ^ 64 → LaneStep s (Asks event) t
     → length (after l (Asks event)).work.issued < 2 ^ 64
-issued_asked s l (Refused why request) t stands few step = few
-issued_asked s l (Full request) t stands few step = few
-issued_asked s l (Accepted id request) t stands few step = omega (arith, stands.requests.next, step.0.3, length-append l.work.issued (request ∷ []))
+issued_asked s l event t stands few step = grind (arith, length-append)
 
 pub issued_behind : (s : LaneState) (l : DiskLog) (event : DiskEvent) (t : LaneState) → LaneInvariant s l → length l.work.issued < 2 ^ 64 → LaneStep s event t
     → length (after l event).work.issued < 2 ^ 64
-issued_behind s l (OnWire event) t stands few step = issued_wired l.shape.slots l.transcript l.work event few
-issued_behind s l (Asks event) t stands few step = issued_asked s l event t stands few step
-issued_behind s l (Works (Published id)) t stands few step = few
-issued_behind s l (Switches Stopped) t stands few step = few
-issued_behind s l _ t stands few step = few
+issued_behind s l event t stands few step = grind (arith, issued_asked)
 
 -- where nobody forged after an event, nobody had before it
 pub before : (l : DiskLog) (event : DiskEvent) → (after l event).wire.forged ≡ false → l.wire.forged ≡ false
-before l (OnWire (Injected e packet)) not = absurd (cc not)
-before l (OnWire (Poked e at bytes)) not = absurd (cc not)
-before l (Switches Stopped) not = not
-before l _ not = not
+before l event not = grind arith
 
 -- EACH EVENT
 pub known_of : (s : LaneState) (l : DiskLog) → AllStand s l → RingStands s l → SessionsAgree s l → l.wire.forged ≡ false → Known s l
-known_of s l all ring agree not = record {
-  pages = ring.pages;
-  stands = all.stands;
-  memory = all.memory;
-  sound = all.sound;
-  ring = ring.unforged not;
-  unforged = not;
-  statuses = ring.statuses;
-  agree = agree;
-}
+known_of s l all ring agree not = grind arith
 
 pub ring_step : (s : LaneState) (l : DiskLog) (event : DiskEvent) (t : LaneState) → AllStand s l → (l.wire.forged ≡ false → SessionsAgree s l)
     → ((after l event).wire.forged ≡ false → SessionsAgree t (after l event)) → RingStands s l → LaneStep s event t → RingStands t (after l event)
@@ -189,9 +148,7 @@ fresh_ring shape sound = record {
 
 -- WHAT FOLLOWS: the ring is as the log says
 slot_agrees : (r : RingOf) (slot : ℕ) (is : SlotLog) (bytes : List ℕ) → SlotHolds r slot is bytes → SlotAgrees r.issued r.slots slot is bytes
-slot_agrees r slot Zeros bytes holds = holds
-slot_agrees r slot Free bytes holds = holds
-slot_agrees r slot _ bytes holds = record { request = holds.request; accepted = holds.accepted; bytes_are = holds.bytes_are }
+slot_agrees r slot is bytes holds = grind arith
 
 pub ring_agrees : (s : LaneState) (l : DiskLog) → RingStands s l → l.wire.forged ≡ false → RingAgrees s.memory l.shape.slots l.work.issued l.ring
 ring_agrees s l ring not =

@@ -1,7 +1,6 @@
 -- What the open sessions are to the log's counts, where they agree.
-use Rattle.std.proofs.Common.{◌≡◌, ℕ, ◌+◌, ◌%◌, ◌^◌, ◌<◌, ◌≤◌, Option, Some, None, refl, sym, ap, subst, arith}
+use Rattle.std.proofs.Common.{◌≡◌, ℕ, ◌+◌, ◌%◌, ◌^◌, ◌<◌, ◌≤◌, Option, Some, subst, arith}
 use Rattle.ldc_queue.specs.declared.end.ChannelState.TheVariants.{Up}
-use Rattle.channel_laws.proofs.Apart.{none_is_some, some_same}
 use Rattle.lane_laws.specs.Agreement.{ClientAgrees, ClientCountsAgree, ServerAgrees, ServerCountsAgree, WorkAgrees}
 use Rattle.lane_laws.specs.DiskLog.{DiskLog}
 use Rattle.lane_laws.specs.WorkLaws.{IfServer}
@@ -11,7 +10,6 @@ use Rattle.disk_model.specs.LaneState.{LaneState}
 use Rattle.disk_model.specs.ServerState.{ServerSession, Work}
 use Rattle.lane_laws.proofs.SlotBytes.{Sizes}
 use Rattle.lane_laws.specs.RingAgreed.{OneRing, PagesStand, SessionsAgree, ring_in}
-use Rattle.lane_laws.specs.Sound.{CountsInOrder}
 
 -- THE CLIENT'S
 pub record OfClient (c : ClientSession) (done : ℕ) (q : Option ClientCounts) : Type 0 where
@@ -20,9 +18,7 @@ pub record OfClient (c : ClientSession) (done : ℕ) (q : Option ClientCounts) :
   pub agree : ClientCountsAgree c done counts
 
 of_client_if : (o : Option ClientSession) (done : ℕ) (q : Option ClientCounts) (c : ClientSession) → o ≡ Some c → ClientAgrees o done q → OfClient c done q
-of_client_if None done q c is agree = none_is_some is
-of_client_if (Some x) done None c is agree = absurd agree
-of_client_if (Some x) done (Some k) c is agree = let same : x ≡ c = some_same is in record { counts = k; open_is = refl; agree = subst (λ (y : ClientSession). ClientCountsAgree y done k) same agree }
+of_client_if o done q c is agree = grind arith
 
 pub of_client : (s : LaneState) (l : DiskLog) (c : ClientSession) → s.client.session ≡ Some c → SessionsAgree s l → OfClient c l.work.done l.work.client
 of_client s l c is agree = of_client_if s.client.session l.work.done l.work.client c is agree.client
@@ -32,20 +28,6 @@ pub record RingTurn (k : ClientCounts) (done slots : ℕ) : Type 0 where
   pub based : k.base ≤ done
   pub turn : k.base + k.published ≤ done + slots
 
-pub turn_of : (o : Option ClientSession) (done pending slots : ℕ) (q : Option ClientCounts) (k : ClientCounts) → q ≡ Some k → ClientAgrees o done q → CountsInOrder pending o → pending ≤ slots
-    → RingTurn k done slots
-turn_of None done pending slots None k is agree order few = none_is_some is
-turn_of None done pending slots (Some x) k is agree order few = absurd agree
-turn_of (Some c) done pending slots None k is agree order few = none_is_some is
-turn_of (Some c) done pending slots (Some x) k is agree order few =
-    let same : x ≡ k = some_same is in
-    let base : k.base ≡ x.base = ap (λ (y : ClientCounts). y.base) (sym same) in
-    let published : k.published ≡ x.published = ap (λ (y : ClientCounts). y.published) (sym same) in
-    let completed = agree.completed in
-    let counted = agree.published in
-    let most = order.published in
-    record { based = omega (arith, base, completed); turn = omega (arith, base, published, completed, counted, most, few) }
-
 -- THE SERVER'S
 pub record OfServer (v : ServerSession) (w : Option Work) (q : Option ServerCounts) : Type 0 where
   pub counts : ServerCounts
@@ -54,10 +36,7 @@ pub record OfServer (v : ServerSession) (w : Option Work) (q : Option ServerCoun
   pub work : WorkAgrees w counts
 
 of_server_if : (o : Option ServerSession) (w : Option Work) (q : Option ServerCounts) (v : ServerSession) → o ≡ Some v → ServerAgrees o w q → OfServer v w q
-of_server_if None w q v is agree = none_is_some is
-of_server_if (Some x) w None v is agree = absurd agree
-of_server_if (Some x) w (Some d) v is agree =
-    let same : x ≡ v = some_same is in record { counts = d; open_is = refl; agree = subst (λ (y : ServerSession). ServerCountsAgree y d) same agree.0; work = agree.1 }
+of_server_if o w q v is agree = grind arith
 
 pub of_server : (s : LaneState) (l : DiskLog) (v : ServerSession) → s.server.session ≡ Some v → SessionsAgree s l → OfServer v s.server.work l.work.server
 of_server s l v is agree = of_server_if s.server.session s.server.work l.work.server v is agree.server

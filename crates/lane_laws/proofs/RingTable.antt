@@ -1,14 +1,12 @@
 -- One slot of the ring's table and of its memory changes, and all others stay; the id in a slot is the one whose number stands there.
-use Rattle.std.proofs.Common.{◌≡◌, ◌≢◌, ℕ, ◌+◌, ◌-◌, ◌%◌, ◌<◌, ◌≤◌, ◌⊎◌, List, [], ◌∷◌, ◌++◌, length, set, refl, sym, ap, ◌∙◌, subst, arith, Option, Some, None, inl, inr}
+use Rattle.std.proofs.Common.{◌≡◌, ◌≢◌, ℕ, ◌+◌, ◌-◌, ◌%◌, ◌<◌, ◌≤◌, ◌⊎◌, List, [], ◌∷◌, ◌++◌, length, set, refl, sym, ap, ◌∙◌, subst, arith, Option, Some, None}
 use Rattle.std.specs.Prelude.{slice_get, slice_index, zero, suc, replicate}
-use Rattle.std.proofs.lemmas.Bool.{cases_lt}
 use Rattle.std.proofs.lemmas.List.{length-set}
 use Rattle.std.proofs.lemmas.Option.{slice_get_within}
 use Rattle.dring.proofs.Turning.{one_turn}
 use Rattle.dring.specs.Slots.{OneSlot, free_state, slot_bytes}
 use Rattle.vdisk_msg.specs.declared.request.Request.{Request}
-use Rattle.channel_laws.proofs.Apart.{some_same}
-use Rattle.lane_laws.specs.RingLog.{Accepted, Done, Free, Ready, SlotLog, Zeros}
+use Rattle.lane_laws.specs.RingLog.{Free, SlotLog}
 use Rattle.lane_laws.specs.WorkLog.{ClientCounts, ServerCounts}
 use Rattle.lane_laws.proofs.SlotBytes.{more_holds}
 use Rattle.lane_laws.specs.RingSlots.{IdStands, IdsStand, InWork, RingHolds, RingOf, SameSlots, SlotHolds, SlotStands, WorkStands}
@@ -27,14 +25,7 @@ got_other (x ∷ ring) (suc k) zero e other = refl
 got_other (x ∷ ring) (suc k) (suc j) e other = got_other ring k j e (λ same. other (ap suc same))
 
 pub same_or_other : (a b : ℕ) → (a ≡ b) ⊎ (a ≢ b)
-same_or_other a b =
-    elim (cases_lt a b) [
-      | inl less ↦ inr (λ same. absurd (omega (arith, less, same)))
-      | inr past ↦ elim (cases_lt b a) [
-        | inl more ↦ inr (λ same. absurd (omega (arith, more, same)))
-        | inr equal ↦ inl (omega (arith, past, equal))
-      ]
-    ]
+same_or_other a b = grind arith
 
 pub some_entry : (ring : List SlotLog) (k : ℕ) → k < length ring → (is : SlotLog) × (slice_get ring k ≡ Some is)
 some_entry [] k below = absurd (omega (arith, below))
@@ -45,12 +36,7 @@ some_entry (x ∷ ring) (suc k) below = some_entry ring k (omega (arith, below))
 each_if : (P : ℕ → SlotLog → Type 0) (ring : List SlotLog) (k : ℕ) (e : SlotLog) → k < length ring
     → ((j : ℕ) (is : SlotLog) → j ≢ k → slice_get ring j ≡ Some is → P j is) → P k e
     → (j : ℕ) (is : SlotLog) → slice_get (set ring k e) j ≡ Some is → (j ≡ k) ⊎ (j ≢ k) → P j is
-each_if P ring k e below others here j is got (inl same) =
-    let at_k : slice_get (set ring k e) k ≡ Some is = subst (λ (i : ℕ). slice_get (set ring k e) i ≡ Some is) same got in
-    let both : Some e ≡ Some is = sym (got_same ring k e below) ∙ at_k in
-    let entry : e ≡ is = some_same both in
-    subst (λ (i : ℕ). P i is) (sym same) (subst (P k) entry here)
-each_if P ring k e below others here j is got (inr other) = others j is other (sym (got_other ring k j e other) ∙ got)
+each_if P ring k e below others here j is got is_holds = grind (arith, got_same, got_other)
 
 pub each_set : (P : ℕ → SlotLog → Type 0) (ring : List SlotLog) (k : ℕ) (e : SlotLog) → k < length ring
     → ((j : ℕ) (is : SlotLog) → j ≢ k → slice_get ring j ≡ Some is → P j is) → P k e
@@ -82,11 +68,7 @@ same_holds r ring memory new holds same =
     }
 
 more_slot : (r : RingOf) (request : Request) (slot : ℕ) (is : SlotLog) (bytes : List ℕ) → SlotHolds r slot is bytes → SlotHolds (record r { issued = r.issued ++ request ∷ [] }) slot is bytes
-more_slot r request slot Zeros bytes holds = holds
-more_slot r request slot Free bytes holds = holds
-more_slot r request slot (Ready id) bytes holds = more_holds r request slot id 2 0 bytes holds
-more_slot r request slot (Accepted id) bytes holds = more_holds r request slot id 3 0 bytes holds
-more_slot r request slot (Done id status) bytes holds = more_holds r request slot id 4 status bytes holds
+more_slot r request slot is bytes holds = grind (arith, more_holds)
 
 pub more_ring : (r : RingOf) (request : Request) (ring : List SlotLog) (memory : List ℕ) → RingHolds r ring memory → RingHolds (record r { issued = r.issued ++ request ∷ [] }) ring memory
 more_ring r request ring memory holds = record { long = holds.long; each = λ slot is got. more_slot r request slot is (slot_bytes 128 slot memory) (holds.each slot is got) }
@@ -108,12 +90,7 @@ free_count zero = refl
 free_count (suc n) = ap suc (free_count n)
 
 pub free_ring : (r : RingOf) (memory : List ℕ) → ((slot : ℕ) → slot < r.slots → slice_index (slot_bytes 128 slot memory) 0 ≡ free_state) → RingHolds r (replicate r.slots Free) memory
-free_ring r memory free = record {
-  long = free_count r.slots;
-  each = λ slot is got.
-      let within : slot < r.slots = omega (arith, slice_get_within (replicate r.slots Free) slot is got, free_count r.slots) in
-      subst (λ (e : SlotLog). SlotHolds r slot e (slot_bytes 128 slot memory)) (sym (free_entry r.slots slot is got)) (free slot within);
-}
+free_ring r memory free = grind (arith, free_count, slice_get_within, free_entry)
 
 pub free_ids : (slots done : ℕ) (o : Option ClientCounts) → IdsStand slots done (replicate slots Free) o
 free_ids slots done None = tt
@@ -122,46 +99,22 @@ free_ids slots done (Some c) = λ slot is got. subst (SlotStands slots done c sl
 -- THE NUMBERS
 id_below : (slots done : ℕ) (c : ClientCounts) (slot id j : ℕ) → IdStands slots done c slot id → done ≤ c.base + j → j < c.published → c.base + c.published ≤ done + slots
     → slot ≡ j % slots → id - c.base ≡ j
-id_below slots done c slot id j stands since below turn is =
-    let based = stands.based in
-    let id_since = stands.since in
-    let id_under = stands.below in
-    let same : (id - c.base) % slots ≡ j % slots = sym stands.slot_is ∙ is in
-    elim (cases_lt (id - c.base) j) [
-      | inl less ↦ one_turn slots (id - c.base) j (omega (arith, less)) (omega (arith, since, below, turn, based, id_since, id_under)) same
-      | inr past ↦ sym (one_turn slots j (id - c.base) (omega (arith, past)) (omega (arith, since, below, turn, based, id_since, id_under)) (sym same))
-    ]
+id_below slots done c slot id j stands since below turn is = grind (arith, one_turn)
 
 -- the id in the slot of a number is that number's
 pub id_is : (slots done : ℕ) (c : ClientCounts) (slot id j : ℕ) → IdStands slots done c slot id → done ≤ c.base + j → j < c.published → c.base + c.published ≤ done + slots
     → slot ≡ j % slots → id ≡ c.base + j
-id_is slots done c slot id j stands since below turn is =
-    let based = stands.based in
-    let id_since = stands.since in
-    omega (arith, id_below slots done c slot id j stands since below turn is, based, id_since)
+id_is slots done c slot id j stands since below turn is = grind (arith, id_below)
 
 -- the next number to publish has a slot in which no id stands
 pub none_next : (slots done : ℕ) (c : ClientCounts) (slot id : ℕ) → IdStands slots done c slot id → c.base + c.published < done + slots → slot ≢ c.published % slots
-none_next slots done c slot id stands turn is =
-    let based = stands.based in
-    let id_since = stands.since in
-    let id_under = stands.below in
-    let same : (id - c.base) % slots ≡ c.published % slots = sym stands.slot_is ∙ is in
-    let equal : id - c.base ≡ c.published =
-    one_turn slots (id - c.base) c.published (omega (arith, based, id_since, id_under)) (omega (arith, turn, based, id_since, id_under)) same in
-    absurd (omega (arith, equal, based, id_since, id_under))
+none_next slots done c slot id stands turn is = grind arith
 
 pub map_stands : (slots done done2 : ℕ) (c c2 : ClientCounts) (slot : ℕ) → ((id : ℕ) → IdStands slots done c slot id → IdStands slots done2 c2 slot id) → (is : SlotLog)
     → SlotStands slots done c slot is → SlotStands slots done2 c2 slot is
-map_stands slots done done2 c c2 slot keeps Zeros stands = tt
-map_stands slots done done2 c c2 slot keeps Free stands = tt
-map_stands slots done done2 c c2 slot keeps (Ready id) stands = keeps id stands
-map_stands slots done done2 c c2 slot keeps (Accepted id) stands = keeps id stands
-map_stands slots done done2 c c2 slot keeps (Done id status) stands = keeps id stands
+map_stands slots done done2 c c2 slot keeps is stands = grind arith
 
 -- WORK in another slot than one that changes
 pub work_beside : (r : RingOf) (ring : List SlotLog) (d : ServerCounts) (k : ℕ) (e : SlotLog) → d.finished % r.slots ≢ k → (d.descs ≡ d.finished + 1 → InWork r ring d)
     → d.descs ≡ d.finished + 1 → InWork r (set ring k e) d
-work_beside r ring d k e other stands one =
-    let work = stands one in
-    record { id = work.id; stands = got_other ring k (d.finished % r.slots) e other ∙ work.stands; fetched = work.fetched }
+work_beside r ring d k e other stands one = grind (arith, got_other)

@@ -1,5 +1,5 @@
 -- What the wire's events do to the ring: nothing, but that it is cleared as the client's session opens.
-use Rattle.std.proofs.Common.{◌≡◌, ℕ, ◌%◌, Bool, true, false, List, Option, Some, None, refl, sym, ap, ◌∙◌, subst, arith}
+use Rattle.std.proofs.Common.{◌≡◌, ℕ, ◌%◌, Bool, true, false, List, Option, Some, None, refl, sym, ap, ◌∙◌, arith}
 use Rattle.std.specs.Prelude.{if◌then◌else◌, slice_index, replicate}
 use Rattle.dring.specs.Slots.{free_slots, slot_bytes}
 use Rattle.ldc_queue.specs.declared.end.ChannelState.TheVariants.{Up}
@@ -7,10 +7,9 @@ use Rattle.ldc_queue.specs.declared.end.End.{End}
 use Rattle.ldc_queue.specs.declared.end.End.TheVariants.{A, B}
 use Rattle.vio_bytes.specs.Place.{put_at}
 use Rattle.vio_tag.specs.declared.cause.Cause.{Cause}
-use Rattle.channel_model.specs.WireEvent.{Blocked, Idle, Injected, Joined, Reset, Sent, Took, WireEvent}
+use Rattle.channel_model.specs.WireEvent.{Sent, WireEvent}
 use Rattle.lane_laws.specs.DiskLog.{DiskLog, after}
 use Rattle.lane_laws.specs.RingLog.{Free}
-use Rattle.lane_laws.specs.WorkLaws.{IfServer}
 use Rattle.lane_laws.specs.WorkLog.{ClientCounts, ServerCounts}
 use Rattle.disk_model.specs.ClientRule.{client_rule}
 use Rattle.disk_model.specs.ClientState.{ClientState}
@@ -34,7 +33,7 @@ use Rattle.lane_laws.proofs.RingWork.{Known, at_work, numbered}
 use Rattle.lane_laws.proofs.StandingRuns.{slots_is as slots_are}
 use Rattle.lane_laws.proofs.RingWrites.{equal_slots}
 use Rattle.lane_laws.proofs.Ruling.{client_may, server_may}
-use Rattle.lane_laws.specs.RingAgreed.{InRing, OneRing, SessionsAgree, ring_in}
+use Rattle.lane_laws.specs.RingAgreed.{InRing, SessionsAgree, ring_in}
 use Rattle.lane_laws.specs.RingSlots.{WorkStands}
 use Rattle.lane_laws.specs.RuleFacts.{ServerMay}
 
@@ -61,14 +60,7 @@ published_of (Some c) = c.published
 
 none_in_work : (s t : LaneState) (l : DiskLog) (packet : List ℕ) → SessionsAgree t (after l (OnWire (Sent A packet true))) → (q : Option ServerCounts) → l.work.server ≡ q
     → l.wire.wire.end_b ≡ Up → WorkStands (ring_in l) (replicate l.shape.slots Free) q
-none_in_work s t l packet agree None is up = tt
-none_in_work s t l packet agree (Some d) is up =
-    let one : OneRing t (after l (OnWire (Sent A packet true))).work d =
-    subst (λ (q : Option ServerCounts). IfServer q (OneRing t (after l (OnWire (Sent A packet true))).work)) is (agree.ring up) in
-    let nothing : 0 ≡ one.client.published = ap published_of one.open_is in
-    let descs = one.descs in
-    let asked = one.asked in
-    λ single. absurd (omega (arith, nothing, descs, asked, single))
+none_in_work s t l packet agree q is up = grind arith
 
 opened_in_ring : (s : LaneState) (l : DiskLog) (packet : List ℕ) (t : LaneState) → Known s l → SessionsAgree t (after l (OnWire (Sent A packet true)))
     → ClientSends s.client (seen A s.shape.entries s.wire.wire) s.memory packet true t.client t.memory → InRing t (after l (OnWire (Sent A packet true)))
@@ -100,31 +92,15 @@ fails_same _ s l v w cause new known up session working fails = absurd fails
 
 rule_same : (rule : server_rules.ServerRule) (s : LaneState) (l : DiskLog) (cause : Cause) (packet : Option (List ℕ)) (new : List ℕ) → Known s l
     → ServerMay s.server (seen B s.shape.entries s.wire.wire) rule → ServerFails rule s.server (reach s (seen B s.shape.entries s.wire.wire).both) cause packet new → new ≡ s.memory
-rule_same (server_rules.Takes bytes) s l cause packet new known may fails = fails.2
-rule_same (server_rules.Fetches session) s l cause packet new known may fails = fails.2
-rule_same (server_rules.Serves session work) s l cause packet new known may fails = fails_same work.progress s l session work cause new known may.0 may.1 may.2 fails.1
-rule_same _ s l cause packet new known may fails = absurd fails
+rule_same rule s l cause packet new known may fails = grind (arith, fails_same)
 
 -- EACH EVENT that opens no session of the client leaves the memory
 client_same : (s : LaneState) (event : WireEvent) (t : ClientState) (new : List ℕ) → OpensNot event → ClientStep s.client (at_client s) s.memory (OnWire event) t new → new ≡ s.memory
-client_same s (Joined A lost) t new not step = step.3
-client_same s (Took A packet opens) t new not step = step.3
-client_same s (Sent A packet false) t new not step = (sent_clears s packet false t new step).is
-client_same s (Sent A packet true) t new not step = absurd (cc not)
-client_same s (Blocked A) t new not step = step.2
-client_same s (Idle A) t new not step = step.2
-client_same s (Reset A cause packet lost) t new not step = step.3
-client_same s _ t new not step = absurd step
+client_same s event t new not step = grind arith
 
 server_same : (s : LaneState) (l : DiskLog) (event : WireEvent) (gave : List ℕ) (t : ServerState) (new : List ℕ) → Known s l
     → ServerStep s.server (at_server s) (reach_of s) gave (OnWire event) t new → new ≡ s.memory
-server_same s l (Joined B lost) gave t new known step = step.3
-server_same s l (Took B packet opens) gave t new known step = step.2
-server_same s l (Sent B packet opens) gave t new known step = step.1
-server_same s l (Blocked B) gave t new known step = step.2
-server_same s l (Idle B) gave t new known step = step.2
-server_same s l (Reset B cause packet lost) gave t new known step = rule_same (server_rules.server_rule s.server (at_server s)) s l cause packet new known (server_may s.server (at_server s)) step.0
-server_same s l _ gave t new known step = absurd step
+server_same s l event gave t new known step = grind (arith, rule_same, server_may)
 
 pub wire_same : (s : LaneState) (l : DiskLog) (event : WireEvent) (t : LaneState) → OpensNot event → Known s l → WireStep s event t → (after l (OnWire event)).wire.forged ≡ false
     → t.memory ≡ s.memory
@@ -147,14 +123,6 @@ sent_in_ring s l A packet true t known agree step unforged = opened_in_ring s l 
 sent_in_ring s l A packet false t known agree step unforged = quiet_in_ring s l (Sent A packet false) t refl known step unforged
 sent_in_ring s l B packet opens t known agree step unforged = quiet_in_ring s l (Sent B packet opens) t tt known step unforged
 
-took_in_ring : (s : LaneState) (l : DiskLog) (e : End) (packet : List ℕ) (opens : Bool) (t : LaneState) → Known s l → WireStep s (Took e packet opens) t
-    → (after l (OnWire (Took e packet opens))).wire.forged ≡ false → InRing t (after l (OnWire (Took e packet opens)))
-took_in_ring s l A packet opens t known step unforged = quiet_in_ring s l (Took A packet opens) t step.step.2 known step unforged
-took_in_ring s l B packet opens t known step unforged = quiet_in_ring s l (Took B packet opens) t tt known step unforged
-
 pub wire_in_ring : (s : LaneState) (l : DiskLog) (event : WireEvent) (t : LaneState) → Known s l → SessionsAgree t (after l (OnWire event)) → WireStep s event t
     → (after l (OnWire event)).wire.forged ≡ false → InRing t (after l (OnWire event))
-wire_in_ring s l (Sent e packet opens) t known agree step unforged = sent_in_ring s l e packet opens t known agree step unforged
-wire_in_ring s l (Took e packet opens) t known agree step unforged = took_in_ring s l e packet opens t known step unforged
-wire_in_ring s l (Injected e packet) t known agree step unforged = absurd (cc unforged)
-wire_in_ring s l event t known agree step unforged = quiet_in_ring s l event t tt known step unforged
+wire_in_ring s l event t known agree step unforged = grind (arith, sent_in_ring, quiet_in_ring)

@@ -1,12 +1,11 @@
 -- What the writes of the two ends do to the slots of the ring: the client's own, and the server's through the ring's cookies and those of
 -- a request's buffer, over a table that grants each page of the memory at its own index.
 use Rattle.std.proofs.Common.{◌≡◌, ℕ, ◌+◌, ◌*◌, ◌%◌, ◌<◌, ◌≤◌, List, length, take, drop, Bool, true, refl, sym, ap, ◌∙◌, subst, arith, Option, Some, None, inl}
-use Rattle.std.proofs.lemmas.Bool.Decides.{nat_tests}
 use Rattle.std.specs.List.{list_all}
 use Rattle.cookie_copy.proofs.OwnPages.{copied_in_range, copied_out_range, no_fault_range, own_moved_in, own_moved_out}
 use Rattle.cookie_copy.specs.declared.fault.Access.TheVariants as access
 use Rattle.cookie_copy.specs.declared.fault.CopyFault.{CopyFault}
-use Rattle.cookie_copy.specs.Faults.{first_copy_fault, held, is_aligned, is_aligned_cookie, is_even_word}
+use Rattle.cookie_copy.specs.Faults.{first_copy_fault, held, is_aligned, is_aligned_cookie}
 use Rattle.cookie_copy.specs.Identity.{IsIdentity, copied_in, copied_out}
 use Rattle.cookie_copy.specs.Moved.{moved_out}
 use Rattle.dring.proofs.Turning.{slot_fits}
@@ -28,16 +27,10 @@ pub equal_slots : (slots : ℕ) (memory new : List ℕ) → new ≡ memory → S
 equal_slots slots memory new is = record { long = ap length is; each = λ slot below. ap (slot_bytes 128 slot) is }
 
 pub one_after_same : (slots k : ℕ) (memory middle new : List ℕ) → SameSlots slots memory middle → OneSlot 128 slots k middle new → OneSlot 128 slots k memory new
-one_after_same slots k memory middle new same one = record {
-  long = one.long ∙ same.long;
-  others = λ i below other. one.others i below other ∙ same.each i below;
-}
+one_after_same slots k memory middle new same one = grind arith
 
 pub one_after_one : (slots k : ℕ) (memory middle new : List ℕ) → OneSlot 128 slots k memory middle → OneSlot 128 slots k middle new → OneSlot 128 slots k memory new
-one_after_one slots k memory middle new first second = record {
-  long = second.long ∙ first.long;
-  others = λ i below other. second.others i below other ∙ first.others i below other;
-}
+one_after_one slots k memory middle new first second = grind arith
 
 -- BEHIND THE RING a write leaves all slots
 pub behind_ring : (slots at : ℕ) (piece memory : List ℕ) → 128 * slots ≤ at → at + length piece ≤ length memory → SameSlots slots memory (put_at at piece memory)
@@ -80,10 +73,7 @@ ring_fetched s r pages slots slot identity cookies below room fault =
 
 -- no such write is refused while both ends are up
 even_aligned : (slot at : ℕ) (cookies : List Cookie) → at % 8 ≡ 0 → list_all is_aligned_cookie cookies ≡ true → is_aligned cookies (128 * slot + at) 8 ≡ true
-even_aligned slot at cookies even aligned =
-    let whole : (128 * slot + at) % 8 ≡ 0 = omega (arith, even) in
-    let here : is_even_word (128 * slot + at) ≡ true = grind (arith, nat_tests) in
-    rw (here, aligned) refl
+even_aligned slot at cookies even aligned = grind arith
 
 pub ring_word_answered : (s : ServerState) (r : Reach) (pages slots slot at : ℕ) → r.both ≡ true → IsIdentity r.table pages → slots_cookies s ≡ own_cookies slots → slot < slots
     → at + 8 ≤ 128 → at % 8 ≡ 0 → ring_pages slots ≤ pages → word_fault s r slot at ≡ None

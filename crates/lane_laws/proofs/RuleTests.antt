@@ -1,27 +1,24 @@
 -- WHICH RULE IS AN END'S NEXT STEP: all that was tested on the way to it, by one walk down each end's rules.
-use Rattle.std.proofs.Common.{◌≡◌, ◌≢◌, ℕ, ◌-◌, ◌<◌, ◌⊎◌, Bool, true, false, Option, Some, None, List, inl, inr, refl, sym, ap, ◌∙◌, subst}
-use Rattle.std.specs.Prelude.{◌&&◌, ◌||◌, ◌==◌, if◌then◌else◌, is_none, is_some, nat_lt, slice_get}
-use Rattle.std.proofs.lemmas.Bool.{eqb-true, ltb-true}
-use Rattle.channel_laws.proofs.Apart.{none_is_some, some_same, true_is_false}
+use Rattle.std.proofs.Common.{◌≡◌, ◌≢◌, ℕ, ◌-◌, ◌<◌, ◌⊎◌, Bool, true, false, Option, Some, None, List, inl, inr, refl, sym, ◌∙◌, subst, arith}
+use Rattle.std.specs.Prelude.{◌==◌, if◌then◌else◌, is_some, nat_lt, slice_get}
+use Rattle.std.proofs.lemmas.Bool.{ltb-true}
+use Rattle.channel_laws.proofs.Apart.{none_is_some, some_same}
 use Rattle.channel_model.specs.Seeing.{Seen}
 use Rattle.cookie_copy.specs.Faults.{is_up}
 use Rattle.disk_model.specs.ClientRule as client
 use Rattle.disk_model.specs.ClientState.{ClientSession, ClientState}
 use Rattle.disk_model.specs.ServerRule as server
-use Rattle.disk_model.specs.ServerState.{ServerSession, ServerState, SlotRange, Work}
+use Rattle.disk_model.specs.ServerState.{ServerSession, ServerState, SlotRange}
 use Rattle.ldc_link.specs.declared.phase.LinkPhase.{LinkPhase}
-use Rattle.ldc_link.specs.declared.phase.LinkPhase.TheVariants as phase
 use Rattle.ldc_link.specs.LinkState.{LinkState}
-use Rattle.ldc_link.specs.Putting.{owed_in, owes, owes_control, owes_in}
+use Rattle.ldc_link.specs.Putting.{owed_in, owes, owes_in}
 use Rattle.ldc_queue.specs.declared.end.ChannelState.{ChannelState}
-use Rattle.ldc_queue.specs.declared.end.ChannelState.TheVariants.{Down, Resetting, Up}
+use Rattle.ldc_queue.specs.declared.end.ChannelState.TheVariants.{Up}
 use Rattle.vdisk_msg.specs.declared.request.Request.{Request}
 use Rattle.vio_tag.specs.declared.message.Message.{Message}
 
 up_is : (e : ChannelState) → is_up e ≡ true → e ≡ Up
-up_is Up up = refl
-up_is Down up = absurd (cc)
-up_is Resetting up = absurd (cc)
+up_is e up = grind arith
 
 not_up : (e : ChannelState) → is_up e ≡ false → e ≢ Up
 not_up Up down up = absurd (cc)
@@ -29,24 +26,7 @@ not_up _ down up = absurd (cc)
 
 -- a packet of the link's handshake is one that is owed
 pub control_in : (ph : LinkPhase) (k : LinkState) → owes_in ph ≡ true → is_some (owed_in ph k) ≡ true
-control_in phase.OwesVersInfo k is = refl
-control_in phase.OwesRts k is = refl
-control_in phase.OwesRdx k is = refl
-control_in phase.OwesVersAck k is = refl
-control_in (phase.OwesVersNack major) k is = refl
-control_in phase.OwesRtr k is = refl
-control_in _ k is = absurd (cc)
-
-not_owing : (a b c d : Bool) → (a ≡ true → c ≡ true) → c ≡ false → b ≡ false → (a || b || (d && c)) ≡ false
-not_owing true b c d owes free none = true_is_false (sym (owes refl) ∙ free)
-not_owing false false false true owes free none = refl
-not_owing false false false false owes free none = refl
-not_owing false true c d owes free none = absurd (cc)
-not_owing false false true d owes free none = absurd (cc)
-
-not_urgent : (s : ClientState) → owes s.link ≡ false → s.handshake.owed ≡ None → client.is_urgent s ≡ false
-not_urgent s free none =
-    not_owing (owes_control s.link) (is_some s.handshake.owed) (owes s.link) (is_none s.session) (control_in s.link.phase s.link) free (ap is_some none)
+control_in ph k is = grind arith
 
 -- THE CLIENT: all that is acknowledged is completed, and all that is pending published
 abbrev pub CompletedAll : ClientState → Type 0
@@ -107,11 +87,7 @@ session_tested s at None rests is = record { rests = rests; session = λ session
 session_tested s at (Some session) rests is = publishes_tested s at session (slice_get s.pending (session.published - session.completed)) rests is refl
 
 nothing_first : (s : ClientState) (at : Seen) → PutsNow s at → owes s.link ≡ false → s.handshake.owed ≡ None → at.first ≡ None
-nothing_first s at now free none = by now.turn
-  where
-    by : (client.is_urgent s ≡ true) ⊎ (at.first ≡ None) → at.first ≡ None
-    by (inl urgent) = true_is_false (sym urgent ∙ not_urgent s free none)
-    by (inr first) = first
+nothing_first s at now free none = grind arith
 
 says_tested : (s : ClientState) (at : Seen) (owed : Option Message) → PutsNow s at → owes s.link ≡ false → s.handshake.owed ≡ owed → ClientTested s at (client.says s owed)
 says_tested s at None now free is =
@@ -187,24 +163,9 @@ first_served : (s : ServerState) (at : Seen) (first : Option (List ℕ)) → at.
 first_served s at None up free is = (up, free, is)
 first_served s at (Some packet) up free is = (up, free, is)
 
-work_served : (s : ServerState) (at : Seen) (session : ServerSession) (work : Option Work) → at.state ≡ Up → ServesFree s session → s.work ≡ work → ServerTested s at (server.serves session work)
-work_served s at session None up free is = (up, free, is)
-work_served s at session (Some work) up free is = (up, free, is)
-
-range_served : (s : ServerState) (at : Seen) (session : ServerSession) (range : SlotRange) (b : Bool) → at.state ≡ Up → owes s.link ≡ false → s.handshake.owed ≡ None → s.session ≡ Some session
-    → session.range ≡ Some range → (session.finished == session.asked) ≡ b → ServerTested s at (if b then server.Says (server.answer s range) else server.serves session s.work)
-range_served s at session range true up free none is ranged test = (
-  up,
-  free,
-  inr (record { session = session; range = range; owed = none; session_is = is; range_is = ranged; finished = eqb-true session.finished session.asked test; message_is = refl }),
-)
-range_served s at session range false up free none is ranged test = work_served s at session s.work up (record { free = free; owed = none; session_is = is; unfinished = test }) refl
-
 ranges_served : (s : ServerState) (at : Seen) (session : ServerSession) (range : Option SlotRange) → at.state ≡ Up → owes s.link ≡ false → s.handshake.owed ≡ None → s.session ≡ Some session
     → session.range ≡ range → ServerTested s at (server.in_range s session range at)
-ranges_served s at session None up free none is ranged =
-    first_served s at at.first up (record { free = free; owed = none; range = λ other now. subst (λ (x : ServerSession). x.range ≡ None) (some_same (sym is ∙ now)) ranged }) refl
-ranges_served s at session (Some range) up free none is ranged = range_served s at session range (session.finished == session.asked) up free none is ranged refl
+ranges_served s at session range up free none is ranged = grind arith
 
 session_served : (s : ServerState) (at : Seen) (open_one : Option ServerSession) → at.state ≡ Up → owes s.link ≡ false → s.handshake.owed ≡ None → s.session ≡ open_one
     → ServerTested s at (server.in_session s open_one at)

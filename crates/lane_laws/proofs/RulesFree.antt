@@ -1,5 +1,5 @@
 -- What more is known where a rule is an end's next step: that its link holds nothing, that nothing is owed or urgent, and how its range stands.
-use Rattle.std.proofs.Common.{◌≡◌, ℕ, ◌⊎◌, Bool, true, false, Option, Some, None, List, refl, sym, ◌∙◌, inl, inr}
+use Rattle.std.proofs.Common.{◌≡◌, ℕ, ◌⊎◌, Bool, true, false, Option, Some, None, List, refl, arith}
 use Rattle.std.specs.Prelude.{◌&&◌, ◌||◌, is_none, is_some, ⊤}
 use Rattle.ldc_link.specs.Putting.{owes, owes_control}
 use Rattle.vdisk_msg.specs.declared.request.Request.{Request}
@@ -10,8 +10,7 @@ use Rattle.disk_model.specs.ClientState.{ClientSession, ClientState}
 use Rattle.channel_model.specs.Seeing.{Seen}
 use Rattle.disk_model.specs.ServerRule as server
 use Rattle.disk_model.specs.ServerState.{ServerState}
-use Rattle.channel_laws.proofs.Apart.{none_is_some, true_is_false}
-use Rattle.lane_laws.proofs.RuleTests.{AnswersFree, ClientTested, ServerTested, ServesFree, TakesFree, client_test, client_tested, server_tested}
+use Rattle.lane_laws.proofs.RuleTests.{AnswersFree, ServerTested, ServesFree, TakesFree, client_test, server_tested}
 
 -- THE CLIENT publishes only where its link holds nothing, puts a packet where it owes one, and takes one where nothing is urgent
 pub publishes_free : (s : ClientState) (at : Seen) (session : ClientSession) (request : Request) → client.client_rule s at ≡ client.Publishes session request → owes s.link ≡ false
@@ -24,19 +23,8 @@ pub takes_calm : (s : ClientState) (at : Seen) (packet : List ℕ) → client.cl
 takes_calm s at packet rule = (client_test s at (client.Takes packet) rule).2
 
 -- where nothing is urgent, a client puts only where nothing waits for it
-pub urgent_or_none : (s : ClientState) (at : Seen) (rule : client.ClientRule) (held : ClientState) → client_holds rule s ≡ Some held → ClientTested s at rule
-    → (client.is_urgent s ≡ true) ⊎ (at.first ≡ None)
-urgent_or_none s at client.Puts held is test = test.0.turn
-urgent_or_none s at (client.Says message) held is test = test.0.turn
-urgent_or_none s at (client.Announces session) held is test = inr test.0.first
-urgent_or_none s at _ held is test = none_is_some is
-
 pub puts_calm : (s : ClientState) (at : Seen) (held : ClientState) → client_holds (client.client_rule s at) s ≡ Some held → client.is_urgent s ≡ false → at.first ≡ None
-puts_calm s at held is calm = by (urgent_or_none s at (client.client_rule s at) held is (client_tested s at))
-  where
-    by : (client.is_urgent s ≡ true) ⊎ (at.first ≡ None) → at.first ≡ None
-    by (inl urgent) = true_is_false (sym urgent ∙ calm)
-    by (inr none) = none
+puts_calm s at held is calm = grind arith
 
 middle_false : (a b c : Bool) → (a || b || c) ≡ false → b ≡ false
 middle_false true b c is = absurd (cc is)
@@ -61,12 +49,7 @@ ServerFree s (server.Serves session work) = ServesFree s session × (s.work ≡ 
 ServerFree s _ = ⊤
 
 free_by : (s : ServerState) (at : Seen) (rule : server.ServerRule) → ServerTested s at rule → ServerFree s rule
-free_by s at (server.Takes packet) test = test.1
-free_by s at server.Puts test = test.1
-free_by s at (server.Says message) test = (test.1, test.2)
-free_by s at (server.Fetches session) test = (test.1, test.2)
-free_by s at (server.Serves session work) test = (test.1, test.2)
-free_by s at _ test = tt
+free_by s at rule test = grind arith
 
 pub server_free : (s : ServerState) (at : Seen) → ServerFree s (server.server_rule s at)
 server_free s at = free_by s at (server.server_rule s at) (server_tested s at)

@@ -14,12 +14,12 @@ use Rattle.vio_tag.specs.declared.message.MsgBody.TheVariants.{DringData}
 use Rattle.vio_tag.specs.declared.message.TagFault.{TagFault}
 use Rattle.vio_tag.specs.Decoding.{Decodes}
 use Rattle.vio_handshake.specs.declared.handshake.Handshake.{Handshake}
-use Rattle.vio_handshake.specs.Rules.{Faults, Goes, GoesOpen, HandshakeTake, fault_or, handshake_hear, handshake_take, sid_fault}
+use Rattle.vio_handshake.specs.Rules.{Faults, Goes, GoesOpen, HandshakeTake, handshake_take, sid_fault}
 use Rattle.channel_laws.specs.EndStep.{IsOfSession, IsOwn}
 use Rattle.channel_model.specs.EndPuts.{handshake_risen}
 use Rattle.channel_model.specs.Ranges.{is_other}
 use Rattle.disk_model.specs.ServerState.{ServerSession, ServerState, SlotRange, opened_server}
-use Rattle.disk_model.specs.ServerTaking.{GoesOn, HearsLink, HearsWhole, Resets, ServerTake, ServerTakes, asked, by_handshake, hears_message, in_session, place_of, reads, sid_first, takes_info}
+use Rattle.disk_model.specs.ServerTaking.{GoesOn, HearsLink, HearsWhole, Resets, ServerTake, ServerTakes, asked, by_handshake, hears_message, in_session, place_of, reads, takes_info}
 use Rattle.lane_laws.proofs.ClientAnswers.{HandshakesTo, is_the}
 
 abbrev pub opened_or : Bool → Option ServerSession → Option ServerSession
@@ -120,17 +120,9 @@ by_session s message T session Info (DringData seq ident start end state) answer
     by_info s message T session ident (record { seq = seq; start = start; end = end; state = state }) answers is sid kind body
 by_session s message T session _ _ answers is sid kind body = by_take s message T (handshake_take s.handshake message) answers refl
 
-by_sid : (T : ServerTake → Type 0) (fault : Option Cause) (rest : ServerTake) → ((cause : Cause) → fault ≡ Some cause → T (Resets cause)) → (fault ≡ None → T rest) → T (sid_first fault rest)
-by_sid T None rest other same = same refl
-by_sid T (Some cause) rest other same = other cause refl
-
 by_message : (s : ServerState) (message : Message) (T : ServerTake → Type 0) (open_one : Option ServerSession) → Answers s message T → s.session ≡ open_one
     → T (hears_message s open_one message)
-by_message s message T None answers is = by_take s message T (handshake_take s.handshake message) answers refl
-by_message s message T (Some session) answers is =
-    by_sid T (sid_fault s.handshake.sid message.sid) (in_session s session message message.subtype message.body)
-    (λ cause sid. answers.faults cause (ap (λ (f : Option Cause). fault_or f (handshake_hear s.handshake message.subtype message.sid message.body)) sid))
-    (λ sid. by_session s message T session message.subtype message.body answers is sid refl refl)
+by_message s message T open_one answers is = grind (arith, by_take, by_session)
 
 -- A PACKET
 by_decoded : (s : ServerState) (k : LinkState) (T : ServerTake → Type 0) (bytes : List ℕ) (d : Result Message TagFault) → Hearings s k T → k.whole ≡ Some bytes → Decodes bytes d

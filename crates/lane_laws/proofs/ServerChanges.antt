@@ -11,9 +11,7 @@ use Rattle.vdisk_msg.specs.declared.request.Request.TheVariants.{Flush, Read, Wr
 use Rattle.vdisk_msg.specs.Requested.{size_of}
 use Rattle.vio_bytes.specs.Place.{put_at}
 use Rattle.vio_bytes.specs.Range.{range_at}
-use Rattle.channel_model.specs.WireLog.{WireLog}
 use Rattle.lane_laws.specs.DiskLog.{DiskLog}
-use Rattle.disk_model.specs.ClientState.{ClientState}
 use Rattle.disk_model.specs.DiskEvent.{Moved, Works}
 use Rattle.disk_model.specs.LaneState.{LaneState, NearCounts}
 use Rattle.disk_model.specs.LaneStep.{WorkStep, reach}
@@ -30,17 +28,14 @@ use Rattle.lane_laws.proofs.BehindRing.{ring_end}
 use Rattle.lane_laws.proofs.Changes.{Gathered, Given}
 use Rattle.lane_laws.proofs.PlacedViews.{Working, working}
 use Rattle.lane_laws.proofs.Standing.{Before}
-use Rattle.lane_laws.proofs.WireChanges.{Changed, view_is}
+use Rattle.lane_laws.proofs.WireChanges.{Changed}
 use Rattle.lane_laws.proofs.WorkSteps.{unit_within}
 use Rattle.lane_laws.proofs.WorkUnits.{UnitFacts, answered, copied_in, copied_out, unit_facts}
 
 -- THE VIEW after a server's work
 pub server_view : (s t : LaneState) (work : Option Work) (k u : ℕ) (buffers : List ℕ) → t.client ≡ s.client → t.wire ≡ s.wire → s.wire.wire.end_b ≡ Up → t.server.work ≡ work → t.near.k ≡ k
     → t.near.m ≡ s.near.m → t.near.u ≡ u → drop (ring_end s.client.slots) t.memory ≡ buffers → view_of t ≡ record (view_of s) { work = work; k = k; u = u; buffers = buffers }
-server_view s t work k u buffers client wire up work_is k_is m_is u_is buffers_are =
-    view_is (view_of t) s.client.pending s.client.slots s.client.session work k s.near.m u buffers (ap (λ (c : ClientState). c.pending) client) (ap (λ (c : ClientState). c.slots) client)
-    (ap (λ (c : ClientState). c.session) client) (ap (λ (w : WireLog). work_while w.wire.end_b t.server.work) wire ∙ ap (λ (x : ChannelState). work_while x t.server.work) up ∙ work_is) k_is m_is u_is
-    (ap (λ (c : ClientState). drop (ring_end c.slots) t.memory) client ∙ buffers_are)
+server_view s t work k u buffers client wire up work_is k_is m_is u_is buffers_are = search
 
 -- the server serves
 pub record ServesNow (s : LaneState) (l : DiskLog) (work : Work) : Type 0 where

@@ -1,99 +1,54 @@
 -- A packet that a server takes leaves its session counting what it said and heard.
-use Rattle.std.proofs.Common.{◌%◌, ◌≡◌, ℕ, ◌+◌, ◌<◌, inl, inr, Bool, true, false, Option, Some, None, List, [], ◌∷◌, ◌++◌, length, refl, sym, ap, ◌∙◌, subst, arith}
+use Rattle.std.proofs.Common.{◌≡◌, ℕ, ◌+◌, inl, inr, Bool, true, false, Option, Some, None, List, [], ◌∷◌, ◌++◌, length, refl, sym, ap, ◌∙◌, subst, arith}
 use Rattle.std.specs.Prelude.{is_some}
-use Rattle.std.proofs.lemmas.Nat.{mod_below}
 use Rattle.ldc_link.specs.declared.phase.Role.TheVariants.{Responder}
 use Rattle.ldc_link.specs.LinkState.{LinkState, is_up}
-use Rattle.ldc_packet.specs.Spelling.{subtype_code}
 use Rattle.ldc_queue.specs.Transcript.{Heard as Heard_, Turn}
 use Rattle.vio_handshake.specs.declared.handshake.Handshake.{Handshake}
 use Rattle.vio_handshake.specs.declared.handshake.Phase.{Phase}
 use Rattle.vio_handshake.specs.declared.handshake.Phase.TheVariants.{Open}
-use Rattle.channel_model.specs.Sayings.{half_heard, half_said, heard, said}
-use Rattle.lane_laws.specs.Agreement.{ServerAgrees, ServerCountsAgree, WorkAgrees}
-use Rattle.channel_model.specs.Messages.{range_ended, range_in}
-use Rattle.lane_laws.specs.WorkLog.{ServerCounts, change_server, length_in, one_in, opened_counts}
+use Rattle.channel_model.specs.Sayings.{half_heard, half_said, heard}
+use Rattle.lane_laws.specs.Agreement.{ServerAgrees, WorkAgrees}
+use Rattle.channel_model.specs.Messages.{range_ended}
+use Rattle.lane_laws.specs.WorkLog.{ServerCounts, change_server, length_in, opened_counts}
 use Rattle.channel_model.specs.EndPuts.{handshake_risen}
 use Rattle.disk_model.specs.LaneState.{Shape}
 use Rattle.channel_model.specs.Ranges.{wrapped}
-use Rattle.dring.specs.Slots.{range_length}
-use Rattle.disk_model.specs.ServerState.{ServerSession, ServerState, SlotRange, Work, joined_server, restarted_server}
-use Rattle.channel_laws.proofs.Apart.{none_is_some, some_same, true_is_false}
+use Rattle.disk_model.specs.ServerState.{ServerSession, ServerState, Work, joined_server, restarted_server}
+use Rattle.channel_laws.proofs.Apart.{true_is_false}
 use Rattle.channel_laws.specs.Grounds.{has_named}
 use Rattle.lane_laws.proofs.ClientTaken.{HearsMessage}
 use Rattle.channel_laws.proofs.EndStanding.{open_declines, up_empty}
 use Rattle.channel_laws.proofs.HandshakeCases.{HandshakeTook}
 use Rattle.lane_laws.proofs.RangeSums.{count_more, sum_heard, sum_more}
-use Rattle.lane_laws.proofs.RangesSaid.{IsNoData, heard_no_range, heard_one, heard_range, no_data}
+use Rattle.lane_laws.proofs.RangesSaid.{IsNoData, heard_no_range, no_data}
 use Rattle.lane_laws.proofs.RuleTests.{TakesFree}
 use Rattle.lane_laws.proofs.ServerTaken.{ServerAsked, ServerHearsPart, ServerHandshakes, ServerTook, still}
-use Rattle.lane_laws.specs.Budget.{one_range}
-use Rattle.lane_laws.specs.Counted.{NothingAsked, RangeStands, ServerCounted, ServerHolds, ServerOrder, range_count, range_sum}
+use Rattle.lane_laws.specs.Counted.{NothingAsked, ServerCounted, ServerHolds, ServerOrder, range_count, range_sum}
 use Rattle.vio_tag.specs.declared.message.Message.{Message}
 use Rattle.lane_laws.specs.LaneRests.{ServerRests, ServerUtters}
 
 -- IT BEGINS
 pub server_begins_counting : (shape : Shape) (v : ServerState) (turns : List Turn) (d : Option ServerCounts) → ServerCounted shape v turns d → ServerCounted shape (joined_server v) [] None
-server_begins_counting shape v turns d counted = record {
-  slots = counted.slots;
-  blocks = counted.blocks;
-  holds = λ owing some. absurd (omega (arith, some));
-  order = record { asked = refl; answered = refl; infos = refl };
-  unit = tt;
-  agrees = refl;
-}
+server_begins_counting shape v turns d counted = grind arith
 
 pub server_restarts_counting : (shape : Shape) (v : ServerState) (turns : List Turn) (d : Option ServerCounts) → ServerCounted shape v turns d → ServerCounted shape (restarted_server v) [] None
-server_restarts_counting shape v turns d counted = record {
-  slots = counted.slots;
-  blocks = counted.blocks;
-  holds = λ owing some. absurd (omega (arith, some));
-  order = record { asked = refl; answered = refl; infos = refl };
-  unit = tt;
-  agrees = refl;
-}
+server_restarts_counting shape v turns d counted = grind arith
 
 -- THE LOG counts what is heard
 abbrev asks_more : Shape → List Turn → List ℕ → Option ServerCounts → Option ServerCounts
 asks_more shape turns packet d = change_server (λ (c : ServerCounts). record c { asked = c.asked + length_in shape.slots (range_ended 1 (half_heard turns) packet) }) d
 
 -- where no range is heard
-range_same : (slots n : ℕ) (range : Option SlotRange) (c : ServerCounts) → n ≡ 0 → RangeStands slots range c → RangeStands slots range (record c { asked = c.asked + n })
-range_same slots n None c none stands = omega (arith, none, stands)
-range_same slots n (Some range) c none stands = (omega (arith, none, stands.0), stands.1, stands.2, stands.3, stands.4)
-
 order_same : (shape : Shape) (o : Option ServerSession) (d : Option ServerCounts) (turns : List Turn) (packet : List ℕ)
     → range_sum shape.slots 1 (heard (Heard_ packet ∷ turns)) ≡ range_sum shape.slots 1 (heard turns)
     → range_count 1 (heard (Heard_ packet ∷ turns)) ≡ range_count 1 (heard turns) → ServerOrder shape.slots o d turns
     → ServerOrder shape.slots o (asks_more shape turns packet d) (Heard_ packet ∷ turns)
-order_same shape None d turns packet same as_many order = record { asked = same ∙ order.asked; answered = order.answered; infos = as_many ∙ order.infos }
-order_same shape (Some s) None turns packet same as_many order = absurd order
-order_same shape (Some s) (Some c) turns packet same as_many order =
-    let n = length_in shape.slots (range_ended 1 (half_heard turns) packet) in
-    let none : n ≡ 0 = omega (arith, same, sum_heard shape.slots 1 packet turns) in
-    record {
-      asked = omega (arith, order.asked, sum_heard shape.slots 1 packet turns);
-      answered = order.answered;
-      finished = order.finished;
-      descs = omega (arith, order.descs);
-      range = range_same shape.slots n s.range c none order.range;
-      seq = order.seq ∙ ap (λ (x : ℕ). wrapped (x + 1)) (sym as_many);
-      replies = omega (arith, order.replies, as_many);
-    }
-
-work_same : (w : Option Work) (c : ServerCounts) (n : ℕ) → WorkAgrees w c → WorkAgrees w (record c { asked = c.asked + n })
-work_same None c n agrees = agrees
-work_same (Some work) c n agrees = agrees
+order_same shape o d turns packet same as_many order = grind (arith, sum_heard)
 
 agrees_same : (o : Option ServerSession) (w : Option Work) (d : Option ServerCounts) (n : ℕ) → n ≡ 0 → ServerAgrees o w d
     → ServerAgrees o w (change_server (λ (c : ServerCounts). record c { asked = c.asked + n }) d)
-agrees_same None w None n none agrees = agrees
-agrees_same None w (Some c) n none agrees = absurd agrees
-agrees_same (Some s) w None n none agrees = absurd agrees
-agrees_same (Some s) w (Some c) n none agrees = (
-  record { asked = agrees.0.asked ∙ ap wrapped (let more : c.asked ≡ c.asked + n = omega (arith, none) in more); descs = agrees.0.descs; finished = agrees.0.finished; answered = agrees.0.answered },
-  work_same w c n agrees.1,
-)
+agrees_same o w d n none agrees = grind arith
 
 abbrev Behind : Shape → List Turn → List ℕ → ℕ → Option ServerCounts → Bool → ServerState → Type 0
 Behind shape turns packet sid d opens t = ServerCounted shape t (Heard_ packet ∷ turns) (opened_counts opens sid (asks_more shape turns packet d))
@@ -140,9 +95,7 @@ closed None phase opened never = refl
 closed (Some session) phase opened never = absurd (never (opened refl))
 
 pub no_work : (o : Option ServerSession) (w : Option Work) (d : Option ServerCounts) → o ≡ None → ServerAgrees o w d → w ≡ None
-no_work None w None is agrees = agrees
-no_work None w (Some c) is agrees = absurd agrees
-no_work (Some s) w d is agrees = absurd (cc is)
+no_work o w d is agrees = grind arith
 
 nothing_asked : (slots : ℕ) (o : Option ServerSession) (d : Option ServerCounts) (turns : List Turn) → o ≡ None → ServerOrder slots o d turns → NothingAsked slots turns
 nothing_asked slots None d turns is order = order
@@ -156,13 +109,7 @@ opened_work (Some work) sid is = absurd (cc is)
 -- a message of the handshake is no INFO
 no_more_infos : (turns : List Turn) (packet : List ℕ) (message : Message) → (hears : HearsMessage turns packet message) → IsNoData message.body
     → range_count 1 (heard (Heard_ packet ∷ turns)) ≡ range_count 1 (heard turns)
-no_more_infos turns packet message hears apart =
-    omega (
-      arith,
-      ap (range_count 1) hears.messages,
-      count_more 1 (heard turns) hears.bytes,
-      ap one_in (heard_no_range 1 hears.bytes message hears.spells hears.form apart),
-    )
+no_more_infos turns packet message hears apart = grind (arith, count_more)
 
 takes_handshake : (opens : Bool) (shape : Shape) (v t : ServerState) (turns : List Turn) (packet : List ℕ) (sid : ℕ) (d : Option ServerCounts) → ServerRests v turns → TakesFree v
     → ServerCounted shape v turns d → ServerHandshakes v turns packet t opens → Behind shape turns packet sid d opens t
@@ -221,61 +168,6 @@ takes_handshake true shape v t turns packet sid d rests free counted handshakes 
 pub wraps_more : (a b n : ℕ) → a ≡ wrapped b → wrapped (a + n) ≡ wrapped (b + n)
 wraps_more a b n is = omega (arith, is)
 
-record AsksOf (slots : ℕ) (session : ServerSession) (range : SlotRange) (n : ℕ) (added : ℕ) : Type 0 where
-  none : session.range ≡ None
-  adds : added ≡ n
-  length_is : n ≡ range_length slots range.start range.end
-  begins : range.start < slots
-  ends : range.end < slots
-  place : range.start ≡ session.asked % slots
-  next : range.seq ≡ session.seq
-
-asked_order : (slots added n : ℕ) (o : Option ServerSession) (d : Option ServerCounts) (turns behind : List Turn) (session next : ServerSession) (range : SlotRange) → o ≡ Some session
-    → next ≡ record session { asked = wrapped (session.asked + n); seq = wrapped (session.seq + 1); range = Some range } → AsksOf slots session range n added
-    → range_sum slots 1 (heard behind) ≡ range_sum slots 1 (heard turns) + added → range_sum slots 2 (said behind) ≡ range_sum slots 2 (said turns)
-    → range_count 1 (heard behind) ≡ range_count 1 (heard turns) + 1 → range_count 2 (said behind) ≡ range_count 2 (said turns) → (w : Option Work) → ServerAgrees o w d → ServerOrder slots o d turns
-    → ServerOrder slots (Some next) (change_server (λ (c : ServerCounts). record c { asked = c.asked + added }) d) behind
-asked_order slots added n None d turns behind session next range is same asks heard_is said_is one_more same_said w agrees order = none_is_some is
-asked_order slots added n (Some s) None turns behind session next range is same asks heard_is said_is one_more same_said w agrees order = absurd order
-asked_order slots added n (Some s) (Some c) turns behind session next range is same asks heard_is said_is one_more same_said w agrees order =
-    let one : s ≡ session = some_same is in
-    let counts : ServerCountsAgree s c = agrees.0 in
-    let none : s.range ≡ None = ap (λ (x : ServerSession). x.range) one ∙ asks.none in
-    let all : c.answered ≡ c.asked = subst (λ (r : Option SlotRange). RangeStands slots r c) none order.range in
-    record {
-      asked = ap (λ (x : ℕ). x + added) order.asked ∙ sym heard_is;
-      answered = order.answered ∙ sym said_is;
-      finished = order.finished;
-      descs = omega (arith, order.descs);
-      range = subst (λ (r : Option SlotRange). RangeStands slots r (record c { asked = c.asked + added })) (sym (ap (λ (x : ServerSession). x.range) same)) (
-        omega (arith, all, asks.adds, asks.length_is),
-        asks.begins,
-        asks.ends,
-        asks.place ∙ ap (λ (x : ServerSession). x.asked % slots) (sym one) ∙ ap (λ (x : ℕ). x % slots) (counts.asked ∙ ap wrapped (sym all)),
-        omega (arith, asks.next, ap (λ (x : ServerSession). x.seq) one, order.seq),
-      );
-      seq = ap (λ (x : ServerSession). x.seq) same ∙ wraps_more session.seq (range_count 1 (heard turns) + 1) 1 (ap (λ (x : ServerSession). x.seq) (sym one) ∙ order.seq)
-          ∙ ap (λ (x : ℕ). wrapped (x + 1)) (sym one_more);
-      replies = omega (arith, order.replies, one_more, same_said, ap one_range none, ap (λ (x : ServerSession). one_range x.range) same);
-    }
-
-asked_agrees : (o : Option ServerSession) (w : Option Work) (d : Option ServerCounts) (session next : ServerSession) (range : SlotRange) (n added : ℕ) → o ≡ Some session
-    → next ≡ record session { asked = wrapped (session.asked + n); seq = wrapped (session.seq + 1); range = Some range } → added ≡ n → ServerAgrees o w d
-    → ServerAgrees (Some next) w (change_server (λ (c : ServerCounts). record c { asked = c.asked + added }) d)
-asked_agrees None w d session next range n added is same adds agrees = none_is_some is
-asked_agrees (Some s) w None session next range n added is same adds agrees = absurd agrees
-asked_agrees (Some s) w (Some c) session next range n added is same adds agrees =
-    let one : s ≡ session = some_same is in (
-      record {
-        asked = ap (λ (x : ServerSession). x.asked) same ∙ wraps_more session.asked c.asked n (ap (λ (x : ServerSession). x.asked) (sym one) ∙ agrees.0.asked)
-            ∙ ap (λ (x : ℕ). wrapped (c.asked + x)) (sym adds);
-        descs = ap (λ (x : ServerSession). x.descs) same ∙ ap (λ (x : ServerSession). x.descs) (sym one) ∙ agrees.0.descs;
-        finished = ap (λ (x : ServerSession). x.finished) same ∙ ap (λ (x : ServerSession). x.finished) (sym one) ∙ agrees.0.finished;
-        answered = ap (λ (x : ServerSession). x.answered) same ∙ ap (λ (x : ServerSession). x.answered) (sym one) ∙ agrees.0.answered;
-      },
-      work_same w c added agrees.1,
-    )
-
 -- in session the server's ring has as many slots as the lane's
 pub own_slots : (shape : Shape) (v : ServerState) (turns : List Turn) (d : Option ServerCounts) → ServerRests v turns → is_some v.session ≡ true → ServerCounted shape v turns d
     → v.handshake.draft.peer_slots ≡ shape.slots
@@ -284,40 +176,7 @@ own_slots shape v turns d rests now counted =
 
 takes_ask : (shape : Shape) (v t : ServerState) (turns : List Turn) (packet : List ℕ) (sid : ℕ) (d : Option ServerCounts) (opens : Bool) → ServerRests v turns → TakesFree v
     → ServerCounted shape v turns d → ServerAsked v turns packet t opens → Behind shape turns packet sid d opens t
-takes_ask shape v t turns packet sid d opens rests free counted asks =
-    let bytes = asks.hears.bytes in
-    let session = asks.info.session in
-    let n = range_length v.handshake.draft.peer_slots asks.info.range.start asks.info.range.end in
-    let added = length_in shape.slots (range_ended 1 (half_heard turns) packet) in
-    let empty : v.link.to_send ≡ [] = up_empty v.link asks.up free.free in
-    let own : v.handshake.draft.peer_slots ≡ shape.slots = own_slots shape v turns d rests (ap is_some asks.info.session_is) counted in
-    let length_is : n ≡ range_length shape.slots asks.info.range.start asks.info.range.end = ap (λ (x : ℕ). range_length x asks.info.range.start asks.info.range.end) own in
-    let message : length_in shape.slots (range_in 1 (Some bytes)) ≡ range_length shape.slots asks.info.range.start asks.info.range.end =
-    heard_range shape.slots 1 bytes asks.message asks.info.range.seq asks.info.ident asks.info.range.start asks.info.range.end asks.info.range.state asks.hears.spells (ap subtype_code asks.info.subtype_is) asks.info.body_is in
-    let adds : added ≡ n =
-    omega (arith, sum_heard shape.slots 1 packet turns, ap (range_sum shape.slots 1) asks.hears.messages, sum_more shape.slots 1 (heard turns) bytes, message, length_is) in
-    let ends : asks.info.range.end < shape.slots = omega (arith, asks.info.ends, own) in
-    let begins : asks.info.range.start < shape.slots =
-    omega (arith, asks.info.begins, mod_below session.asked v.handshake.draft.peer_slots (omega (arith, asks.info.ends)), own) in
-    let asks_of : AsksOf shape.slots session asks.info.range n added =
-    record { none = free.range session asks.info.session_is; adds = adds; length_is = length_is; begins = begins; ends = ends; place = asks.info.begins ∙ ap (λ (x : ℕ). session.asked % x) own; next = asks.info.next } in
-    let next : ServerSession = record session { asked = wrapped (session.asked + n); seq = wrapped (session.seq + 1); range = Some asks.info.range } in
-    let one_more : range_count 1 (heard (Heard_ packet ∷ turns)) ≡ range_count 1 (heard turns) + 1 =
-    omega (
-      arith,
-      ap (range_count 1) asks.hears.messages,
-      count_more 1 (heard turns) bytes,
-      heard_one 1 bytes asks.message asks.info.range.seq asks.info.ident asks.info.range.start asks.info.range.end asks.info.range.state asks.hears.spells (ap subtype_code asks.info.subtype_is) asks.info.body_is,
-    ) in
-    subst (λ (b : Bool). Behind shape turns packet sid d b t) (sym asks.opens_is)
-    (subst (Behind shape turns packet sid d false) (sym asks.is) (record {
-      slots = counted.slots;
-      blocks = counted.blocks;
-      holds = λ owing some. absurd (omega (arith, some, ap length asks.left, ap length empty));
-      order = asked_order shape.slots added n v.session d turns (Heard_ packet ∷ turns) session next asks.info.range asks.info.session_is refl asks_of (sum_heard shape.slots 1 packet turns) refl one_more refl v.work counted.agrees counted.order;
-      unit = counted.unit;
-      agrees = asked_agrees v.session v.work d session next asks.info.range n added asks.info.session_is refl adds counted.agrees;
-    }))
+takes_ask shape v t turns packet sid d opens rests free counted asks = grind (arith, sum_heard, sum_more, count_more)
 
 pub server_takes_counting : (shape : Shape) (v t : ServerState) (turns : List Turn) (packet : List ℕ) (sid : ℕ) (d : Option ServerCounts) (opens : Bool) → ServerRests v turns → ServerUtters v turns
     → TakesFree v → ServerCounted shape v turns d → ServerTook v turns packet t opens
@@ -328,7 +187,4 @@ server_takes_counting shape v t turns packet sid d opens rests utters free count
 
 -- its session opens where it had none
 pub opens_new : (v t : ServerState) (turns : List Turn) (packet : List ℕ) → ServerRests v turns → ServerTook v turns packet t true → v.session ≡ None
-opens_new v t turns packet rests (inl part) = true_is_false (part.opens_is)
-opens_new v t turns packet rests (inr (inl handshakes)) =
-    closed v.session v.handshake.phase rests.opened (λ (now : v.handshake.phase ≡ Open). opens_closed v.handshake handshakes.handshake handshakes.message now handshakes.took)
-opens_new v t turns packet rests (inr (inr asks)) = true_is_false (asks.opens_is)
+opens_new v t turns packet rests took = grind arith

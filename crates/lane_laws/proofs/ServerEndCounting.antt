@@ -2,26 +2,21 @@
 use Rattle.std.proofs.Common.{◌≡◌, ◌≢◌, ℕ, ◌+◌, ◌≤◌, Bool, true, false, Option, Some, None, List, ◌∷◌, refl, sym, ap, ◌∙◌, subst, arith}
 use Rattle.std.specs.Prelude.{is_none, is_some, ◌==◌}
 use Rattle.std.proofs.lemmas.Bool.Decides.{nat_tests}
-use Rattle.ldc_link.specs.declared.phase.Role.{Role}
-use Rattle.ldc_link.specs.declared.phase.Role.TheVariants.{Responder}
 use Rattle.ldc_queue.specs.Transcript.{Said, Turn}
 use Rattle.vdisk_msg.specs.Descriptor.{disk_desc_of}
 use Rattle.vdisk_msg.specs.Pieces.{pieces}
-use Rattle.vio_handshake.specs.declared.handshake.Handshake.{Handshake}
-use Rattle.vio_handshake.specs.declared.handshake.Phase.{Phase}
-use Rattle.vio_handshake.specs.Rules.{opens_by_put}
-use Rattle.lane_laws.specs.Agreement.{ServerAgrees, ServerCountsAgree, WorkAgrees, owed_of}
+use Rattle.lane_laws.specs.Agreement.{ServerAgrees, ServerCountsAgree, WorkAgrees}
 use Rattle.lane_laws.specs.WorkLog.{ServerCounts, change_server, rest_of}
-use Rattle.channel_model.specs.EndPuts.{ComesUp, EndsOwn, EndsHandshake, Goes, PutKind, put_opens}
+use Rattle.channel_model.specs.EndPuts.{ComesUp, EndsOwn, EndsHandshake, Goes, PutKind}
 use Rattle.disk_model.specs.LaneState.{Shape}
 use Rattle.channel_model.specs.Ranges.{wrapped}
 use Rattle.channel_model.specs.Seeing.{Seen}
 use Rattle.disk_model.specs.ServerPutting.{server_kind}
-use Rattle.disk_model.specs.ServerRule.{Fetches, Serves, server_rule}
-use Rattle.disk_model.specs.ServerState.{Ends, Progress, ServerSession, ServerState, SlotRange, Work}
+use Rattle.disk_model.specs.ServerRule.{Fetches, server_rule}
+use Rattle.disk_model.specs.ServerState.{ServerSession, ServerState, SlotRange, Work}
 use Rattle.disk_model.specs.ServerStep.{ServerFetches, ServerFinishes, ServerSends}
 use Rattle.cookie_copy.specs.Reach.{Reach}
-use Rattle.disk_model.specs.ServerWork.{desc_of, first_progress}
+use Rattle.disk_model.specs.ServerWork.{first_progress}
 use Rattle.channel_laws.proofs.Apart.{none_is_some, some_same}
 use Rattle.channel_laws.proofs.PutSayings.{PutSays, put_says}
 use Rattle.lane_laws.proofs.RulesFree.{ServerFree, server_free}
@@ -31,6 +26,7 @@ use Rattle.lane_laws.proofs.ServerWorkCounting.{begins_owing, first_unit, holds_
 use Rattle.lane_laws.specs.Budget.{one_range}
 use Rattle.lane_laws.specs.Counted.{RangeStands, ServerCounted, ServerOrder}
 use Rattle.lane_laws.specs.LaneRests.{ServerRests, ServerUtters}
+use Rattle.channel_laws.proofs.PacketsLeft.{shut_in}
 
 not_same : (a b : ℕ) → (a == b) ≡ false → a ≡ b → ⊥
 not_same a b test is = let same : (a == b) ≡ true = grind (arith, nat_tests) in absurd (cc)
@@ -102,52 +98,10 @@ server_fetches_counting shape v at reach slot bytes t new turns d rests step cou
 abbrev pub finished_log : ServerCounts → ServerCounts
 finished_log c = record c { finished = c.finished + 1; owed = rest_of c.owed }
 
-range_finished : (slots : ℕ) (range : Option SlotRange) (c : ServerCounts) → RangeStands slots range c → RangeStands slots range (finished_log c)
-range_finished slots None c stands = stands
-range_finished slots (Some range) c stands = stands
-
-finished_both : (slots : ℕ) (o : Option ServerSession) (w : Option Work) (d : Option ServerCounts) (turns : List Turn) (session : ServerSession) (work : Work) (status : ℕ)
-    → o ≡ Some session → w ≡ Some work → work.progress ≡ Ends status → ServerOrder slots o d turns → ServerAgrees o w d
-    → ServerOrder slots (Some (record session { finished = wrapped (session.finished + 1) })) (change_server finished_log d) turns
-    × ServerAgrees (Some (record session { finished = wrapped (session.finished + 1) })) None (change_server finished_log d)
-finished_both slots None w d turns session work status is works ends order agrees = none_is_some is
-finished_both slots (Some s) w None turns session work status is works ends order agrees = absurd order
-finished_both slots (Some s) w (Some c) turns session work status is works ends order agrees =
-    let same : s ≡ session = some_same is in
-    let work_is : WorkAgrees (Some work) c = subst (λ (x : Option Work). WorkAgrees x c) works agrees.1 in
-    let counts : ServerCountsAgree session c = subst (λ (x : ServerSession). ServerCountsAgree x c) same agrees.0 in (
-      record {
-        asked = order.asked;
-        answered = order.answered;
-        finished = omega (arith, order.finished);
-        descs = order.descs;
-        range = subst (λ (x : ServerSession). RangeStands slots x.range (finished_log c)) same (range_finished slots s.range c order.range);
-        seq = ap (λ (x : ServerSession). x.seq) (sym same) ∙ order.seq;
-        replies = omega (arith, order.replies, ap (λ (x : ServerSession). one_range x.range) same);
-      },
-      (
-        record { asked = counts.asked; descs = counts.descs; finished = wraps_one session.finished c.finished counts.finished; answered = counts.answered },
-        (ap rest_of work_is.1 ∙ ap (λ (p : Progress). rest_of (owed_of (desc_of work) p)) ends, work_is.2),
-      ),
-    )
-
 pub server_finishes_counting : (shape : Shape) (v : ServerState) (at : Seen) (reach : Reach) (slot status : ℕ) (t : ServerState) (new : List ℕ) (turns : List Turn)
     (d : Option ServerCounts) → ServerRests v turns → ServerFinishes v at reach slot status t new → ServerCounted shape v turns d
     → ServerCounted shape t turns (change_server (λ (c : ServerCounts). record c { finished = c.finished + 1; owed = rest_of c.owed }) d)
-server_finishes_counting shape v at reach slot status t new turns d rests step counted =
-    let free : ServerFree v (Serves step.session step.work) = subst (ServerFree v) step.rule (server_free v at) in
-    let session = step.session in
-    let now : is_some v.session ≡ true = ap is_some free.0.session_is in
-    let both = finished_both shape.slots v.session v.work d turns session step.work status free.0.session_is free.1 step.ends counted.order counted.agrees in
-    let behind : ServerState = record v { session = Some (record session { finished = wrapped (session.finished + 1) }); work = None } in
-    subst (λ (x : ServerState). ServerCounted shape x turns (change_server finished_log d)) (sym step.is) (record {
-      slots = counted.slots;
-      blocks = counted.blocks;
-      holds = holds_none v behind turns rests now free.0.free refl;
-      order = both.0;
-      unit = tt;
-      agrees = both.1;
-    })
+server_finishes_counting shape v at reach slot status t new turns d rests step counted = grind (arith, server_free)
 
 -- EACH PACKET that it puts; its session never opens by one
 put_counting : (kind : PutKind) (shape : Shape) (v : ServerState) (turns : List Turn) (packet : List ℕ) (d : Option ServerCounts) → shape.slots ≤ 256 → ServerRests v turns → ServerUtters v turns
@@ -156,14 +110,6 @@ put_counting Goes shape v turns packet d few rests utters says counted = goes_co
 put_counting ComesUp shape v turns packet d few rests utters says counted = comes_counting shape v turns packet d utters says.1 says.0 counted
 put_counting EndsOwn shape v turns packet d few rests utters says counted = own_counting shape v turns packet d few says.1 says.0 counted
 put_counting EndsHandshake shape v turns packet d few rests utters says counted = handshake_counting shape v turns packet d rests says.1 says.0 counted
-
-responder_never : (role : Role) (phase : Phase) → role ≡ Responder → opens_by_put role phase ≡ false
-responder_never Responder phase is = refl
-responder_never role phase is = ap (λ (r : Role). opens_by_put r phase) is
-
-never_opens : (kind : PutKind) (h : Handshake) → h.role ≡ Responder → put_opens kind h ≡ false
-never_opens EndsHandshake h is = responder_never h.role h.phase is
-never_opens _ h is = refl
 
 pub server_puts_counting : (shape : Shape) (v : ServerState) (at : Seen) (packet : List ℕ) (opens : Bool) (t : ServerState) (turns : List Turn) (d : Option ServerCounts) → shape.slots ≤ 256
     → ServerSends v at packet opens t → ServerRests v turns → ServerUtters v turns → ServerCounted shape v turns d
@@ -176,5 +122,5 @@ server_puts_counting shape v at packet opens t turns d few sends rests utters co
     let says = put_says (is_none sends.held.handshake.owed) sends.held.link t.link turns packet follows sends.packet in (
       subst (λ (x : ServerState). ServerCounted shape x (Said packet ∷ turns) (answers_more shape turns packet d)) (sym sends.is)
           (put_counting (server_kind sends.held) shape sends.held turns packet d few held_rests held_utters says held),
-      sends.opens_is ∙ never_opens (server_kind sends.held) sends.held.handshake held_rests.fits.role_is,
+      sends.opens_is ∙ shut_in (server_kind sends.held) sends.held.handshake held_rests.fits.role_is,
     )

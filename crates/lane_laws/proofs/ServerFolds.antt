@@ -1,5 +1,5 @@
 -- Each event of a server leaves it as its log counts it: whether it is stuck, and the range in its work.
-use Rattle.std.proofs.Common.{◌≡◌, ℕ, Bool, true, false, Option, Some, None, List, [], ◌∷◌, ◌++◌, refl, sym, ap, ◌∙◌, subst, inl, inr}
+use Rattle.std.proofs.Common.{◌≡◌, ℕ, Bool, true, false, Option, Some, None, List, [], ◌∷◌, ◌++◌, refl, sym, ap, ◌∙◌, subst, inl, inr, arith}
 use Rattle.std.specs.Prelude.{is_none, is_some, ◌⊎◌}
 use Rattle.cookie_copy.specs.declared.fault.CopyFault.{CopyFault}
 use Rattle.ldc_link.specs.declared.phase.Role.TheVariants.{Responder}
@@ -8,7 +8,6 @@ use Rattle.ldc_link.specs.Putting.{behind_put}
 use Rattle.ldc_packet.specs.declared.packet.Subtype.TheVariants.{Ack}
 use Rattle.ldc_packet.specs.Spelling.{subtype_code}
 use Rattle.ldc_queue.specs.Transcript.{Heard as Heard_, Said, Turn}
-use Rattle.vio_bytes.specs.Place.{number_at}
 use Rattle.vio_tag.specs.declared.message.Message.{Message}
 use Rattle.vio_tag.specs.declared.message.MsgBody.TheVariants.{DringData}
 use Rattle.vio_tag.specs.Spelling.{SpellsBody, canonical, envelope_code}
@@ -20,12 +19,12 @@ use Rattle.channel_model.specs.Messages.{ended_by, is_range, range_if, range_in}
 use Rattle.channel_model.specs.Sayings.{half_heard, half_said}
 use Rattle.channel_model.specs.Seeing.{Seen}
 use Rattle.disk_model.specs.ServerPutting.{answered, server_holds}
-use Rattle.disk_model.specs.ServerRule.{Fetches, Puts, Says, ServerRule, Serves}
+use Rattle.disk_model.specs.ServerRule.{Fetches, Puts, Says, ServerRule}
 use Rattle.disk_model.specs.ServerState.{ServerSession, ServerState, SlotRange, joined_server, restarted_server}
 use Rattle.disk_model.specs.ServerStep.{ServerFetches, ServerFinishes, ServerMoves, ServerStores}
 use Rattle.cookie_copy.specs.Reach.{Reach}
-use Rattle.lane_laws.proofs.ClientFolds.{LinkIs, link_begins, link_hears, link_puts, link_stuck, owes_up}
-use Rattle.channel_laws.proofs.Apart.{none_is_some, some_same, true_is_false}
+use Rattle.lane_laws.proofs.ClientFolds.{LinkIs, link_begins, link_puts, link_stuck, owes_up}
+use Rattle.channel_laws.proofs.Apart.{none_is_some, some_same}
 use Rattle.channel_laws.proofs.PutSayings.{PutSays}
 use Rattle.channel_laws.proofs.EndStanding.{SameSending, open_up, owing_up}
 use Rattle.channel_laws.proofs.TurnCases.{heard_none, heard_some, said_none, said_some}
@@ -72,15 +71,8 @@ heard_range : (turns : List Turn) (packet bytes : List ℕ) → ended_by (half_h
 heard_range turns packet bytes is range =
     sym (ap (λ (o : Option (List ℕ)). asked_by (range_in 1 o) (range_in_work turns)) is ∙ ap (λ (o : Option (List ℕ)). asked_by o (range_in_work turns)) range)
 
-abbrev range_with : ℕ → ℕ → ℕ → ℕ → SlotRange
-range_with seq start end state = record { seq = seq; start = start; end = end; state = state }
-
 same_fields : (range : SlotRange) (ident : ℕ) (bytes : List ℕ) → SpellsBody bytes (DringData range.seq ident range.start range.end range.state) → range ≡ range_of bytes
-same_fields range ident bytes fields =
-    ap (λ (n : ℕ). range_with n range.start range.end range.state) fields.0
-    ∙ ap (λ (n : ℕ). range_with (number_at 8 8 bytes) n range.end range.state) fields.2
-    ∙ ap (λ (n : ℕ). range_with (number_at 8 8 bytes) (number_at 4 24 bytes) n range.state) fields.3
-    ∙ ap (range_with (number_at 8 8 bytes) (number_at 4 24 bytes) (number_at 4 28 bytes)) fields.4
+same_fields range ident bytes fields = grind arith
 
 pub record Taking (s t : ServerState) : Type 0 where
   pub same : SameSending s.link t.link
@@ -93,10 +85,7 @@ opened_none false o new = refl
 -- a server that takes owes nothing, so it isn't stuck
 takes_by : (s t : ServerState) (turns : List Turn) (packet : List ℕ) (b : Blockage) → Taking s t → ServerIs s turns b → (is_up s.link ≡ true → is_up t.link ≡ true)
     → ranged t.session ≡ range_in_work (Heard_ packet ∷ turns) → ServerIs t (Heard_ packet ∷ turns) (hearing b)
-takes_by s t turns packet b taking is stays range = record {
-  link = link_hears s.link t.link b taking.same stays (λ now. true_is_false (sym (is.link.owes now) ∙ taking.free.free)) is.link;
-  range = range;
-}
+takes_by s t turns packet b taking is stays range = grind arith
 
 pub server_takes_so : (s t : ServerState) (turns : List Turn) (packet : List ℕ) (opens : Bool) (b : Blockage) → Taking s t → ServerRests s turns → ServerIs s turns b
     → ServerTook s turns packet t opens → ServerIs t (Heard_ packet ∷ turns) (hearing b)
@@ -202,6 +191,4 @@ server_stores_so s t at operation block count failed gave turns b step is = subs
 
 pub server_finishes_so : (s : ServerState) (at : Seen) (reach : Reach) (slot status : ℕ) (t : ServerState) (new : List ℕ) (turns : List Turn) (b : Blockage)
     → ServerFinishes s at reach slot status t new → ServerIs s turns b → ServerIs t turns b
-server_finishes_so s at reach slot status t new turns b step is =
-    let free : ServerFree s (Serves step.session step.work) = subst (ServerFree s) step.rule (server_free s at) in
-    subst (λ (x : ServerState). ServerIs x turns b) (sym step.is) (session_same s step.session _ turns b free.0.session_is refl is)
+server_finishes_so s at reach slot status t new turns b step is = grind (arith, server_free)

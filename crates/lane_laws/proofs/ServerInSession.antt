@@ -1,6 +1,6 @@
 -- A server in session, on a lane that nobody forged, hears the next range of the client, and goes on.
-use Rattle.std.proofs.Common.{◌≡◌, ℕ, ◌+◌, ◌%◌, ◌^◌, ◌<◌, ◌≤◌, Bool, true, false, Option, Some, None, List, [], ◌∷◌, ◌++◌, refl, sym, ap, ◌∙◌, subst, arith, nat_le}
-use Rattle.std.specs.Prelude.{is_some, if◌then◌else◌, Ok}
+use Rattle.std.proofs.Common.{◌≡◌, ℕ, ◌+◌, ◌%◌, ◌^◌, ◌<◌, ◌≤◌, true, false, Option, Some, List, [], ◌∷◌, ◌++◌, refl, sym, ap, ◌∙◌, subst, arith}
+use Rattle.std.specs.Prelude.{is_some, Ok}
 use Rattle.std.proofs.lemmas.Bool.{lt-leb}
 use Rattle.std.proofs.lemmas.Nat.{mod_below}
 use Rattle.runs.specs.Lawful.{log_of}
@@ -12,11 +12,9 @@ use Rattle.ldc_queue.specs.declared.end.ChannelState.TheVariants.{Up}
 use Rattle.ldc_queue.specs.OneStream.{IsFront}
 use Rattle.ldc_queue.specs.Transcript.{Turn}
 use Rattle.vio_bytes.specs.Place.{number_at}
-use Rattle.vio_tag.specs.declared.cause.Cause.{Cause}
-use Rattle.vio_tag.specs.declared.cause.Cause.TheVariants as the_cause
 use Rattle.vio_tag.specs.declared.message.Message.{Message}
 use Rattle.vio_tag.specs.Spelling.{SpellsMessage}
-use Rattle.vio_handshake.proofs.Places.{AllSaid, Deal, Place, handshake_at}
+use Rattle.vio_handshake.proofs.Places.{AllSaid, Deal}
 use Rattle.vio_handshake.specs.declared.handshake.Handshake.{Handshake}
 use Rattle.channel_model.specs.Sayings.{heard, said}
 use Rattle.channel_model.specs.WireLog.{WireLog}
@@ -26,10 +24,9 @@ use Rattle.disk_model.specs.DiskEvent.{DiskEvent}
 use Rattle.channel_model.specs.EndPuts.{handshake_risen}
 use Rattle.disk_model.specs.LaneState.{IsShape, LaneState, Shape, fresh}
 use Rattle.disk_model.specs.LaneStep.{LaneStep}
-use Rattle.channel_model.specs.Ranges.{is_other, wrapped}
+use Rattle.channel_model.specs.Ranges.{wrapped}
 use Rattle.disk_model.specs.ServerState.{ServerSession, ServerState, SlotRange}
-use Rattle.disk_model.specs.ServerTaking.{GoesOn, HearsWhole, Resets, ServerTake, asked, hears_message, place_of, reads, sid_first, takes_info}
-use Rattle.channel_laws.proofs.Apart.{some_same}
+use Rattle.disk_model.specs.ServerTaking.{GoesOn, HearsWhole, ServerTake, asked, hears_message, place_of, reads, takes_info}
 use Rattle.channel_laws.proofs.EndStanding.{open_up}
 use Rattle.channel_laws.proofs.HandshakePlaces.{AtPlace, deal, open_place}
 use Rattle.channel_laws.specs.Sides.{sides_of, swapped}
@@ -45,10 +42,6 @@ use Rattle.lane_laws.specs.Counted.{ServerOrder, range_count, range_sum}
 use Rattle.lane_laws.specs.ChannelEnds.{core_of, server_core}
 
 -- IT TAKES an INFO that names the ring of the session, has the next number, and begins where the range before ended
-past : (b : Bool) (x y : ServerTake) → b ≡ false → (if b then x else y) ≡ y
-past true x y is = absurd (cc is)
-past false x y is = refl
-
 record InfoFits (s : ServerState) (session : ServerSession) (n ident : ℕ) (range : SlotRange) : Type 0 where
   sid : s.handshake.sid ≡ Some n
   named : s.handshake.draft.ident_peer ≡ ident
@@ -58,11 +51,7 @@ record InfoFits (s : ServerState) (session : ServerSession) (n ident : ℕ) (ran
 
 takes_fitting : (s : ServerState) (session : ServerSession) (n ident : ℕ) (range : SlotRange) → InfoFits s session n ident range
     → takes_info s session ident range ≡ GoesOn (asked s session range) false
-takes_fitting s session n ident range fits =
-    past (is_other s.handshake.draft.ident_peer ident) (Resets (the_cause.Ident s.handshake.draft.ident_peer ident)) _ (same_is s.handshake.draft.ident_peer ident fits.named)
-    ∙ past (is_other session.seq range.seq) (Resets (the_cause.Seq session.seq range.seq)) _ (same_is session.seq range.seq fits.number)
-    ∙ past (is_other (place_of s session) range.start) (Resets (the_cause.Slot (place_of s session) range.start)) _ (same_is (place_of s session) range.start fits.begins)
-    ∙ past (nat_le s.handshake.draft.peer_slots range.end) (Resets (the_cause.RangeEnd range.end)) _ (lt-leb s.handshake.draft.peer_slots range.end fits.ends)
+takes_fitting s session n ident range fits = search (same_is, lt-leb)
 
 -- the range that the bytes name
 abbrev range_read : ℕ → ℕ → List ℕ → SlotRange
@@ -70,9 +59,7 @@ range_read start end bytes = record { seq = number_at 8 8 bytes; start = start; 
 
 hears_fitting : (s : ServerState) (session : ServerSession) (n ident start end : ℕ) (bytes : List ℕ) → InfoFits s session n ident (range_read start end bytes)
     → hears_message s (Some session) (read_data Info n ident start end bytes) ≡ GoesOn (asked s session (range_read start end bytes)) false
-hears_fitting s session n ident start end bytes fits =
-    ap (λ (f : Option Cause). sid_first f (takes_info s session ident (range_read start end bytes))) (no_fault s.handshake.sid n fits.sid)
-    ∙ takes_fitting s session n ident (range_read start end bytes) fits
+hears_fitting s session n ident start end bytes fits = search (no_fault, takes_fitting)
 
 -- so what it hears whole makes it go on
 goes_on : (s : ServerState) (session : ServerSession) (n ident start end : ℕ) (bytes : List ℕ) (take : ServerTake) → s.session ≡ Some session
@@ -91,9 +78,7 @@ goes_on s session n ident start end bytes take is fits spells hears =
 -- the number that it waits for
 number_of : (slots : ℕ) (o : Option ServerSession) (q : Option ServerCounts) (turns : List Turn) (session : ServerSession) → o ≡ Some session → ServerOrder slots o q turns
     → session.seq ≡ wrapped (range_count 1 (heard turns) + 1)
-number_of slots None q turns session is order = absurd (cc is)
-number_of slots (Some s) None turns session is order = absurd order
-number_of slots (Some s) (Some c) turns session is order = let same : s ≡ session = some_same is in ap (λ (x : ServerSession). x.seq) (sym same) ∙ order.seq
+number_of slots o q turns session is order = grind arith
 
 -- the next range of the client is one that the server takes
 info_fits : (shape : Shape) (d : Deal) (v : ServerState) (session : ServerSession) (turns : List Turn) (bytes : List ℕ)
@@ -101,24 +86,7 @@ info_fits : (shape : Shape) (d : Deal) (v : ServerState) (session : ServerSessio
     → session.seq ≡ wrapped (range_count 1 (heard turns) + 1) → session.asked ≡ range_sum shape.slots 1 (heard turns)
     → (is : IsData Initiator shape.slots d.sid (range_count 1 (heard turns)) (range_sum shape.slots 1 (heard turns)) bytes)
     → InfoFits v session d.sid d.sid (range_read (range_sum shape.slots 1 (heard turns) % shape.slots) is.end bytes)
-info_fits shape d v session turns bytes at last offered few small number same is =
-    let sum = range_sum shape.slots 1 (heard turns) in
-    let ends = is.ends in
-    let next = is.number in
-    let start_small : sum % shape.slots < 2 ^ 32 = omega (arith, mod_below sum shape.slots (omega (arith, ends)), few) in
-    let end_small : is.end < 2 ^ 32 = omega (arith, ends, few) in
-    let fits : is.seq < 2 ^ 64 = omega (arith, next) in
-    let read : number_at 8 8 bytes ≡ is.seq =
-    ap (number_at 8 8) is.bytes_are ∙ seq_reads Info d.sid is.seq d.sid (sum % shape.slots) is.end is.state small fits (omega (arith, small)) start_small end_small in
-    let slots : v.handshake.draft.peer_slots ≡ shape.slots =
-    ap (λ (h : Handshake). h.draft.peer_slots) at.is ∙ ap (λ (n : Place). (handshake_at false d Responder n).draft.peer_slots) last ∙ offered in
-    record {
-      sid = ap (λ (h : Handshake). h.sid) at.is ∙ ap (λ (n : Place). (handshake_at false d Responder n).sid) last;
-      named = ap (λ (h : Handshake). h.draft.ident_peer) at.is ∙ ap (λ (n : Place). (handshake_at false d Responder n).draft.ident_peer) last;
-      number = number ∙ sym next ∙ sym read;
-      begins = ap (λ (n : ℕ). session.asked % n) slots ∙ ap (λ (x : ℕ). x % shape.slots) same;
-      ends = omega (arith, ends, slots);
-    }
+info_fits shape d v session turns bytes at last offered few small number same is = grind (arith, seq_reads)
 
 pub server_hears_in_session : (shape : Shape) (events : List DiskEvent) (s : LaneState) (session : ServerSession) (k : LinkState) (bytes : List ℕ) (take : ServerTake)
     → IsShape shape → Run LaneStep (fresh shape) events s → (log_of after (nothing_yet shape) events).wire.forged ≡ false

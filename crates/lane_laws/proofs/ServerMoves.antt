@@ -1,5 +1,5 @@
 -- Each step of a disk's server is a move of an end that answers.
-use Rattle.std.proofs.Common.{◌≡◌, ℕ, ◌+◌, ◌≤◌, inl, inr, Bool, true, false, Option, Some, None, List, [], ◌∷◌, length, drop, refl, sym, ap, ◌∙◌, subst, arith, length-drop}
+use Rattle.std.proofs.Common.{◌≡◌, ℕ, ◌+◌, ◌≤◌, inl, inr, Bool, true, false, Option, Some, None, List, length, drop, refl, sym, ap, ◌∙◌, subst, arith, length-drop}
 use Rattle.std.specs.Prelude.{◌&&◌, is_some, is_none, not, nat_le, Ok, Err}
 use Rattle.std.proofs.lemmas.Bool.{leb-false, leb-true}
 use Rattle.cookie_copy.specs.declared.fault.CopyFault.{CopyFault}
@@ -20,11 +20,11 @@ use Rattle.vio_tag.specs.Decoding.{Decodes}
 use Rattle.vio_tag.specs.Spelling.{canonical}
 use Rattle.vio_handshake.specs.declared.handshake.Handshake.{Handshake}
 use Rattle.vio_handshake.specs.Rules.{HandshakeTake, handshake_take}
-use Rattle.channel_model.specs.EndPuts.{EndsOwn, EndsHandshake, PutKind, ending, kind_in, put_opens, handshake_behind, handshake_risen}
+use Rattle.channel_model.specs.EndPuts.{PutKind, ending, kind_in, put_opens, handshake_behind, handshake_risen}
 use Rattle.disk_model.specs.Offering.{server_offer}
 use Rattle.channel_model.specs.Ranges.{wrapped}
 use Rattle.channel_model.specs.Seeing.{Seen}
-use Rattle.disk_model.specs.ServerPutting.{answered, server_holds, server_kind, server_put, session_behind}
+use Rattle.disk_model.specs.ServerPutting.{server_holds, server_kind, server_put, session_behind}
 use Rattle.disk_model.specs.ServerRule.{Fetches, Puts, Says, ServerRule, Serves, Takes, answer, server_rule}
 use Rattle.disk_model.specs.ServerState.{ServerSession, ServerState, SlotRange, Work, joined_server, restarted_server}
 use Rattle.disk_model.specs.ServerStep.{ServerFails, ServerFetches, ServerFinishes, ServerMoves, ServerSends, ServerStores}
@@ -37,14 +37,13 @@ use Rattle.channel_laws.specs.EndCore.{holds}
 use Rattle.channel_laws.specs.EndStep.{EndBegins, EndFails, EndHears, EndRenews, EndSays, EndStays, EndWaits, HandshakeTakes, HearsWhole, Holding, Holds, HoldsOn, HoldsOwed, HoldsOwn, IsOfSession, KeepsOwn, LinkFails, MayTake, WholeFails}
 use Rattle.channel_laws.specs.EndStep as core
 use Rattle.lane_laws.proofs.ClientAnswers.{HandshakesTo}
-use Rattle.lane_laws.proofs.ClientMoves.{cleared_is, holds_and, holds_none}
+use Rattle.lane_laws.proofs.ClientMoves.{cleared_is, holds_none}
 use Rattle.channel_laws.proofs.EndStanding.{holds_some, up_empty}
 use Rattle.lane_laws.proofs.Ruling.{server_may}
 use Rattle.lane_laws.proofs.RulesFree.{ServerFree, server_free}
 use Rattle.lane_laws.proofs.RuleTests.{TakesFree}
 use Rattle.lane_laws.proofs.ServerAnswers.{Answers, comes_to, goes_by, heard_on, opened_or}
 use Rattle.lane_laws.proofs.ServerSpeaking.{range_few}
-use Rattle.lane_laws.proofs.Sharing.{some_left}
 use Rattle.channel_laws.proofs.Short.{some_bytes}
 use Rattle.lane_laws.specs.Budget.{one_range, range_left}
 use Rattle.lane_laws.specs.ChannelEnds.{answers_to_begin, server_core}
@@ -54,10 +53,6 @@ use Rattle.lane_laws.specs.RuleFacts.{ServerMay, ServerSays}
 pub answers_less : (b : Bool) (ranges : ℕ) → answers_to_begin b ranges ≤ ranges
 answers_less true ranges = omega arith
 answers_less false ranges = omega arith
-
-answers_none : (b : Bool) → answers_to_begin b 0 ≡ 0
-answers_none true = refl
-answers_none false = refl
 
 answers_owed : (b : Bool) (owed : Option Message) (message : Message) (ranges : ℕ) → owed ≡ Some message → answers_to_begin (b && is_none owed) ranges ≡ ranges
 answers_owed true None message ranges is = absurd (cc is)
@@ -87,9 +82,6 @@ not_held false c none = refl
 quiet_holds : (k : LinkState) → owes k ≡ false → holds k ≡ false
 quiet_holds k quiet = not_held (is_up k) (not (is_empty k.to_send)) (λ up. ap (λ (bytes : List ℕ). not (is_empty bytes)) (up_empty k up quiet))
 
-down_holds : (k : LinkState) → is_up k ≡ false → holds k ≡ false
-down_holds k down = not_held (is_up k) (not (is_empty k.to_send)) (λ up. absurd (cc (sym up ∙ down)))
-
 -- whose the message of its link is
 and_owed : (b : Bool) (owed : Option Message) (message : Message) → owed ≡ Some message → (b && is_none owed) ≡ false
 and_owed true None message is = absurd (cc is)
@@ -97,32 +89,14 @@ and_owed true (Some one) message is = refl
 and_owed false owed message is = refl
 
 and_free : (bytes : List ℕ) (owed : Option Message) → 1 ≤ length bytes → owed ≡ None → (not (is_empty bytes) && is_none owed) ≡ true
-and_free [] owed some is = absurd (omega (arith, some))
-and_free (byte ∷ bytes) None some is = refl
-and_free (byte ∷ bytes) (Some message) some is = absurd (cc is)
-
-some_own : (bytes : List ℕ) (none : Bool) → 1 ≤ length bytes → (not (is_empty bytes) && none) ≡ none
-some_own [] none some = absurd (omega (arith, some))
-some_own (byte ∷ bytes) none some = refl
-
-held_bytes : (k : LinkState) → holds k ≡ true → 1 ≤ length k.to_send
-held_bytes k is = some (is_up k) k.to_send is
-  where
-    some : (b : Bool) (bytes : List ℕ) → (b && not (is_empty bytes)) ≡ true → 1 ≤ length bytes
-    some true [] is = absurd (cc is)
-    some true (byte ∷ bytes) is = omega arith
-    some false bytes is = absurd (cc is)
+and_free bytes owed some is = grind arith
 
 -- IT BEGINS, or its values are made new
 pub server_begins : (s t : ServerState) → t ≡ joined_server s → EndBegins (server_core s) (server_core t)
-server_begins s t is =
-    subst (λ (x : ServerState). EndBegins (server_core s) (server_core x)) (sym is)
-    (record { link = refl; handshake = refl; offer = refl; closed = refl; more = answers_none _ })
+server_begins s t is = grind arith
 
 pub server_renews : (s t : ServerState) → t ≡ restarted_server s → EndRenews Responder (server_core s) (server_core t)
-server_renews s t is =
-    subst (λ (x : ServerState). EndRenews Responder (server_core s) (server_core x)) (sym is)
-    (record { link = refl; handshake = refl; offer = refl; closed = refl; more = refl })
+server_renews s t is = search
 
 -- IT TAKES a packet
 server_takes_free : (s : ServerState) (at : Seen) (packet : List ℕ) → server_rule s at ≡ Takes packet → TakesFree s
@@ -212,12 +186,7 @@ resets_link s cause (Unheard why) hears = cc hears
 
 pub server_refuses : (s : ServerState) (at : Seen) (packet : List ℕ) (cause : Cause) → server_rule s at ≡ Takes packet → ServerTakes s packet (Resets cause)
     → EndFails Responder (server_core s) cause (Some packet)
-server_refuses s at packet cause rule takes = record {
-  may = server_may_take s (server_takes_free s at packet rule);
-  take = takes.link;
-  takes = takes.takes;
-  fails = resets_link s cause takes.link takes.hears;
-}
+server_refuses s at packet cause rule takes = search (server_may_take, server_takes_free, resets_link)
 
 no_packet : (s : ServerState) (cause : Cause) (packet : Option (List ℕ)) (session : ServerSession) → packet ≡ None → s.session ≡ Some session
     → EndFails Responder (server_core s) cause packet
@@ -294,9 +263,7 @@ holds_answer s range session quiet owed is ranged =
     }
 
 holds_says : (s : ServerState) (message : Message) → owes s.link ≡ false → ServerSays s message → HoldsTo s (holding message s)
-holds_says s message quiet (inl owed) = holds_owed s message quiet owed
-holds_says s message quiet (inr answers) =
-    subst (λ (m : Message). HoldsTo s (holding m s)) (sym answers.message_is) (holds_answer s answers.range answers.session quiet answers.nothing_owed answers.session_is answers.range_is)
+holds_says s message quiet says = grind (arith, holds_owed, holds_answer)
 
 to_the : (s one other : ServerState) → Some one ≡ Some other → HoldsTo s one → HoldsTo s other
 to_the s one other is to = let same : one ≡ other = some_same is in subst (HoldsTo s) same to
@@ -310,18 +277,6 @@ pub server_waits : (s : ServerState) (at : Seen) (t : ServerState) → server_ho
 server_waits s at t is = let to = holds_by s at (server_rule s at) t (server_may s at) is in record { what = to.what; holds = to.holds }
 
 -- IT PUTS a packet
-behind_ranges : (kind : PutKind) (session : Option ServerSession) → range_left (session_behind kind session) ≤ range_left session
-behind_ranges EndsOwn None = omega arith
-behind_ranges _ _ = omega arith
-
-behind_open : (kind : PutKind) (session : Option ServerSession) → is_some (session_behind kind session) ≡ is_some session
-behind_open EndsOwn None = refl
-behind_open _ _ = refl
-
-no_ranges : (session : Option ServerSession) → range_left (answered session) ≡ 0
-no_ranges None = refl
-no_ranges (Some session) = refl
-
 abbrev behind_in : LinkPhase → ServerState → Handshake
 behind_in ph v = handshake_behind (kind_in ph v.link (is_none v.handshake.owed)) v.handshake
 
@@ -336,14 +291,6 @@ put_own_in _ v last at short up still = true_is_false (sym up ∙ ap is_establis
 abbrev left_in : LinkPhase → ServerState → ℕ
 left_in ph v = answers_to_begin (holds (behind_put v.link) && is_none (behind_in ph v).owed) (range_left (session_behind (kind_in ph v.link (is_none v.handshake.owed)) v.session))
 
-left_less : (ph : LinkPhase) (v : ServerState) → left_in ph v ≤ range_left v.session
-left_less ph v =
-    omega (
-      arith,
-      answers_less (holds (behind_put v.link) && is_none (behind_in ph v).owed) (range_left (session_behind (kind_in ph v.link (is_none v.handshake.owed)) v.session)),
-      behind_ranges (kind_in ph v.link (is_none v.handshake.owed)) v.session,
-    )
-
 abbrev left_by : Bool → ServerState → ℕ
 left_by last v =
     answers_to_begin (holds (behind_put v.link) && is_none (handshake_behind (ending last (is_none v.handshake.owed)) v.handshake).owed)
@@ -355,13 +302,7 @@ left_now v = answers_to_begin (holds v.link && is_none v.handshake.owed) (range_
 last_left : (v : ServerState) (owed : Option Message) → v.handshake.owed ≡ owed
     → answers_to_begin (holds (behind_put v.link) && is_none (handshake_behind (ending true (is_none owed)) v.handshake).owed) (range_left (session_behind (ending true (is_none owed)) v.session))
     ≤ left_now v
-last_left v None is = omega (arith, answers_less (holds (behind_put v.link) && is_none v.handshake.owed) (range_left (answered v.session)), no_ranges v.session)
-last_left v (Some message) is =
-    omega (
-      arith,
-      answers_less (holds (behind_put v.link) && is_none (handshake_behind EndsHandshake v.handshake).owed) (range_left v.session),
-      answers_owed (holds v.link) v.handshake.owed message (range_left v.session) is,
-    )
+last_left v owed is = grind (arith, answers_less)
 
 parts_left : (v : ServerState) (last : Bool) → v.link.phase ≡ phase.Established → nat_le (length v.link.to_send) 56 ≡ last → left_by last v ≤ left_now v
 parts_left v true at short = last_left v v.handshake.owed refl
@@ -372,16 +313,12 @@ parts_left v false at long =
     (omega (arith, leb-false (length v.link.to_send) 56 long, length-drop 56 v.link.to_send))))
 
 put_left_in : (ph : LinkPhase) (v : ServerState) → v.link.phase ≡ ph → left_in ph v ≤ left_now v
-put_left_in phase.Established v at = parts_left v (nat_le (length v.link.to_send) 56) at refl
-put_left_in phase.OwesRdx v at = omega (arith, left_less phase.OwesRdx v, answers_free (holds v.link) (is_none v.handshake.owed) (range_left v.session) (down_holds v.link (ap is_established at)))
-put_left_in ph v at = omega (arith, left_less ph v, answers_free (holds v.link) (is_none v.handshake.owed) (range_left v.session) (down_holds v.link (ap is_established at)))
+put_left_in ph v at = grind (arith, parts_left)
 
 -- what the packet brings about goes by whose the message is
 kind_same : (ph : LinkPhase) (k m : LinkState) (one : Packet × LinkState) (none : Bool) → with_link (owed_in ph k) m ≡ Some one
     → kind_in ph k (not (is_empty k.to_send) && none) ≡ kind_in ph k none
-kind_same phase.Established k m one none is = ap (ending (nat_le (length k.to_send) 56)) (some_own k.to_send none (some_left k k.to_send one m is))
-kind_same phase.OwesRdx k m one none is = refl
-kind_same _ k m one none is = refl
+kind_same ph k m one none is = grind arith
 
 server_kind_is : (v : ServerState) (packet : List ℕ) (m : LinkState) → PutsPacket v.link packet m → core.kind_of (server_core v) ≡ server_kind v
 server_kind_is v packet m puts = kind_same v.link.phase v.link (behind_put v.link) (puts.packet, m) (is_none v.handshake.owed) puts.next
@@ -394,16 +331,7 @@ record PutsTo (held t : ServerState) : Type 0 where
   more : (server_core t).more ≤ (server_core held).more
 
 puts_to : (held : ServerState) → PutsTo held (server_put held)
-puts_to held = record {
-  handshake = refl;
-  is_open = behind_open (server_kind held) held.session;
-  offer = refl;
-  own = λ before behind.
-      some_own (behind_put held.link).to_send (is_none (server_put held).handshake.owed) (held_bytes (behind_put held.link) behind)
-      ∙ put_own_in held.link.phase held (nat_le (length held.link.to_send) 56) refl refl (holds_and held.link before) behind
-      ∙ sym (some_own held.link.to_send (is_none held.handshake.owed) (held_bytes held.link before));
-  more = put_left_in held.link.phase held refl;
-}
+puts_to held = grind (arith, put_own_in, put_left_in)
 
 pub server_says : (s : ServerState) (at : Seen) (packet : List ℕ) (opens : Bool) (t : ServerState) → ServerSends s at packet opens t
     → EndSays Responder (server_core s) packet opens (server_core t)
@@ -435,14 +363,7 @@ server_same s t is = subst (Stays s) (sym is) (record { link = refl; handshake =
 -- its session and its work change, and not its range
 works_on : (s : ServerState) (session : Option ServerSession) (work : Option Work) → is_some session ≡ is_some s.session → range_left session ≡ range_left s.session
     → Stays s (record s { session = session; work = work })
-works_on s session work opened range = record {
-  link = refl;
-  handshake = refl;
-  offer = refl;
-  is_open = opened;
-  own = refl;
-  more = omega (arith, ap (answers_to_begin (holds s.link && is_none s.handshake.owed)) range);
-}
+works_on s session work opened range = grind arith
 
 pub server_fetched : (s : ServerState) (at : Seen) (r : Reach) (slot : ℕ) (bytes : List ℕ) (t : ServerState) (new : List ℕ) → ServerFetches s at r slot bytes t new → Stays s t
 server_fetched s at r slot bytes t new step =
@@ -458,6 +379,4 @@ pub server_stored : (s : ServerState) (at : Seen) (operation block count : ℕ) 
 server_stored s at operation block count failed gave t step = subst (Stays s) (sym step.is) (works_on s s.session (Some (record step.work { progress = step.next })) refl refl)
 
 pub server_finished : (s : ServerState) (at : Seen) (r : Reach) (slot status : ℕ) (t : ServerState) (new : List ℕ) → ServerFinishes s at r slot status t new → Stays s t
-server_finished s at r slot status t new step =
-    let may : ServerMay s at (Serves step.session step.work) = subst (ServerMay s at) step.rule (server_may s at) in
-    subst (Stays s) (sym step.is) (works_on s (Some (record step.session { finished = wrapped (step.session.finished + 1) })) None (ap is_some (sym may.1)) (ap range_left (sym may.1)))
+server_finished s at r slot status t new step = grind (arith, server_may)

@@ -1,7 +1,6 @@
 -- A message that a server holds, and a packet that it puts, leave its session counting what it said and heard.
-use Rattle.std.proofs.Common.{◌≡◌, ℕ, ◌+◌, ◌%◌, ◌<◌, ◌≤◌, ◌⊎◌, inl, inr, true, false, Option, Some, None, List, [], ◌∷◌, ◌++◌, length, refl, sym, ap, ◌∙◌, ◌-◌, subst, arith}
+use Rattle.std.proofs.Common.{◌≡◌, ℕ, ◌+◌, ◌<◌, ◌≤◌, ◌⊎◌, inl, inr, true, false, Option, Some, None, List, [], ◌∷◌, ◌++◌, length, refl, sym, ap, ◌∙◌, subst, arith}
 use Rattle.std.specs.Prelude.{is_none, is_some}
-use Rattle.std.proofs.lemmas.Nat.{mod_below}
 use Rattle.ldc_link.specs.declared.phase.Role.TheVariants.{Responder}
 use Rattle.ldc_link.specs.LinkState.{LinkState, is_up, offered}
 use Rattle.ldc_link.specs.Putting.{behind_put}
@@ -16,7 +15,6 @@ use Rattle.channel_model.specs.Messages.{range_ended, range_in}
 use Rattle.lane_laws.specs.WorkLog.{ServerCounts, change_server, length_in, one_in}
 use Rattle.channel_model.specs.EndPuts.{ComesUp, EndsOwn, EndsHandshake, Goes, PutKind, handshake_behind}
 use Rattle.disk_model.specs.LaneState.{Shape}
-use Rattle.channel_model.specs.Ranges.{wrapped}
 use Rattle.dring.specs.Slots.{range_length}
 use Rattle.disk_model.specs.ServerPutting.{answered, server_holds, session_behind}
 use Rattle.disk_model.specs.ServerRule.{Puts, Says, ServerRule}
@@ -28,7 +26,6 @@ use Rattle.lane_laws.proofs.RangeSums.{count_said, sum_more, sum_said}
 use Rattle.lane_laws.proofs.RangesSaid.{owed_no_range, said_range}
 use Rattle.lane_laws.proofs.RulesFree.{ServerFree}
 use Rattle.lane_laws.proofs.RuleTests.{AnswersFree}
-use Rattle.lane_laws.specs.Budget.{one_range}
 use Rattle.lane_laws.specs.Counted.{HoldsAnswer, InServerOrder, RangeStands, ServerCounted, ServerOrder, range_count, range_sum}
 use Rattle.lane_laws.specs.LaneRests.{ServerRests, ServerUtters}
 use Rattle.channel_laws.specs.HandshakeFits.{MayOwe, OwedFits}
@@ -36,27 +33,12 @@ use Rattle.lane_laws.specs.ChannelEnds.{server_core}
 
 -- the same answer of a server with another link
 answer_with : (v : ServerState) (k : LinkState) (bytes : List ℕ) → HoldsAnswer v bytes → HoldsAnswer (record v { link = k }) bytes
-answer_with v k bytes a = record {
-  session = a.session;
-  range = a.range;
-  session_is = a.session_is;
-  range_is = a.range_is;
-  finished = a.finished;
-  bytes_are = a.bytes_are;
-}
+answer_with v k bytes a = search
 
 -- IT HOLDS a message
 says_answer : (v : ServerState) (turns : List Turn) (message : Message) → half_said turns ≡ [] → (v.handshake.owed ≡ Some message) ⊎ AnswersFree v message → v.handshake.owed ≡ None
     → HoldsAnswer v (half_said turns ++ canonical message)
-says_answer v turns message half (inl owed) none = none_is_some (sym none ∙ owed)
-says_answer v turns message half (inr a) none = record {
-  session = a.session;
-  range = a.range;
-  session_is = a.session_is;
-  range_is = a.range_is;
-  finished = a.finished;
-  bytes_are = ap (λ (xs : List ℕ). xs ++ canonical message) half ∙ ap canonical a.message_is;
-}
+says_answer v turns message half is none = grind arith
 
 says_up : (v : ServerState) (turns : List Turn) (message : Message) → ServerRests v turns → (v.handshake.owed ≡ Some message) ⊎ AnswersFree v message → is_up v.link ≡ true
 says_up v turns message rests (inl owed) = owing_up Responder (server_core v) turns message rests.stands owed
@@ -86,47 +68,14 @@ abbrev pub answers_more : Shape → List Turn → List ℕ → Option ServerCoun
 answers_more shape turns packet d = change_server (λ (c : ServerCounts). record c { answered = c.answered + length_in shape.slots (range_ended 2 (half_said turns) packet) }) d
 
 -- where no range is said
-range_same : (slots n : ℕ) (range : Option SlotRange) (c : ServerCounts) → n ≡ 0 → RangeStands slots range c → RangeStands slots range (record c { answered = c.answered + n })
-range_same slots n None c none stands = omega (arith, none, stands)
-range_same slots n (Some range) c none stands =
-    let same : c.answered ≡ c.answered + n = omega (arith, none) in (omega (arith, none, stands.0), stands.1, stands.2, stands.3 ∙ ap (λ (x : ℕ). wrapped x % slots) same, stands.4)
-
 order_same : (shape : Shape) (o : Option ServerSession) (d : Option ServerCounts) (turns : List Turn) (packet : List ℕ)
     → range_sum shape.slots 2 (said (Said packet ∷ turns)) ≡ range_sum shape.slots 2 (said turns) → ServerOrder shape.slots o d turns
     → ServerOrder shape.slots o (answers_more shape turns packet d) (Said packet ∷ turns)
-order_same shape None d turns packet same order = record { asked = order.asked; answered = same ∙ order.answered; infos = order.infos }
-order_same shape (Some s) None turns packet same order = absurd order
-order_same shape (Some s) (Some c) turns packet same order =
-    let n = length_in shape.slots (range_ended 2 (half_said turns) packet) in
-    let none : n ≡ 0 = omega (arith, same, sum_said shape.slots 2 packet turns) in
-    record {
-      asked = order.asked;
-      answered = omega (arith, order.answered, sum_said shape.slots 2 packet turns);
-      finished = omega (arith, order.finished, none);
-      descs = order.descs;
-      range = range_same shape.slots n s.range c none order.range;
-      seq = order.seq;
-      replies = omega (arith, order.replies, count_said 2 packet turns);
-    }
-
-work_same : (w : Option Work) (c : ServerCounts) (n : ℕ) → WorkAgrees w c → WorkAgrees w (record c { answered = c.answered + n })
-work_same None c n agrees = agrees
-work_same (Some work) c n agrees = agrees
+order_same shape o d turns packet same order = grind (arith, sum_said, count_said)
 
 agrees_same : (o : Option ServerSession) (w : Option Work) (d : Option ServerCounts) (n : ℕ) → n ≡ 0 → ServerAgrees o w d
     → ServerAgrees o w (change_server (λ (c : ServerCounts). record c { answered = c.answered + n }) d)
-agrees_same None w None n none agrees = agrees
-agrees_same None w (Some c) n none agrees = absurd agrees
-agrees_same (Some s) w None n none agrees = absurd agrees
-agrees_same (Some s) w (Some c) n none agrees = (
-  record {
-    asked = agrees.0.asked;
-    descs = agrees.0.descs;
-    finished = agrees.0.finished;
-    answered = agrees.0.answered ∙ ap wrapped (let more : c.answered ≡ c.answered + n = omega (arith, none) in more);
-  },
-  work_same w c n agrees.1,
-)
+agrees_same o w d n none agrees = grind arith
 
 -- a server after a packet of this kind
 abbrev pub put_as : PutKind → ServerState → ServerState
@@ -150,17 +99,7 @@ goes_counting shape v turns packet d on counted =
 
 pub comes_counting : (shape : Shape) (v : ServerState) (turns : List Turn) (packet : List ℕ) (d : Option ServerCounts) → ServerUtters v turns → is_up v.link ≡ false → SaysOn v.link turns packet
     → ServerCounted shape v turns d → ServerCounted shape (put_as ComesUp v) (Said packet ∷ turns) (answers_more shape turns packet d)
-comes_counting shape v turns packet d utters down on counted =
-    let same : range_sum shape.slots 2 (said (Said packet ∷ turns)) ≡ range_sum shape.slots 2 (said turns) = ap (range_sum shape.slots 2) on.messages in
-    let none : length_in shape.slots (range_ended 2 (half_said turns) packet) ≡ 0 = omega (arith, same, sum_said shape.slots 2 packet turns) in
-    record {
-      slots = counted.slots;
-      blocks = counted.blocks;
-      holds = λ owing some. absurd (omega (arith, on.some some, ap length (utters.idle down)));
-      order = order_same shape v.session d turns packet same counted.order;
-      unit = counted.unit;
-      agrees = agrees_same v.session v.work d (length_in shape.slots (range_ended 2 (half_said turns) packet)) none counted.agrees;
-    }
+comes_counting shape v turns packet d utters down on counted = grind arith
 
 -- A MESSAGE OF THE HANDSHAKE is put whole
 pub handshake_counting : (shape : Shape) (v : ServerState) (turns : List Turn) (packet : List ℕ) (d : Option ServerCounts) → ServerRests v turns → is_none v.handshake.owed ≡ false → SaysWhole v.link turns packet
@@ -197,54 +136,17 @@ pub work_most : (w : Option Work) (c : ServerCounts) → WorkAgrees w c → c.fi
 work_most None c agrees = omega (arith, agrees.1)
 work_most (Some work) c agrees = omega (arith, agrees.2)
 
--- counts that are as many modulo 2^64, and nearer than that, are as many
-same_wrapped : (slots a b c : ℕ) (n : ℕ) → slots ≤ 256 → wrapped a ≡ wrapped b → a ≤ b → c ≤ a → b ≡ c + n → n ≤ slots → a ≡ b
-same_wrapped slots a b c n few is most least sum short = omega (arith, few, is, most, least, sum, short)
-
-length_most : (slots start end : ℕ) → 1 ≤ slots → range_length slots start end ≤ slots
-length_most slots start end some = omega (arith, mod_below (end + slots - start % slots) slots some)
-
 -- a range whose last descriptor is finished: as many are as were asked for, counted without bound
 pub all_finished : (slots : ℕ) (s : ServerSession) (w : Option Work) (c : ServerCounts) (turns : List Turn) (range : SlotRange) → slots ≤ 256 → s.finished ≡ s.asked
     → RangeStands slots (Some range) c → InServerOrder slots s c turns → ServerCountsAgree s c → WorkAgrees w c → c.finished ≡ c.asked
-all_finished slots s w c turns range few ended stands order counts work =
-    same_wrapped slots c.finished c.asked c.answered (range_length slots range.start range.end) few (sym counts.finished ∙ ended ∙ counts.asked)
-    (omega (arith, work_most w c work, order.descs)) order.finished stands.0 (length_most slots range.start range.end (omega (arith, stands.1)))
+all_finished slots s w c turns range few ended stands order counts work = grind arith
 
 answered_order : (slots n : ℕ) (o : Option ServerSession) (w : Option Work) (d : Option ServerCounts) (turns behind : List Turn) (session : ServerSession) (range : SlotRange) → slots ≤ 256
     → o ≡ Some session → Answered slots session range n → range_sum slots 2 (said behind) ≡ range_sum slots 2 (said turns) + n
     → (1 ≤ n → range_count 2 (said behind) ≡ range_count 2 (said turns) + 1) → heard behind ≡ heard turns → ServerOrder slots o d turns → ServerAgrees o w d
     → ServerOrder slots (answered o) (change_server (λ (c : ServerCounts). record c { answered = c.answered + n }) d) behind
     × ServerAgrees (answered o) w (change_server (λ (c : ServerCounts). record c { answered = c.answered + n }) d)
-answered_order slots n None w d turns behind session range few is answers said_is counted heard_is order agrees = none_is_some is
-answered_order slots n (Some s) w None turns behind session range few is answers said_is counted heard_is order agrees = absurd order
-answered_order slots n (Some s) w (Some c) turns behind session range few is answers said_is counted heard_is order agrees =
-    let same : s ≡ session = some_same is in
-    let ranged : s.range ≡ Some range = ap (λ (x : ServerSession). x.range) same ∙ answers.range_is in
-    let stands : RangeStands slots (Some range) c = subst (λ (r : Option SlotRange). RangeStands slots r c) ranged order.range in
-    let adds : n ≡ range_length slots range.start range.end = answers.adds stands.1 stands.2 in
-    let ended : s.finished ≡ s.asked = ap (λ (x : ServerSession). x.finished) same ∙ answers.finished ∙ ap (λ (x : ServerSession). x.asked) (sym same) in
-    let all : c.finished ≡ c.asked = all_finished slots s w c turns range few ended stands order agrees.0 agrees.1 in
-    let now : c.answered + n ≡ c.asked = omega (arith, stands.0, adds) in (
-      record {
-        asked = order.asked ∙ ap (range_sum slots 1) (sym heard_is);
-        answered = omega (arith, order.answered, said_is);
-        finished = omega (arith, now, all);
-        descs = order.descs;
-        range = now;
-        seq = order.seq ∙ ap (λ (xs : List (List ℕ)). wrapped (range_count 1 xs + 1)) (sym heard_is);
-        replies = omega (arith, order.replies, counted (omega (arith, adds)), ap (range_count 1) heard_is, ap one_range ranged);
-      },
-      (
-        record {
-          asked = agrees.0.asked;
-          descs = agrees.0.descs;
-          finished = agrees.0.finished;
-          answered = agrees.0.asked ∙ ap wrapped (sym now);
-        },
-        work_same w c n agrees.1,
-      ),
-    )
+answered_order slots n o w d turns behind session range few is answers said_is counted heard_is order agrees = grind arith
 
 pub own_counting : (shape : Shape) (v : ServerState) (turns : List Turn) (packet : List ℕ) (d : Option ServerCounts) → shape.slots ≤ 256 → is_none v.handshake.owed ≡ true → SaysWhole v.link turns packet
     → ServerCounted shape v turns d → ServerCounted shape (put_as EndsOwn v) (Said packet ∷ turns) (answers_more shape turns packet d)

@@ -1,10 +1,8 @@
 -- A server's work on descriptors leaves its session counting them, and its log owing what is left of the one in work.
-use Rattle.std.proofs.Common.{◌≡◌, ℕ, ◌+◌, ◌-◌, ◌/◌, ◌%◌, ◌<◌, Bool, true, false, Option, Some, None, List, [], ◌∷◌, ◌++◌, length, refl, sym, ap, ◌∙◌, subst, arith}
-use Rattle.std.specs.Prelude.{is_some, nat_lt, nat_le, not, ◌&&◌, ◌||◌, ◌==◌, suc, if◌then◌else◌}
+use Rattle.std.proofs.Common.{◌≡◌, ℕ, ◌+◌, ◌-◌, ◌/◌, ◌<◌, Bool, true, false, Option, Some, None, List, [], ◌∷◌, ◌++◌, refl, sym, ap, subst, arith}
+use Rattle.std.specs.Prelude.{is_some, nat_lt, not, ◌||◌, ◌==◌, suc, if◌then◌else◌}
 use Rattle.std.proofs.lemmas.Bool.{ltb-false, ltb-true}
 use Rattle.cookie_copy.specs.declared.fault.CopyFault.{CopyFault}
-use Rattle.ldc_link.specs.declared.phase.Role.TheVariants.{Responder}
-use Rattle.ldc_link.specs.LinkState.{LinkState}
 use Rattle.ldc_link.specs.Putting.{owes}
 use Rattle.ldc_queue.specs.Transcript.{Turn}
 use Rattle.vdisk_msg.specs.Check.{first_defect, has_size, holds_cookies, is_allowed, is_within, moves_data}
@@ -12,22 +10,18 @@ use Rattle.vdisk_msg.specs.declared.desc.DescFault.{DescFault}
 use Rattle.vdisk_msg.specs.declared.desc.DescFault.TheVariants.{Cookies, Operation, Range, Size}
 use Rattle.vdisk_msg.specs.declared.desc.DiskDesc.{DiskDesc}
 use Rattle.vdisk_msg.specs.Pieces.{Finishes, Piece, Stores, checked_pieces, pieces, read_pieces, unit_count, write_pieces}
-use Rattle.lane_laws.specs.Agreement.{ServerAgrees, WorkAgrees, owed_of}
+use Rattle.lane_laws.specs.Agreement.{owed_of}
 use Rattle.lane_laws.specs.WorkLog.{ServerCounts, change_server, moved_rest, rest_of, stored_rest}
 use Rattle.disk_model.specs.LaneState.{Shape}
 use Rattle.channel_model.specs.Seeing.{Seen}
-use Rattle.disk_model.specs.ServerRule.{Serves}
-use Rattle.disk_model.specs.ServerState.{Ends, Flushes, Gathers, Gives, Progress, Reads, ServerSession, ServerState, SlotRange, Work, Writes}
-use Rattle.disk_model.specs.ServerStep.{ServerMoves, ServerStores, with_progress}
+use Rattle.disk_model.specs.ServerState.{Ends, Flushes, Gathers, Gives, Progress, Reads, ServerState, Work, Writes}
+use Rattle.disk_model.specs.ServerStep.{ServerMoves, ServerStores}
 use Rattle.disk_model.specs.ServerWork as server_work
 use Rattle.cookie_copy.specs.Reach.{Reach}
 use Rattle.disk_model.specs.ServerWork.{MovesIn, StoresIn, desc_of, first_progress, gathers_next, or_ends}
-use Rattle.channel_laws.proofs.EndStanding.{open_up, up_empty}
-use Rattle.lane_laws.proofs.RulesFree.{ServerFree, server_free}
-use Rattle.lane_laws.proofs.RuleTests.{ServesFree}
-use Rattle.lane_laws.specs.Counted.{RangeStands, ServerCounted, ServerHolds, ServerOrder, UnitFits, UnitIn}
+use Rattle.lane_laws.proofs.RulesFree.{server_free}
+use Rattle.lane_laws.specs.Counted.{ServerCounted, ServerHolds, UnitIn}
 use Rattle.lane_laws.specs.LaneRests.{ServerRests}
-use Rattle.lane_laws.specs.ChannelEnds.{server_core}
 
 -- WHAT IS OWED of a descriptor: it begins
 units_from : (units : ℕ) → units - 0 ≡ units
@@ -61,11 +55,7 @@ sized true true true false w is moves = absurd (cc)
 sized true true true true w is moves = refl
 
 some_size : (size : ℕ) → has_size size ≡ true → 0 < unit_count size
-some_size size is = omega (arith, ltb-true 0 size (first_of (nat_lt 0 size) (nat_le size 32768) (size % 512 == 0) is))
-  where
-    first_of : (a b c : Bool) → (a && b && c) ≡ true → a ≡ true
-    first_of true b c is = refl
-    first_of false b c is = absurd (cc)
+some_size size is = grind arith
 
 first_unit_if : (read write : Bool) (units : ℕ) → ((read || write) ≡ true → 0 < units) → UnitIn units (if read then Reads 0 else if write then Gathers 0 else Flushes)
 first_unit_if true write units some = some refl
@@ -152,70 +142,16 @@ stores_on Flushes work operation block count failed gave next stores below =
 stores_on _ work operation block count failed gave next stores below = absurd stores
 
 -- THE LOG after a piece
-range_owed : (slots : ℕ) (range : Option SlotRange) (c : ServerCounts) (owed : List Piece) → RangeStands slots range c → RangeStands slots range (record c { owed = owed })
-range_owed slots None c owed stands = stands
-range_owed slots (Some range) c owed stands = stands
-
-order_owed : (slots : ℕ) (o : Option ServerSession) (d : Option ServerCounts) (turns : List Turn) (f : List Piece → List Piece) → ServerOrder slots o d turns
-    → ServerOrder slots o (change_server (λ (c : ServerCounts). record c { owed = f c.owed }) d) turns
-order_owed slots None d turns f order = order
-order_owed slots (Some s) None turns f order = absurd order
-order_owed slots (Some s) (Some c) turns f order = record {
-  asked = order.asked;
-  answered = order.answered;
-  finished = order.finished;
-  descs = order.descs;
-  range = range_owed slots s.range c (f c.owed) order.range;
-  seq = order.seq;
-  replies = order.replies;
-}
-
-agrees_owed : (o : Option ServerSession) (w : Option Work) (work : Work) (d : Option ServerCounts) (next : Progress) (f : List Piece → List Piece) → w ≡ Some work
-    → f (owed_of (desc_of work) work.progress) ≡ owed_of (desc_of work) next → is_some o ≡ true → ServerAgrees o w d
-    → ServerAgrees o (Some (record work { progress = next })) (change_server (λ (c : ServerCounts). record c { owed = f c.owed }) d)
-agrees_owed None w work d next f is owed open_one agrees = absurd (cc)
-agrees_owed (Some s) w work None next f is owed open_one agrees = absurd agrees
-agrees_owed (Some s) w work (Some c) next f is owed open_one agrees =
-    let works : WorkAgrees (Some work) c = subst (λ (x : Option Work). WorkAgrees x c) is agrees.1 in
-    (record { asked = agrees.0.asked; descs = agrees.0.descs; finished = agrees.0.finished; answered = agrees.0.answered }, (works.0, ap f works.1 ∙ owed, works.2))
-
-unit_of : (w : Option Work) (work : Work) → w ≡ Some work → UnitFits w → UnitIn (unit_count (desc_of work).size) work.progress
-unit_of w work is fits = subst UnitFits is fits
-
 -- a server whose session is open and whose link owes nothing holds nothing
 pub holds_none : (v t : ServerState) (turns : List Turn) → ServerRests v turns → is_some v.session ≡ true → owes v.link ≡ false → t.link ≡ v.link → ServerHolds t turns
-holds_none v t turns rests now free same =
-    let empty : v.link.to_send ≡ [] = up_empty v.link (open_up Responder (server_core v) turns rests.stands now) free in
-    λ owing some. absurd (omega (arith, some, ap (λ (k : LinkState). length k.to_send) same, ap length empty))
-
-piece_counting : (shape : Shape) (v : ServerState) (turns : List Turn) (d : Option ServerCounts) (session : ServerSession) (work : Work) (next : Progress) (f : List Piece → List Piece)
-    → ServerRests v turns → ServesFree v session → v.work ≡ Some work → GoesOn (desc_of work) (f (owed_of (desc_of work) work.progress)) next → ServerCounted shape v turns d
-    → ServerCounted shape (with_progress v work next) turns (change_server (λ (c : ServerCounts). record c { owed = f c.owed }) d)
-piece_counting shape v turns d session work next f rests free is goes counted =
-    let now : is_some v.session ≡ true = ap is_some free.session_is in
-    record {
-      slots = counted.slots;
-      blocks = counted.blocks;
-      holds = holds_none v (with_progress v work next) turns rests now free.free refl;
-      order = order_owed shape.slots v.session d turns f counted.order;
-      unit = goes.unit;
-      agrees = agrees_owed v.session v.work work d next f is goes.owed now counted.agrees;
-    }
+holds_none v t turns rests now free same = grind arith
 
 pub server_moves_counting : (shape : Shape) (v : ServerState) (at : Seen) (reach : Reach) (unit : ℕ) (fault : Option CopyFault) (t : ServerState) (new : List ℕ) (turns : List Turn)
     (d : Option ServerCounts) → ServerRests v turns → ServerMoves v at reach unit fault t new → ServerCounted shape v turns d
     → ServerCounted shape t turns (change_server (λ (c : ServerCounts). record c { owed = moved_rest fault c.owed }) d)
-server_moves_counting shape v at reach unit fault t new turns d rests step counted =
-    let free : ServerFree v (Serves step.session step.work) = subst (ServerFree v) step.rule (server_free v at) in
-    subst (λ (x : ServerState). ServerCounted shape x turns (change_server (λ (c : ServerCounts). record c { owed = moved_rest fault c.owed }) d)) (sym step.is)
-    (piece_counting shape v turns d step.session step.work step.next (moved_rest fault) rests free.0 free.1
-    (moves_on step.work.progress step.work reach unit fault step.next new step.moves (unit_of v.work step.work free.1 counted.unit)) counted)
+server_moves_counting shape v at reach unit fault t new turns d rests step counted = grind (arith, server_free, moves_on)
 
 pub server_stores_counting : (shape : Shape) (v : ServerState) (at : Seen) (operation block count : ℕ) (failed : Bool) (gave : List ℕ) (t : ServerState) (turns : List Turn)
     (d : Option ServerCounts) → ServerRests v turns → ServerStores v at operation block count failed gave t → ServerCounted shape v turns d
     → ServerCounted shape t turns (change_server (λ (c : ServerCounts). record c { owed = stored_rest failed c.owed }) d)
-server_stores_counting shape v at operation block count failed gave t turns d rests step counted =
-    let free : ServerFree v (Serves step.session step.work) = subst (ServerFree v) step.rule (server_free v at) in
-    subst (λ (x : ServerState). ServerCounted shape x turns (change_server (λ (c : ServerCounts). record c { owed = stored_rest failed c.owed }) d)) (sym step.is)
-    (piece_counting shape v turns d step.session step.work step.next (stored_rest failed) rests free.0 free.1
-    (stores_on step.work.progress step.work operation block count failed gave step.next step.stores (unit_of v.work step.work free.1 counted.unit)) counted)
+server_stores_counting shape v at operation block count failed gave t turns d rests step counted = grind (arith, server_free, stores_on)

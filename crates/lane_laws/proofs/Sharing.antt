@@ -1,8 +1,5 @@
 -- What the proofs of both ends share.
-use Rattle.std.proofs.Common.{◌≡◌, ℕ, ◌≤◌, Option, Some, List, [], ◌∷◌, length, subst, arith, None}
-use Rattle.ldc_link.specs.LinkState.{LinkState}
-use Rattle.ldc_link.specs.Putting.{part_owed, with_link}
-use Rattle.ldc_packet.specs.declared.packet.Packet.{Packet}
+use Rattle.std.proofs.Common.{◌≡◌, ℕ, ◌≤◌, Option, Some, subst, arith, None}
 use Rattle.disk_model.specs.ClientState.{ClientSession}
 use Rattle.lane_laws.specs.Budget.{infos_left}
 use Rattle.lane_laws.specs.Sound.{CountsInOrder, InOrder}
@@ -15,8 +12,3 @@ in_order pending open_one session is counts = subst (CountsInOrder pending) is c
 pub infos_few : (slots pending : ℕ) (session : Option ClientSession) → CountsInOrder pending session → infos_left slots session ≤ slots
 infos_few slots pending None counts = omega arith
 infos_few slots pending (Some s) counts = omega (arith, counts.acked)
-
--- a part is put where some bytes are left
-pub some_left : (k : LinkState) (xs : List ℕ) (one : Packet × LinkState) (m : LinkState) → with_link (part_owed k xs) m ≡ Some one → 1 ≤ length xs
-some_left k [] one m is = absurd (cc)
-some_left k (x ∷ xs) one m is = omega arith

@@ -6,9 +6,9 @@ use Rattle.vdisk_msg.proofs.Written.{is_admitted, requested_has_widths, state_ha
 use Rattle.vdisk_msg.specs.declared.desc.DiskDesc.{DiskDesc}
 use Rattle.vdisk_msg.specs.declared.request.Request.{Request}
 use Rattle.vdisk_msg.specs.Descriptor.{HasWidths, canonical, disk_desc_of}
-use Rattle.vdisk_msg.specs.Requested.{buffer_cookies, buffer_place, cookie_count, descriptor_of, header, size_of, status_word}
+use Rattle.vdisk_msg.specs.Requested.{buffer_cookies, buffer_place, cookie_count, descriptor_of, size_of, status_word}
 use Rattle.vio_bytes.specs.Place.{put_at}
-use Rattle.lane_laws.specs.RingLog.{Accepted, Done, Free, Ready, SlotLog, Zeros}
+use Rattle.lane_laws.specs.RingLog.{Done, Ready, SlotLog}
 use Rattle.disk_model.specs.ServerWork.{header_of}
 use Rattle.lane_laws.specs.RingSlots.{HoldsIssued, RingOf, SlotHolds}
 
@@ -25,20 +25,8 @@ published_is id request slot slots = refl
 state_of_ready : (desc : DiskDesc) (status : ℕ) → slice_index (canonical (record desc { state = 2; status = status })) 0 ≡ 2
 state_of_ready desc status = refl
 
-state_of_accepted : (desc : DiskDesc) (status : ℕ) → slice_index (canonical (record desc { state = 3; status = status })) 0 ≡ 3
-state_of_accepted desc status = refl
-
-state_of_done : (desc : DiskDesc) (status : ℕ) → slice_index (canonical (record desc { state = 4; status = status })) 0 ≡ 4
-state_of_done desc status = refl
-
 pub ready_byte : (r : RingOf) (slot id status : ℕ) (bytes : List ℕ) → HoldsIssued r slot id 2 status bytes → slice_index bytes 0 ≡ 2
 ready_byte r slot id status bytes holds = ap (λ (bs : List ℕ). slice_index bs 0) holds.bytes_are ∙ state_of_ready (descriptor_of id holds.request slot r.slots) status
-
-pub accepted_byte : (r : RingOf) (slot id status : ℕ) (bytes : List ℕ) → HoldsIssued r slot id 3 status bytes → slice_index bytes 0 ≡ 3
-accepted_byte r slot id status bytes holds = ap (λ (bs : List ℕ). slice_index bs 0) holds.bytes_are ∙ state_of_accepted (descriptor_of id holds.request slot r.slots) status
-
-pub done_byte : (r : RingOf) (slot id status : ℕ) (bytes : List ℕ) → HoldsIssued r slot id 4 status bytes → slice_index bytes 0 ≡ 4
-done_byte r slot id status bytes holds = ap (λ (bs : List ℕ). slice_index bs 0) holds.bytes_are ∙ state_of_done (descriptor_of id holds.request slot r.slots) status
 
 -- a slot whose state is READY is that of a published request; one that is DONE, of one that got its status
 pub record IsReadySlot (r : RingOf) (slot : ℕ) (is : SlotLog) (bytes : List ℕ) : Type 0 where
@@ -47,11 +35,7 @@ pub record IsReadySlot (r : RingOf) (slot : ℕ) (is : SlotLog) (bytes : List �
   pub holds : HoldsIssued r slot id 2 0 bytes
 
 pub ready_slot : (r : RingOf) (slot : ℕ) (is : SlotLog) (bytes : List ℕ) → SlotHolds r slot is bytes → slice_index bytes 0 ≡ 2 → IsReadySlot r slot is bytes
-ready_slot r slot Zeros bytes holds state = let first : slice_index bytes 0 ≡ 0 = ap (λ (bs : List ℕ). slice_index bs 0) holds in absurd (omega (arith, first, state))
-ready_slot r slot Free bytes holds state = absurd (omega (arith, holds, state))
-ready_slot r slot (Ready id) bytes holds state = record { id = id; same = refl; holds = holds }
-ready_slot r slot (Accepted id) bytes holds state = absurd (omega (arith, accepted_byte r slot id 0 bytes holds, state))
-ready_slot r slot (Done id status) bytes holds state = absurd (omega (arith, done_byte r slot id status bytes holds, state))
+ready_slot r slot is bytes holds state = grind arith
 
 pub record IsDoneSlot (r : RingOf) (slot : ℕ) (is : SlotLog) (bytes : List ℕ) : Type 0 where
   pub id : ℕ
@@ -60,11 +44,7 @@ pub record IsDoneSlot (r : RingOf) (slot : ℕ) (is : SlotLog) (bytes : List ℕ
   pub holds : HoldsIssued r slot id 4 status bytes
 
 pub done_slot : (r : RingOf) (slot : ℕ) (is : SlotLog) (bytes : List ℕ) → SlotHolds r slot is bytes → slice_index bytes 0 ≡ 4 → IsDoneSlot r slot is bytes
-done_slot r slot Zeros bytes holds state = let first : slice_index bytes 0 ≡ 0 = ap (λ (bs : List ℕ). slice_index bs 0) holds in absurd (omega (arith, first, state))
-done_slot r slot Free bytes holds state = absurd (omega (arith, holds, state))
-done_slot r slot (Ready id) bytes holds state = absurd (omega (arith, ready_byte r slot id 0 bytes holds, state))
-done_slot r slot (Accepted id) bytes holds state = absurd (omega (arith, accepted_byte r slot id 0 bytes holds, state))
-done_slot r slot (Done id status) bytes holds state = record { id = id; status = status; same = refl; holds = holds }
+done_slot r slot is bytes holds state = grind arith
 
 -- THE DESCRIPTOR READS BACK
 pub record Sizes (r : RingOf) (slot : ℕ) : Type 0 where
@@ -83,55 +63,16 @@ reads_back r slot id state status bytes sizes small holds =
     ap disk_desc_of holds.bytes_are ∙ canonical_reads_back (stated id holds.request slot r.slots state status) fits
 
 -- THE MARK: ACCEPTED after READY
-marked_bytes : (desc : DiskDesc) (old state status : ℕ) → put_at 0 (header state desc.ack) (canonical (record desc { state = old; status = status })) ≡ canonical (record desc { state = state; status = status })
-marked_bytes desc old state status = refl
-
-header_is : (r : RingOf) (slot id state status : ℕ) (bytes : List ℕ) (next : ℕ) → Sizes r slot → state < 2 ^ 8 → (holds : HoldsIssued r slot id state status bytes)
-    → header_of next bytes ≡ header next (descriptor_of id holds.request slot r.slots).ack
-header_is r slot id state status bytes next sizes small holds =
-    ap (λ (d : DiskDesc). header next d.ack) (reads_back r slot id state status bytes sizes small holds)
-
 pub marked_holds : (r : RingOf) (slot id : ℕ) (bytes : List ℕ) → Sizes r slot → HoldsIssued r slot id 2 0 bytes → HoldsIssued r slot id 3 0 (put_at 0 (header_of 3 bytes) bytes)
-marked_holds r slot id bytes sizes holds =
-    let desc = descriptor_of id holds.request slot r.slots in
-    record {
-      request = holds.request;
-      accepted = holds.accepted;
-      admitted = holds.admitted;
-      id_fits = holds.id_fits;
-      status_fits = holds.status_fits;
-      bytes_are =
-          ap (λ (h : List ℕ). put_at 0 h bytes) (header_is r slot id 2 0 bytes 3 sizes (omega arith) holds)
-          ∙ ap (λ (bs : List ℕ). put_at 0 (header 3 desc.ack) bs) holds.bytes_are ∙ marked_bytes desc 2 3 0;
-    }
+marked_holds r slot id bytes sizes holds = grind arith
 
 -- THE END: the status, and then DONE
-ended_bytes : (desc : DiskDesc) (status : ℕ) → put_at 0 (header 4 desc.ack) (put_at 16 (status_word (canonical (record desc { state = 2; status = 0 })) status) (canonical (record desc { state = 3; status = 0 })))
-    ≡ canonical (record desc { state = 4; status = status })
-ended_bytes desc status = refl
-
 pub same_request : (issued : List Request) (id : ℕ) (one other : Request) → slice_get issued id ≡ Some one → slice_get issued id ≡ Some other → one ≡ other
 same_request issued id one other is also = let both : Some one ≡ Some other = sym is ∙ also in cc both
 
 pub ended_holds : (r : RingOf) (slot id status : ℕ) (fetched bytes : List ℕ) → Sizes r slot → status < 2 ^ 32 → HoldsIssued r slot id 2 0 fetched → HoldsIssued r slot id 3 0 bytes
     → HoldsIssued r slot id 4 status (put_at 0 (header_of 4 fetched) (put_at 16 (status_word fetched status) bytes))
-ended_holds r slot id status fetched bytes sizes small from holds =
-    let desc = descriptor_of id from.request slot r.slots in
-    let same : holds.request ≡ from.request = same_request r.issued id holds.request from.request holds.accepted from.accepted in
-    let bytes_are : bytes ≡ canonical (record desc { state = 3; status = 0 }) =
-    holds.bytes_are ∙ ap (λ (q : Request). canonical (stated id q slot r.slots 3 0)) same in
-    record {
-      request = from.request;
-      accepted = from.accepted;
-      admitted = from.admitted;
-      id_fits = from.id_fits;
-      status_fits = small;
-      bytes_are =
-          ap (λ (h : List ℕ). put_at 0 h (put_at 16 (status_word fetched status) bytes)) (header_is r slot id 2 0 fetched 4 sizes (omega arith) from)
-          ∙ ap (λ (f : List ℕ). put_at 0 (header 4 desc.ack) (put_at 16 (status_word f status) bytes)) from.bytes_are
-          ∙ ap (λ (bs : List ℕ). put_at 0 (header 4 desc.ack) (put_at 16 (status_word (canonical (record desc { state = 2; status = 0 })) status) bs)) bytes_are
-          ∙ ended_bytes desc status;
-    }
+ended_holds r slot id status fetched bytes sizes small from holds = grind arith
 
 -- THE BUFFER that a fetched descriptor names
 named_by : (id : ℕ) (request : Request) (slot slots state status : ℕ) → take (stated id request slot slots state status).count (stated id request slot slots state status).cookies
@@ -155,11 +96,4 @@ issued_more (z ∷ xs) x y (suc n) is = issued_more xs x y n is
 
 pub more_holds : (r : RingOf) (request : Request) (slot id state status : ℕ) (bytes : List ℕ) → HoldsIssued r slot id state status bytes
     → HoldsIssued (record r { issued = r.issued ++ request ∷ [] }) slot id state status bytes
-more_holds r request slot id state status bytes holds = record {
-  request = holds.request;
-  accepted = issued_more r.issued request holds.request id holds.accepted;
-  admitted = holds.admitted;
-  id_fits = holds.id_fits;
-  status_fits = holds.status_fits;
-  bytes_are = holds.bytes_are;
-}
+more_holds r request slot id state status bytes holds = search (issued_more)

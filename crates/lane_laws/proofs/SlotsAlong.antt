@@ -1,5 +1,5 @@
 -- The slots of the ring stand in their order after every run of a lane that nobody forged, in its log and in its memory.
-use Rattle.std.proofs.Common.{◌≡◌, ℕ, ◌+◌, ◌%◌, ◌≤◌, true, false, Option, Some, None, List, [], ◌∷◌, ◌++◌, length, refl, sym, ap, ◌∙◌, subst, arith}
+use Rattle.std.proofs.Common.{◌≡◌, ℕ, ◌%◌, ◌≤◌, true, false, Option, Some, None, List, [], ◌∷◌, ◌++◌, length, refl, sym, ap, ◌∙◌, subst, arith}
 use Rattle.std.specs.Prelude.{⊤}
 use Rattle.std.proofs.lemmas.Nat.{mod_below}
 use Rattle.runs.specs.Lawful.{lawful_split, log_append, log_of, run_lawful}
@@ -12,7 +12,7 @@ use Rattle.channel_model.specs.WireLog.{WireLog}
 use Rattle.lane_laws.specs.Agreement.{ClientAgrees, ServerAgrees}
 use Rattle.disk_model.specs.ClientState.{ClientSession}
 use Rattle.lane_laws.specs.DiskLog.{DiskLog, after, nothing_yet}
-use Rattle.lane_laws.specs.RingLog.{Done, SlotLog}
+use Rattle.lane_laws.specs.RingLog.{SlotLog}
 use Rattle.lane_laws.specs.WorkLaws.{IfServer}
 use Rattle.lane_laws.specs.WorkLog.{ClientCounts, ServerCounts, WorkLog}
 use Rattle.disk_model.specs.DiskEvent.{DiskEvent, OnWire}
@@ -34,29 +34,20 @@ use Rattle.lane_laws.proofs.SlotsStepping.{StepFacts, event_slots}
 use Rattle.lane_laws.proofs.TableRuns.{table_lawful}
 use Rattle.lane_laws.specs.OnTheWay.{OnTheWay}
 use Rattle.lane_laws.specs.RingAgreed.{OneRing, SessionsAgree, ring_in}
-use Rattle.lane_laws.specs.RingSlots.{HoldsIssued, RingHolds, RingOf, SlotHolds}
+use Rattle.lane_laws.specs.RingSlots.{RingHolds, RingOf, SlotHolds}
 use Rattle.lane_laws.specs.SlotsInOrder.{BytesOf, RingInOrder, ServerAt, SlotOf, SlotsIn, SlotsInOrder}
 use Rattle.lane_laws.specs.Sound.{CountsInOrder}
 use Rattle.lane_laws.specs.TableStands.{TableAt}
-use Rattle.channel_laws.proofs.Apart.{some_same, true_is_false}
+use Rattle.channel_laws.proofs.Apart.{true_is_false}
 
 -- the counts of the ranges
 pub announced_in : (pending : ℕ) (o : Option ClientSession) (done : ℕ) (q : Option ClientCounts) (k : ClientCounts) → q ≡ Some k → ClientAgrees o done q → CountsInOrder pending o
     → k.announced ≤ k.published
-announced_in pending None done None k is agrees order = absurd (cc is)
-announced_in pending None done (Some c) k is agrees order = absurd agrees
-announced_in pending (Some x) done None k is agrees order = absurd agrees
-announced_in pending (Some x) done (Some c) k is agrees order =
-    let same : c ≡ k = some_same is in
-    let announced : c.announced ≡ k.announced = ap (λ (y : ClientCounts). y.announced) same in
-    let published : c.published ≡ k.published = ap (λ (y : ClientCounts). y.published) same in
-    omega (arith, announced, published, agrees.announced, agrees.published, order.announced)
+announced_in pending o done q k is agrees order = grind arith
 
 -- WHAT IS KNOWN of an event after a run
 none_log : (o : Option ServerSession) (w : Option Work) (q : Option ServerCounts) → o ≡ None → ServerAgrees o w q → q ≡ None
-none_log None w None is agrees = refl
-none_log None w (Some c) is agrees = absurd agrees
-none_log (Some s) w q is agrees = absurd (cc is)
+none_log o w q is agrees = grind arith
 
 opens_none : (s : LaneState) (l : DiskLog) (event : DiskEvent) (t : LaneState) (packet : List ℕ) → Knows s l → LaneStep s event t → event ≡ OnWire (Took B packet true) → l.work.server ≡ None
 opens_none s l event t packet knows step is =
@@ -130,29 +121,16 @@ run_slots shape events s sound run clean =
     (record { along = along_run shape [] (fresh shape) sound (always_agree shape sound) refl; slots = λ now. tt }) run).1.slots clean
 
 -- IN THE MEMORY
-done_bytes : (r : RingOf) (slot id : ℕ) (is : SlotLog) (bytes : List ℕ) → (status : ℕ) × (is ≡ Done id status) → SlotHolds r slot is bytes → (status : ℕ) × HoldsIssued r slot id 4 status bytes
-done_bytes r slot id is bytes done holds = (done.0, subst (λ (x : SlotLog). SlotHolds r slot x bytes) done.1 holds)
-
 bytes_of : (r : RingOf) (base announced published finished descs j slot : ℕ) (is : SlotLog) (bytes : List ℕ) → SlotOf base announced published finished descs j is → SlotHolds r slot is bytes
     → BytesOf r base announced published finished descs j slot bytes
-bytes_of r base announced published finished descs j slot is bytes of holds = record {
-  done = λ less. done_bytes r slot (base + j) is bytes (of.done less) holds;
-  accepted = λ past less. subst (λ (x : SlotLog). SlotHolds r slot x bytes) (of.accepted past less) holds;
-  announced_ready = λ past less. subst (λ (x : SlotLog). SlotHolds r slot x bytes) (of.announced_ready past less) holds;
-  published_ready = λ past less. subst (λ (x : SlotLog). SlotHolds r slot x bytes) (of.published_ready past less) holds;
-  free = λ past. subst (λ (x : SlotLog). SlotHolds r slot x bytes) (of.free past) holds;
-}
+bytes_of r base announced published finished descs j slot is bytes of holds = grind arith
 
 if_still : (P Q : ServerCounts → Type 0) (q : Option ServerCounts) → ((d : ServerCounts) → P d → Q d) → IfServer q P → IfServer q Q
 if_still P Q None still holds = tt
 if_still P Q (Some d) still holds = still d holds
 
 asked_in : (s : LaneState) (w : WorkLog) (k : ClientCounts) → w.client ≡ Some k → (d : ServerCounts) → OneRing s w d → d.asked ≤ k.announced
-asked_in s w k is d one =
-    let both : Some one.client ≡ Some k = sym one.open_is ∙ is in
-    let same : one.client ≡ k = some_same both in
-    let announced : one.client.announced ≡ k.announced = ap (λ (y : ClientCounts). y.announced) same in
-    omega (arith, announced, one.announced)
+asked_in s w k is d one = grind arith
 
 ring_order : (s : LaneState) (l : DiskLog) (o : Option ClientCounts) (k : ClientCounts) → o ≡ Some k → SlotsIn l.shape.slots l.work l.wire.wire l.ring o
     → RingHolds (ring_in l) l.ring s.memory → 1 ≤ l.shape.slots → (l.wire.wire.end_b ≡ Up → IfServer l.work.server (λ d. d.asked ≤ k.announced))

@@ -1,10 +1,8 @@
 -- A slot that changes leaves the others in their order.
-use Rattle.std.proofs.Common.{◌≡◌, ◌≢◌, ℕ, ◌+◌, ◌-◌, ◌%◌, ◌<◌, ◌≤◌, inl, inr, List, length, set, replicate, Some, refl, sym, ap, ◌∙◌, subst, arith}
+use Rattle.std.proofs.Common.{◌≡◌, ◌≢◌, ℕ, ◌+◌, ◌-◌, ◌%◌, ◌<◌, ◌≤◌, inl, inr, List, length, set, replicate, Some, sym, ap, ◌∙◌, subst, arith}
 use Rattle.std.specs.Prelude.{slice_get}
-use Rattle.std.proofs.lemmas.Bool.{cases_lt}
 use Rattle.std.proofs.lemmas.Nat.{mod_below}
 use Rattle.std.proofs.Math.Nat.{add-mod_right}
-use Rattle.dring.proofs.Turning.{one_turn}
 use Rattle.channel_laws.proofs.Apart.{some_same}
 use Rattle.lane_laws.specs.RingLog.{Accepted, Done, Free, Ready, SlotLog}
 use Rattle.lane_laws.proofs.RingTable.{free_entry, got_other, got_same, same_or_other}
@@ -12,11 +10,7 @@ use Rattle.lane_laws.specs.SlotsInOrder.{SlotOf, SlotsOf}
 
 -- two numbers of one turn in one slot are one
 pub same_number : (n lo a b : ℕ) → lo ≤ a → a < lo + n → lo ≤ b → b < lo + n → a % n ≡ b % n → a ≡ b
-same_number n lo a b la ua lb ub same =
-    elim (cases_lt a b) [
-      | inl less ↦ one_turn n a b (omega (arith, less)) (omega (arith, la, ub)) same
-      | inr past ↦ sym (one_turn n b a (omega (arith, past)) (omega (arith, lb, ua)) (sym same))
-    ]
+same_number n lo a b la ua lb ub same = grind arith
 
 entry_is : (ring : List SlotLog) (k : ℕ) (e is : SlotLog) → k < length ring → slice_get (set ring k e) k ≡ Some is → is ≡ e
 entry_is ring k e is below got = let both : Some e ≡ Some is = sym (got_same ring k e below) ∙ got in let here : e ≡ is = some_same both in sym here
@@ -40,23 +34,11 @@ set_slots n done base a P Q ring e long since below based each keeps here j is l
 -- PUBLISHED
 publish_of : (base announced published finished descs j : ℕ) (is : SlotLog) → j ≢ published → SlotOf base announced published finished descs j is
     → SlotOf base announced (published + 1) finished descs j is
-publish_of base announced published finished descs j is other of = record {
-  done = of.done;
-  accepted = of.accepted;
-  announced_ready = of.announced_ready;
-  published_ready = λ since below. of.published_ready since (omega (arith, below, other));
-  free = λ past. of.free (omega (arith, past));
-}
+publish_of base announced published finished descs j is other of = grind arith
 
 new_ready : (base announced published finished descs id : ℕ) → finished ≤ descs → descs ≤ announced → announced ≤ published → id ≡ base + published
     → SlotOf base announced (published + 1) finished descs published (Ready id)
-new_ready base announced published finished descs id first fetched told is = record {
-  done = λ less. absurd (omega (arith, less, first, fetched, told));
-  accepted = λ past less. absurd (omega (arith, less, fetched, told));
-  announced_ready = λ since less. absurd (omega (arith, less, told));
-  published_ready = λ since less. ap Ready is;
-  free = λ past. absurd (omega (arith, past));
-}
+new_ready base announced published finished descs id first fetched told is = grind arith
 
 pub published_slots : (n done base announced published finished descs id : ℕ) (ring : List SlotLog) → length ring ≡ n → base ≤ done → done ≤ base + published → base + published < done + n
     → id ≡ base + published → SlotsOf n done base announced published finished descs ring → SlotsOf n done base announced (published + 1) finished descs (set ring (published % n) (Ready id))
@@ -73,16 +55,7 @@ published_slots n done base announced published finished descs id ring long base
 -- ANNOUNCED: the published ones up to a number
 announce_of : (base announced published finished descs more j : ℕ) (is : SlotLog) → announced ≤ more → more ≤ published → descs ≤ announced → SlotOf base announced published finished descs j is
     → SlotOf base more published finished descs j is
-announce_of base announced published finished descs more j is least most fetched of = record {
-  done = of.done;
-  accepted = of.accepted;
-  announced_ready = λ since below. elim (cases_lt j announced) [
-    | inl less ↦ of.announced_ready since less
-    | inr past ↦ of.published_ready past (omega (arith, below, most))
-  ];
-  published_ready = λ since below. of.published_ready (omega (arith, since, least)) below;
-  free = of.free;
-}
+announce_of base announced published finished descs more j is least most fetched of = grind arith
 
 pub announced_slots : (n done base announced published finished descs more : ℕ) (ring : List SlotLog) → announced ≤ more → more ≤ published
     → SlotsOf n done base announced published finished descs ring → SlotsOf n done base more published finished descs ring
@@ -97,22 +70,10 @@ announced_slots n done base announced published finished descs more ring least m
 
 -- FETCHED
 fetch_of : (base announced published descs j : ℕ) (is : SlotLog) → j ≢ descs → SlotOf base announced published descs descs j is → SlotOf base announced published descs (descs + 1) j is
-fetch_of base announced published descs j is other of = record {
-  done = of.done;
-  accepted = λ past less. absurd (omega (arith, past, less, other));
-  announced_ready = λ since below. of.announced_ready (omega (arith, since)) below;
-  published_ready = of.published_ready;
-  free = of.free;
-}
+fetch_of base announced published descs j is other of = grind arith
 
 new_accepted : (base announced published descs id : ℕ) → descs < announced → announced ≤ published → id ≡ base + descs → SlotOf base announced published descs (descs + 1) descs (Accepted id)
-new_accepted base announced published descs id more told is = record {
-  done = λ less. absurd (omega (arith, less));
-  accepted = λ past less. ap Accepted is;
-  announced_ready = λ since below. absurd (omega (arith, since));
-  published_ready = λ since below. absurd (omega (arith, since, more));
-  free = λ past. absurd (omega (arith, past, more, told));
-}
+new_accepted base announced published descs id more told is = grind arith
 
 pub fetched_slots : (n done base announced published descs id : ℕ) (ring : List SlotLog) → length ring ≡ n → base ≤ done → base + published ≤ done + n → descs < announced → id ≡ base + descs
     → SlotsOf n done base announced published descs descs ring → SlotsOf n done base announced published descs (descs + 1) (set ring (descs % n) (Accepted id))
@@ -129,23 +90,11 @@ fetched_slots n done base announced published descs id ring long based turn more
 -- FINISHED
 finish_of : (base announced published finished j : ℕ) (is : SlotLog) → j ≢ finished → SlotOf base announced published finished (finished + 1) j is
     → SlotOf base announced published (finished + 1) (finished + 1) j is
-finish_of base announced published finished j is other of = record {
-  done = λ less. of.done (omega (arith, less, other));
-  accepted = λ past less. absurd (omega (arith, past, less));
-  announced_ready = of.announced_ready;
-  published_ready = of.published_ready;
-  free = of.free;
-}
+finish_of base announced published finished j is other of = grind arith
 
 new_done : (base announced published finished id status : ℕ) → finished < announced → announced ≤ published → id ≡ base + finished
     → SlotOf base announced published (finished + 1) (finished + 1) finished (Done id status)
-new_done base announced published finished id status more told is = record {
-  done = λ less. (status, ap (λ (i : ℕ). Done i status) is);
-  accepted = λ past less. absurd (omega (arith, past));
-  announced_ready = λ since below. absurd (omega (arith, since));
-  published_ready = λ since below. absurd (omega (arith, since, more));
-  free = λ past. absurd (omega (arith, past, more, told));
-}
+new_done base announced published finished id status more told is = grind arith
 
 pub finished_slots : (n done base announced published finished id status : ℕ) (ring : List SlotLog) → length ring ≡ n → base ≤ done → base + published ≤ done + n → id ≡ base + finished
     → SlotsOf n done base announced published finished (finished + 1) ring → SlotsOf n done base announced published (finished + 1) (finished + 1) (set ring (finished % n) (Done id status))
@@ -163,33 +112,11 @@ finished_slots n done base announced published finished id status ring long base
     }
 
 -- COMPLETED: the first slot becomes the last
-not_done : (base j id status : ℕ) (is : SlotLog) → is ≡ Done id status → is ≡ Ready (base + j) → ⊥
-not_done base j id status is done ready = let never : Ready (base + j) ≡ Done id status = sym ready ∙ done in absurd (cc)
-
 pub finished_more : (base announced published finished descs j id status : ℕ) (is : SlotLog) → is ≡ Done id status → SlotOf base announced published finished descs j is → j < finished
-finished_more base announced published finished descs j id status is done of =
-    elim (cases_lt j finished) [
-      | inl less ↦ less
-      | inr past ↦ elim (cases_lt j descs) [
-        | inl accepted ↦ let never : Accepted (base + j) ≡ Done id status = sym (of.accepted past accepted) ∙ done in absurd (cc)
-        | inr fetched ↦ elim (cases_lt j announced) [
-          | inl told ↦ absurd (not_done base j id status is done (of.announced_ready fetched told))
-          | inr untold ↦ elim (cases_lt j published) [
-            | inl ready ↦ absurd (not_done base j id status is done (of.published_ready untold ready))
-            | inr free ↦ let never : Free ≡ Done id status = sym (of.free free) ∙ done in absurd (cc)
-          ]
-        ]
-      ]
-    ]
+finished_more base announced published finished descs j id status is done of = grind arith
 
 freed : (base announced published finished descs j : ℕ) → finished ≤ descs → descs ≤ announced → announced ≤ published → published ≤ j → SlotOf base announced published finished descs j Free
-freed base announced published finished descs j first fetched told past = record {
-  done = λ less. absurd (omega (arith, less, first, fetched, told, past));
-  accepted = λ since less. absurd (omega (arith, less, fetched, told, past));
-  announced_ready = λ since less. absurd (omega (arith, less, told, past));
-  published_ready = λ since less. absurd (omega (arith, less, past));
-  free = λ far. refl;
-}
+freed base announced published finished descs j first fetched told past = grind arith
 
 pub completed_slots : (n done base announced published finished descs : ℕ) (ring : List SlotLog) → length ring ≡ n → 1 ≤ n → base ≤ done → base + published ≤ done + n → done < base + finished
     → SlotsOf n done base announced published finished descs ring → SlotsOf n (done + 1) base announced published finished descs (set ring ((done - base) % n) Free)
@@ -215,11 +142,4 @@ completed_slots n done base announced published finished descs ring long some ba
 
 -- CLEARED
 pub cleared_slots : (n done : ℕ) → SlotsOf n done done 0 0 0 0 (replicate n Free)
-cleared_slots n done = record {
-  done_first = omega arith;
-  finished_first = omega arith;
-  one = omega arith;
-  descs_first = omega arith;
-  announced_first = omega arith;
-  each = λ j is lo hi got. subst (SlotOf done 0 0 0 0 j) (sym (free_entry n (j % n) is got)) (freed done 0 0 0 0 j (omega arith) (omega arith) (omega arith) (omega arith));
-}
+cleared_slots n done = grind (arith, free_entry)

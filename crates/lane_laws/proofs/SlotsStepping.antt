@@ -1,9 +1,9 @@
 -- Each event of a lane that nobody forged leaves the slots of its ring in their order.
 use Rattle.std.proofs.Common.{◌≡◌, ℕ, ◌+◌, ◌-◌, ◌%◌, ◌<◌, ◌≤◌, Bool, true, false, Option, Some, None, List, [], set, refl, sym, ap, ◌∙◌, subst, arith}
 use Rattle.ldc_queue.specs.declared.end.ChannelState.{ChannelState}
-use Rattle.ldc_queue.specs.declared.end.ChannelState.TheVariants.{Down, Resetting, Up}
+use Rattle.ldc_queue.specs.declared.end.ChannelState.TheVariants.{Up}
 use Rattle.ldc_queue.specs.declared.end.End.TheVariants.{A, B}
-use Rattle.ldc_queue.specs.Wire.{Wire, closed, configured, peer_behind, upset}
+use Rattle.ldc_queue.specs.Wire.{Wire, configured, peer_behind, upset}
 use Rattle.channel_model.specs.WireEvent.{Injected, Joined, Lost, Reset, Sent, Took, WireEvent}
 use Rattle.lane_laws.specs.Agreement.{ServerAgrees, WorkAgrees}
 use Rattle.lane_laws.specs.DiskLog.{DiskLog, after}
@@ -12,7 +12,7 @@ use Rattle.lane_laws.specs.RingLog.{Accepted as IsAccepted, Done as IsDone, Slot
 use Rattle.lane_laws.specs.WorkLaws.{IfServer}
 use Rattle.lane_laws.specs.WorkLog.{ClientCounts, ServerCounts, WorkLog, change_client, change_server, length_in, one_in}
 use Rattle.disk_model.specs.ClientRule as client_rules
-use Rattle.disk_model.specs.DiskEvent.{Accepted, Asks, Desc, DiskEvent, Done, Finished, Misplaced, Moved, OnWire, Published, Started, Stopped, Stored, Switches, Worked, Works}
+use Rattle.disk_model.specs.DiskEvent.{Desc, DiskEvent, Done, Finished, Misplaced, Moved, OnWire, Published, Stored, Worked, Works}
 use Rattle.disk_model.specs.LaneState.{LaneState}
 use Rattle.disk_model.specs.LaneStep.{LaneStep, WorkStep}
 use Rattle.channel_model.specs.Sayings.{half_heard, half_said}
@@ -69,48 +69,21 @@ keep_client n w wire ring f (Some k) base published announced acked slots =
 -- the server's side changes
 keep_server : (n : ℕ) (w x : WorkLog) (wire next : Wire) (ring : List SlotLog) (o : Option ClientCounts) → x.done ≡ w.done
     → ((finished descs : ℕ) → ServerAt wire w.server finished descs → ServerAt next x.server finished descs) → SlotsIn n w wire ring o → SlotsIn n x next ring o
-keep_server n w x wire next ring None done at slots = tt
-keep_server n w x wire next ring (Some k) done at slots = (
-  slots.0,
-  slots.1,
-  subst (λ (d : ℕ). SlotsOf n d k.base k.announced k.published slots.0 slots.1 ring) (sym done) slots.2,
-  at slots.0 slots.1 slots.3,
-  slots.4,
-)
-
-none_changed : (g : ServerCounts → ServerCounts) (q : Option ServerCounts) → change_server g q ≡ None → q ≡ None
-none_changed g None is = refl
-none_changed g (Some d) is = absurd (cc is)
-
-works_changed : (g : ServerCounts → ServerCounts) (q : Option ServerCounts) (finished descs : ℕ) → ((d : ServerCounts) → ((g d).finished ≡ d.finished) × ((g d).descs ≡ d.descs))
-    → IfServer q (λ d. (finished ≡ d.finished) × (descs ≡ d.descs)) → IfServer (change_server g q) (λ d. (finished ≡ d.finished) × (descs ≡ d.descs))
-works_changed g None finished descs same works = tt
-works_changed g (Some d) finished descs same works = (works.0 ∙ sym (same d).0, works.1 ∙ sym (same d).1)
+keep_server n w x wire next ring o done at slots = grind arith
 
 at_changed : (wire : Wire) (q : Option ServerCounts) (g : ServerCounts → ServerCounts) (finished descs : ℕ) → ((d : ServerCounts) → ((g d).finished ≡ d.finished) × ((g d).descs ≡ d.descs))
     → ServerAt wire q finished descs → ServerAt wire (change_server g q) finished descs
-at_changed wire q g finished descs same at = record {
-  works = λ up. works_changed g q finished descs same (at.works up);
-  rests = λ up none. at.rests up (λ b. none_changed g q (none b));
-}
+at_changed wire q g finished descs same at = grind arith
 
 pub upset_not : (x : ChannelState) → upset x ≡ Up → ⊥
 upset_not Up is = absurd (cc)
 upset_not _ is = absurd (cc)
 
 pub behind_up : (x y : ChannelState) → peer_behind x y ≡ Up → (y ≡ Up) × (x ≡ Up → ⊥)
-behind_up Up y is = absurd (upset_not y is)
-behind_up Down y is = (is, λ up. absurd (cc up))
-behind_up Resetting y is = (is, λ up. absurd (cc up))
+behind_up x y is = grind arith
 
 at_begun : (wire : Wire) (q : Option ServerCounts) (finished descs : ℕ) → ServerAt wire q finished descs → ServerAt (configured B wire) None finished descs
-at_begun wire q finished descs at = record {
-  works = λ up. tt;
-  rests = λ up none. let before = behind_up wire.end_b wire.end_a up in at.rests before.0 (λ b. absurd (before.1 b));
-}
-
-at_closed : (wire : Wire) (finished descs : ℕ) → ServerAt (closed B wire) None finished descs
-at_closed wire finished descs = record { works = λ up. tt; rests = λ up none. absurd (upset_not wire.end_a up) }
+at_begun wire q finished descs at = grind arith
 
 same_at : (wire next : Wire) (q : Option ServerCounts) (finished descs : ℕ) → next.end_a ≡ wire.end_a → next.end_b ≡ wire.end_b → ServerAt wire q finished descs → ServerAt next q finished descs
 same_at wire next q finished descs a b at = record { works = λ up. at.works (sym b ∙ up); rests = λ up none. at.rests (sym a ∙ up) (λ now. none (b ∙ now)) }
@@ -118,25 +91,14 @@ same_at wire next q finished descs a b at = record { works = λ up. at.works (sy
 -- A SESSION OF THE SERVER opens: it has done nothing yet
 at_opened : (wire : Wire) (sid finished descs : ℕ) → wire.end_b ≡ Up → (wire.end_b ≡ Up → wire.end_a ≡ Up) → ServerAt wire None finished descs
     → ServerAt wire (Some (record { sid = sid; asked = 0; descs = 0; finished = 0; answered = 0; desc = []; owed = [] })) finished descs
-at_opened wire sid finished descs up alive at = record {
-  works = λ b. at.rests (alive b) (λ now. refl);
-  rests = λ a none. let never = none up in absurd (cc never);
-}
+at_opened wire sid finished descs up alive at = grind arith
 
 -- A SESSION OF THE CLIENT opens: no server works on it yet
 opens_at_rest : (wire : Wire) (q : Option ServerCounts) → ((d : ServerCounts) → q ≡ Some d → wire.end_b ≡ Up → (0 ≡ d.finished) × (0 ≡ d.descs)) → ServerAt wire q 0 0
-opens_at_rest wire q nothing = record { works = λ up. by_server q refl up; rests = λ a none. (refl, refl) }
-  where
-    by_server : (r : Option ServerCounts) → q ≡ r → wire.end_b ≡ Up → IfServer r (λ d. (0 ≡ d.finished) × (0 ≡ d.descs))
-    by_server None is up = tt
-    by_server (Some d) is up = nothing d is up
+opens_at_rest wire q nothing = grind arith
 
 pub work_first : (o : Option ServerSession) (w : Option Work) (q : Option ServerCounts) (d : ServerCounts) → q ≡ Some d → ServerAgrees o w q → d.finished ≤ d.descs
-work_first None w None d is agrees = absurd (cc is)
-work_first None w (Some c) d is agrees = absurd agrees
-work_first (Some s) w None d is agrees = absurd agrees
-work_first (Some s) None (Some c) d is agrees = let same : c ≡ d = some_same is in subst (λ (x : ServerCounts). x.finished ≤ x.descs) same (omega (arith, agrees.1.1))
-work_first (Some s) (Some work) (Some c) d is agrees = let same : c ≡ d = some_same is in subst (λ (x : ServerCounts). x.finished ≤ x.descs) same (omega (arith, agrees.1.2))
+work_first o w q d is agrees = grind arith
 
 pub if_server : (P : ServerCounts → Type 0) (q : Option ServerCounts) (d : ServerCounts) → q ≡ Some d → IfServer q P → P d
 if_server P q d is holds = subst (λ (x : Option ServerCounts). IfServer x P) is holds
@@ -259,9 +221,7 @@ completed_in s l id operation status bytes t known step slots =
 -- a descriptor is fetched
 at_counts : (wire : Wire) (q : Option ServerCounts) (g : ServerCounts → ServerCounts) (d : ServerCounts) (finished descs : ℕ) → q ≡ Some d → wire.end_b ≡ Up → finished ≡ (g d).finished → descs ≡ (g d).descs
     → ServerAt wire (change_server g q) finished descs
-at_counts wire q g d finished descs is up same_finished same_descs =
-    subst (λ (r : Option ServerCounts). ServerAt wire (change_server g r) finished descs) (sym is)
-    (record { works = λ b. (same_finished, same_descs); rests = λ a none. let never = none up in absurd (cc never) })
+at_counts wire q g d finished descs is up same_finished same_descs = grind arith
 
 fetched_in : (s : LaneState) (l : DiskLog) (slot : ℕ) (bytes : List ℕ) (t : LaneState) → Known s l → SessionsAgree t (after l (Works (Desc slot bytes))) → WorkStep s (Desc slot bytes) t
     → SlotsInOrder l → SlotsInOrder (after l (Works (Desc slot bytes)))
@@ -355,10 +315,4 @@ work_slots s l Misplaced t step facts slots = absurd step
 
 -- EACH EVENT
 pub event_slots : (s : LaneState) (l : DiskLog) (event : DiskEvent) (t : LaneState) → LaneStep s event t → StepFacts s l event t → SlotsInOrder l → SlotsInOrder (after l event)
-event_slots s l (OnWire event) t step facts slots = wire_slots s l event t step facts slots
-event_slots s l (Asks (Accepted id request)) t step facts slots = keep_server l.shape.slots l.work (after l (Asks (Accepted id request))).work l.wire.wire l.wire.wire l.ring l.work.client refl (λ finished descs at. at) slots
-event_slots s l (Works event) t step facts slots = work_slots s l event t step facts slots
-event_slots s l (Switches Stopped) t step facts slots =
-    keep_server l.shape.slots l.work (after l (Switches Stopped)).work l.wire.wire (after l (Switches Stopped)).wire.wire l.ring l.work.client refl (λ finished descs at. at_closed l.wire.wire finished descs) slots
-event_slots s l (Switches Started) t step facts slots = keep_server l.shape.slots l.work (after l (Switches Started)).work l.wire.wire l.wire.wire l.ring l.work.client refl (λ finished descs at. at) slots
-event_slots s l _ t step facts slots = slots
+event_slots s l event t step facts slots = grind (arith, wire_slots, work_slots)

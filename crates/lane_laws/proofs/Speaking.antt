@@ -1,11 +1,10 @@
 -- Each event of a lane leaves both ends resting on what they heard, and having said what their handshakes hold, as ends on a channel do.
-use Rattle.std.proofs.Common.{◌≡◌, ◌≤◌, Bool, true, false, refl, ap, ◌++◌, length, Some, List, sym, subst, ◌∙◌}
-use Rattle.std.specs.Prelude.{◌&&◌, is_none, is_some, not, ⊤}
+use Rattle.std.proofs.Common.{◌≡◌, ◌≤◌, true, false, ◌++◌, length, Some, List, sym, subst, arith}
+use Rattle.std.specs.Prelude.{is_none, is_some, ⊤}
 use Rattle.runs.specs.Lawful.{run_lawful}
 use Rattle.runs.specs.Run.{Run}
 use Rattle.ldc_link.specs.declared.phase.Role.TheVariants.{Initiator, Responder}
 use Rattle.ldc_queue.specs.declared.end.End.TheVariants.{A, B}
-use Rattle.ldc_queue.specs.Messages.{is_empty}
 use Rattle.ldc_queue.specs.Transcript.{Turn}
 use Rattle.disk_model.specs.ClientPutting.{client_holds}
 use Rattle.disk_model.specs.ClientRule.{client_rule}
@@ -23,7 +22,6 @@ use Rattle.channel_model.specs.TranscriptLog.{TranscriptLog, nothing_said}
 use Rattle.channel_laws.proofs.EndResting.{open_rests}
 use Rattle.channel_laws.proofs.EndsResting.{fresh_end_rests, rests_move, utters_of}
 use Rattle.channel_laws.proofs.Lifting.{transcript_turns}
-use Rattle.channel_laws.proofs.MessagesHeld.{owed_held}
 use Rattle.channel_laws.specs.Cuts.{CarriesOwed}
 use Rattle.channel_laws.specs.EndCore.{Waits}
 use Rattle.channel_laws.specs.Grounds.{OpenRests}
@@ -43,12 +41,7 @@ use Rattle.lane_laws.specs.Sound.{ClientSound}
 -- WHAT A SERVER HOLDS, where that isn't of its session, is what its handshake owes
 pub server_holds_owed : (v : ServerState) (turns : List Turn) → EndStands Responder (server_core v) turns → is_none v.handshake.owed ≡ false → 1 ≤ length v.link.to_send
     → CarriesOwed v.handshake.owed (half_said turns ++ v.link.to_send)
-server_holds_owed v turns stands is some =
-    owed_held Responder (server_core v) turns stands (ap (λ (b : Bool). not (is_empty v.link.to_send) && b) is ∙ never (not (is_empty v.link.to_send))) some
-  where
-    never : (b : Bool) → (b && false) ≡ false
-    never true = refl
-    never false = refl
+server_holds_owed v turns stands is some = grind arith
 
 -- IT HOLDS a message
 pub client_blocked_rests : (s : ClientState) (at : Seen) (t : ClientState) (turns : List Turn) → ClientSound s → client_holds (client_rule s at) s ≡ Some t → ClientRests s turns → ClientRests t turns

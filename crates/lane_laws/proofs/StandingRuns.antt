@@ -3,7 +3,6 @@ use Rattle.std.proofs.Common.{◌≡◌, ℕ, Bool, None, ◌-◌, List, [], ◌
 use Rattle.runs.specs.Lawful.{Lawful, run_lawful}
 use Rattle.runs.specs.Run.{Run}
 use Rattle.ldc_queue.specs.declared.end.End.TheVariants.{A}
-use Rattle.vdisk_msg.specs.Requests.{defect}
 use Rattle.channel_model.specs.WireLog.{WireLog}
 use Rattle.lane_laws.specs.DiskLog.{DiskLog, after, after_wire, nothing_yet}
 use Rattle.lane_laws.specs.RequestLaws.{AdmissionAt, Admits, OnceAt, TurnsAt}
@@ -11,20 +10,17 @@ use Rattle.lane_laws.specs.WorkLog.{WorkLog}
 use Rattle.disk_model.specs.ClientState.{ClientState}
 use Rattle.disk_model.specs.ClientStep.{ClientAdmits, ClientStep}
 use Rattle.channel_model.specs.WireEvent.{Reset}
-use Rattle.disk_model.specs.DiskEvent.{Accepted, Admitted, Asks, CalmReset, CalmTick, DiskEvent, Done, Full, Misplaced, OnWire, Published, Refused, Calms, Stopped, Switches, Works}
+use Rattle.disk_model.specs.DiskEvent.{Accepted, Admitted, Asks, DiskEvent, Done, Full, OnWire, Published, Refused, Works}
 use Rattle.disk_model.specs.LaneState.{IsShape, LaneState, Shape, fresh}
 use Rattle.disk_model.specs.LaneStep.{LaneStep}
 use Rattle.lane_laws.proofs.Requesting.{KeepsRequests, accepted_stand, completed_next, kept_stand, published_kept, same_stand}
-use Rattle.lane_laws.proofs.StandingSteps.{client_kept, joined_client_kept, same_client, wire_turn, wired_keeps}
+use Rattle.lane_laws.proofs.StandingSteps.{client_kept, joined_client_kept, same_client, wired_keeps}
 use Rattle.lane_laws.proofs.LaneViews.{Beside, ClientActs, ClientAsked, ClientCalled, ClientStays, ClientView, after_stopped, at_client, lane_view}
 use Rattle.lane_laws.specs.Standing.{LaneInvariant, MayOfRequests, RequestsStand}
 
 -- what is pending is counted by the log too
 pub pending_is : (c : ClientState) (w : WorkLog) → RequestsStand c w → length c.pending ≡ length w.issued - w.done
 pending_is c w stand = ap length stand.pending ∙ length-drop w.done w.issued
-
-blocks_is : (s : LaneState) (l : DiskLog) → LaneInvariant s l → s.client.blocks ≡ l.shape.blocks
-blocks_is s l stands = stands.blocks ∙ ap (λ (y : Shape). y.blocks) stands.shape
 
 pub slots_is : (s : LaneState) (l : DiskLog) → LaneInvariant s l → s.client.slots ≡ l.shape.slots
 slots_is s l stands = stands.slots ∙ ap (λ (y : Shape). y.slots) stands.shape
@@ -61,11 +57,7 @@ asks_behind c l (Accepted id request) t stand admits = record {
 
 -- an event beside it completes and accepts nothing
 beside_keeps : (l : DiskLog) (event : DiskEvent) → Beside A event → ((after l event).work.issued ≡ l.work.issued) × ((after l event).work.done ≡ l.work.done)
-beside_keeps l (OnWire event) beside = let keeps = wired_keeps l.shape.slots l.transcript l.work event in (keeps.issued, keeps.done)
-beside_keeps l (Works (Done id operation status bytes)) beside = absurd beside
-beside_keeps l (Asks (Accepted id request)) beside = absurd beside
-beside_keeps l (Switches Stopped) beside = (refl, refl)
-beside_keeps l _ beside = (refl, refl)
+beside_keeps l event beside = grind arith
 
 client_behind : (s t : LaneState) (l : DiskLog) (event : DiskEvent) → RequestsStand s.client l.work → ClientView s t event → ClientBehind s.client t.client (after l event).work
 client_behind s t l _ stand (ClientActs event own does) = steps_behind s l stand event t.client t.memory does
@@ -77,11 +69,7 @@ client_behind s t l _ stand (ClientStays event beside is) =
 
 -- WHETHER THE SERVER is stopped, by the log
 stopped_behind : (l : DiskLog) (event : DiskEvent) → after_stopped l.work.stopped event ≡ (after l event).work.stopped
-stopped_behind l (OnWire event) = sym (wired_keeps l.shape.slots l.transcript l.work event).stopped
-stopped_behind l (Works (Published id)) = refl
-stopped_behind l (Asks (Accepted id request)) = refl
-stopped_behind l (Switches Stopped) = refl
-stopped_behind l _ = refl
+stopped_behind l event = grind arith
 
 invariant_step : (s : LaneState) (l : DiskLog) (event : DiskEvent) (t : LaneState) → LaneInvariant s l → LaneStep s event t → LaneInvariant t (after l event)
 invariant_step s l event t stands step =
@@ -99,14 +87,7 @@ invariant_step s l event t stands step =
 
 -- WHERE AN EVENT MAY STAND: what comes of a request, completions, and turns
 asks_may : (s : LaneState) (l : DiskLog) (request : Admitted) (t : ClientState) → LaneInvariant s l → ClientAdmits s.client request t → Admits l request
-asks_may s l (Refused why request) t stands admits = ap (λ (n : ℕ). defect n request) (sym (blocks_is s l stands)) ∙ admits.0
-asks_may s l (Full request) t stands admits =
-    (ap (λ (n : ℕ). defect n request) (sym (blocks_is s l stands)) ∙ admits.0, sym (pending_is s.client l.work stands.requests) ∙ admits.1 ∙ slots_is s l stands)
-asks_may s l (Accepted id request) t stands admits = (
-  ap (λ (n : ℕ). defect n request) (sym (blocks_is s l stands)) ∙ admits.0,
-  omega (arith, admits.1, pending_is s.client l.work stands.requests, slots_is s l stands),
-  admits.4 ∙ stands.requests.next,
-)
+asks_may s l request t stands admits = grind (arith, pending_is)
 
 admission_at : (s : LaneState) (l : DiskLog) (event : DiskEvent) (t : LaneState) → LaneInvariant s l → LaneStep s event t → AdmissionAt l event
 admission_at s l (Asks request) t stands step = asks_may s l request t.client stands step.0
@@ -119,16 +100,7 @@ once_at s l (Works (Done id operation status bytes)) t stands step =
 once_at s l _ t stands step = tt
 
 turns_at : (s : LaneState) (l : DiskLog) (event : DiskEvent) (t : LaneState) → LaneInvariant s l → LaneStep s event t → TurnsAt l event
-turns_at s l (OnWire event) t stands step = wire_turn s l.work event t stands.stopped step
-turns_at s l (Works (Published id)) t stands step = tt
-turns_at s l (Works (Done id operation status bytes)) t stands step = tt
-turns_at s l (Works Misplaced) t stands step = absurd step
-turns_at s l (Works event) t stands step = sym stands.stopped ∙ step.1.step.0
-turns_at s l (Asks request) t stands step = tt
-turns_at s l (Calms CalmTick) t stands step = tt
-turns_at s l (Calms (CalmReset A)) t stands step = absurd step
-turns_at s l (Switches Stopped) t stands step = sym stands.stopped ∙ step.0
-turns_at s l _ t stands step = sym stands.stopped ∙ step.0
+turns_at s l event t stands step = grind arith
 
 -- EACH EVENT: where it may stand, and what it keeps
 pub record Behind (s : LaneState) (l : DiskLog) (event : DiskEvent) (t : LaneState) : Type 0 where
@@ -136,21 +108,11 @@ pub record Behind (s : LaneState) (l : DiskLog) (event : DiskEvent) (t : LaneSta
   pub stands : LaneInvariant t (after l event)
 
 pub stands_step : (s : LaneState) (l : DiskLog) (event : DiskEvent) (t : LaneState) → LaneInvariant s l → LaneStep s event t → Behind s l event t
-stands_step s l event t stands step = record {
-  may = record { admission = admission_at s l event t stands step; once = once_at s l event t stands step; turns = turns_at s l event t stands step };
-  stands = invariant_step s l event t stands step;
-}
+stands_step s l event t stands step = search (admission_at, once_at, turns_at, invariant_step)
 
 -- ALONG EVERY RUN
 pub fresh_stands : (shape : Shape) → LaneInvariant (fresh shape) (nothing_yet shape)
-fresh_stands shape = record {
-  shape = refl;
-  wire = refl;
-  stopped = refl;
-  blocks = refl;
-  slots = refl;
-  requests = record { pending = refl; next = refl; done = omega arith; session = tt };
-}
+fresh_stands shape = grind arith
 
 requests_step : (s : LaneState) (l : DiskLog) (event : DiskEvent) (t : LaneState) → LaneInvariant s l → LaneStep s event t → MayOfRequests l event × LaneInvariant t (after l event)
 requests_step s l event t stands step = let behind = stands_step s l event t stands step in (behind.may, behind.stands)

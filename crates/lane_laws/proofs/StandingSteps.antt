@@ -1,17 +1,14 @@
 -- Each event of a lane may stand where the conditions on requests say, and keeps what its requests and its log are to each other.
-use Rattle.std.proofs.Common.{◌≡◌, ℕ, Option, List, refl, sym, ap, ◌∙◌, subst}
-use Rattle.ldc_queue.specs.declared.end.End.{End}
-use Rattle.ldc_queue.specs.declared.end.End.TheVariants.{A, B}
-use Rattle.vio_tag.specs.declared.cause.Cause.{Cause}
+use Rattle.std.proofs.Common.{◌≡◌, ℕ, List, sym, ap, subst, arith}
+use Rattle.ldc_queue.specs.declared.end.End.TheVariants.{A}
 use Rattle.channel_model.specs.TranscriptLog.{TranscriptLog}
-use Rattle.channel_model.specs.WireEvent.{Blocked, ByRestart, ByScript, ByStep, ByTick, Giver, Idle, Joined, Reset, Sent, Took, WireEvent, giver}
+use Rattle.channel_model.specs.WireEvent.{Blocked, Idle, Joined, Reset, Sent, Took, WireEvent}
 use Rattle.channel_model.specs.WireLog.{wire_moved}
-use Rattle.lane_laws.specs.RequestLaws.{TurnOfEnd, TurnOfReset, TurnOfWire}
 use Rattle.lane_laws.specs.WorkLog.{WorkLog, work_wired}
 use Rattle.disk_model.specs.ClientState.{ClientState, joined_client}
 use Rattle.disk_model.specs.DiskEvent.{OnWire}
 use Rattle.disk_model.specs.LaneState.{LaneState}
-use Rattle.disk_model.specs.LaneStep.{EndOnWire, ResetBy, WireStep}
+use Rattle.disk_model.specs.LaneStep.{WireStep}
 use Rattle.lane_laws.proofs.LaneViews.{ClientActs, ClientCalled, ClientStays, ClientView, at_client, lane_view}
 use Rattle.disk_model.specs.ClientStep.{ClientStep}
 use Rattle.lane_laws.proofs.Requesting.{KeepsRequests, held_kept, joined_kept, sent_kept, stays_kept, took_kept}
@@ -25,11 +22,7 @@ pub record LogKeeps (w x : WorkLog) : Type 0 where
   pub stopped : x.stopped ≡ w.stopped
 
 pub wired_keeps : (slots : ℕ) (transcript : TranscriptLog) (w : WorkLog) (event : WireEvent) → LogKeeps w (work_wired slots transcript w event)
-wired_keeps slots transcript w (Joined A lost) = record { issued = refl; done = refl; stopped = refl }
-wired_keeps slots transcript w (Reset A cause packet lost) = record { issued = refl; done = refl; stopped = refl }
-wired_keeps slots transcript w (Took A packet opens) = record { issued = refl; done = refl; stopped = refl }
-wired_keeps slots transcript w (Sent A packet opens) = record { issued = refl; done = refl; stopped = refl }
-wired_keeps slots transcript w _ = record { issued = refl; done = refl; stopped = refl }
+wired_keeps slots transcript w event = grind arith
 
 -- WHAT A STEP ON THE WIRE leaves of the client's requests, and what it makes of the wire
 pub record OnlyWire (s : LaneState) (event : WireEvent) (t : LaneState) : Type 0 where
@@ -60,25 +53,3 @@ wire_only s event t step = let view = lane_view s (OnWire event) t step in recor
     by event (ClientStays _ beside is) = same_client s.client t.client is
 
 -- TURNS: only a server that runs makes a step
-end_turn : (e : End) (s : LaneState) (w : WorkLog) (event : WireEvent) (t : LaneState) → s.stopped ≡ w.stopped → EndOnWire e s event t → TurnOfEnd e w
-end_turn A s w event t stopped step = tt
-end_turn B s w event t stopped step = sym stopped ∙ step.1.step.0
-
-reset_turn : (by : Giver) (e : End) (s : LaneState) (w : WorkLog) (cause : Cause) (packet : Option (List ℕ)) (lost : ℕ) (t : LaneState) → s.stopped ≡ w.stopped
-    → ResetBy by e s cause packet lost t → TurnOfReset by e w
-reset_turn ByStep e s w cause packet lost t stopped step = end_turn e s w (Reset e cause packet lost) t stopped step
-reset_turn ByScript A s w cause packet lost t stopped step = tt
-reset_turn ByScript B s w cause packet lost t stopped step = sym stopped ∙ step.0
-reset_turn ByRestart A s w cause packet lost t stopped step = absurd step
-reset_turn ByRestart B s w cause packet lost t stopped step = sym stopped ∙ step.0
-reset_turn ByTick A s w cause packet lost t stopped step = tt
-reset_turn ByTick B s w cause packet lost t stopped step = absurd step
-
-pub wire_turn : (s : LaneState) (w : WorkLog) (event : WireEvent) (t : LaneState) → s.stopped ≡ w.stopped → WireStep s event t → TurnOfWire w event
-wire_turn s w (Joined e lost) t stopped step = end_turn e s w (Joined e lost) t stopped step
-wire_turn s w (Took e packet opens) t stopped step = end_turn e s w (Took e packet opens) t stopped step
-wire_turn s w (Sent e packet opens) t stopped step = end_turn e s w (Sent e packet opens) t stopped step
-wire_turn s w (Idle e) t stopped step = end_turn e s w (Idle e) t stopped step
-wire_turn s w (Blocked e) t stopped step = end_turn e s w (Blocked e) t stopped step
-wire_turn s w (Reset e cause packet lost) t stopped step = reset_turn (giver cause) e s w cause packet lost t stopped step
-wire_turn s w _ t stopped step = tt

@@ -1,10 +1,9 @@
 -- What is known of an event of a lane that nobody forged by which a session opens: both ends name it by the client's fifth message, and the
 -- server has given no status in it.
-use Rattle.std.proofs.Common.{◌≡◌, ◌≢◌, ℕ, ◌-◌, ◌≤◌, Bool, true, false, Option, Some, None, List, [], ◌∷◌, ◌++◌, length, refl, sym, ap, ◌∙◌, subst, arith}
+use Rattle.std.proofs.Common.{◌≡◌, ℕ, ◌-◌, ◌≤◌, true, false, Option, Some, None, List, [], ◌∷◌, ◌++◌, length, refl, sym, ap, ◌∙◌, subst, arith}
 use Rattle.std.specs.Prelude.{is_some, slice_get}
 use Rattle.runs.specs.Lawful.{lawful_split, log_append, log_of}
 use Rattle.runs.specs.Run.{Run, run_push}
-use Rattle.ldc_link.specs.declared.phase.Role.{Role}
 use Rattle.ldc_link.specs.declared.phase.Role.TheVariants.{Initiator, Responder}
 use Rattle.ldc_link.specs.LinkState.{is_up}
 use Rattle.ldc_queue.specs.declared.end.ChannelState.TheVariants.{Up}
@@ -13,7 +12,6 @@ use Rattle.ldc_queue.specs.OneStream.{IsFront}
 use Rattle.ldc_queue.specs.Transcript.{Heard as Heard_, Said, Turn}
 use Rattle.vio_handshake.proofs.Places.{AllSaid, Deal, Place}
 use Rattle.vio_handshake.specs.declared.handshake.Phase.TheVariants.{Open}
-use Rattle.vio_handshake.specs.Rules.{opens_by_put}
 use Rattle.channel_model.specs.Sayings.{half_heard, half_said, heard, said}
 use Rattle.channel_model.specs.TranscriptLog.{TranscriptLog}
 use Rattle.channel_model.specs.WireEvent.{Sent, Took}
@@ -27,14 +25,14 @@ use Rattle.lane_laws.specs.WorkLog.{ClientCounts, ServerCounts}
 use Rattle.disk_model.specs.ClientPutting.{client_kind}
 use Rattle.disk_model.specs.ClientState.{ClientSession, ClientState}
 use Rattle.disk_model.specs.DiskEvent.{DiskEvent, OnWire}
-use Rattle.channel_model.specs.EndPuts.{EndsHandshake, PutKind, put_opens}
+use Rattle.channel_model.specs.EndPuts.{PutKind, put_opens}
 use Rattle.disk_model.specs.LaneState.{IsShape, LaneState, Shape, fresh}
 use Rattle.disk_model.specs.LaneStep.{LaneStep}
 use Rattle.channel_model.specs.Seeing.{seen}
 use Rattle.disk_model.specs.ServerState.{ServerState}
-use Rattle.channel_laws.proofs.Apart.{false_is_true, true_is_false}
+use Rattle.channel_laws.proofs.Apart.{true_is_false}
 use Rattle.channel_laws.proofs.EndStanding.{open_up}
-use Rattle.channel_laws.proofs.HandshakePlaces.{AtPlace, deal, open_place, place_open}
+use Rattle.channel_laws.proofs.HandshakePlaces.{AtPlace, deal, open_place}
 use Rattle.channel_laws.proofs.Script.{said_at}
 use Rattle.channel_laws.specs.Sides.{sides_of}
 use Rattle.channel_laws.specs.Standing.{EndStands}
@@ -99,24 +97,12 @@ around shape events s event t sound run step clean =
     }
 
 -- BEFORE THE LAST PLACE the client has said, and the server heard, at most four messages
-few_at : (d : Deal) (n : Place) → n ≢ AllSaid → length (said_at false d Initiator n ++ []) ≤ 4
-few_at d AllSaid far = absurd (far refl)
-few_at d _ far = omega arith
-
 five_at : (d : Deal) (n : Place) (more : List (List ℕ)) → n ≡ AllSaid → 5 ≤ length (said_at false d Initiator n ++ more)
 five_at d n more last = subst (λ (p : Place). 5 ≤ length (said_at false d Initiator p ++ more)) (sym last) (omega arith)
 
-not_open : (b : Bool) → b ≡ false → b ≡ true → ⊥
-not_open b closed is = false_is_true (sym closed ∙ is)
-
 -- A SESSION OF THE CLIENT opens where it had none
 kind_opens : (kind : PutKind) (c : ClientState) → c.handshake.phase ≡ Open → put_opens kind c.handshake ≡ false
-kind_opens EndsHandshake c is = ap (opens_by_put c.handshake.role) is ∙ by_role c.handshake.role
-  where
-    by_role : (r : Role) → opens_by_put r Open ≡ false
-    by_role Initiator = refl
-    by_role Responder = refl
-kind_opens _ c is = refl
+kind_opens kind c is = grind arith
 
 none_if : (o : Option ClientSession) → (is_some o ≡ true → ⊥) → o ≡ None
 none_if None never = refl
@@ -136,14 +122,7 @@ sends_new shape s l packet t now step =
 
 few_said : (d : Deal) (c : ClientState) (turns : List Turn) → EndStands Initiator (client_core c) turns → (is_up c.link ≡ true → AtPlace false d Initiator c.handshake turns) → c.session ≡ None
     → length (said turns) ≤ 4
-few_said d c turns stands there none = by_up (is_up c.link) refl
-  where
-    by_up : (b : Bool) → is_up c.link ≡ b → length (said turns) ≤ 4
-    by_up false is = omega (arith, ap length (stands.below is).said_none)
-    by_up true is =
-        let at = there is in
-        let far : at.place ≢ AllSaid = λ last. not_open (is_some c.session) (ap is_some none) (place_open false d Initiator (client_core c) turns stands at last) in
-        omega (arith, ap length (at.said_is ∙ ap (λ (xs : List (List ℕ)). said_at false d Initiator at.place ++ xs) (at.only far).0), few_at d at.place far)
+few_said d c turns stands there none = grind arith
 
 pub names_session : (shape : Shape) (s : LaneState) (l : DiskLog) (packet : List ℕ) (t : LaneState) → Around shape s l (OnWire (Sent A packet true)) t → LaneStep s (OnWire (Sent A packet true)) t
     → IsNamed (opening_sid (half_said l.transcript.client) packet) (said (Said packet ∷ l.transcript.client))
@@ -160,9 +139,7 @@ names_session shape s l packet t now step =
 
 -- and no server whose end is up works
 none_server : (q : Option ServerCounts) (s : LaneState) (l : DiskLog) → s.client.session ≡ None → ClientAgrees s.client.session l.work.done l.work.client → IfServer q (OneRing s l.work) → q ≡ None
-none_server None s l none agrees ring = refl
-none_server (Some d) s l none agrees ring =
-    absurd (not_open (is_some s.client.session) (ap is_some none) (client_some s.client.session l.work.done l.work.client ring.client ring.open_is agrees))
+none_server q s l none agrees ring = grind arith
 
 pub opens_alone : (shape : Shape) (s : LaneState) (l : DiskLog) (packet : List ℕ) (t : LaneState) → Around shape s l (OnWire (Sent A packet true)) t → LaneStep s (OnWire (Sent A packet true)) t
     → l.wire.wire.end_b ≡ Up → l.work.server ≡ None
@@ -172,14 +149,7 @@ opens_alone shape s l packet t now step up =
 -- A SESSION OF THE SERVER opens
 few_heard : (d : Deal) (v : ServerState) (turns : List Turn) → EndStands Responder (server_core v) turns → (is_up v.link ≡ true → AtPlace false d Responder v.handshake turns) → v.session ≡ None
     → length (heard turns) ≤ 4
-few_heard d v turns stands there none = by_up (is_up v.link) refl
-  where
-    by_up : (b : Bool) → is_up v.link ≡ b → length (heard turns) ≤ 4
-    by_up false is = omega (arith, ap length (stands.below is).heard_none)
-    by_up true is =
-        let at = there is in
-        let far : at.place ≢ AllSaid = λ last. not_open (is_some v.session) (ap is_some none) (place_open false d Responder (server_core v) turns stands at last) in
-        omega (arith, ap length (at.heard_is ∙ ap (λ (xs : List (List ℕ)). said_at false d Initiator at.place ++ xs) (at.only far).1), few_at d at.place far)
+few_heard d v turns stands there none = grind arith
 
 pub hears_session : (shape : Shape) (s : LaneState) (l : DiskLog) (packet : List ℕ) (t : LaneState) → Around shape s l (OnWire (Took B packet true)) t → LaneStep s (OnWire (Took B packet true)) t
     → IsNamed (opening_sid (half_heard l.transcript.server) packet) (said l.transcript.client)

@@ -1,6 +1,6 @@
 -- Along every run of a lane that nobody forged each descriptor that is fetched is that of its request, no copy of a unit is refused, and a
 -- completion has the status that the server gave it.
-use Rattle.std.proofs.Common.{◌≡◌, ℕ, ◌+◌, ◌-◌, Bool, true, false, Option, Some, None, List, [], ◌∷◌, ◌++◌, set, refl, sym, ap, ◌∙◌, subst}
+use Rattle.std.proofs.Common.{◌≡◌, ℕ, ◌+◌, Bool, true, false, Option, Some, None, List, [], ◌∷◌, ◌++◌, set, refl, sym, ap, ◌∙◌, subst, arith}
 use Rattle.std.specs.Prelude.{replicate, slice_get}
 use Rattle.runs.specs.Lawful.{Lawful, log_append, log_of, run_lawful}
 use Rattle.runs.specs.Run.{Run, run_push}
@@ -10,7 +10,7 @@ use Rattle.channel_model.specs.Sayings.{half_heard, said}
 use Rattle.channel_model.specs.WireEvent.{Injected, Joined, Lost, Reset, Sent, Took}
 use Rattle.lane_laws.specs.DiskLog.{DiskLog, after, nothing_yet}
 use Rattle.lane_laws.specs.RingLog.{Done as IsDone, Free, SlotLog, finished_at, id_at}
-use Rattle.lane_laws.specs.WorkLaws.{IfClient, InClient, Unforged, WorkUnforgedAt, last_of}
+use Rattle.lane_laws.specs.WorkLaws.{IfClient, Unforged, WorkUnforgedAt}
 use Rattle.channel_model.specs.Messages.{opening_sid}
 use Rattle.lane_laws.specs.WorkLog.{ClientCounts, Opened, ServerCounts, change_server}
 use Rattle.disk_model.specs.DiskEvent.{Accepted, Asks, Desc, DiskEvent, Done, Finished, Misplaced, Moved, OnWire, Published, Stopped, Stored, Switches, Worked, Works}
@@ -162,9 +162,7 @@ record AlongWork (shape : Shape) (s : LaneState) (l : DiskLog) : Type 0 where
 
 completes_with : (l : DiskLog) (k : ClientCounts) (id operation status : ℕ) (bytes : List ℕ) → l.work.client ≡ Some k → StatusesStand l
     → (slot : ℕ) → slice_get l.ring slot ≡ Some (IsDone id status) → Unforged l (Works (Done id operation status bytes))
-completes_with l k id operation status bytes is stand slot got =
-    let keeps : KeepsStatus l.ring l.work.opened k = subst (λ (o : Option ClientCounts). IfClient o (KeepsStatus l.ring l.work.opened)) is stand.done in
-    subst (λ (o : Option ClientCounts). InClient o (λ (c : ClientCounts). slice_get (last_of c.sid l.work.opened) (id - c.base) ≡ Some status)) (sym is) (keeps slot id status got)
+completes_with l k id operation status bytes is stand slot got = grind arith
 
 worked_unforged : (shape : Shape) (events : List DiskEvent) (s : LaneState) (event : Worked) (t : LaneState) → IsShape shape → Run LaneStep (fresh shape) events s
     → Working s (log_of after (nothing_yet shape) events) → StatusesStand (log_of after (nothing_yet shape) events) → (log_of after (nothing_yet shape) events).wire.forged ≡ false

@@ -6,7 +6,7 @@ use Rattle.ldc_queue.specs.Fragments.{Fragment, fragment_at, is_part}
 use Rattle.ldc_queue.specs.OneStream.{IsFront}
 use Rattle.ldc_queue.specs.Transcript.{Heard as Heard_, Said, Turn}
 use Rattle.channel_model.specs.Sayings.{half_heard, half_said, heard, said, whole_by, whole_past}
-use Rattle.channel_model.specs.Messages.{sid_of, whole_with, opening_sid, sid_in}
+use Rattle.channel_model.specs.Messages.{whole_with, opening_sid, sid_in}
 use Rattle.channel_laws.proofs.Apart.{some_same}
 use Rattle.lane_laws.specs.RingLog.{Done, Free, Ready, SlotLog, fetched_at, freed_at, published_at}
 use Rattle.lane_laws.specs.WorkLaws.{IfClient, last_of}
@@ -16,9 +16,7 @@ use Rattle.lane_laws.specs.Statuses.{IsLast, IsNamed, KeepsStatus, LastIn}
 -- THE CLIENT'S COUNTS change but for the sid and the base
 pub keeps_changed : (f : ClientCounts → ClientCounts) (o : Option ClientCounts) (ring : List SlotLog) (opened : List Opened) → ((k : ClientCounts) → (f k).sid ≡ k.sid)
     → ((k : ClientCounts) → (f k).base ≡ k.base) → IfClient o (KeepsStatus ring opened) → IfClient (change_client f o) (KeepsStatus ring opened)
-keeps_changed f None ring opened sid base keeps = tt
-keeps_changed f (Some k) ring opened sid base keeps =
-    λ slot id status got. ap (λ (n : ℕ). slice_get (last_of n opened) (id - (f k).base)) (sid k) ∙ ap (λ (b : ℕ). slice_get (last_of k.sid opened) (id - b)) (base k) ∙ keeps slot id status got
+keeps_changed f o ring opened sid base keeps = grind arith
 
 if_client : (f : ClientCounts → ClientCounts) (o : Option ClientCounts) (P : ℕ → Type 0) → ((k : ClientCounts) → (f k).sid ≡ k.sid) → IfClient o (λ (k : ClientCounts). P k.sid)
     → IfClient (change_client f o) (λ (k : ClientCounts). P k.sid)
@@ -95,10 +93,7 @@ front_named sid messages all front named = subst (IsNamed sid) (sym front.1) (mo
 
 -- so both ends have one sid
 pub one_name : (sid other : ℕ) (messages : List (List ℕ)) → IsNamed sid messages → IsNamed other messages → sid ≡ other
-one_name sid other messages named also =
-    let both : Some named.message ≡ Some also.message = sym named.fifth ∙ also.fifth in
-    let same : named.message ≡ also.message = some_same both in
-    named.sid_is ∙ ap sid_of same ∙ sym also.sid_is
+one_name sid other messages named also = search
 
 -- ONE SLOT of the ring changes
 abbrev IsNotDone : SlotLog → Type 0
@@ -112,14 +107,8 @@ set_or (y ∷ ring) zero (suc j) e x is = inr is
 set_or (y ∷ ring) (suc k) zero e x is = inr is
 set_or (y ∷ ring) (suc k) (suc j) e x is = set_or ring k j e x is
 
-done_not : (e : SlotLog) (id status : ℕ) → IsNotDone e → Done id status ≡ e → ⊥
-done_not e id status not is = subst IsNotDone (sym is) not
-
 set_keeps : (ring : List SlotLog) (opened : List Opened) (k : ClientCounts) (slot : ℕ) (e : SlotLog) → IsNotDone e → KeepsStatus ring opened k → KeepsStatus (set ring slot e) opened k
-set_keeps ring opened k slot e not keeps = λ at id status got. elim (set_or ring slot at e (Done id status) got) [
-  | inl is ↦ absurd (done_not e id status not is)
-  | inr was ↦ keeps at id status was
-]
+set_keeps ring opened k slot e not keeps = grind (arith, set_or)
 
 pub published_keeps : (slots : ℕ) (o : Option ClientCounts) (id : ℕ) (ring : List SlotLog) (opened : List Opened) → IfClient o (KeepsStatus ring opened)
     → IfClient (change_client (λ (c : ClientCounts). record c { published = c.published + 1 }) o) (KeepsStatus (published_at slots o id ring) opened)
@@ -186,10 +175,7 @@ pub record GivesStatus (ring : List SlotLog) (opened : List Opened) (k : ClientC
 
 pub gives_status : (ring : List SlotLog) (opened : List Opened) (k : ClientCounts) (finished slot status : ℕ) → GivesStatus ring opened k finished
     → GivesStatus (set ring slot (Done (k.base + finished) status)) (finished_in status opened) k (finished + 1)
-gives_status ring opened k finished slot status now = record {
-  keeps = finished_one ring opened k finished slot status now.last now.keeps;
-  last = last_grown opened k.sid finished status now.last;
-}
+gives_status ring opened k finished slot status now = search (finished_one, last_grown)
 
 -- NO SLOT is DONE
 abbrev pub NoneDone : List SlotLog → Type 0

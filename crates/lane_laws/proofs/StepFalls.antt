@@ -6,23 +6,15 @@ use Rattle.ldc_queue.specs.declared.end.End.TheVariants.{A, B}
 use Rattle.vio_tag.specs.declared.cause.Cause.{Cause}
 use Rattle.channel_model.specs.WireAt.{IsUp}
 use Rattle.channel_model.specs.WireEvent.{Blocked, ByStep, Giver, Idle, Joined, Reset, Sent, Took, WireEvent, giver}
-use Rattle.disk_model.specs.ClientRule as client_rules
-use Rattle.disk_model.specs.ClientState.{ClientState}
-use Rattle.disk_model.specs.ClientStep.{ClientFails}
 use Rattle.disk_model.specs.DiskEvent.{DiskEvent, Misplaced, Off, OnWire, Switches, Works}
 use Rattle.disk_model.specs.LaneState.{IsShape, LaneState, Shape, fresh}
-use Rattle.disk_model.specs.LaneStep.{EndOnWire, LaneStep, ResetBy, reach}
-use Rattle.disk_model.specs.ServerRule as server_rules
-use Rattle.disk_model.specs.ServerStep.{ServerFails}
+use Rattle.disk_model.specs.LaneStep.{EndOnWire, LaneStep, ResetBy}
 use Rattle.lane_laws.proofs.FallsInTurn.{took_falls}
 use Rattle.lane_laws.proofs.IdleRuns.{client_same, server_same}
 use Rattle.lane_laws.proofs.RemainingBlocked.{blocked_stays}
 use Rattle.lane_laws.proofs.RemainingRuns.{resets_fall, steps_fall}
-use Rattle.lane_laws.proofs.Ruling.{client_may, server_may}
 use Rattle.lane_laws.specs.Remaining.{remaining}
-use Rattle.lane_laws.specs.RuleFacts.{ClientMay, ServerMay}
 use Rattle.lane_laws.proofs.OwnResets.{own_reset}
-use Rattle.lane_laws.proofs.LaneViews.{at_client, at_server}
 use Rattle.lane_laws.specs.CalmEnds.{IsCalm, IsStep, IsWireStep}
 
 -- it does nothing and leaves what remains, or lowers it
@@ -37,24 +29,8 @@ idles A s t step = client_same s t step
 idles B s t step = server_same s t step
 
 -- AN END THAT RESETS ITSELF is up
-client_fails_up : (c : ClientState) (s : LaneState) (rule : client_rules.ClientRule) (cause : Cause) (packet : Option (List ℕ)) → ClientMay c (at_client s) rule → ClientFails rule c s.memory cause packet
-    → IsUp A s.wire.wire
-client_fails_up c s (client_rules.Takes bytes) cause packet may fails = may.0
-client_fails_up c s (client_rules.Completes session) cause packet may fails = may.0
-client_fails_up c s _ cause packet may fails = absurd fails
-
-server_fails_up : (s : LaneState) (rule : server_rules.ServerRule) (cause : Cause) (packet : Option (List ℕ)) (new : List ℕ) → ServerMay s.server (at_server s) rule
-    → ServerFails rule s.server (reach s (at_server s).both) cause packet new → IsUp B s.wire.wire
-server_fails_up s (server_rules.Takes bytes) cause packet new may fails = may.0
-server_fails_up s (server_rules.Fetches session) cause packet new may fails = may.0
-server_fails_up s (server_rules.Serves session work) cause packet new may fails = may.0
-server_fails_up s _ cause packet new may fails = absurd fails
-
 resets_up : (e : End) (s : LaneState) (cause : Cause) (packet : Option (List ℕ)) (lost : ℕ) (t : LaneState) → EndOnWire e s (Reset e cause packet lost) t → IsUp e s.wire.wire
-resets_up A s cause packet lost t step =
-    client_fails_up s.client s (client_rules.client_rule s.client (at_client s)) cause packet (client_may s.client (at_client s)) step.step.0
-resets_up B s cause packet lost t step =
-    server_fails_up s (server_rules.server_rule s.server (at_server s)) cause packet t.memory (server_may s.server (at_server s)) step.1.step.1.0
+resets_up e s cause packet lost t step = grind arith
 
 own_falls : (shape : Shape) (events : List DiskEvent) (s : LaneState) (e : End) (cause : Cause) (packet : Option (List ℕ)) (lost : ℕ) (t : LaneState) → IsShape shape → Run LaneStep (fresh shape) events s
     → s.wire.forged ≡ false → giver cause ≡ ByStep → LaneStep s (OnWire (Reset e cause packet lost)) t → remaining t < remaining s

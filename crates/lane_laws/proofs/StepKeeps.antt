@@ -1,48 +1,16 @@
 -- A step of an end neither forges nor loses a packet, and neither stops nor starts the server.
-use Rattle.std.proofs.Common.{◌≡◌, Bool, false, refl, ap, ◌∙◌}
-use Rattle.ldc_queue.specs.declared.end.ChannelState.{ChannelState}
-use Rattle.ldc_queue.specs.declared.end.ChannelState.TheVariants.{Down, Resetting, Up}
+use Rattle.std.proofs.Common.{◌≡◌, ap, arith}
 use Rattle.ldc_queue.specs.declared.end.End.{End}
-use Rattle.ldc_queue.specs.declared.end.End.TheVariants.{A, B}
-use Rattle.ldc_queue.specs.Wire.{state_of}
-use Rattle.channel_model.specs.WireEvent.{Injected, Joined, Lost, Poked, Reset}
-use Rattle.channel_model.specs.WireLog.{WireLog, lossy_behind, wire_moved}
-use Rattle.disk_model.specs.DiskEvent.{DiskEvent, OnWire, Started, Stopped, Switches}
+use Rattle.disk_model.specs.DiskEvent.{DiskEvent}
 use Rattle.disk_model.specs.LaneState.{LaneState}
 use Rattle.disk_model.specs.LaneStep.{LaneStep}
 use Rattle.lane_laws.specs.DiskLog.{after_wire}
 use Rattle.lane_laws.proofs.LaneViews.{after_stopped, lane_view}
 use Rattle.lane_laws.specs.CalmEnds.{IsStep, StepKeeps}
 
--- a configured end empties its queues or leaves them
-still_whole : (x : ChannelState) (lossy : Bool) → lossy ≡ false → lossy_behind x lossy ≡ false
-still_whole Up lossy whole = refl
-still_whole Down lossy whole = whole
-still_whole Resetting lossy whole = whole
-
-begun_lane : (e : End) (s t : LaneState) → t.wire ≡ wire_moved s.wire (Joined e 0) → t.stopped ≡ s.stopped → StepKeeps s t
-begun_lane e s t wire stopped = record {
-  forged = ap (λ (w : WireLog). w.forged) wire;
-  whole = λ whole. ap (λ (w : WireLog). w.lossy) wire ∙ still_whole (state_of e s.wire.wire) s.wire.lossy whole;
-  stopped = stopped;
-}
-
 -- EACH STEP, by the wire after it
 moved_keeps : (s : LaneState) (e : End) (event : DiskEvent) (t : LaneState) → t.wire ≡ after_wire s.wire event → t.stopped ≡ after_stopped s.stopped event → IsStep e event → StepKeeps s t
-moved_keeps s e (OnWire (Joined d lost)) t wire stopped own = begun_lane d s t wire stopped
-moved_keeps s e (OnWire (Reset d cause packet lost)) t wire stopped own = begun_lane d s t wire stopped
-moved_keeps s e (OnWire (Lost d packet)) t wire stopped own = absurd own
-moved_keeps s e (OnWire (Injected d packet)) t wire stopped own = absurd own
-moved_keeps s e (OnWire (Poked d at bytes)) t wire stopped own = absurd own
-moved_keeps s A (Switches Stopped) t wire stopped own = absurd own
-moved_keeps s B (Switches Stopped) t wire stopped own = absurd own
-moved_keeps s A (Switches Started) t wire stopped own = absurd own
-moved_keeps s B (Switches Started) t wire stopped own = absurd own
-moved_keeps s e _ t wire stopped own = record {
-  forged = ap (λ (w : WireLog). w.forged) wire;
-  whole = λ whole. ap (λ (w : WireLog). w.lossy) wire ∙ whole;
-  stopped = stopped;
-}
+moved_keeps s e event t wire stopped own = grind arith
 
 pub step_keeps : (s : LaneState) (e : End) (event : DiskEvent) (t : LaneState) → LaneStep s event t → IsStep e event → StepKeeps s t
 step_keeps s e event t step own =

@@ -1,12 +1,9 @@
 -- What a unit that is read or stored, a fetched descriptor, and the end of one are to a lane's view.
 use Rattle.std.proofs.Common.{◌≡◌, ℕ, ◌+◌, ◌*◌, ◌/◌, ◌^◌, ◌<◌, ◌≤◌, Bool, false, Option, Some, None, List, drop, length, refl, sym, ap, ◌∙◌, subst, arith}
 use Rattle.std.specs.Prelude.{slice_get, ◌==◌, if◌then◌else◌}
-use Rattle.ldc_queue.specs.declared.end.ChannelState.{ChannelState}
-use Rattle.ldc_queue.specs.declared.end.ChannelState.TheVariants.{Up}
 use Rattle.ldc_queue.specs.declared.end.End.TheVariants.{B}
 use Rattle.vdisk_msg.proofs.Written.{requested_is_sound}
 use Rattle.vdisk_msg.specs.Check.{first_defect}
-use Rattle.vdisk_msg.specs.declared.desc.DescFault.{DescFault}
 use Rattle.vdisk_msg.specs.declared.desc.DiskDesc.{DiskDesc}
 use Rattle.vdisk_msg.specs.declared.request.Request.{Request}
 use Rattle.vdisk_msg.specs.declared.request.Request.TheVariants.{Flush, Read, Write}
@@ -25,7 +22,7 @@ use Rattle.disk_model.specs.LaneStep.{ServerWorks, WorkStep, reach, stored_block
 use Rattle.channel_model.specs.Seeing.{seen}
 use Rattle.disk_model.specs.ServerRule as server_rules
 use Rattle.disk_model.specs.ServerState.{Ends, Flushes, Gives, Progress, Reads, ServerState, Work, Writes}
-use Rattle.disk_model.specs.ServerWork.{StoresIn, checked_progress, first_progress, first_progress_of, gathers_next, header_of, unit_length, with_word}
+use Rattle.disk_model.specs.ServerWork.{StoresIn, first_progress, gathers_next, header_of, unit_length, with_word}
 use Rattle.lane_laws.proofs.RingServer.{header_long}
 use Rattle.lane_laws.proofs.RingWork.{fetched_next}
 use Rattle.lane_laws.proofs.StandingRuns.{slots_is as slots_are}
@@ -38,14 +35,14 @@ use Rattle.lane_laws.proofs.SlotsStepping.{StepFacts}
 use Rattle.lane_laws.specs.RingAgreed.{ring_in}
 use Rattle.lane_laws.specs.RuleFacts.{ServerMay}
 use Rattle.lane_laws.specs.Contents.{ContentsStand, ProgressIs}
-use Rattle.lane_laws.specs.ImageStep.{StoreDoes, UnitDoes, WorkDoes}
+use Rattle.lane_laws.specs.ImageStep.{StoreDoes, UnitDoes}
 use Rattle.lane_laws.specs.LaneView.{view_of, work_while}
 use Rattle.lane_laws.proofs.BehindRing.{ring_end, word_behind}
 use Rattle.lane_laws.proofs.Changes.{Fetched, Flushed, ImageChange, IsChange, Kind, Looked, Stored, content_behind, first_of}
 use Rattle.lane_laws.proofs.PlacedViews.{live}
 use Rattle.lane_laws.proofs.ServerChanges.{ServesNow, server_view, serves_now}
 use Rattle.lane_laws.proofs.Standing.{Before}
-use Rattle.lane_laws.proofs.WireChanges.{Changed}
+use Rattle.lane_laws.proofs.WireChanges.{Changed, none_works}
 use Rattle.lane_laws.proofs.WorkSteps.{unit_blocks}
 
 -- A UNIT THAT IS STORED, with what the store gave in the step
@@ -67,17 +64,13 @@ record StoreParts (s : LaneState) (l : DiskLog) (work : Work) (operation count :
   held : s.server.work ≡ Some work
 
 does_of : (o : Option Work) (work : Work) (p : Progress) (block : ℕ) (gave image next : List ℕ) → o ≡ Some work → work.progress ≡ p → StoreDoes false o block gave image next → UnitDoes p block gave image next
-does_of o work p block gave image next is progress does =
-    let here : WorkDoes (Some work) block gave image next = subst (λ (q : Option Work). WorkDoes q block gave image next) is does in
-    subst (λ (q : Progress). UnitDoes q block gave image next) progress here
+does_of o work p block gave image next is progress does = grind arith
 
 blocks_other : (operation count u one : ℕ) → operation ≡ one → (one == 2) ≡ false → stored_blocks operation count false u ≡ u
 blocks_other operation count u one is test = ap (λ (n : ℕ). if n == 2 then risen u count else u) is ∙ ap (λ (b : Bool). if b then risen u count else u) test
 
 blocks_stored : (operation count u : ℕ) → operation ≡ 2 → u + count ≤ 65536 → stored_blocks operation count false u ≡ u + count
-blocks_stored operation count u is few =
-    let whole : risen u count ≡ u + count = omega (arith, few) in
-    ap (λ (n : ℕ). if n == 2 then risen u count else u) is ∙ whole
+blocks_stored operation count u is few = grind arith
 
 read_change : (s : LaneState) (l : DiskLog) (u : ℕ) (work : Work) (operation block count : ℕ) (gave : List ℕ) (next : Progress) (t : LaneState) → (serves : ServesNow s l work) → work.progress ≡ Reads u
     → StoresIn (Reads u) work operation block count false gave next → StoreParts s l work operation count next t → (request : Request) → serves.on.request ≡ request → ProgressIs (Reads u) s.near.u request
@@ -210,12 +203,7 @@ stored_changes s l operation block count gave t before contents step =
 
 -- A DESCRIPTOR IS FETCHED
 first_progress_is : (blocks : ℕ) (desc : DiskDesc) (request : Request) → first_defect desc blocks 0x0e ≡ None → desc.operation ≡ operation_of request → first_progress blocks desc ≡ first_of request
-first_progress_is blocks desc request sound operation =
-    ap (λ (f : Option DescFault). checked_progress f desc) sound ∙ ap first_progress_of operation ∙ by_kind request
-  where
-    by_kind : (q : Request) → first_progress_of (operation_of q) ≡ first_of q
-    by_kind (Read block count) = refl
-    by_kind _ = refl
+first_progress_is blocks desc request sound operation = grind arith
 
 descriptor_is : (id : ℕ) (request : Request) (slot slots : ℕ) → stated id request slot slots 2 0 ≡ descriptor_of id request slot slots
 unfolding descriptor_of
@@ -279,7 +267,3 @@ fetched_changes s l slot bytes t before facts step =
       still = λ image other same_image. same_image;
       content = λ content. refl;
     }
-  where
-    none_works : (x : ChannelState) → work_while x None ≡ None
-    none_works Up = refl
-    none_works _ = refl

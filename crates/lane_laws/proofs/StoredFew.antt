@@ -81,12 +81,7 @@ gathered_room (Some why) work r unit u few stored = omega (arith, few, stored)
 gathered_room None work r unit u few stored = (stored, moved_few r.table r.memory (data_cookies work) (8192 * unit) (length_of work unit) (omega arith))
 
 given_room : (fault : Option CopyFault) (work : Work) (unit u : ℕ) → u ≤ 128 → UFits (given fault work unit) u
-given_room (Some why) work unit u few = few
-given_room None work unit u few = by_next (nat_lt (unit + 1) (unit_count (desc_of work).size))
-  where
-    by_next : (b : Bool) → UFits (if b then Reads (unit + 1) else Ends 0) u
-    by_next true = few
-    by_next false = few
+given_room fault work unit u few = grind arith
 
 moves_room : (p : Progress) (s : LaneState) (l : DiskLog) (work : Work) (r : Reach) (unit : ℕ) (fault : Option CopyFault) (next : Progress) (new : List ℕ) (u : ℕ) → Before s l → ServesNow s l work
     → s.server.work ≡ Some work → UnitIn (unit_count (desc_of work).size) p → MovesIn p work r unit fault next new → UFits p u → UFits next u

@@ -1,6 +1,6 @@
 -- Along every run each event of the wire stands where the table of states and queues lets it, and an answer that changes nothing is said
 -- exactly where it is.
-use Rattle.std.proofs.Common.{◌≡◌, ℕ, ◌+◌, ◌*◌, ◌≤◌, false, Option, Some, None, List, [], length, refl, sym, ap, ◌∙◌, subst, arith}
+use Rattle.std.proofs.Common.{◌≡◌, ℕ, ◌+◌, ◌≤◌, false, Option, List, [], length, refl, sym, subst, arith}
 use Rattle.std.specs.Prelude.{nat_lt}
 use Rattle.std.proofs.lemmas.Bool.{ltb-false, ltb-true}
 use Rattle.runs.specs.Lawful.{Lawful, run_lawful}
@@ -9,16 +9,15 @@ use Rattle.ldc_queue.specs.declared.end.End.{End}
 use Rattle.ldc_queue.specs.declared.end.End.TheVariants.{A, B}
 use Rattle.ldc_queue.specs.Wire.{waiting_for}
 use Rattle.vio_tag.specs.declared.cause.Cause.{Cause}
-use Rattle.channel_model.specs.WireAt.{DeclinesAt, IsUp, MayCarry, MayReset, Sizes, WireAnswersAt, WireTableAt}
-use Rattle.channel_model.specs.WireEvent.{Blocked, ByRestart, ByScript, ByStep, ByTick, Declined, Declines, Giver, Idle, Injected, Joined, Lost, PokeRefused, Poked, Reset, Sent, Took, WireEvent, giver}
+use Rattle.channel_model.specs.WireAt.{IsUp, MayCarry, MayReset, WireAnswersAt, WireTableAt}
+use Rattle.channel_model.specs.WireEvent.{Blocked, Declines, Giver, Idle, Joined, Reset, Sent, Took, WireEvent}
 use Rattle.channel_model.specs.WireLog.{WireLog}
 use Rattle.lane_laws.specs.DiskLog.{DiskLog, after, after_wire, nothing_yet}
-use Rattle.lane_laws.specs.May.{sizes_in}
 use Rattle.disk_model.specs.ClientRule as client_rules
 use Rattle.disk_model.specs.ClientStep.{ClientFails, ClientStep}
 use Rattle.disk_model.specs.DiskEvent.{DiskEvent, OnWire, Stopped, Switches}
-use Rattle.disk_model.specs.LaneState.{IsShape, LaneState, Shape, fresh, pages_of}
-use Rattle.disk_model.specs.LaneStep.{EndOnWire, LaneStep, ResetBy, WireStep, sizes_of}
+use Rattle.disk_model.specs.LaneState.{IsShape, LaneState, Shape, fresh}
+use Rattle.disk_model.specs.LaneStep.{EndOnWire, LaneStep, WireStep, sizes_of}
 use Rattle.disk_model.specs.ServerRule as server_rules
 use Rattle.disk_model.specs.ServerStep.{ServerFails, ServerStep}
 use Rattle.cookie_copy.specs.Reach.{Reach}
@@ -29,19 +28,13 @@ use Rattle.disk_model.specs.ClientState.{ClientState}
 use Rattle.disk_model.specs.ServerState.{ServerState}
 use Rattle.lane_laws.proofs.IdleRules.{client_idles, server_idles}
 use Rattle.lane_laws.proofs.Ruling.{client_may, server_may}
-use Rattle.lane_laws.proofs.ServerSpeaking.{server_holds_up}
 use Rattle.lane_laws.proofs.StandingRuns.{lawful_by}
-use Rattle.lane_laws.specs.MemoryStands.{MemoryStands, memory_long}
 use Rattle.lane_laws.specs.RuleFacts.{ClientMay, ServerMay}
-use Rattle.lane_laws.specs.Standing.{LaneInvariant}
 use Rattle.lane_laws.specs.TableStands.{AnswersAt, IdleNone, MayOfTable, TableAt}
 use Rattle.lane_laws.specs.ChannelEnds.{core_event}
 use Rattle.channel_laws.proofs.CoreRuns.{Room, room_after}
 use Rattle.channel_laws.proofs.EndsAtRest.{none_waits}
-use Rattle.channel_laws.specs.LaneCore.{AnswerStands, CoreStands, WireStands, wire_after}
-
-abbrev make_sizes : ℕ → ℕ → Sizes
-make_sizes entries memory = record { entries = entries; memory = memory }
+use Rattle.channel_laws.specs.LaneCore.{CoreStands, wire_after}
 
 -- what a rule tells of the end
 pub client_known : (s : LaneState) (rule : client_rules.ClientRule) → client_rules.client_rule s.client (at_client s) ≡ rule → ClientMay s.client (at_client s) rule
@@ -58,21 +51,13 @@ full n entries most none = omega (arith, most, ltb-false (n + 1) entries none)
 abbrev CarriedAt : Option (List ℕ) → End → LaneState → Type 0
 CarriedAt packet e s = IsUp e s.wire.wire × MayCarry packet e s.wire.wire
 
-carries : (e : End) (s : LaneState) (packet other : Option (List ℕ)) → packet ≡ other → CarriedAt other e s → CarriedAt packet e s
-carries e s packet other is carried = subst (λ (p : Option (List ℕ)). CarriedAt p e s) (sym is) carried
-
 client_carries : (s : LaneState) (rule : client_rules.ClientRule) (memory : List ℕ) (cause : Cause) (packet : Option (List ℕ)) → ClientMay s.client (at_client s) rule
     → ClientFails rule s.client memory cause packet → CarriedAt packet A s
-client_carries s (client_rules.Takes bytes) memory cause packet may fails = carries A s packet (Some bytes) fails.0 may
-client_carries s (client_rules.Completes session) memory cause packet may fails = carries A s packet None fails.0 (may.0, tt)
-client_carries s _ memory cause packet may fails = absurd fails
+client_carries s rule memory cause packet may fails = grind arith
 
 server_carries : (s : LaneState) (rule : server_rules.ServerRule) (r : Reach) (cause : Cause) (packet : Option (List ℕ)) (new : List ℕ) → ServerMay s.server (at_server s) rule
     → ServerFails rule s.server r cause packet new → CarriedAt packet B s
-server_carries s (server_rules.Takes bytes) r cause packet new may fails = carries B s packet (Some bytes) fails.0 may
-server_carries s (server_rules.Fetches session) r cause packet new may fails = carries B s packet None fails.0 (may.0, tt)
-server_carries s (server_rules.Serves session work) r cause packet new may fails = carries B s packet None fails.0 (may.0, tt)
-server_carries s _ r cause packet new may fails = absurd fails
+server_carries s rule r cause packet new may fails = grind arith
 
 -- THE TABLE, by the end that makes the step
 client_table : (s : LaneState) (event : WireEvent) (t : ClientState) (new : List ℕ) → Room s.shape.entries s.wire → IsOwnStep (OnWire event)
@@ -95,52 +80,14 @@ client_table s _ t new room own step = absurd step
 
 server_table : (s : LaneState) (event : WireEvent) (gave : List ℕ) (t : ServerState) (new : List ℕ) → Room s.shape.entries s.wire → IsOwnStep (OnWire event)
     → ServerStep s.server (at_server s) (reach_of s) gave (OnWire event) t new → WireTableAt (sizes_of s) s.wire event
-server_table s (Joined B lost) gave t new room own step = server_known s server_rules.Joins step.0
-server_table s (Took B packet opens) gave t new room own step = server_known s (server_rules.Takes packet) step.0
-server_table s (Sent B packet opens) gave t new room own step = (
-  server_holds_up s.server (at_server s) (server_rules.server_rule s.server (at_server s)) step.0.held (server_may s.server (at_server s)) step.0.holds,
-  ltb-true (length s.wire.wire.to_a + 1) s.shape.entries step.0.room,
-)
-server_table s (Blocked B) gave t new room own step = (
-  server_holds_up s.server (at_server s) (server_rules.server_rule s.server (at_server s)) t (server_may s.server (at_server s)) step.0,
-  full (length s.wire.wire.to_a) s.shape.entries room.to_a step.1,
-)
-server_table s (Idle B) gave t new room own step = server_known s server_rules.Idles step.0
-server_table s (Reset B cause packet lost) gave t new room own step =
-    subst (λ (g : Giver). MayReset g packet B s.wire.wire) (sym own)
-    (server_carries s (server_rules.server_rule s.server (at_server s)) (reach_of s) cause packet new (server_may s.server (at_server s)) step.0)
-server_table s _ gave t new room own step = absurd step
+server_table s event gave t new room own step = grind (arith, server_may, server_carries)
 
 end_table : (e : End) (s : LaneState) (event : WireEvent) (t : LaneState) → Room s.shape.entries s.wire → IsOwnStep (OnWire event) → EndOnWire e s event t → WireTableAt (sizes_of s) s.wire event
 end_table A s event t room own step = client_table s event t.client t.memory room own step.step
 end_table B s event t room own step = server_table s event step.0 t.server t.memory room own step.1.step.1
 
-reset_table : (g : Giver) (e : End) (s : LaneState) (cause : Cause) (packet : Option (List ℕ)) (lost : ℕ) (t : LaneState) → Room s.shape.entries s.wire → giver cause ≡ g
-    → ResetBy g e s cause packet lost t → MayReset g packet e s.wire.wire
-reset_table ByStep e s cause packet lost t room by step =
-    subst (λ (g : Giver). MayReset g packet e s.wire.wire) by (end_table e s (Reset e cause packet lost) t room by step)
-reset_table ByScript A s cause packet lost t room by step = step.0
-reset_table ByScript B s cause packet lost t room by step = step.1.0
-reset_table ByRestart A s cause packet lost t room by step = absurd step
-reset_table ByRestart B s cause packet lost t room by step = step.1.0
-reset_table ByTick A s cause packet lost t room by step = step.1.0
-reset_table ByTick B s cause packet lost t room by step = absurd step
-
-poked_table : (e : End) (s : LaneState) (at : ℕ) (bytes : List ℕ) (t : LaneState) → WireStep s (Poked e at bytes) t → at + length bytes ≤ length s.memory
-poked_table A s at bytes t step = step.0
-poked_table B s at bytes t step = absurd step
-
 table : (s : LaneState) (event : WireEvent) (t : LaneState) → Room s.shape.entries s.wire → WireStep s event t → WireTableAt (sizes_of s) s.wire event
-table s (Joined e lost) t room step = end_table e s (Joined e lost) t room tt step
-table s (Took e packet opens) t room step = end_table e s (Took e packet opens) t room tt step
-table s (Sent e packet opens) t room step = end_table e s (Sent e packet opens) t room tt step
-table s (Idle e) t room step = end_table e s (Idle e) t room tt step
-table s (Blocked e) t room step = end_table e s (Blocked e) t room tt step
-table s (Reset e cause packet lost) t room step = reset_table (giver cause) e s cause packet lost t room refl step
-table s (Lost e packet) t room step = step.0
-table s (Injected e packet) t room step = (step.0, step.1)
-table s (Poked e at bytes) t room step = poked_table e s at bytes t step
-table s (Declines d) t room step = tt
+table s event t room step = grind (arith, end_table)
 
 answers : (s : LaneState) (event : WireEvent) (t : LaneState) → WireStep s event t → WireAnswersAt (sizes_of s) s.wire event
 answers s (Declines d) t step = step.0
@@ -160,21 +107,8 @@ pub wire_same : (l : WireLog) (event : DiskEvent) → after_wire l event ≡ wir
 wire_same l (Switches Stopped) = refl
 wire_same l _ = refl
 
-answer_stands : (n : Sizes) (l : WireLog) (d : Declined) → DeclinesAt n l d → AnswerStands n.entries l d
-answer_stands n l (PokeRefused e at count) answers = tt
-answer_stands n l _ answers = answers
-
-wire_stands : (n : Sizes) (l : WireLog) (event : WireEvent) → WireTableAt n l event → WireAnswersAt n l event → IdleNone l event → WireStands n.entries l event
-wire_stands n l (Idle e) table answers none = (table, none)
-wire_stands n l (Blocked e) table answers none = (table.0, omega (arith, table.1))
-wire_stands n l (Poked e at bytes) table answers none = tt
-wire_stands n l (Declines d) table answers none = answer_stands n l d answers
-wire_stands n l _ table answers none = table
-
 pub core_stands : (l : DiskLog) (event : DiskEvent) → MayOfTable l event → CoreStands l.shape.entries l.wire (core_event event)
-core_stands l (OnWire event) may = wire_stands (sizes_in l) l.wire event may.table may.answers may.none_waits
-core_stands l (Switches Stopped) may = tt
-core_stands l _ may = tt
+core_stands l event may = grind arith
 
 -- ROOM in the queues is what two ends on a channel have
 room_moved : (l : DiskLog) (event : DiskEvent) → MayOfTable l event → Room l.shape.entries l.wire → Room l.shape.entries (after_wire l.wire event)
@@ -187,28 +121,8 @@ pub record QueuesStand (s : LaneState) (l : DiskLog) : Type 0 where
   pub all : AllStand s l
   pub room : Room l.shape.entries l.wire
 
-sizes_same : (s : LaneState) (l : DiskLog) → LaneInvariant s l → MemoryStands s → sizes_of s ≡ sizes_in l
-sizes_same s l stands memory =
-    let long : length s.memory ≡ 8192 * pages_of s.shape = memory.long ∙ ap memory_long stands.slots in
-    ap (λ (m : ℕ). make_sizes s.shape.entries m) long ∙ ap (λ (x : Shape). make_sizes x.entries (8192 * pages_of x)) stands.shape
-
--- the law at the state is the law at the log
-at_log : (P : Sizes → WireLog → Type 0) (s : LaneState) (l : DiskLog) → sizes_of s ≡ sizes_in l → s.wire ≡ l.wire → P (sizes_of s) s.wire → P (sizes_in l) l.wire
-at_log P s l sizes wire holds = subst (λ (n : Sizes). P n l.wire) sizes (subst (P (sizes_of s)) wire holds)
-
-at_state : (P : Sizes → WireLog → Type 0) (s : LaneState) (l : DiskLog) → sizes_of s ≡ sizes_in l → s.wire ≡ l.wire → P (sizes_in l) l.wire → P (sizes_of s) s.wire
-at_state P s l sizes wire holds = subst (λ (n : Sizes). P n s.wire) (sym sizes) (subst (P (sizes_in l)) (sym wire) holds)
-
 wire_step : (s : LaneState) (l : DiskLog) (event : WireEvent) (t : LaneState) → QueuesStand s l → WireStep s event t → MayOfTable l (OnWire event)
-wire_step s l event t stands step =
-    let sizes = sizes_same s l stands.all.stands stands.all.memory in
-    let wire = stands.all.stands.wire in
-    let room = at_state (λ (n : Sizes) (w : WireLog). Room n.entries w) s l sizes wire stands.room in
-    record {
-      table = at_log (λ (n : Sizes) (w : WireLog). WireTableAt n w event) s l sizes wire (table s event t room step);
-      answers = at_log (λ (n : Sizes) (w : WireLog). WireAnswersAt n w event) s l sizes wire (answers s event t step);
-      none_waits = subst (λ (w : WireLog). IdleNone w event) wire (idle_none s event t step);
-    }
+wire_step s l event t stands step = grind (arith, table, idle_none)
 
 may_step : (s : LaneState) (l : DiskLog) (event : DiskEvent) (t : LaneState) → QueuesStand s l → LaneStep s event t → MayOfTable l event
 may_step s l (OnWire event) t stands step = wire_step s l event t stands step

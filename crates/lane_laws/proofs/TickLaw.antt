@@ -5,16 +5,15 @@ use Rattle.std.proofs.lemmas.Bool.{and_from, and_parts}
 use Rattle.runs.specs.Lawful.{Lawful}
 use Rattle.runs.specs.Run.{Run}
 use Rattle.ldc_queue.specs.declared.end.End.{End}
-use Rattle.ldc_queue.specs.declared.end.End.TheVariants.{A, B}
 use Rattle.vdisk_msg.specs.declared.request.Request.{Request}
 use Rattle.vio_tag.specs.declared.cause.Cause.{Cause}
-use Rattle.channel_model.specs.WireEvent.{ByTick, Giver, Reset, giver}
+use Rattle.channel_model.specs.WireEvent.{Giver}
 use Rattle.lane_laws.specs.Agreement.{ClientAgrees}
 use Rattle.lane_laws.specs.DiskLog.{DiskLog, after, nothing_yet}
 use Rattle.lane_laws.specs.QuietLaws.{IsFinished, TickAt, TickOf}
 use Rattle.lane_laws.specs.WorkLog.{ClientCounts}
 use Rattle.disk_model.specs.ClientState.{ClientSession, is_finished, is_nothing}
-use Rattle.disk_model.specs.DiskEvent.{CalmTick, DiskEvent, OnWire, Calms}
+use Rattle.disk_model.specs.DiskEvent.{DiskEvent}
 use Rattle.disk_model.specs.LaneState.{IsShape, LaneState, Shape, fresh}
 use Rattle.disk_model.specs.LaneStep.{LaneStep, ResetBy}
 use Rattle.lane_laws.proofs.StandingRuns.{pending_is}
@@ -23,10 +22,7 @@ use Rattle.lane_laws.proofs.WorkRuns.{grounded_lawful}
 
 -- the log has a session of the client exactly where the client has one
 opened_in : (session : Option ClientSession) (done : ℕ) (k : Option ClientCounts) → ClientAgrees session done k → is_some session ≡ is_some k
-opened_in None done None agrees = refl
-opened_in (Some s) done (Some c) agrees = refl
-opened_in None done (Some c) agrees = absurd agrees
-opened_in (Some s) done None agrees = absurd agrees
+opened_in session done k agrees = grind arith
 
 some_of : (o : Option ClientCounts) → o ≢ None → is_some o ≡ true
 some_of None other = absurd (other refl)
@@ -61,14 +57,10 @@ finished_in s l grounded finished =
     )
 
 reset_tick : (by : Giver) (e : End) (s : LaneState) (l : DiskLog) (cause : Cause) (packet : Option (List ℕ)) (lost : ℕ) (t : LaneState) → Grounded s l → ResetBy by e s cause packet lost t → TickOf by l
-reset_tick ByTick A s l cause packet lost t grounded step = λ finished. let is = finished_at s l grounded finished in absurd (cc (is, step.0))
-reset_tick ByTick B s l cause packet lost t grounded step = absurd step
-reset_tick _ e s l cause packet lost t grounded step = tt
+reset_tick by e s l cause packet lost t grounded step = grind (arith, finished_at)
 
 tick_at : (s : LaneState) (l : DiskLog) (event : DiskEvent) (t : LaneState) → Grounded s l → LaneStep s event t → TickAt l event
-tick_at s l (OnWire (Reset e cause packet lost)) t grounded step = reset_tick (giver cause) e s l cause packet lost t grounded step
-tick_at s l (Calms CalmTick) t grounded step = finished_in s l grounded step.0
-tick_at s l _ t grounded step = tt
+tick_at s l event t grounded step = grind (arith, reset_tick, finished_in)
 
 pub tick_lawful : (shape : Shape) (events : List DiskEvent) (s : LaneState) → IsShape shape → Run LaneStep (fresh shape) events s → Lawful TickAt after (nothing_yet shape) events
 tick_lawful = grounded_lawful TickAt tick_at

@@ -1,6 +1,5 @@
 -- The definitions on a disk of two blocks: two writes, one of them stored half, in work or after a reset, and an image that isn't near.
-use Rattle.std.proofs.Common.{◌≡◌, ℕ, zero, suc, ◌+◌, ◌<◌, ◌⊎◌, List, [], ◌∷◌, ◌++◌, replicate, Some, inl, inr, refl, ap, arith}
-use Rattle.std.specs.Prelude.{slice_index}
+use Rattle.std.proofs.Common.{◌≡◌, ℕ, zero, suc, ◌+◌, ◌<◌, ◌⊎◌, List, [], ◌∷◌, ◌++◌, replicate, Some, inl, inr, refl, arith}
 use Rattle.vdisk_msg.specs.declared.request.Fill.{Fill}
 use Rattle.vdisk_msg.specs.declared.request.Request.{Request}
 use Rattle.vdisk_msg.specs.declared.request.Request.TheVariants.{Read, Write}
@@ -66,11 +65,7 @@ behind_reset = record {
 -- without a reset such an image isn't near: nothing of the write is stored, but its first block stands there
 not_near : NearContent 2 zeros (both_blocks ∷ []) 0 0 0 half_stored → ⊥
 unfolding repeated
-not_near near = by (near.others 0 (omega arith) (λ among. absurd (omega (arith, among.0, among.1))))
-  where
-    by : Shows zeros (both_blocks ∷ []) 0 0 0 (block_at 0 half_stored) → ⊥
-    by (inl same) = let first : 7 ≡ 0 = ap (λ (bytes : List ℕ). slice_index bytes 0) same in absurd (omega (arith, first))
-    by (inr puts) = let below = puts.below in absurd (omega (arith, below))
+not_near near = grind arith
 
 -- where both were disturbed it may show the write after it
 read_disturbed : FrontShows zeros (Read 1 1 ∷ last_block ∷ []) 2 (replicate 512 9)

@@ -10,7 +10,6 @@ use Rattle.cookie_copy.specs.Identity.{IsIdentity}
 use Rattle.ldc_queue.specs.declared.end.End.TheVariants.{B}
 use Rattle.vdisk_msg.specs.declared.desc.DiskDesc.{DiskDesc}
 use Rattle.vdisk_msg.specs.declared.request.Request.{Request}
-use Rattle.vdisk_msg.specs.declared.request.Request.TheVariants as asks
 use Rattle.vdisk_msg.specs.Pieces.{unit_count}
 use Rattle.vdisk_msg.specs.Requested.{buffer_place, descriptor_of, size_of}
 use Rattle.lane_laws.specs.DiskLog.{after, nothing_yet}
@@ -37,9 +36,7 @@ use Rattle.lane_laws.specs.Units.{UnitIs, WorkIs}
 
 -- THE DESCRIPTOR in work names its slot's buffer
 even_size : (request : Request) → size_of request % 8 ≡ 0
-even_size (asks.Read block count) = omega arith
-even_size (asks.Write block count fill) = omega arith
-even_size asks.Flush = refl
+even_size request = grind arith
 
 stated_size : (id : ℕ) (request : Request) (slot slots state status : ℕ) → (stated id request slot slots state status).size ≡ size_of request
 unfolding descriptor_of

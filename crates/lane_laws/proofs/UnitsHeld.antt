@@ -1,6 +1,6 @@
 -- Each piece of a descriptor leaves it what its progress says.
-use Rattle.std.proofs.Common.{◌≡◌, ℕ, zero, suc, ◌+◌, ◌*◌, ◌⊎◌, Bool, true, false, Option, Some, None, List, length, refl, sym, ◌∙◌, subst, arith, inl, inr}
-use Rattle.std.specs.Prelude.{◌==◌, if◌then◌else◌, nat_le, nat_lt, not}
+use Rattle.std.proofs.Common.{◌≡◌, ℕ, zero, suc, ◌+◌, ◌*◌, ◌⊎◌, Bool, true, false, Option, Some, None, List, length, refl, sym, subst, arith, inl, inr}
+use Rattle.std.specs.Prelude.{◌==◌, if◌then◌else◌, nat_lt, not}
 use Rattle.std.specs.Int.{bit_at}
 use Rattle.std.proofs.lemmas.Bool.{and_parts, eqb-true, leb-true}
 use Rattle.std.proofs.lemmas.List.{length-map}
@@ -9,8 +9,8 @@ use Rattle.cookie_copy.specs.declared.fault.Access.{Access}
 use Rattle.cookie_copy.specs.declared.fault.Access.TheVariants.{Read}
 use Rattle.cookie_copy.specs.declared.fault.CopyFault.{CopyFault}
 use Rattle.cookie_copy.specs.declared.fault.CopyFault.TheVariants.{BadAlign, Channel, Short}
-use Rattle.cookie_copy.specs.Faults.{first_address_fault, first_copy_fault, held, is_aligned}
-use Rattle.cookie_copy.specs.Moved.{byte_of, moved_in, moved_spots, spots}
+use Rattle.cookie_copy.specs.Faults.{first_copy_fault}
+use Rattle.cookie_copy.specs.Moved.{moved_in}
 use Rattle.cookie_copy.proofs.Walking.{length-spots}
 use Rattle.map_table.specs.declared.cookie.Cookie.{Cookie}
 use Rattle.map_table.specs.declared.table.Entry.{Entry}
@@ -34,10 +34,7 @@ holds_if _ _ _ rest none = absurd (cc)
 
 length_moved : (up : Bool) (access : Access) (table : List (Option Entry)) (memory : List ℕ) (cookies : List Cookie) (offset n : ℕ)
     → first_copy_fault up access table cookies offset n ≡ None → length (moved_in table memory cookies offset n) ≡ n
-length_moved up access table memory cookies offset n none =
-    let holds = leb-true (offset + n) (held cookies)
-    (holds_if up (is_aligned cookies offset n) (nat_le (offset + n) (held cookies)) (first_address_fault access table (moved_spots cookies offset n)) none) in
-    length-range_at offset n _ (omega (arith, holds, length-spots cookies, length-map (spots cookies) (byte_of table memory)))
+length_moved up access table memory cookies offset n none = search (leb-true, holds_if, length-range_at, length-spots, length-map)
 
 -- WHAT COMES FIRST of a descriptor without a defect: the mask has reads, writes and flushes
 one_of_three : (operation : ℕ) → (bit_at 0x0e operation == 1) ≡ true → (operation ≡ 1) ⊎ (operation ≡ 2) ⊎ (operation ≡ 3)
@@ -55,9 +52,7 @@ allowed_if true rest none = refl
 allowed_if false rest none = absurd (cc)
 
 first_of : (operation : ℕ) (desc : DiskDesc) → desc.operation ≡ operation → (operation ≡ 1) ⊎ (operation ≡ 2) ⊎ (operation ≡ 3) → UnitIs desc (first_progress_of operation)
-first_of operation desc same (inl is) = rw is (same ∙ is)
-first_of operation desc same (inr (inl is)) = rw is (same ∙ is)
-first_of operation desc same (inr (inr is)) = rw is (same ∙ is)
+first_of operation desc same is = grind arith
 
 first_unit_is : (blocks : ℕ) (desc : DiskDesc) → UnitIs desc (first_progress blocks desc)
 first_unit_is blocks desc = by_fault (first_defect desc blocks 0x0e) refl

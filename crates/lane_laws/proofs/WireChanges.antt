@@ -1,12 +1,12 @@
 -- What an event of a lane is to its view: the wire's, requests, turns, and what changes nothing.
 use Rattle.std.proofs.Common.{◌≡◌, ◌≢◌, ℕ, ◌-◌, ◌<◌, ◌≤◌, ◌⊎◌, false, Option, Some, None, List, drop, inl, inr, refl, sym, ap, ◌∙◌, subst, arith}
 use Rattle.ldc_queue.specs.declared.end.ChannelState.{ChannelState}
-use Rattle.ldc_queue.specs.declared.end.ChannelState.TheVariants.{Down, Resetting, Up}
+use Rattle.ldc_queue.specs.declared.end.ChannelState.TheVariants.{Up}
 use Rattle.ldc_queue.specs.declared.end.End.{End}
 use Rattle.ldc_queue.specs.declared.end.End.TheVariants.{A, B}
-use Rattle.ldc_queue.specs.Wire.{Wire, peer_behind, upset}
+use Rattle.ldc_queue.specs.Wire.{Wire, peer_behind}
 use Rattle.vdisk_msg.specs.declared.request.Request.{Request}
-use Rattle.channel_model.specs.WireEvent.{Injected, Joined, Lost, Reset, Sent, Took, WireEvent}
+use Rattle.channel_model.specs.WireEvent.{Reset, WireEvent}
 use Rattle.channel_model.specs.WireLog.{WireLog, wire_moved}
 use Rattle.lane_laws.specs.DiskLog.{DiskLog, after}
 use Rattle.disk_model.specs.ClientState.{ClientSession, ever_published_count}
@@ -16,15 +16,14 @@ use Rattle.disk_model.specs.LaneStep.{WireStep, near_on_wire}
 use Rattle.disk_model.specs.ServerState.{Work}
 use Rattle.lane_laws.proofs.RingLeaves.{OpensNot}
 use Rattle.lane_laws.proofs.RingWire.{wire_same}
-use Rattle.lane_laws.proofs.SlotsStepping.{StepFacts, upset_not}
+use Rattle.lane_laws.proofs.SlotsStepping.{StepFacts}
 use Rattle.lane_laws.proofs.StandingSteps.{wire_only}
 use Rattle.lane_laws.specs.Contents.{ContentsStand}
 use Rattle.lane_laws.specs.ImageStep.{content_after}
 use Rattle.lane_laws.specs.LaneView.{View, view_of, work_while}
 use Rattle.lane_laws.proofs.BehindRing.{ring_end}
 use Rattle.lane_laws.proofs.Changes.{Disturbed, ImageChange, IsChange, Keeps, Kind, Rested, content_behind}
-use Rattle.lane_laws.proofs.LiveCounts.{counts_while, zero_where}
-use Rattle.lane_laws.proofs.PlacedViews.{IsLive, live, live_or_not, placed, working}
+use Rattle.lane_laws.proofs.PlacedViews.{working}
 use Rattle.lane_laws.proofs.QuietWire.{wire_quiet, work_on_wire}
 use Rattle.lane_laws.proofs.Standing.{Before, ever_count}
 use Rattle.lane_laws.proofs.LaneViews.{calm_same as calm}
@@ -60,16 +59,6 @@ pub buffers_same : (s t : LaneState) → t.client.slots ≡ s.client.slots → d
 buffers_same s t slots same = ap (λ (n : ℕ). drop (ring_end n) t.memory) slots ∙ same
 
 -- NO DESCRIPTOR is in work while the client's end isn't up
-peer_same : (x y : ChannelState) → x ≢ Up → peer_behind x y ≡ y
-peer_same Up y not = absurd (not refl)
-peer_same Down y not = refl
-peer_same Resetting y not = refl
-
-dropped : (x : ChannelState) (w : Option Work) → x ≢ Up → work_while x w ≡ None
-dropped Up w not = absurd (not refl)
-dropped Down w not = refl
-dropped Resetting w not = refl
-
 idle_by : (s : LaneState) (l : DiskLog) (o : Option Work) → Before s l → work_while s.wire.wire.end_b s.server.work ≡ o → s.wire.wire.end_a ≢ Up → o ≡ None
 idle_by s l None before is not = refl
 idle_by s l (Some work) before is not =
@@ -81,24 +70,13 @@ idle_while : (s : LaneState) (l : DiskLog) → Before s l → s.wire.wire.end_a 
 idle_while s l before not = idle_by s l (work_while s.wire.wire.end_b s.server.work) before refl not
 
 -- EVENTS OF THE WIRE that disturb nothing leave it
-not_up_here : (s : LaneState) (l : DiskLog) → Before s l → (end : Wire → ChannelState) → end l.wire.wire ≢ Up → end s.wire.wire ≢ Up
-not_up_here s l before end not = λ up. not (subst (λ (w : WireLog). end w.wire ≡ Up) before.known.stands.wire up)
-
 abbrev pub Undisturbed : WireEvent → Type 0
 Undisturbed (Reset e cause packet lost) = ⊥
 Undisturbed _ = Unit {0}
 
 pub work_quiet : (s : LaneState) (l : DiskLog) (event : WireEvent) (t : LaneState) → Before s l → StepFacts s l (OnWire event) t → Undisturbed event
     → work_while (wire_moved s.wire event).wire.end_b (work_on_wire event s.server.work) ≡ work_while s.wire.wire.end_b s.server.work
-work_quiet s l (Joined A lost) t before facts calm =
-    ap (λ (x : ChannelState). work_while x s.server.work) (peer_same s.wire.wire.end_a s.wire.wire.end_b (not_up_here s l before (λ (w : Wire). w.end_a) facts.table))
-work_quiet s l (Joined B lost) t before facts calm = sym (dropped s.wire.wire.end_b s.server.work (not_up_here s l before (λ (w : Wire). w.end_b) facts.table))
-work_quiet s l (Reset e cause packet lost) t before facts calm = absurd calm
-work_quiet s l (Took A packet opens) t before facts calm = refl
-work_quiet s l (Sent A packet opens) t before facts calm = refl
-work_quiet s l (Lost A packet) t before facts calm = refl
-work_quiet s l (Injected A packet) t before facts calm = refl
-work_quiet s l _ t before facts calm = refl
+work_quiet s l event t before facts calm = grind arith
 
 pub near_quiet : (s : LaneState) (event : WireEvent) → Undisturbed event → near_on_wire s event ≡ s.near
 near_quiet s (Reset e cause packet lost) calm = absurd calm
@@ -127,17 +105,7 @@ wire_rests s l event t before facts clean not calm step =
 
 -- A RESET, and a stop, drop the descriptor in work
 k_below : (s : LaneState) (l : DiskLog) → Before s l → s.near.k ≤ s.client.ever_published - l.work.done
-k_below s l before = by_live (live_or_not l.wire.wire.end_b l.work.server)
-  where
-    by_live : (counts_while l.wire.wire.end_b l.work.server ≡ None) ⊎ IsLive l.wire.wire.end_b l.work.server → s.near.k ≤ s.client.ever_published - l.work.done
-    by_live (inl none) = let zero = zero_where (counts_while l.wire.wire.end_b l.work.server) l.work.client l.work.done s.near.k none before.near.k in omega (arith, zero)
-    by_live (inr is) =
-        let on = live s l is.counts before is.up is.there in
-        let published = before.near.ever.session on.session on.there in
-        let most = (placed s l before).published on.session on.there in
-        let done = on.agree.completed in
-        let base = on.agree.base in
-        omega (arith, published, most, done, base)
+k_below s l before = grind arith
 
 u_below : (s : LaneState) (l : DiskLog) (o : Option Work) → Before s l → ContentsStand (view_of s) → work_while s.wire.wire.end_b s.server.work ≡ o
     → (s.near.u ≡ 0) ⊎ (s.near.k < s.client.ever_published - l.work.done)
@@ -177,19 +145,15 @@ disturbed s l event t before contents content pending slots memory work near kee
     by_u (inr below) = let count = ever_count s l before.known.stands in inr (omega (arith, below, count))
 
 peer_idle : (s : LaneState) (l : DiskLog) → Before s l → work_while (peer_behind s.wire.wire.end_a s.wire.wire.end_b) s.server.work ≡ None
-peer_idle s l before = by_state s.wire.wire.end_a refl
-  where
-    by_state : (x : ChannelState) → s.wire.wire.end_a ≡ x → work_while (peer_behind x s.wire.wire.end_b) s.server.work ≡ None
-    by_state Up is = dropped (upset s.wire.wire.end_b) s.server.work (upset_not s.wire.wire.end_b)
-    by_state Down is = idle_while s l before (λ up. let never : Down ≡ Up = sym is ∙ up in absurd (cc never))
-    by_state Resetting is = idle_while s l before (λ up. let never : Resetting ≡ Up = sym is ∙ up in absurd (cc never))
+peer_idle s l before = grind (arith, idle_while)
+
+-- a server that has no work serves none
+pub none_works : (x : ChannelState) → work_while x None ≡ None
+none_works Up = refl
+none_works _ = refl
 
 pub reset_drops : (e : End) (s : LaneState) (l : DiskLog) (work : Option Work) → Before s l → (e ≡ B → work ≡ None) → (e ≡ A → work ≡ s.server.work) → (next : Wire)
     → (e ≡ A → next.end_b ≡ peer_behind s.wire.wire.end_a s.wire.wire.end_b) → work_while next.end_b work ≡ None
 reset_drops A s l work before gone same next peer =
     ap (λ (x : ChannelState). work_while x work) (peer refl) ∙ ap (work_while (peer_behind s.wire.wire.end_a s.wire.wire.end_b)) (same refl) ∙ peer_idle s l before
 reset_drops B s l work before gone same next peer = ap (work_while next.end_b) (gone refl) ∙ none_works next.end_b
-  where
-    none_works : (x : ChannelState) → work_while x None ≡ None
-    none_works Up = refl
-    none_works _ = refl

@@ -1,12 +1,11 @@
 -- Each event of the wire leaves the near counts standing to the log.
 use Rattle.std.proofs.Common.{◌≡◌, ℕ, ◌+◌, ◌-◌, ◌≤◌, true, false, Option, Some, None, List, refl, sym, ap, ◌∙◌, subst, arith}
 use Rattle.ldc_queue.specs.declared.end.ChannelState.{ChannelState}
-use Rattle.ldc_queue.specs.declared.end.ChannelState.TheVariants.{Down, Resetting, Up}
+use Rattle.ldc_queue.specs.declared.end.ChannelState.TheVariants.{Up}
 use Rattle.ldc_queue.specs.declared.end.End.TheVariants.{A, B}
 use Rattle.ldc_queue.specs.Wire.{peer_behind}
 use Rattle.channel_model.specs.WireEvent.{Injected, Joined, Lost, Reset, Sent, Took, WireEvent}
 use Rattle.channel_laws.proofs.Apart.{some_same}
-use Rattle.lane_laws.specs.Agreement.{ServerAgrees}
 use Rattle.lane_laws.specs.DiskLog.{DiskLog, after}
 use Rattle.lane_laws.specs.WorkLaws.{IfServer}
 use Rattle.lane_laws.specs.WorkLog.{ClientCounts, ServerCounts}
@@ -15,10 +14,9 @@ use Rattle.disk_model.specs.DiskEvent.{OnWire}
 use Rattle.disk_model.specs.LaneState.{LaneState, NearCounts}
 use Rattle.disk_model.specs.LaneStep.{WireStep, near_on_wire}
 use Rattle.channel_model.specs.Seeing.{seen}
-use Rattle.disk_model.specs.ServerState.{ServerSession, Work}
 use Rattle.lane_laws.proofs.RingLeaves.{OpensNot}
 use Rattle.lane_laws.proofs.RingWork.{turn_in}
-use Rattle.lane_laws.proofs.SlotsStepping.{StepFacts}
+use Rattle.lane_laws.proofs.SlotsStepping.{StepFacts, work_first}
 use Rattle.lane_laws.proofs.StandingSteps.{wire_only, wired_keeps}
 use Rattle.lane_laws.specs.RingAgreed.{OneRing}
 use Rattle.lane_laws.specs.Standing.{LaneInvariant, SessionStands}
@@ -30,29 +28,9 @@ use Rattle.lane_laws.proofs.Standing.{Before, EverStands, NearStands, ever_count
 use Rattle.lane_laws.proofs.RingWire.{published_of}
 
 -- A SERVER'S SESSION opens: what is done was done before it
-opened_k : (x : ChannelState) (d : ServerCounts) (o : Option ClientCounts) (done k : ℕ) → d.finished ≡ 0 → ((c : ClientCounts) → o ≡ Some c → c.base ≡ done) → k ≡ 0 → KIs (counts_while x (Some d)) o done k
-opened_k Up d (Some c) done k first based none = omega (arith, first, based c refl, none)
-opened_k _ d _ done k first based none = none
-
 took_opens : (s : LaneState) (l : DiskLog) (packet : List ℕ) (t : LaneState) → Before s l → StepFacts s l (OnWire (Took B packet true)) t
     → KIs (counts_while (after l (OnWire (Took B packet true))).wire.wire.end_b (after l (OnWire (Took B packet true))).work.server) l.work.client l.work.done s.near.k
-took_opens s l packet t before facts =
-    let one = facts.agree.ring facts.table.0 in
-    let none : counts_while l.wire.wire.end_b l.work.server ≡ None = none_live l.wire.wire.end_b l.work.server (facts.opens packet refl) in
-    opened_k l.wire.wire.end_b _ l.work.client l.work.done s.near.k refl
-    (λ c is.
-    let both : Some one.client ≡ Some c = sym one.open_is ∙ is in
-    let same : one.client ≡ c = some_same both in
-    let base : c.base ≡ one.client.base = ap (λ (x : ClientCounts). x.base) (sym same) in
-    let done = one.done in
-    let turn = turn_in s l c before.known is in
-    omega (arith, base, done, turn.based))
-    (zero_where (counts_while l.wire.wire.end_b l.work.server) l.work.client l.work.done s.near.k none before.near.k)
-  where
-    none_live : (x : ChannelState) (q : Option ServerCounts) → q ≡ None → counts_while x q ≡ None
-    none_live Up q is = is
-    none_live Down q is = refl
-    none_live Resetting q is = refl
+took_opens s l packet t before facts = grind arith
 
 -- EACH EVENT of the wire that opens no session of the client
 k_quiet : (s : LaneState) (l : DiskLog) (event : WireEvent) (t : LaneState) → Before s l → StepFacts s l (OnWire event) t → OpensNot event
@@ -85,17 +63,7 @@ k_quiet s l _ t before facts not = before.near.k
 -- THE CLIENT'S SESSION opens: no server works on it yet
 begins_k : (x : ChannelState) (q : Option ServerCounts) (o : Option ClientCounts) (new : ClientCounts) (done k : ℕ) → new.base ≡ done → ((d : ServerCounts) → x ≡ Up → q ≡ Some d → d.finished ≡ 0)
     → ((c : ClientCounts) → o ≡ Some c → c.base ≤ done) → KIs (counts_while x q) o done k → (k ≡ 0) × KIs (counts_while x q) (Some new) done k
-begins_k Up (Some d) None new done k same nothing based is = (is, omega (arith, same, is, nothing d refl refl))
-begins_k Up (Some d) (Some c) new done k same nothing based is =
-    let none : k ≡ 0 = omega (arith, is, nothing d refl refl, based c refl) in (none, omega (arith, same, none, nothing d refl refl))
-begins_k _ _ o new done k same nothing based is = (is, is)
-
-pub work_first : (o : Option ServerSession) (w : Option Work) (q : Option ServerCounts) (d : ServerCounts) → q ≡ Some d → ServerAgrees o w q → d.finished ≤ d.descs
-work_first None w None d is agrees = absurd (cc is)
-work_first None w (Some c) d is agrees = absurd agrees
-work_first (Some s) w None d is agrees = absurd agrees
-work_first (Some s) None (Some c) d is agrees = let same : c ≡ d = some_same is in subst (λ (x : ServerCounts). x.finished ≤ x.descs) same (omega (arith, agrees.1.1))
-work_first (Some s) (Some work) (Some c) d is agrees = let same : c ≡ d = some_same is in subst (λ (x : ServerCounts). x.finished ≤ x.descs) same (omega (arith, agrees.1.2))
+begins_k x q o new done k same nothing based is = grind arith
 
 pub opens_k : (s : LaneState) (l : DiskLog) (packet : List ℕ) (t : LaneState) → Before s l → StepFacts s l (OnWire (Sent A packet true)) t
     → (s.near.k ≡ 0) × KIs (counts_while l.wire.wire.end_b l.work.server) (after l (OnWire (Sent A packet true))).work.client l.work.done s.near.k

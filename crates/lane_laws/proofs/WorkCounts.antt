@@ -3,8 +3,8 @@ use Rattle.std.proofs.Common.{◌≡◌, ℕ, ◌+◌, ◌-◌, ◌<◌, ◌≤�
 use Rattle.std.specs.Prelude.{max}
 use Rattle.std.proofs.lemmas.Option.{slice_get_within}
 use Rattle.ldc_queue.specs.declared.end.ChannelState.{ChannelState}
-use Rattle.ldc_queue.specs.declared.end.ChannelState.TheVariants.{Down, Resetting, Up}
-use Rattle.ldc_queue.specs.declared.end.End.TheVariants.{A, B}
+use Rattle.ldc_queue.specs.declared.end.ChannelState.TheVariants.{Up}
+use Rattle.ldc_queue.specs.declared.end.End.TheVariants.{A}
 use Rattle.ldc_queue.specs.Wire.{Wire}
 use Rattle.channel_model.specs.WireLog.{WireLog}
 use Rattle.channel_laws.proofs.Apart.{some_same}
@@ -14,42 +14,27 @@ use Rattle.lane_laws.specs.WorkLaws.{IfServer}
 use Rattle.lane_laws.specs.WorkLog.{ClientCounts, ServerCounts, change_server}
 use Rattle.disk_model.specs.ClientRule as client_rules
 use Rattle.disk_model.specs.ClientState.{ClientSession, ClientState}
-use Rattle.disk_model.specs.DiskEvent.{Accepted, Admitted, Asks, Calm, Desc, DiskEvent, Done, Finished, Full, Misplaced, Moved, Off, Published, Refused, Calms, Started, Stopped, Stored, Switched, Switches, Worked, Works}
-use Rattle.disk_model.specs.LaneState.{LaneState, NearCounts, risen}
+use Rattle.disk_model.specs.DiskEvent.{Admitted, Asks, Calm, Desc, DiskEvent, Done, Finished, Misplaced, Moved, Published, Calms, Stored, Switched, Switches, Worked, Works}
+use Rattle.disk_model.specs.LaneState.{LaneState, NearCounts}
 use Rattle.disk_model.specs.LaneStep.{LaneStep, RestStep, TurnStep, WorkStep}
 use Rattle.channel_model.specs.Seeing.{seen}
-use Rattle.disk_model.specs.ServerRule as server_rules
 use Rattle.lane_laws.proofs.RingClientSteps.{completes_slot, in_order, publishing, since_base}
 use Rattle.lane_laws.proofs.RingSessions.{of_client}
-use Rattle.lane_laws.proofs.RingWork.{at_work, some_slots, turn_in}
+use Rattle.lane_laws.proofs.RingWork.{some_slots, turn_in}
 use Rattle.lane_laws.proofs.Ruling.{client_may, server_may}
 use Rattle.lane_laws.proofs.SlotsOrdered.{finished_more}
-use Rattle.lane_laws.specs.RuleFacts.{ClientMay, ServerMay}
+use Rattle.lane_laws.specs.RuleFacts.{ClientMay}
 use Rattle.lane_laws.specs.SlotsInOrder.{ServerAt, SlotsIn}
 use Rattle.lane_laws.proofs.LiveCounts.{KIs, counts_while, kis_client, kis_server}
 use Rattle.lane_laws.proofs.PlacedViews.{IsLive, live, live_or_not, placed}
-use Rattle.lane_laws.proofs.Standing.{Before, EverStands, NearStands, ever_count}
+use Rattle.lane_laws.proofs.Standing.{Before, NearStands, ever_count}
 use Rattle.lane_laws.proofs.LaneViews.{calm_same}
 
 -- THE SERVER'S WORK but for the end: what is finished stays, and so does the client
 by_server : (s : LaneState) (l : DiskLog) (event : DiskEvent) (t : LaneState) (g : ServerCounts → ServerCounts) → Before s l → (after l event).wire ≡ l.wire → (after l event).work.client ≡ l.work.client
     → (after l event).work.done ≡ l.work.done → (after l event).work.server ≡ change_server g l.work.server → ((d : ServerCounts) → (g d).finished ≡ d.finished) → t.client ≡ s.client
     → t.near.k ≡ s.near.k → t.near.m ≡ s.near.m → NearStands t (after l event)
-by_server s l event t g before wire client done server same client_same k m =
-    let n = after l event in
-    let first : KIs (counts_while l.wire.wire.end_b (change_server g l.work.server)) l.work.client l.work.done s.near.k =
-    kis_server l.wire.wire.end_b l.work.server g l.work.client l.work.done s.near.k same before.near.k in
-    let ever : t.client.ever_published ≡ s.client.ever_published = ap (λ (c : ClientState). c.ever_published) client_same in
-    let few = before.near.m in
-    record {
-      k = subst (λ (w : WireLog). KIs (counts_while w.wire.end_b n.work.server) n.work.client n.work.done t.near.k) (sym wire)
-          (subst (λ (q : Option ServerCounts). KIs (counts_while l.wire.wire.end_b q) n.work.client n.work.done t.near.k) (sym server)
-          (subst (λ (o : Option ClientCounts). KIs (counts_while l.wire.wire.end_b (change_server g l.work.server)) o n.work.done t.near.k) (sym client)
-          (subst (λ (d : ℕ). KIs (counts_while l.wire.wire.end_b (change_server g l.work.server)) l.work.client d t.near.k) (sym done)
-          (subst (λ (j : ℕ). KIs (counts_while l.wire.wire.end_b (change_server g l.work.server)) l.work.client l.work.done j) (sym k) first))));
-      m = omega (arith, few, m, ever, done);
-      ever = subst (λ (d : ℕ). EverStands d t.client) (sym done) (subst (EverStands l.work.done) (sym client_same) before.near.ever);
-    }
+by_server s l event t g before wire client done server same client_same k m = grind (arith, kis_server)
 
 -- A REQUEST IS PUBLISHED
 published_near : (s : LaneState) (l : DiskLog) (id : ℕ) (t : LaneState) → Before s l → WorkStep s (Published id) t → NearStands t (after l (Works (Published id)))
@@ -90,9 +75,7 @@ rests_zero : (w : Wire) (server : Option ServerCounts) (finished descs : ℕ) �
 rests_zero w server finished descs at up none = (at.rests up (λ b. let now : counts_while Up server ≡ None = subst (λ (x : ChannelState). counts_while x server ≡ None) b none in now)).0
 
 if_some : (server : Option ServerCounts) (d : ServerCounts) (finished descs : ℕ) → server ≡ Some d → IfServer server (λ x. (finished ≡ x.finished) × (descs ≡ x.descs)) → finished ≡ d.finished
-if_some server d finished descs is holds =
-    let here : IfServer (Some d) (λ x. (finished ≡ x.finished) × (descs ≡ x.descs)) = subst (λ (q : Option ServerCounts). IfServer q (λ x. (finished ≡ x.finished) × (descs ≡ x.descs))) is holds in
-    here.0
+if_some server d finished descs is holds = grind arith
 
 in_ring : (done base slots : ℕ) → base ≤ done → 1 ≤ slots → base + (done - base) < done + slots
 in_ring done base slots based some = omega arith
@@ -128,9 +111,7 @@ completed_some s l id operation status bytes t before step =
         omega (arith, less, counts, base, number, turn.based)
 
 done_k : (q : Option ServerCounts) (o : Option ClientCounts) (done k : ℕ) → 1 ≤ k → KIs q o done k → KIs q o (done + 1) (k - 1)
-done_k None o done k some is = absurd (omega (arith, some, is))
-done_k (Some d) None done k some is = absurd (omega (arith, some, is))
-done_k (Some d) (Some c) done k some is = omega (arith, some, is)
+done_k q o done k some is = grind arith
 
 completed_near : (s : LaneState) (l : DiskLog) (id operation status : ℕ) (bytes : List ℕ) (t : LaneState) → Before s l → WorkStep s (Done id operation status bytes) t
     → NearStands t (after l (Works (Done id operation status bytes)))
@@ -170,38 +151,8 @@ completed_near s l id operation status bytes t before step =
     }
 
 -- A DESCRIPTOR GETS ITS STATUS
-finished_k : (x : ChannelState) (q : Option ServerCounts) (o : Option ClientCounts) (g : ServerCounts → ServerCounts) (d : ServerCounts) (c : ClientCounts) (done k : ℕ) → x ≡ Up → q ≡ Some d → o ≡ Some c
-    → (g d).finished ≡ d.finished + 1 → KIs (counts_while x q) o done k → KIs (counts_while x (change_server g q)) o done (k + 1)
-finished_k Down q o g d c done k up there open_is more is = absurd (cc up)
-finished_k Resetting q o g d c done k up there open_is more is = absurd (cc up)
-finished_k Up q o g d c done k up there open_is more is =
-    let one : KIs (Some d) o done k = subst (λ (r : Option ServerCounts). KIs r o done k) there is in
-    let both : KIs (Some d) (Some c) done k = subst (λ (r : Option ClientCounts). KIs (Some d) r done k) open_is one in
-    let next : KIs (Some (g d)) (Some c) done (k + 1) = omega (arith, both, more) in
-    subst (λ (r : Option ServerCounts). KIs (change_server g r) o done (k + 1)) (sym there) (subst (λ (r : Option ClientCounts). KIs (Some (g d)) r done (k + 1)) (sym open_is) next)
-
 finished_near : (s : LaneState) (l : DiskLog) (slot status : ℕ) (t : LaneState) → Before s l → WorkStep s (Finished slot status) t → NearStands t (after l (Works (Finished slot status)))
-finished_near s l slot status t before step =
-    let at = seen B s.shape.entries s.wire.wire in
-    let f = step.1.step.1.0 in
-    let may : ServerMay s.server at (server_rules.Serves f.session f.work) = subst (ServerMay s.server at) f.rule (server_may s.server at) in
-    let work = at_work s l f.session before.known may.0 may.1 in
-    let near : t.near ≡ record { k = risen s.near.k 1; m = s.near.m; u = 0 } = ap (λ (x : LaneState). x.near) step.1.is in
-    let finished = (placed s l before).finished in
-    let pending = before.known.sound.pending in
-    let few = before.known.sound.slots in
-    let k_is : t.near.k ≡ risen s.near.k 1 = ap (λ (x : NearCounts). x.k) near in
-    let k : t.near.k ≡ s.near.k + 1 = omega (arith, k_is, finished, pending, few) in
-    let m : t.near.m ≡ s.near.m = ap (λ (x : NearCounts). x.m) near in
-    let client : t.client ≡ s.client = ap (λ (x : LaneState). x.client) step.1.is in
-    let ever : t.client.ever_published ≡ s.client.ever_published = ap (λ (c : ClientState). c.ever_published) client in
-    let m_few = before.near.m in
-    record {
-      k = subst (λ (j : ℕ). KIs (counts_while l.wire.wire.end_b (after l (Works (Finished slot status))).work.server) l.work.client l.work.done j) (sym k)
-          (finished_k l.wire.wire.end_b l.work.server l.work.client _ work.of.counts work.one.client l.work.done s.near.k work.up work.of.open_is work.one.open_is refl before.near.k);
-      m = omega (arith, m_few, m, ever);
-      ever = subst (EverStands l.work.done) (sym client) before.near.ever;
-    }
+finished_near s l slot status t before step = grind (arith, server_may, placed)
 
 pub near_work : (s : LaneState) (l : DiskLog) (event : Worked) (t : LaneState) → Before s l → WorkStep s event t → NearStands t (after l (Works event))
 near_work s l (Published id) t before step = published_near s l id t before step
@@ -218,60 +169,13 @@ near_work s l Misplaced t before step = absurd step
 
 -- REQUESTS, turns, and what changes nothing
 same_near : (s t : LaneState) (l n : DiskLog) → Before s l → t ≡ s → n.wire.wire ≡ l.wire.wire → n.work.server ≡ l.work.server → n.work.client ≡ l.work.client → n.work.done ≡ l.work.done → NearStands t n
-same_near s t l n before is wire server client done =
-    subst (λ (x : LaneState). NearStands x n) (sym is) (record {
-      k = subst (λ (w : Wire). KIs (counts_while w.end_b n.work.server) n.work.client n.work.done s.near.k) (sym wire)
-          (subst (λ (q : Option ServerCounts). KIs (counts_while l.wire.wire.end_b q) n.work.client n.work.done s.near.k) (sym server)
-          (subst (λ (o : Option ClientCounts). KIs (counts_while l.wire.wire.end_b l.work.server) o n.work.done s.near.k) (sym client)
-          (subst (λ (d : ℕ). KIs (counts_while l.wire.wire.end_b l.work.server) l.work.client d s.near.k) (sym done) before.near.k)));
-      m = subst (λ (d : ℕ). s.near.m ≤ s.client.ever_published - d) (sym done) before.near.m;
-      ever = subst (λ (d : ℕ). EverStands d s.client) (sym done) before.near.ever;
-    })
+same_near s t l n before is wire server client done = grind arith
 
 pub near_asked : (s : LaneState) (l : DiskLog) (event : Admitted) (t : LaneState) → Before s l → LaneStep s (Asks event) t → NearStands t (after l (Asks event))
-near_asked s l (Refused why request) t before step =
-    let same : t ≡ s = step.1 ∙ ap (λ (c : ClientState). record s { client = c }) step.0.1 in same_near s t l (after l (Asks (Refused why request))) before same refl refl refl refl
-near_asked s l (Full request) t before step =
-    let same : t ≡ s = step.1 ∙ ap (λ (c : ClientState). record s { client = c }) step.0.2 in same_near s t l (after l (Asks (Full request))) before same refl refl refl refl
-near_asked s l (Accepted id request) t before step =
-    let near : t.near ≡ s.near = ap (λ (x : LaneState). x.near) step.1 in
-    let ever : t.client.ever_published ≡ s.client.ever_published = ap (λ (c : ClientState). c.ever_published) step.0.5 in
-    let next : t.client.next_id ≡ s.client.next_id + 1 = ap (λ (c : ClientState). c.next_id) step.0.5 in
-    let session : t.client.session ≡ s.client.session = ap (λ (c : ClientState). c.session) step.0.5 in
-    let few = before.near.m in
-    let first = before.near.ever.done_first in
-    let most = before.near.ever.most in
-    let m : t.near.m ≡ s.near.m = ap (λ (x : NearCounts). x.m) near in
-    record {
-      k = subst (λ (x : NearCounts). KIs (counts_while l.wire.wire.end_b l.work.server) l.work.client l.work.done x.k) (sym near) before.near.k;
-      m = omega (arith, few, m, ever);
-      ever = record {
-        done_first = omega (arith, first, ever);
-        most = omega (arith, most, ever, next);
-        session = λ other is. let old = before.near.ever.session other (sym session ∙ is) in omega (arith, old, ever);
-      };
-    }
+near_asked s l event t before step = grind arith
 
 pub near_turned : (s : LaneState) (l : DiskLog) (event : Switched) (t : LaneState) → Before s l → TurnStep s event t → NearStands t (after l (Switches event))
-near_turned s l Stopped t before step =
-    let client : t.client ≡ s.client = ap (λ (x : LaneState). x.client) step.1 in
-    let k : t.near.k ≡ 0 = ap (λ (x : LaneState). x.near.k) step.1 in
-    let m_is = ap (λ (x : LaneState). x.near.m) step.1 in
-    let count = ever_count s l before.known.stands in
-    let ever : t.client.ever_published ≡ s.client.ever_published = ap (λ (c : ClientState). c.ever_published) client in
-    record { k = k; m = omega (arith, m_is, count, ever); ever = subst (EverStands l.work.done) (sym client) before.near.ever }
-near_turned s l Started t before step =
-    let client : t.client ≡ s.client = ap (λ (x : LaneState). x.client) step.1 in
-    let near : t.near ≡ s.near = ap (λ (x : LaneState). x.near) step.1 in
-    let m : t.near.m ≡ s.near.m = ap (λ (x : NearCounts). x.m) near in
-    let ever : t.client.ever_published ≡ s.client.ever_published = ap (λ (c : ClientState). c.ever_published) client in
-    let few = before.near.m in
-    record {
-      k = subst (λ (x : NearCounts). KIs (counts_while l.wire.wire.end_b l.work.server) l.work.client l.work.done x.k) (sym near) before.near.k;
-      m = omega (arith, few, m, ever);
-      ever = subst (EverStands l.work.done) (sym client) before.near.ever;
-    }
-near_turned s l Off t before step = same_near s t l (after l (Switches Off)) before step.1 refl refl refl refl
+near_turned s l event t before step = grind (arith, ever_count)
 
 pub near_calm : (s : LaneState) (l : DiskLog) (event : Calm) (t : LaneState) → Before s l → RestStep s event t → NearStands t (after l (Calms event))
 near_calm s l event t before step = same_near s t l (after l (Calms event)) before (calm_same s event t step) refl refl refl refl

@@ -1,6 +1,5 @@
 -- Each event of the work has the number that the log has for it; and what ends a session without a packet has its ground in the ring.
 use Rattle.std.proofs.Common.{◌≡◌, ◌≢◌, ℕ, ◌-◌, ◌%◌, ◌<◌, ◌≤◌, Option, Some, None, List, length, sym, ap, ◌∙◌, subst, arith, length-drop}
-use Rattle.std.specs.Prelude.{is_some}
 use Rattle.std.proofs.lemmas.Bool.Decides.{nat_tests}
 use Rattle.ldc_queue.specs.Transcript.{Turn}
 use Rattle.lane_laws.specs.DiskLog.{DiskLog}
@@ -19,7 +18,6 @@ use Rattle.disk_model.specs.ServerStep.{ServerFetches}
 use Rattle.disk_model.specs.ServerWork.{slot_at}
 use Rattle.cookie_copy.specs.Reach.{Reach}
 use Rattle.lane_laws.proofs.LaneCounting.{Knows}
-use Rattle.lane_laws.proofs.ServerCounting.{own_slots}
 use Rattle.lane_laws.specs.Counted.{InServerOrder, ServerOrder}
 use Rattle.lane_laws.proofs.Ruling.{client_may}
 use Rattle.lane_laws.proofs.RulesFree.{ServerFree, server_free}
@@ -64,19 +62,7 @@ publishes s t l at id grounded step =
 -- one that is done
 completes : (s t : LaneState) (l : DiskLog) (at : Seen) (id operation status : ℕ) (bytes : List ℕ) → Grounded s l
     → ClientCompletes s.client at s.memory id operation status bytes t.client t.memory → InClient l.work.client (MayComplete id)
-completes s t l at id operation status bytes grounded step =
-    let may = subst (ClientMay s.client at) step.rule (client_may s.client at) in
-    let of : OfClient step.session l.work.done l.work.client =
-    of_client s.client.session step.session l.work.done l.work.client may.1 grounded.knows.counted.client.agrees in
-    in_client l.work.client of.counts (MayComplete id) of.is (record {
-      since = omega (arith, step.id_is, of.agree.base);
-      acked = omega (arith, step.id_is, of.agree.base, of.agree.acked, may.2);
-    })
-
--- a descriptor that is fetched
-pub server_ring : (s : LaneState) (l : DiskLog) (session : ServerSession) → Grounded s l → s.server.session ≡ Some session → s.server.handshake.draft.peer_slots ≡ l.shape.slots
-server_ring s l session grounded is =
-    own_slots l.shape s.server l.transcript.server l.work.server grounded.knows.rests.server (ap is_some is) grounded.knows.counted.server
+completes s t l at id operation status bytes grounded step = grind (arith, client_may)
 
 pub order_of : (slots : ℕ) (o : Option ServerSession) (session : ServerSession) (d : Option ServerCounts) (c : ServerCounts) (turns : List Turn) → o ≡ Some session → d ≡ Some c
     → ServerOrder slots o d turns → InServerOrder slots session c turns
@@ -104,9 +90,7 @@ serving s l session grounded free =
 
 pub slot_in_log : (s : LaneState) (l : DiskLog) (session : ServerSession) (count number : ℕ) → Grounded s l → s.server.session ≡ Some session → count ≡ wrapped number
     → count % s.server.handshake.draft.peer_slots ≡ number % l.shape.slots
-slot_in_log s l session count number grounded is wraps =
-    ap (λ (n : ℕ). count % n) (server_ring s l session grounded is)
-    ∙ slot_of_count l.shape.slots count number grounded.sound.slots grounded.sound.some_slots grounded.sound.most_slots wraps
+slot_in_log s l session count number grounded is wraps = grind (arith, slot_of_count)
 
 pub fetches_next : (s : LaneState) (l : DiskLog) (session : ServerSession) → Grounded s l → ServerFree s.server (server.Fetches session) → (now : Serving s l session)
     → MayFetch l (slot_at s.server session.descs) now.of.counts

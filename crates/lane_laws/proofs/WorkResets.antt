@@ -1,11 +1,9 @@
 -- What ends a session without a packet has its ground in the ring: an acknowledged slot that isn't DONE, or in a server's range a slot that
 -- isn't READY or a copy that was refused.
-use Rattle.std.proofs.Common.{◌≡◌, ◌≢◌, ℕ, ◌-◌, ◌%◌, ◌<◌, ◌≤◌, Option, Some, None, List, refl, sym, ap, ◌∙◌, subst, arith, inl, inr}
-use Rattle.std.proofs.lemmas.Bool.Decides.{nat_tests}
+use Rattle.std.proofs.Common.{◌≡◌, ℕ, ◌≤◌, Option, Some, None, List, sym, subst, arith, inl, inr}
 use Rattle.cookie_copy.specs.declared.fault.CopyFault.{CopyFault}
 use Rattle.cookie_copy.specs.declared.fault.CopyFault.TheVariants as copy
 use Rattle.dring.specs.declared.peer.RingFault.{RingFault}
-use Rattle.dring.specs.declared.peer.RingFault.TheVariants as refused
 use Rattle.dring.specs.Reaching.{RefusesFetch}
 use Rattle.ldc_queue.specs.declared.end.End.{End}
 use Rattle.ldc_queue.specs.declared.end.End.TheVariants.{A, B}
@@ -13,7 +11,7 @@ use Rattle.vio_tag.specs.declared.cause.Cause.{Cause}
 use Rattle.vio_tag.specs.declared.cause.Cause.TheVariants as the_cause
 use Rattle.channel_model.specs.WireEvent.{Reset}
 use Rattle.lane_laws.specs.DiskLog.{DiskLog}
-use Rattle.lane_laws.specs.WorkLaws.{ClientFailed, FetchFailed, InRange, InServer, MayFetch, OwnReset, ResetOf, WorkResetAt}
+use Rattle.lane_laws.specs.WorkLaws.{InRange, InServer, MayFetch, OwnReset, ResetOf, WorkResetAt}
 use Rattle.lane_laws.specs.WorkLog.{ServerCounts}
 use Rattle.disk_model.specs.ClientRule as client
 use Rattle.disk_model.specs.ClientStep.{ClientFails}
@@ -29,12 +27,12 @@ use Rattle.lane_laws.proofs.Ruling.{client_may}
 use Rattle.lane_laws.proofs.RulesFree.{ServerFree, server_free}
 use Rattle.lane_laws.proofs.RuleTests.{ServesFree}
 use Rattle.lane_laws.specs.RuleFacts.{ClientMay}
-use Rattle.lane_laws.proofs.Counting.{OfClient, of_client}
 use Rattle.lane_laws.proofs.EndResets.{LiesIn}
 use Rattle.lane_laws.proofs.LaneResets.{by_giver}
 use Rattle.channel_laws.specs.Resetting.{LiesInPacket}
-use Rattle.lane_laws.proofs.WorkNumbers.{Grounded, Serving, fetches_next, in_client, in_server, serving}
+use Rattle.lane_laws.proofs.WorkNumbers.{Grounded, Serving, fetches_next, in_server, serving}
 use Rattle.lane_laws.proofs.LaneViews.{at_client, at_server}
+use Rattle.lane_laws.proofs.NoOwnReset.{below_other}
 
 -- what lies in a packet
 carried_reset : (l : DiskLog) (e : End) (cause : Cause) (packet : List ℕ) → LiesInPacket cause → ResetOf l e cause (Some packet)
@@ -44,33 +42,15 @@ carried_reset l e _ packet lies = tt
 -- A CLIENT
 client_reset : (s : LaneState) (l : DiskLog) (rule : client.ClientRule) (cause : Cause) (packet : Option (List ℕ)) → Grounded s l → LiesIn packet cause
     → ClientMay s.client (at_client s) rule → ClientFails rule s.client s.memory cause packet → ResetOf l A cause packet
-client_reset s l (client.Takes bytes) cause packet grounded lies may fails =
-    subst (λ (p : Option (List ℕ)). ResetOf l A cause p) (sym fails.0)
-    (carried_reset l A cause bytes (subst (λ (p : Option (List ℕ)). LiesIn p cause) fails.0 lies))
-client_reset s l (client.Completes session) cause packet grounded lies may fails =
-    let of : OfClient session l.work.done l.work.client =
-    of_client s.client.session session l.work.done l.work.client may.1 grounded.knows.counted.client.agrees in
-    let slots : s.client.slots ≡ l.shape.slots = grounded.knows.counted.client.slots in
-    let number : session.completed ≡ l.work.done - of.counts.base = omega (arith, of.agree.completed) in
-    subst (λ (p : Option (List ℕ)). ResetOf l A cause p) (sym fails.0)
-    (subst (λ (c : Cause). OwnReset l A c) (sym fails.2)
-    (in_client l.work.client of.counts (ClientFailed l _ _) of.is (record {
-      slot_is = ap (λ (n : ℕ). session.completed % n) slots ∙ ap (λ (n : ℕ). n % l.shape.slots) number;
-      state_is = fails.1;
-      acked = omega (arith, of.agree.completed, of.agree.acked, may.2);
-    })))
-client_reset s l _ cause packet grounded lies may fails = absurd fails
+client_reset s l rule cause packet grounded lies may fails = grind arith
 
 -- A SERVER
 number_small : (why : CopyFault) → (1 ≤ copy_number why) × (copy_number why ≤ 6)
 number_small copy.Channel = (omega arith, omega arith)
 number_small _ = (omega arith, omega arith)
 
-below : (a b : ℕ) → a ≤ b → a ≢ b → a < b
-below a b most other = grind (arith, nat_tests, most, other)
-
 asks_more : (s : LaneState) (l : DiskLog) (session : ServerSession) (now : Serving s l session) → InRange now.of.counts
-asks_more s l session now = below now.of.counts.finished now.of.counts.asked now.finished now.unfinished
+asks_more s l session now = below_other now.of.counts.finished now.of.counts.asked now.finished now.unfinished
 
 in_range : (s : LaneState) (l : DiskLog) (session : ServerSession) → Grounded s l → ServesFree s.server session → InServer l.work.server InRange
 in_range s l session grounded free =
@@ -95,9 +75,7 @@ still_asked : (l : DiskLog) (slot : ℕ) → Fetching l slot → InServer l.work
 still_asked l slot now = in_server l.work.server now.counts InRange now.is now.in_range
 
 by_ring : (l : DiskLog) (fault : Option CopyFault) (bytes : List ℕ) (slot : ℕ) (why : RingFault) → RefusesFetch fault bytes why → Fetching l slot → OwnReset l B (cause_of slot why)
-by_ring l fault bytes slot (refused.Copy why) refuses now = by_copy l why (the_cause.Copy (copy_number why)) refl (still_asked l slot now)
-by_ring l fault bytes slot (refused.NotReady state) refuses now =
-    in_server l.work.server now.counts (FetchFailed l slot state) now.is (record { next = now.next; state_is = refuses.2; in_range = now.in_range })
+by_ring l fault bytes slot why refuses now = grind arith
 
 by_fetch : (s : LaneState) (l : DiskLog) (reached : Reach) (slot : ℕ) (cause : Cause) → FetchFails s.server reached slot cause → Fetching l slot → OwnReset l B cause
 by_fetch s l reached slot cause (inl fails) now = subst (λ (c : Cause). OwnReset l B c) (sym fails.2) (by_ring l (fetch_fault s.server reached slot) (slot_fetched s.server reached slot) slot fails.0 fails.1 now)

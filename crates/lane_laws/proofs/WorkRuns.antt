@@ -3,7 +3,6 @@ use Rattle.std.proofs.Common.{List, refl, ◌∙◌}
 use Rattle.std.specs.Prelude.{⊤}
 use Rattle.runs.specs.Lawful.{Lawful, log_of, run_lawful}
 use Rattle.runs.specs.Run.{Run}
-use Rattle.channel_model.specs.TranscriptLog.{nothing_said}
 use Rattle.lane_laws.specs.DiskLog.{DiskLog, after, nothing_yet}
 use Rattle.lane_laws.specs.OrderLaws.{OrderAt}
 use Rattle.lane_laws.specs.QuietLaws.{IdleAt}
@@ -16,7 +15,7 @@ use Rattle.lane_laws.proofs.CarriedRuns.{fresh_all}
 use Rattle.lane_laws.proofs.EndsFold.{client_told, run_both, server_told}
 use Rattle.lane_laws.proofs.LaneChannel.{lane_folds, no_sids, run_sids}
 use Rattle.lane_laws.proofs.LaneCounting.{fresh_counted, knows_step}
-use Rattle.lane_laws.proofs.Speaking.{fresh_rests, lane_utters}
+use Rattle.lane_laws.proofs.Speaking.{fresh_rests}
 use Rattle.lane_laws.proofs.RingPages.{same_pages}
 use Rattle.lane_laws.proofs.IdleLaw.{idle_at}
 use Rattle.lane_laws.proofs.OrderLaw.{order_at}
@@ -27,10 +26,7 @@ use Rattle.lane_laws.proofs.WorkNumbers.{Grounded, numbers_at}
 use Rattle.lane_laws.proofs.WorkResets.{own_resets_at}
 
 pub fresh_grounded : (shape : Shape) → IsShape shape → Grounded (fresh shape) (nothing_yet shape)
-fresh_grounded shape sound = record {
-  knows = record { all = fresh_all shape sound; rests = fresh_rests shape sound; utters = lane_utters (fresh shape) nothing_said (fresh_rests shape sound); counted = fresh_counted shape };
-  sound = sound;
-}
+fresh_grounded shape sound = search (fresh_all, fresh_rests, fresh_counted)
 
 pub run_grounded : (shape : Shape) (events : List DiskEvent) (s : LaneState) → IsShape shape → Run LaneStep (fresh shape) events s → Grounded s (log_of after (nothing_yet shape) events)
 run_grounded shape events s sound run =

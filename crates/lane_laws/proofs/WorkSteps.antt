@@ -31,11 +31,7 @@ use Rattle.lane_laws.proofs.SlotBytes.{same_request as same_got}
 
 -- A DESCRIPTOR IS FETCHED
 first_is : (blocks : ℕ) (request : Request) (u : ℕ) → defect blocks request ≡ None → u ≡ 0 → ProgressIs (first_of request) u request
-first_is blocks (Read block count) u admitted none =
-    let some = (admitted_blocks blocks block count admitted).0 in (none, omega (arith, some))
-first_is blocks (Write block count fill) u admitted none =
-    let some = (admitted_blocks blocks block count admitted).0 in (none, omega (arith, some))
-first_is blocks Flush u admitted none = none
+first_is blocks request u admitted none = grind arith
 
 pub fetches_contents : (blocks : ℕ) (v w : View) → Placed blocks v → Fetches v w → ContentsStand v → ContentsStand w
 fetches_contents blocks v w placed change stand =
@@ -55,18 +51,7 @@ fetches_contents blocks v w placed change stand =
 -- AND GOES ON
 serves_contents : (session : ClientSession) (from to : Progress) (request : Request) (u : ℕ) (buffers : List ℕ) (v w : View) → (change : Serves session from to request u buffers v w)
     → WritesStand (record v { work = Some (record change.work { progress = to }); u = u; buffers = buffers }) → (ProgressIs from v.u request → ProgressIs to u request) → ContentsStand v → ContentsStand w
-serves_contents session from to request u buffers v w change writes goes stand =
-    subst ContentsStand (sym change.is) (record {
-      writes = writes;
-      work = λ work is other got.
-          let same : record change.work { progress = to } ≡ work = cc is in
-          let one : request ≡ other = same_got v.pending v.k request other change.next got in
-          let progress : to ≡ work.progress = ap (λ (x : Work). x.progress) same in
-          subst (λ (r : Request). ProgressIs work.progress u r) one
-          (subst (λ (p : Progress). ProgressIs p u request) progress
-          (goes (subst (λ (p : Progress). ProgressIs p v.u request) change.progress (stand.work change.work change.now request change.next))));
-      none = λ none. absurd (cc none);
-    })
+serves_contents session from to request u buffers v w change writes goes stand = grind arith
 
 -- a write's unit is copied in: its bytes are the write's
 pub unit_within : (count unit : ℕ) → 16 * unit < count → 8192 * unit + unit_length (512 * count) unit ≤ 512 * count
@@ -74,9 +59,7 @@ unit_within count unit more = omega (arith, more)
 
 gathered_bytes : (place count unit : ℕ) (fill : Fill) (buffers : List ℕ) → 16 * unit < count → range_at place (512 * count) buffers ≡ written fill count
     → range_at (place + 8192 * unit) (unit_length (512 * count) unit) buffers ≡ range_at (8192 * unit) (unit_length (512 * count) unit) (written fill count)
-gathered_bytes place count unit fill buffers more holds =
-    sym (range_at-range_at (8192 * unit) (unit_length (512 * count) unit) place (512 * count) buffers (unit_within count unit more))
-    ∙ ap (range_at (8192 * unit) (unit_length (512 * count) unit)) holds
+gathered_bytes place count unit fill buffers more holds = grind (arith, range_at-range_at)
 
 pub gathering_contents : (blocks : ℕ) (v w : View) → Placed blocks v → Gathering v w → ContentsStand v → ContentsStand w
 gathering_contents blocks v w placed change stand =
@@ -167,11 +150,7 @@ gathers_on false block count unit u fill more last some is = let end = last refl
 
 pub unit_blocks : (count unit : ℕ) (fill : Fill) (bytes : List ℕ) → 16 * unit < count → bytes ≡ range_at (8192 * unit) (unit_length (512 * count) unit) (written fill count)
     → length bytes ≡ 512 * min 16 (count - 16 * unit)
-unit_blocks count unit fill bytes more is =
-    let inside = unit_within count unit more in
-    let long : length bytes ≡ unit_length (512 * count) unit =
-    ap length is ∙ length-range_at (8192 * unit) (unit_length (512 * count) unit) (written fill count) (omega (arith, inside, length-repeated fill 0 (512 * count))) in
-    omega (arith, long)
+unit_blocks count unit fill bytes more is = grind (arith, length-range_at, length-repeated)
 
 pub storing_contents : (v w : View) → Storing v w → ContentsStand v → ContentsStand w
 storing_contents v w change stand =
@@ -189,12 +168,7 @@ flushing_contents v w change stand = serves_contents change.session Flushes (End
 
 -- THE END
 pub finishes_contents : (v w : View) → Finishes v w → ContentsStand v → ContentsStand w
-finishes_contents v w change stand =
-    subst ContentsStand (sym change.is) (record {
-      writes = stand.writes;
-      work = λ work is other got. absurd (cc is);
-      none = λ none. refl;
-    })
+finishes_contents v w change stand = grind arith
 
 -- EACH KIND
 pub kind_contents : (kind : Kind) (blocks : ℕ) (v w : View) → Placed blocks v → IsChange kind v w → ContentsStand v → ContentsStand w
