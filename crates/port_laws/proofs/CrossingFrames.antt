@@ -1,5 +1,5 @@
 -- No step of an end raises how many frames of a guest may still cross, and a frame that the switch's end takes lowers it.
-use Rattle.std.proofs.Common.{◌≡◌, ℕ, ◌+◌, ◌-◌, ◌*◌, ◌%◌, ◌<◌, ◌≤◌, Bool, true, false, Option, Some, None, List, [], ◌∷◌, length, refl, sym, subst, ap, ◌∙◌, arith, length-drop}
+use Rattle.std.proofs.Common.{◌≡◌, ℕ, ◌+◌, ◌-◌, ◌*◌, ◌%◌, ◌<◌, ◌≤◌, Bool, true, false, Option, Some, None, List, [], length, refl, sym, subst, ap, ◌∙◌, arith, length-drop}
 use Rattle.std.specs.Prelude.{⊤}
 use Rattle.std.proofs.lemmas.Nat.{mod_below}
 use Rattle.std.proofs.lemmas.Option.{slice_get_within}
@@ -7,7 +7,7 @@ use Rattle.ldc_link.specs.declared.phase.Role.TheVariants.{Initiator}
 use Rattle.ldc_link.specs.LinkState.{LinkState}
 use Rattle.ldc_link.specs.Putting.{behind_put}
 use Rattle.ldc_queue.specs.declared.end.ChannelState.{ChannelState}
-use Rattle.ldc_queue.specs.declared.end.ChannelState.TheVariants.{Down, Resetting, Up}
+use Rattle.ldc_queue.specs.declared.end.ChannelState.TheVariants.{Up}
 use Rattle.ldc_queue.specs.declared.end.End.{End}
 use Rattle.ldc_queue.specs.declared.end.End.TheVariants.{A, B}
 use Rattle.ldc_queue.specs.Transcript.{Turn}
@@ -28,13 +28,13 @@ use Rattle.cookie_copy.specs.Reach.{Reach}
 use Rattle.port_model.proofs.Refuting.{none_some}
 use Rattle.port_model.proofs.Ruling.{says_of}
 use Rattle.port_model.specs.EndLog.{EndLog}
-use Rattle.port_model.specs.Fetching.{Fetched, IsFrame, NotReady, Refuses, fetched}
+use Rattle.port_model.specs.Fetching.{Fetched, NotReady, fetched}
 use Rattle.port_model.specs.FramesStand.{CountsStand, FramesStand}
 use Rattle.port_model.specs.NetEndPutting.{announcement, answer, answers, cleared_by_put, groups_answer, holding, holding_own, net_holds, net_kind, net_opens, net_put, opened_by_put}
 use Rattle.port_model.specs.Groups.{membership}
-use Rattle.port_model.specs.NetEndRule.{Announces, Fetches, Idles, Joins, NetRule, Publishes, Puts, Replies, Says, Takes, Tells, port_rule}
+use Rattle.port_model.specs.NetEndRule.{Announces, Fetches, NetRule, Publishes, Puts, Replies, Says, Tells, port_rule}
 use Rattle.port_model.specs.NetEndState.{Activity, NetEndState, NetSession, joined_net_end, unseen, unseen_in}
-use Rattle.port_model.specs.NetEndStep.{Blocked, Frame, Idle, Joined, NetAnswer, NetEndStep, NetLeft, NetPublishes, NetSends, Published, Reset, Sent, Took, published, taken}
+use Rattle.port_model.specs.NetEndStep.{Blocked, Frame, Idle, NetAnswer, NetEndStep, NetLeft, NetPublishes, NetSends, Published, Sent, Took, published, taken}
 use Rattle.port_model.specs.NetEndTaking.{GoesOn, NetTake, NetTakes, Resets, active, freed}
 use Rattle.port_model.specs.NetEvent.{CalmTick, Steps, Ticked}
 use Rattle.port_model.specs.NetLaneState.{IsNetShape, NetLaneState, NetShape, reach_of, seen_at}
@@ -82,9 +82,7 @@ slot_kept : (memory : List ℕ) (s : NetEndState) (p : NetSession) (activity : A
     → answers s p activity last found ≡ Some held → Kept memory s memory held
 slot_kept memory s p activity (Some last) (NotReady state) held is same =
     of_some (Kept memory s memory) (holding_own (answer s activity last) (record p { active = None }) s) held same (in_session memory s p _ is (omega arith))
-slot_kept memory s p activity (Some last) (IsFrame frame new) held is same = none_some held same
-slot_kept memory s p activity (Some last) (Refuses why) held is same = none_some held same
-slot_kept memory s p activity None found held is same = none_some held same
+slot_kept memory s p activity _ _ held is same = none_some held same
 
 held_kept : (memory : List ℕ) (s : NetEndState) (at : Seen) (reach : Reach) (rule : NetRule) (held : NetEndState) → port_rule Initiator s at ≡ rule → net_holds rule s reach ≡ Some held
     → Kept memory s memory held
@@ -101,10 +99,7 @@ held_kept memory s at reach (Tells p) held is same =
 held_kept memory s at reach (Announces p) held is same =
     of_some (Kept memory s memory) (holding_own (announcement s p) (record p { infos = p.infos + 1; asking = true }) s) held same
     (in_session memory s p _ (says_of Initiator s at (Announces p) is).0.in_session.session (omega arith))
-held_kept memory s at reach Joins held is same = none_some held same
-held_kept memory s at reach (Takes packet) held is same = none_some held same
-held_kept memory s at reach (Publishes p frame) held is same = none_some held same
-held_kept memory s at reach Idles held is same = none_some held same
+held_kept memory s at reach _ held is same = none_some held same
 
 -- IT PUTS what it holds; a session that opens by that has a cleared ring
 opened_kept : (opens : Bool) (memory : List ℕ) (s : NetEndState) → (opens ≡ true → s.session ≡ None)
@@ -184,8 +179,7 @@ takes_kept memory packet s turns take ends stands some room takes = by_what take
 -- IT BEGINS ANEW
 joined_kept : (x : ChannelState) (memory new : List ℕ) (s : NetEndState) → own_untaken new (joined_net_end Initiator s) ≤ untaken x memory s
 joined_kept Up memory new s = omega (arith, length-drop (unseen s.session) s.frames)
-joined_kept Down memory new s = omega (arith, length-drop (unseen s.session) s.frames)
-joined_kept Resetting memory new s = omega (arith, length-drop (unseen s.session) s.frames)
+joined_kept _ memory new s = omega (arith, length-drop (unseen s.session) s.frames)
 
 -- AT THE LANE
 abbrev lane_crossing : NetLaneState → ℕ
@@ -219,12 +213,6 @@ guest_crossing shape u l answer t ready room step = by_answer answer step
     acting up = end_acts shape A u l ready (ap is_up up)
 
     by_answer : (given : NetAnswer) → EndSteps A u.lane given t → lane_crossing t ≤ lane_crossing u.lane
-    by_answer (Joined lost) made =
-        let now = step_now A u.lane t (Joined lost) made in
-        begins_kept u.lane t made.left.own (ap (λ (w : WireLog). w.wire.end_a) now.wire) (now.end ∙ ap (λ (x : NetLeft). x.end) made.step.2) now.own
-    by_answer (Reset cause packet lost) made =
-        let now = step_now A u.lane t (Reset cause packet lost) made in
-        begins_kept u.lane t made.left.own (ap (λ (w : WireLog). w.wire.end_a) now.wire) (now.end ∙ ap (λ (x : NetLeft). x.end) made.step.2) now.own
     by_answer (Took packet opens) made =
         let now = step_now A u.lane t (Took packet opens) made in
         let up = up_at (Took packet opens) made.left made.step refl in
@@ -261,17 +249,18 @@ guest_crossing shape u l answer t ready room step = by_answer answer step
         let says = says_of Initiator g (seen_at A u.lane) (Fetches p made.step.activity) made.step.rule in
         goes_kept u.lane t u.lane.guest_memory (record g { session = Some (taken g p made.step.activity); last = frame }) up (ap (λ (w : WireLog). w.wire.end_a) now.wire)
         (now.end ∙ ap (λ (x : NetLeft). x.end) made.step.is) (now.own ∙ ap (λ (x : NetLeft). x.own) made.step.is) (in_session u.lane.guest_memory g p _ says.0.session (omega arith))
+    by_answer given made =
+        let now = step_now A u.lane t given made in
+        begins_kept u.lane t made.left.own (ap (λ (w : WireLog). w.wire.end_a) now.wire) (now.end ∙ ap (λ (x : NetLeft). x.end) made.step.2) now.own
 
 -- A STEP OF THE SWITCH'S END leaves the guest, whose end may have to begin anew
 upset_less : (x : ChannelState) (memory : List ℕ) (s : NetEndState) → untaken (upset x) memory s ≤ untaken x memory s
 upset_less Up memory s = omega arith
-upset_less Down memory s = omega arith
-upset_less Resetting memory s = omega arith
+upset_less _ memory s = omega arith
 
 behind_less : (x y : ChannelState) (memory : List ℕ) (s : NetEndState) → untaken (peer_behind x y) memory s ≤ untaken y memory s
 behind_less Up y memory s = upset_less y memory s
-behind_less Down y memory s = omega arith
-behind_less Resetting y memory s = omega arith
+behind_less _ y memory s = omega arith
 
 same_kept : (u t : NetLaneState) (y : ChannelState) → t.wire.wire.end_a ≡ y → t.guest ≡ u.guest → t.guest_memory ≡ u.guest_memory → untaken y u.guest_memory u.guest ≤ lane_crossing u
     → lane_crossing t ≤ lane_crossing u
@@ -300,14 +289,6 @@ hub_crossed shape u l frame t finds step =
 
 hub_crossing : (shape : NetShape) (u : PortState) (l : PortLog) (answer : NetAnswer) (t : NetLaneState) → Finds shape u l → EndSteps B u.lane answer t → lane_crossing t ≤ lane_crossing u.lane
 hub_crossing shape u l (Frame frame) t finds step = let less = hub_crossed shape u l frame t finds step in omega (arith, less)
-hub_crossing shape u l (Joined lost) t finds step =
-    let now = step_now B u.lane t (Joined lost) step in
-    same_kept u.lane t (peer_behind u.lane.wire.wire.end_b u.lane.wire.wire.end_a) (ap (λ (w : WireLog). w.wire.end_a) now.wire) now.peer_end (now.peer_memory ∙ ap (λ (x : NetLeft). x.peer) step.step.2)
-    (behind_less u.lane.wire.wire.end_b u.lane.wire.wire.end_a u.lane.guest_memory u.lane.guest)
-hub_crossing shape u l (Reset cause packet lost) t finds step =
-    let now = step_now B u.lane t (Reset cause packet lost) step in
-    same_kept u.lane t (peer_behind u.lane.wire.wire.end_b u.lane.wire.wire.end_a) (ap (λ (w : WireLog). w.wire.end_a) now.wire) now.peer_end (now.peer_memory ∙ ap (λ (x : NetLeft). x.peer) step.step.2)
-    (behind_less u.lane.wire.wire.end_b u.lane.wire.wire.end_a u.lane.guest_memory u.lane.guest)
 hub_crossing shape u l (Took packet opens) t finds step =
     let now = step_now B u.lane t (Took packet opens) step in
     same_kept u.lane t u.lane.wire.wire.end_a (ap (λ (w : WireLog). w.wire.end_a) now.wire) now.peer_end (now.peer_memory ∙ step.step.2) (omega arith)
@@ -323,12 +304,15 @@ hub_crossing shape u l Idle t finds step =
 hub_crossing shape u l (Published id) t finds step =
     let now = step_now B u.lane t (Published id) step in
     same_kept u.lane t u.lane.wire.wire.end_a (ap (λ (w : WireLog). w.wire.end_a) now.wire) now.peer_end (now.peer_memory ∙ ap (λ (x : NetLeft). x.peer) step.step.is) (omega arith)
+hub_crossing shape u l answer t finds step =
+    let now = step_now B u.lane t answer step in
+    same_kept u.lane t (peer_behind u.lane.wire.wire.end_b u.lane.wire.wire.end_a) (ap (λ (w : WireLog). w.wire.end_a) now.wire) now.peer_end (now.peer_memory ∙ ap (λ (x : NetLeft). x.peer) step.step.2)
+    (behind_less u.lane.wire.wire.end_b u.lane.wire.wire.end_a u.lane.guest_memory u.lane.guest)
 
 -- THE FRAME THAT MOVES from the out queue is none of the guest's
 moves_same : (b : Bool) (queue : List (List ℕ)) (s : PortState) → crossing (moves_first b queue s) ≡ crossing s
 moves_same true [] s = refl
-moves_same true (frame ∷ frames) s = refl
-moves_same false queue s = refl
+moves_same _ _ s = refl
 
 before_same : (e : End) (answer : NetAnswer) (s : PortState) → crossing (before (Steps e answer) s) ≡ crossing s
 before_same A answer s = refl
@@ -389,5 +373,4 @@ port_few_cross shape events s is run clean = by_state s.lane.wire.wire.end_a ref
     by_state Up up =
         subst (λ (x : ChannelState). untaken x s.lane.guest_memory s.lane.guest ≤ length s.lane.guest.frames) (sym up)
         (few_up shape s (log_of after (no_events shape) events) s.lane.guest.session finds up refl)
-    by_state Down is = subst (λ (x : ChannelState). untaken x s.lane.guest_memory s.lane.guest ≤ length s.lane.guest.frames) (sym is) (omega arith)
-    by_state Resetting is = subst (λ (x : ChannelState). untaken x s.lane.guest_memory s.lane.guest ≤ length s.lane.guest.frames) (sym is) (omega arith)
+    by_state _ is = subst (λ (x : ChannelState). untaken x s.lane.guest_memory s.lane.guest ≤ length s.lane.guest.frames) (sym is) (omega arith)

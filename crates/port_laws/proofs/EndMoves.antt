@@ -367,10 +367,8 @@ move_by (Joined lost) = Begins
 move_by (Took packet opens) = Hears packet opens
 move_by (Sent packet opens) = SaysPacket packet opens
 move_by Blocked = Waits
-move_by Idle = Stays
-move_by (Published id) = Stays
-move_by (Frame frame) = Stays
 move_by (Reset cause packet lost) = Fails cause packet
+move_by _ = Stays
 
 abbrev LeftMoves : Role → NetEndState → EndMove → NetLeft → Type 0
 LeftMoves role s move left = EndStep role (net_core role s) move (net_core role left.end)

@@ -8,7 +8,7 @@ use Rattle.ldc_link.specs.LinkState.{first_phase, is_established, is_up}
 use Rattle.ldc_queue.specs.declared.end.ChannelState.{ChannelState}
 use Rattle.ldc_queue.specs.declared.end.End.TheVariants.{A, B}
 use Rattle.ldc_queue.specs.OneStream.{IsFront}
-use Rattle.vio_handshake.proofs.Places.{AllSaid, AttributesAnswered, AttributesSaid, Deal, PeerReadyAnswered, PeerReadySaid, PeerRingAnswered, PeerRingSaid, Place, ReadyAnswered, ReadySaid, RingAnswered, RingSaid, VersionAnswered, VersionSaid}
+use Rattle.vio_handshake.proofs.Places.{AllSaid, AttributesSaid, Deal, PeerReadyAnswered, PeerRingAnswered, Place, ReadySaid, RingSaid, VersionSaid}
 use Rattle.vio_handshake.specs.Messages.{ack}
 use Rattle.vio_tag.proofs.Canonical.{length_canonical}
 use Rattle.vio_tag.specs.declared.message.MsgBody.TheVariants.{Rdx}
@@ -21,7 +21,7 @@ use Rattle.channel_laws.proofs.HandshakesPlaced.{envelope_reads, own_code}
 use Rattle.channel_laws.proofs.PartsSaid.{PartsSaid}
 use Rattle.channel_laws.proofs.PartsWaiting.{LongSaid, Unheard, room_of, unheard}
 use Rattle.channel_laws.proofs.Script.{bytes_at, last_or, said_at}
-use Rattle.channel_laws.specs.LinkPlaces.{AnswerTaken, BothUp, LinkPlace, ModeAgreed, ModePut, ModeTaken, NothingPut, ReadyPut, VersionPut, VersionTaken, live_phase}
+use Rattle.channel_laws.specs.LinkPlaces.{BothUp, LinkPlace, live_phase}
 use Rattle.channel_laws.specs.LinkPlaces as link
 use Rattle.channel_laws.specs.Sides.{Sides, sides_of}
 use Rattle.port_model.proofs.Refuting.{none_some, true_false}
@@ -30,7 +30,7 @@ use Rattle.port_model.specs.NetEndState.{NetSession}
 use Rattle.port_model.specs.NetLaneState.{NetShape}
 use Rattle.port_model.specs.PortLog.{PortLog}
 use Rattle.port_model.specs.PortState.{PortState}
-use Rattle.port_model.specs.Spoken.{GroupsAck, GroupsInfo, GroupsNack, Other, RangeAck, RangeInfo, Spoken, spoken, spoken_by}
+use Rattle.port_model.specs.Spoken.{RangeAck, RangeInfo, Spoken, spoken, spoken_by}
 use Rattle.port_laws.specs.Counted.{unsaid}
 use Rattle.port_laws.specs.NetCore.{lane_core, one_if}
 use Rattle.port_laws.specs.WaysStand.{Comes, Goes, Rests, Way, Ways, WaysStand, Works, ack_first, acks_in, info_first, infos_in, or_new}
@@ -75,19 +75,11 @@ range_kind m is (inr two) = inr (ap (λ (n : ℕ). spoken_by n (subtype_at m)) i
 
 info_more : (k : Spoken) (m : List ℕ) (xs : List (List ℕ)) → length xs ≤ length (info_first k m xs)
 info_more RangeInfo m xs = omega arith
-info_more RangeAck m xs = omega arith
-info_more GroupsInfo m xs = omega arith
-info_more GroupsAck m xs = omega arith
-info_more GroupsNack m xs = omega arith
-info_more Other m xs = omega arith
+info_more _ m xs = omega arith
 
 ack_more : (k : Spoken) (m : List ℕ) (xs : List (List ℕ)) → length xs ≤ length (ack_first k m xs)
 ack_more RangeInfo m xs = omega arith
-ack_more RangeAck m xs = omega arith
-ack_more GroupsInfo m xs = omega arith
-ack_more GroupsAck m xs = omega arith
-ack_more GroupsNack m xs = omega arith
-ack_more Other m xs = omega arith
+ack_more _ m xs = omega arith
 
 tail_counted : (m : List ℕ) (messages : List (List ℕ)) → counted messages ≤ counted (m ∷ messages)
 tail_counted m messages = omega (arith, info_more (spoken m) m (infos_in messages), ack_more (spoken m) m (acks_in messages))
@@ -136,19 +128,9 @@ acks_none slots v w infos acks shut (Comes ack_one asking asked acked told some 
 
 -- WHERE THE SWITCH'S END SAID ALL of its handshake it heard five of the guest's six
 five_said : (d : Deal) (n : Place) → n ≢ AllSaid → 6 ≤ length (said_at true d Responder n) → 5 ≤ length (said_at true d Initiator n)
-five_said d VersionSaid far many = absurd (omega (arith, many))
-five_said d VersionAnswered far many = absurd (omega (arith, many))
-five_said d AttributesSaid far many = absurd (omega (arith, many))
-five_said d AttributesAnswered far many = absurd (omega (arith, many))
-five_said d RingSaid far many = absurd (omega (arith, many))
-five_said d RingAnswered far many = absurd (omega (arith, many))
-five_said d PeerRingSaid far many = absurd (omega (arith, many))
-five_said d PeerRingAnswered far many = absurd (omega (arith, many))
-five_said d ReadySaid far many = absurd (omega (arith, many))
-five_said d ReadyAnswered far many = absurd (omega (arith, many))
-five_said d PeerReadySaid far many = absurd (omega (arith, many))
 five_said d PeerReadyAnswered far many = omega arith
 five_said d AllSaid far many = absurd (far refl)
+five_said d _ far many = absurd (omega (arith, many))
 
 six_front : (d : Deal) → 6 ≤ length (said_at true d Initiator AllSaid)
 six_front d = omega arith
@@ -179,16 +161,7 @@ sixth_short d = omega (arith, length_canonical (ack d.sid Rdx))
 -- BOTH LINKS are up where the responder's is
 both_up : (place : LinkPlace) → is_established (link.phase_at Responder place) ≡ true → place ≡ BothUp
 both_up BothUp is = refl
-both_up NothingPut is = absurd (cc is)
-both_up VersionPut is = absurd (cc is)
-both_up VersionTaken is = absurd (cc is)
-both_up link.VersionAnswered is = absurd (cc is)
-both_up AnswerTaken is = absurd (cc is)
-both_up ModePut is = absurd (cc is)
-both_up ModeTaken is = absurd (cc is)
-both_up link.ModeAnswered is = absurd (cc is)
-both_up ModeAgreed is = absurd (cc is)
-both_up ReadyPut is = absurd (cc is)
+both_up _ is = absurd (cc is)
 
 longer : (xs ys : List (List ℕ)) → IsFront xs ys → length xs ≤ length ys
 longer xs ys front = omega (arith, ap length front.1, length-append xs front.0)

@@ -13,7 +13,7 @@ use Rattle.port_model.specs.Fetching.{Fetched, NotReady, fetched}
 use Rattle.port_model.specs.NetEndPutting.{answers, net_holds, net_kind, net_opens, net_put, opened_by_put}
 use Rattle.port_model.specs.NetEndRule.{Announces, Fetches, NetRule, Publishes, Puts, Replies, Says, Tells, port_rule}
 use Rattle.port_model.specs.NetEndState.{Activity, NetEndState, NetSession, joined_net_end}
-use Rattle.port_model.specs.NetEndStep.{Already, BadLength, Blocked, Frame, Full, Given, GroupsFull, Idle, Joined, Joining, Member, NetAnswer, NetEndStep, NetGives, NetJoins, NetLeft, Published, Queued, Reset, Sent, Took, untold}
+use Rattle.port_model.specs.NetEndStep.{Already, BadLength, Blocked, Frame, Full, Given, GroupsFull, Idle, Joining, Member, NetAnswer, NetEndStep, NetGives, NetJoins, NetLeft, Published, Queued, Sent, Took, untold}
 use Rattle.port_model.specs.NetEndTaking.{GoesOn}
 use Rattle.port_model.specs.NetEvent.{Asked, Gives, Injects, Joins as JoinsGroup, NetEvent, Pokes, Steps, Ticked}
 use Rattle.port_model.specs.NetLaneState.{NetLaneState}
@@ -76,7 +76,6 @@ LeftFits role left = NetFits role left.end
 
 pub step_fits : (role : Role) (s : NetEndState) (at : Seen) (memory : List ℕ) (reach : Reach) (answer : NetAnswer) (t : NetLeft) → NetFits role s
     → NetEndStep role s at memory reach answer t → NetFits role t.end
-step_fits role s at memory reach (Joined lost) t fits step = subst (LeftFits role) (sym step.2) (joined_fits role s fits)
 step_fits role s at memory reach (Took packet opens) t fits step = (packet_goes role s memory packet (GoesOn t.end opens t.own) fits step.1).fits
 step_fits role s at memory reach (Sent packet opens) t fits step =
     subst (LeftFits role) (sym step.is) (put_fits role step.held (held_fits role s at reach (port_rule role s at) step.held fits refl step.holds))
@@ -88,7 +87,7 @@ step_fits role s at memory reach (Published id) t fits step =
 step_fits role s at memory reach (Frame frame) t fits step =
     subst (LeftFits role) (sym step.is)
     (session_fits role s _ step.session _ fits (says_of role s at (Fetches step.session step.activity) step.rule).0.session refl refl refl)
-step_fits role s at memory reach (Reset cause packet lost) t fits step = subst (LeftFits role) (sym step.2) (joined_fits role s fits)
+step_fits role s at memory reach _ t fits step = subst (LeftFits role) (sym step.2) (joined_fits role s fits)
 
 pub gives_fits : (role : Role) (s : NetEndState) (given : Given) (t : NetEndState) → NetFits role s → NetGives s given t → NetFits role t
 gives_fits role s (BadLength frame) t fits gives = subst (NetFits role) (sym gives.1) fits

@@ -17,7 +17,7 @@ use Rattle.channel_laws.proofs.EndStanding.{held_stands}
 use Rattle.channel_laws.proofs.Lifting.{EndsAll, begins_anew, resets_anew}
 use Rattle.channel_laws.proofs.PacketsLeft.{anew_packets, answering_shut, says_left, says_packets, stays_packets, waits_left}
 use Rattle.channel_laws.specs.EndCore.{EndCore}
-use Rattle.channel_laws.specs.EndStep.{EndAnew, EndSays, EndStays, EndStep, EndWaits, Holding, Holds, HoldsOn, HoldsOwed, HoldsOwn}
+use Rattle.channel_laws.specs.EndStep.{EndAnew, EndSays, EndStays, EndStep, EndWaits, Holding, Holds, HoldsOn, HoldsOwn}
 use Rattle.channel_laws.specs.LaneCore.{Closes, CoreEvent, CoreStep, LaneCore, OnChannel, reset_move, wire_after}
 use Rattle.channel_laws.specs.PacketsLeft.{first_packets, own_in, packets_left}
 use Rattle.channel_laws.specs.Standing.{EndStands, HandshakeStands}
@@ -44,13 +44,11 @@ few_swaps f g x y w lossy n p m q few = omega (arith, few)
 
 few_acts : (f g : ℕ) (x y : ChannelState) (w v : ℕ) (lossy : Bool) (n k p r m q : ℕ) → x ≡ Up → v + k + 2 * p ≤ w + n + 2 * r → Few f g x y w lossy n p m q → Few f g x y v lossy k r m q
 few_acts f g Up y w v lossy n k p r m q up moves few = omega (arith, moves, few)
-few_acts f g Down y w v lossy n k p r m q up moves few = absurd (cc up)
-few_acts f g Resetting y w v lossy n k p r m q up moves few = absurd (cc up)
+few_acts f g _ y w v lossy n k p r m q up moves few = absurd (cc up)
 
 few_rests : (f g : ℕ) (x y : ChannelState) (w : ℕ) (lossy : Bool) (n k p r m q : ℕ) → k ≤ n → r ≡ p → Few f g x y w lossy n p m q → Few f g x y w lossy k r m q
 few_rests f g Up y w lossy n k p r m q less same few = omega (arith, less, same, few)
-few_rests f g Down y w lossy n k p r m q less same few = few
-few_rests f g Resetting y w lossy n k p r m q less same few = few
+few_rests f g _ y w lossy n k p r m q less same few = few
 
 upset_first : (y : ChannelState) (g m : ℕ) → live_count (upset y) g m ≡ g
 upset_first Resetting g m = refl
@@ -59,8 +57,7 @@ upset_first _ g m = refl
 few_begins : (f g : ℕ) (x y : ChannelState) (a b : List (List ℕ)) (lossy : Bool) (n k p r m q : ℕ) → k ≡ f → Few f g x y (length a + length b) lossy n p m q
     → Few f g Up (peer_behind x y) (length (queue_behind x a) + length (queue_behind x b)) (lossy_behind x lossy) k r m q
 few_begins f g Up y a b lossy n k p r m q first few = omega (arith, first, upset_first y g m)
-few_begins f g Down y a b lossy n k p r m q first few = omega (arith, first, few)
-few_begins f g Resetting y a b lossy n k p r m q first few = omega (arith, first, few)
+few_begins f g _ y a b lossy n k p r m q first few = omega (arith, first, few)
 
 few_shuts : (f g : ℕ) (y : ChannelState) (k r m q : ℕ) → Few f g Down (upset y) 0 false k r m q
 few_shuts f g y k r m q = omega (arith, upset_first y g m)
@@ -74,8 +71,7 @@ stays_spent c t stays = omega (arith, stays_packets c t stays, stays.more)
 
 holds_open : (c held : EndCore) (what : Holding) → Holds c what held → held.is_open ≡ c.is_open
 holds_open c held HoldsOn is = ap (λ (x : EndCore). x.is_open) is
-holds_open c held (HoldsOwed message) offers = offers.is_open
-holds_open c held (HoldsOwn message) offers = offers.is_open
+holds_open c held _ offers = offers.is_open
 
 waits_spent : (role : Role) (c t : EndCore) (turns : List Turn) → EndStands role c turns → EndWaits c t → spent t + 2 * one_if c.is_open ≤ spent c + 2 * one_if t.is_open
 waits_spent role c t turns stands waits =
@@ -83,9 +79,8 @@ waits_spent role c t turns stands waits =
 
 -- a message of its session is none by which that opens
 shut_own : (c held : EndCore) (what : Holding) → c.is_open ≡ false → Holds c what held → own_in what ≡ 0
-shut_own c held HoldsOn shut holds = refl
-shut_own c held (HoldsOwed message) shut holds = refl
 shut_own c held (HoldsOwn message) shut offers = true_false (sym offers.opened ∙ shut)
+shut_own c held _ shut holds = refl
 
 pub says_spent : (role : Role) (c t : EndCore) (turns : List Turn) (packet : List ℕ) (opens : Bool) → EndStands role c turns → (says : EndSays role c packet opens t) → (role ≡ Initiator → opens ≡ true → t.more ≤ 2)
     → spent t + 1 + 2 * one_if c.is_open ≤ spent c + 2 * one_if t.is_open

@@ -1,6 +1,6 @@
 -- On a port that nobody forged each frame that an end was given was taken by the other, is held, or is one of those that the end says are
 -- lost. So where none is lost and none is held, the frames that were taken are those that were given.
-use Rattle.std.proofs.Common.{◌≡◌, ◌≢◌, ℕ, zero, suc, ◌+◌, ◌≤◌, ◌<◌, ◌⊎◌, inl, inr, true, false, Option, Some, None, List, [], ◌∷◌, ◌++◌, length, drop, refl, sym, subst, ap, ◌∙◌, arith, length-append, length-drop}
+use Rattle.std.proofs.Common.{◌≡◌, ℕ, zero, suc, ◌+◌, ◌≤◌, true, false, Option, Some, None, List, [], ◌∷◌, ◌++◌, length, drop, refl, sym, subst, ap, ◌∙◌, arith, length-append, length-drop}
 use Rattle.std.specs.Prelude.{slice_get}
 use Rattle.std.proofs.lemmas.Option.{slice_get_within}
 use Rattle.ldc_queue.specs.declared.end.ChannelState.{ChannelState}
@@ -16,21 +16,21 @@ use Rattle.channel_model.specs.Sayings.{half_heard, half_said}
 use Rattle.channel_model.specs.TranscriptLog.{transcript_of}
 use Rattle.channel_model.specs.WireLog.{WireLog}
 use Rattle.port_model.proofs.Refuting.{none_some, true_false}
-use Rattle.port_model.specs.EndLog.{EndLog, SessionLog, acked_in, change, heard_in, more_published, more_taken, opened_log, said_in}
-use Rattle.port_model.specs.NetEndStep.{Blocked, Frame, Given, Idle, Joined, NetAnswer, Published, Reset, Sent, Took}
-use Rattle.port_model.specs.NetEvent.{Asked, CalmTick, Declines, Gives, Injects, Joins, Loses, NetEvent, Pokes, Steps, Ticked, on_wire}
+use Rattle.port_model.specs.EndLog.{EndLog, SessionLog, change, heard_in, more_published, more_taken, opened_log, said_in}
+use Rattle.port_model.specs.NetEndStep.{Blocked, Frame, Idle, Joined, NetAnswer, NetLeft, Published, Reset, Sent, Took}
+use Rattle.port_model.specs.NetEvent.{Asked, CalmTick, Gives, Injects, Loses, NetEvent, Pokes, Steps, Ticked, on_wire}
 use Rattle.port_model.specs.NetLaneState.{IsNetShape, NetLaneState, NetShape}
-use Rattle.port_model.specs.NetLaneStep.{EndSteps, NetLaneStep, moved_on}
+use Rattle.port_model.specs.NetLaneStep.{NetLaneStep, moved_on}
 use Rattle.port_model.specs.PortLog.{PortLog, after, after_answer, log_of_end, no_events}
 use Rattle.port_model.specs.PortState.{OfQueue, OnLane, PortEvent, PortState, PortStep, Receives, before, fresh_port}
 use Rattle.port_laws.specs.InOrder.{InOrder, frames_taken, took}
 use Rattle.port_laws.specs.Lost.{frames_lost, lost_at, lost_by}
 use Rattle.port_laws.specs.NetCore.{lane_core}
-use Rattle.port_laws.specs.RingStands.{taken_by, taken_in, taken_of}
+use Rattle.port_laws.specs.RingStands.{taken_by, taken_of}
 use Rattle.port_laws.proofs.FramesOnce.{Bounds, Change, Moves, Once, Opened, Stayed, bounds, changed, event_moves, fresh_once, given_same, guest_takes_in_order, heard_taken, hub_takes_in_order, none_acked, once_step}
 use Rattle.port_laws.proofs.PortCounts.{before_queue, before_wire}
 use Rattle.port_laws.proofs.PortTalks.{PortTalks, port_talks}
-use Rattle.port_laws.proofs.RingActs.{Finds, acts_up_at, goes_same, left_taken}
+use Rattle.port_laws.proofs.RingActs.{Acts, Finds, LogNow, acts_up_at, goes_same, left_taken, log_now}
 use Rattle.port_laws.proofs.RingEvents.{Goes, mine_now, theirs_now, wire_now}
 use Rattle.port_laws.proofs.RingRuns.{Kept, finds_before, was_clean}
 use Rattle.port_laws.proofs.RuleFrames.{guest_holds, hub_holds}
@@ -51,10 +51,7 @@ took_one B _ = omega arith
 -- THE STATES of both ends
 behind_less : (x y : ChannelState) (o : Option SessionLog) → taken_by (peer_behind x y) o ≤ taken_by y o
 behind_less Up Up o = omega arith
-behind_less Up Down o = omega arith
-behind_less Up Resetting o = omega arith
-behind_less Down y o = omega arith
-behind_less Resetting y o = omega arith
+behind_less _ _ o = omega arith
 
 theirs_less : (answer : NetAnswer) (x y : ChannelState) (o : Option SessionLog) → taken_by (theirs_now answer x y) o ≤ taken_by y o
 theirs_less (Joined lost) x y o = behind_less x y o
@@ -63,19 +60,15 @@ theirs_less _ x y o = omega arith
 
 none_taken : (x : ChannelState) → taken_by x None ≡ 0
 none_taken Up = refl
-none_taken Down = refl
-none_taken Resetting = refl
+none_taken _ = refl
 
 one_more : (n : ℕ) (x : ChannelState) (f : SessionLog → SessionLog) (o : Option SessionLog) → ((w : SessionLog) → (f w).taken ≤ w.taken + n) → taken_by x (change f o) ≤ taken_by x o + n
-one_more n Up f None less = omega arith
 one_more n Up f (Some w) less = less w
-one_more n Down f o less = omega arith
-one_more n Resetting f o less = omega arith
+one_more n _ f _ less = omega arith
 
 opened_none : (x : ChannelState) (sid n : ℕ) → taken_by x (Some (opened_log sid)) ≤ n
 opened_none Up sid n = omega arith
-opened_none Down sid n = omega arith
-opened_none Resetting sid n = omega arith
+opened_none _ sid n = omega arith
 
 mine_less : (slots : ℕ) (turns : List Turn) (answer : NetAnswer) (x : ChannelState) (l : EndLog) → taken_by (mine_now answer x) (after_answer slots turns answer l).session ≤ taken_by x l.session + frames_in answer
 unfolding frames_in
@@ -96,8 +89,6 @@ never_changed : (f : SessionLog → SessionLog) (o : Option SessionLog) (v : Ses
 never_changed f o v P none is = let made = changed f o v is in none_some made.0 (sym none ∙ made.1)
 
 opened_zero : (slots : ℕ) (turns : List Turn) (answer : NetAnswer) (l : EndLog) (v : SessionLog) → l.session ≡ None → (after_answer slots turns answer l).session ≡ Some v → v.published ≡ 0
-opened_zero slots turns (Joined lost) l v none is = none_some v is
-opened_zero slots turns (Reset cause packet lost) l v none is = none_some v is
 opened_zero slots turns (Took packet true) l v none is = let same : opened_log (opening_sid (half_heard turns) packet) ≡ v = cc is in sym (ap (λ (x : SessionLog). x.published) same)
 opened_zero slots turns (Took packet false) l v none is = never_changed (heard_in slots (ended_by (half_heard turns) packet)) l.session v (v.published ≡ 0) none is
 opened_zero slots turns (Sent packet true) l v none is = let same : opened_log (opening_sid (half_said turns) packet) ≡ v = cc is in sym (ap (λ (x : SessionLog). x.published) same)
@@ -106,6 +97,7 @@ opened_zero slots turns Blocked l v none is = none_some v (sym none ∙ is)
 opened_zero slots turns Idle l v none is = none_some v (sym none ∙ is)
 opened_zero slots turns (Published id) l v none is = never_changed more_published l.session v (v.published ≡ 0) none is
 opened_zero slots turns (Frame frame) l v none is = never_changed more_taken l.session v (v.published ≡ 0) none is
+opened_zero slots turns _ l v none is = none_some v is
 
 shut_before : (f : SessionLog → SessionLog) (o : Option SessionLog) → ((v : SessionLog) → change f o ≡ Some v → ⊥) → o ≡ None
 shut_before f None never = refl
@@ -113,155 +105,154 @@ shut_before f (Some w) never = absurd (never (f w) refl)
 
 own_gone : (slots : ℕ) (turns : List Turn) (answer : NetAnswer) (l : EndLog) → (Goes answer → (v : SessionLog) → (after_answer slots turns answer l).session ≡ Some v → ⊥)
     → (after_answer slots turns answer l).gone ≤ l.gone + lost_by answer
-own_gone slots turns (Joined lost) l never = omega arith
-own_gone slots turns (Reset cause packet lost) l never = omega arith
 own_gone slots turns (Took packet true) l never = absurd (never tt (opened_log (opening_sid (half_heard turns) packet)) refl)
 own_gone slots turns (Took packet false) l never =
     let message = ended_by (half_heard turns) packet in
     let none = none_acked slots message l.session (shut_before (heard_in slots message) l.session (never tt)) in
     omega (arith, none)
 own_gone slots turns (Sent packet true) l never = omega arith
-own_gone slots turns (Sent packet false) l never = omega arith
-own_gone slots turns Blocked l never = omega arith
-own_gone slots turns Idle l never = omega arith
-own_gone slots turns (Published id) l never = omega arith
-own_gone slots turns (Frame frame) l never = omega arith
+own_gone slots turns _ l never = omega arith
 
 -- WHAT AN EVENT ADDS: so many frames at most are taken of an end's by it, or said to be lost
-record Adds (e : End) (s t : NetLaneState) (l m : PortLog) (more : ℕ) : Type 0 where
+record Adds (e d : End) (s t : NetLaneState) (l m : PortLog) (more : ℕ) : Type 0 where
   gone : (state_of e t.wire.wire ≡ Up → (v : SessionLog) → (log_of_end e m).session ≡ Some v → ⊥) → (log_of_end e m).gone ≤ (log_of_end e l).gone + more
-  taken : taken_of (peer_of e) t m ≤ taken_of (peer_of e) s l + more
+  taken : taken_of d t m ≤ taken_of d s l + more
   opened : (v : SessionLog) → (log_of_end e l).session ≡ None → (log_of_end e m).session ≡ Some v → v.published ≡ 0
 
-own_adds : (e : End) (s t : NetLaneState) (l m : PortLog) (slots : ℕ) (turns : List Turn) (answer : NetAnswer) (more : ℕ) → log_of_end e m ≡ after_answer slots turns answer (log_of_end e l)
-    → log_of_end (peer_of e) m ≡ log_of_end (peer_of e) l → (Goes answer → state_of e t.wire.wire ≡ Up)
-    → state_of (peer_of e) t.wire.wire ≡ theirs_now answer (state_of e s.wire.wire) (state_of (peer_of e) s.wire.wire) → lost_by answer ≤ more → Adds e s t l m more
-own_adds e s t l m slots turns answer more mine theirs up peer less = record {
+own_adds : (shape : NetShape) (e : End) (u t : PortState) (l : PortLog) (answer : NetAnswer) (left : NetLeft) (more : ℕ) → Acts shape e u t l answer left → lost_by answer ≤ more
+    → Adds e (peer_of e) u.lane t.lane l (after l (OnLane (Steps e answer))) more
+own_adds shape e u t l answer left more acts less = record {
   gone = λ never.
-      let most = own_gone slots turns answer (log_of_end e l) (λ goes v is. never (up goes) v (ap (λ (x : EndLog). x.session) mine ∙ is)) in
-      omega (arith, most, less, ap (λ (x : EndLog). x.gone) mine);
+      let most = own_gone l.shape.slots (transcript_of e l.transcript) answer (log_of_end e l) (λ goes v is. never (up goes) v (ap (λ (x : EndLog). x.session) log.mine ∙ is)) in
+      omega (arith, most, less, ap (λ (x : EndLog). x.gone) log.mine);
   taken =
-      let same : taken_of (peer_of e) t m ≡ taken_by (theirs_now answer (state_of e s.wire.wire) (state_of (peer_of e) s.wire.wire)) (log_of_end (peer_of e) l).session =
-      ap (λ (x : ChannelState). taken_by x (log_of_end (peer_of e) m).session) peer
-      ∙ ap (λ (x : EndLog). taken_by (theirs_now answer (state_of e s.wire.wire) (state_of (peer_of e) s.wire.wire)) x.session) theirs in
-      let most = theirs_less answer (state_of e s.wire.wire) (state_of (peer_of e) s.wire.wire) (log_of_end (peer_of e) l).session in
+      let same : taken_of (peer_of e) t.lane m ≡ taken_by (theirs_now answer x y) (log_of_end (peer_of e) l).session =
+      ap (λ (z : ChannelState). taken_by z (log_of_end (peer_of e) m).session) (ap (λ (w : WireLog). state_of (peer_of e) w.wire) acts.now.wire ∙ (wire_now e u.lane answer).theirs)
+      ∙ ap (λ (z : EndLog). taken_by (theirs_now answer x y) z.session) log.theirs in
+      let most = theirs_less answer x y (log_of_end (peer_of e) l).session in
       omega (arith, same, most);
-  opened = λ v none is. opened_zero slots turns answer (log_of_end e l) v none (sym (ap (λ (x : EndLog). x.session) mine) ∙ is);
+  opened = λ v none is. opened_zero l.shape.slots (transcript_of e l.transcript) answer (log_of_end e l) v none (sym (ap (λ (z : EndLog). z.session) log.mine) ∙ is);
 }
+  where
+    m : PortLog
+    m = after l (OnLane (Steps e answer))
 
-peer_adds : (e : End) (s t : NetLaneState) (l m : PortLog) (slots : ℕ) (turns : List Turn) (answer : NetAnswer) (more : ℕ) → log_of_end e m ≡ log_of_end e l
-    → log_of_end (peer_of e) m ≡ after_answer slots turns answer (log_of_end (peer_of e) l)
-    → state_of (peer_of e) t.wire.wire ≡ mine_now answer (state_of (peer_of e) s.wire.wire) → frames_in answer ≤ more → Adds e s t l m more
-peer_adds e s t l m slots turns answer more same mine state less = record {
-  gone = λ never. omega (arith, ap (λ (x : EndLog). x.gone) same);
-  taken =
-      let is : taken_of (peer_of e) t m ≡ taken_by (mine_now answer (state_of (peer_of e) s.wire.wire)) (after_answer slots turns answer (log_of_end (peer_of e) l)).session =
-      ap (λ (x : ChannelState). taken_by x (log_of_end (peer_of e) m).session) state ∙ ap (λ (x : EndLog). taken_by (mine_now answer (state_of (peer_of e) s.wire.wire)) x.session) mine in
-      let most = mine_less slots turns answer (state_of (peer_of e) s.wire.wire) (log_of_end (peer_of e) l) in
-      omega (arith, is, most, less);
-  opened = λ v none is. none_some v (sym none ∙ (sym (ap (λ (x : EndLog). x.session) same) ∙ is));
-}
+    x : ChannelState
+    x = state_of e u.lane.wire.wire
+
+    y : ChannelState
+    y = state_of (peer_of e) u.lane.wire.wire
+
+    log : LogNow e l answer
+    log = log_now e l answer
+
+    up : Goes answer → state_of e t.lane.wire.wire ≡ Up
+    up goes = ap (λ (w : WireLog). state_of e w.wire) acts.now.wire ∙ (wire_now e u.lane answer).mine ∙ goes_same answer x goes ∙ acts_up_at shape e u t l answer left acts goes
+
+taker_adds : (shape : NetShape) (d : End) (u t : PortState) (l : PortLog) (answer : NetAnswer) (left : NetLeft) (more : ℕ) → Acts shape d u t l answer left → frames_in answer ≤ more
+    → Adds (peer_of d) d u.lane t.lane l (after l (OnLane (Steps d answer))) more
+taker_adds shape d u t l answer left more acts less =
+    let m : PortLog = after l (OnLane (Steps d answer)) in
+    let log = log_now d l answer in
+    let x : ChannelState = state_of d u.lane.wire.wire in
+    record {
+      gone = λ never. omega (arith, ap (λ (z : EndLog). z.gone) log.theirs);
+      taken =
+          let is : taken_of d t.lane m ≡ taken_by (mine_now answer x) (after_answer l.shape.slots (transcript_of d l.transcript) answer (log_of_end d l)).session =
+          ap (λ (z : ChannelState). taken_by z (log_of_end d m).session) (ap (λ (w : WireLog). state_of d w.wire) acts.now.wire ∙ (wire_now d u.lane answer).mine)
+          ∙ ap (λ (z : EndLog). taken_by (mine_now answer x) z.session) log.mine in
+          let most = mine_less l.shape.slots (transcript_of d l.transcript) answer x (log_of_end d l) in
+          omega (arith, is, most, less);
+      opened = λ v none is. none_some v (sym none ∙ (sym (ap (λ (z : EndLog). z.session) log.theirs) ∙ is));
+    }
 
 -- it begins anew, not by a step; or the other does
-anew_adds : (e : End) (s t : NetLaneState) (l m : PortLog) (more : ℕ) → (log_of_end e m).session ≡ None → (log_of_end e m).gone ≡ (log_of_end e l).gone + more
-    → log_of_end (peer_of e) m ≡ log_of_end (peer_of e) l → state_of (peer_of e) t.wire.wire ≡ peer_behind (state_of e s.wire.wire) (state_of (peer_of e) s.wire.wire) → Adds e s t l m more
-anew_adds e s t l m more shut gone theirs peer = record {
+anew_adds : (e d : End) (s t : NetLaneState) (l m : PortLog) (more : ℕ) → (log_of_end e m).session ≡ None → (log_of_end e m).gone ≡ (log_of_end e l).gone + more
+    → log_of_end d m ≡ log_of_end d l → state_of d t.wire.wire ≡ peer_behind (state_of e s.wire.wire) (state_of d s.wire.wire) → Adds e d s t l m more
+anew_adds e d s t l m more shut gone theirs peer = record {
   gone = λ never. omega (arith, gone);
   taken =
-      let same : taken_of (peer_of e) t m ≡ taken_by (peer_behind (state_of e s.wire.wire) (state_of (peer_of e) s.wire.wire)) (log_of_end (peer_of e) l).session =
-      ap (λ (x : ChannelState). taken_by x (log_of_end (peer_of e) m).session) peer
-      ∙ ap (λ (x : EndLog). taken_by (peer_behind (state_of e s.wire.wire) (state_of (peer_of e) s.wire.wire)) x.session) theirs in
-      let most = behind_less (state_of e s.wire.wire) (state_of (peer_of e) s.wire.wire) (log_of_end (peer_of e) l).session in
+      let same : taken_of d t m ≡ taken_by (peer_behind (state_of e s.wire.wire) (state_of d s.wire.wire)) (log_of_end d l).session =
+      ap (λ (x : ChannelState). taken_by x (log_of_end d m).session) peer ∙ ap (λ (x : EndLog). taken_by (peer_behind (state_of e s.wire.wire) (state_of d s.wire.wire)) x.session) theirs in
+      let most = behind_less (state_of e s.wire.wire) (state_of d s.wire.wire) (log_of_end d l).session in
       omega (arith, same, most);
   opened = λ v none is. none_some v (sym shut ∙ is);
 }
 
-other_anew : (e : End) (s t : NetLaneState) (l m : PortLog) → log_of_end e m ≡ log_of_end e l → (log_of_end (peer_of e) m).session ≡ None → Adds e s t l m 0
-other_anew e s t l m same shut = record {
+other_anew : (e d : End) (s t : NetLaneState) (l m : PortLog) → log_of_end e m ≡ log_of_end e l → (log_of_end d m).session ≡ None → Adds e d s t l m 0
+other_anew e d s t l m same shut = record {
   gone = λ never. omega (arith, ap (λ (x : EndLog). x.gone) same);
   taken =
-      let is : taken_of (peer_of e) t m ≡ 0 = ap (λ (o : Option SessionLog). taken_by (state_of (peer_of e) t.wire.wire) o) shut ∙ none_taken (state_of (peer_of e) t.wire.wire) in
+      let is : taken_of d t m ≡ 0 = ap (λ (o : Option SessionLog). taken_by (state_of d t.wire.wire) o) shut ∙ none_taken (state_of d t.wire.wire) in
       omega (arith, is);
   opened = λ v none is. none_some v (sym none ∙ (sym (ap (λ (x : EndLog). x.session) same) ∙ is));
 }
 
 -- or neither of them
-still_adds : (e : End) (s t : NetLaneState) (l m : PortLog) → state_of (peer_of e) t.wire.wire ≡ state_of (peer_of e) s.wire.wire → (log_of_end e m).session ≡ (log_of_end e l).session
-    → (log_of_end e m).gone ≡ (log_of_end e l).gone → (log_of_end (peer_of e) m).session ≡ (log_of_end (peer_of e) l).session → Adds e s t l m 0
-still_adds e s t l m state session gone peer = record {
+still_adds : (e d : End) (s t : NetLaneState) (l m : PortLog) → state_of d t.wire.wire ≡ state_of d s.wire.wire → (log_of_end e m).session ≡ (log_of_end e l).session
+    → (log_of_end e m).gone ≡ (log_of_end e l).gone → (log_of_end d m).session ≡ (log_of_end d l).session → Adds e d s t l m 0
+still_adds e d s t l m state session gone peer = record {
   gone = λ never. omega (arith, gone);
   taken = omega (
     arith,
-    ap (λ (x : ChannelState). taken_by x (log_of_end (peer_of e) m).session) state,
-    ap (λ (o : Option SessionLog). taken_by (state_of (peer_of e) s.wire.wire) o) peer,
+    ap (λ (x : ChannelState). taken_by x (log_of_end d m).session) state,
+    ap (λ (o : Option SessionLog). taken_by (state_of d s.wire.wire) o) peer,
   );
   opened = λ v none is. none_some v (sym none ∙ (sym session ∙ is));
 }
 
-event_adds : (shape : NetShape) (e : End) (u t : PortState) (l : PortLog) (event : NetEvent) → OfQueue u event → Finds shape u l → NetLaneStep u.lane event t.lane → (moved_on l.wire (on_wire event)).forged ≡ false
+event_adds : (shape : NetShape) (d : End) (u t : PortState) (l : PortLog) (event : NetEvent) → OfQueue u event → Finds shape u l → NetLaneStep u.lane event t.lane → (moved_on l.wire (on_wire event)).forged ≡ false
     → Kept shape t (after l (OnLane event)) → PortTalks shape (lane_core t.lane) (after l (OnLane event))
-    → Adds e u.lane t.lane l (after l (OnLane event)) (length (took (peer_of e) (OnLane event)) + lost_at e (OnLane event))
-event_adds shape A u t l (Steps A answer) of_queue finds step clean kept talks =
-    let acts = acts_of shape A u t l answer finds step kept.counts talks in
-    own_adds A u.lane t.lane l (after l (OnLane (Steps A answer))) l.shape.slots l.transcript.client answer (0 + lost_by answer) refl refl
-    (λ goes. ap (λ (w : WireLog). w.wire.end_a) acts.now.wire ∙ (wire_now A u.lane answer).mine ∙ goes_same answer u.lane.wire.wire.end_a goes ∙ acts_up_at shape A u t l answer step.left acts goes)
-    (ap (λ (w : WireLog). w.wire.end_b) acts.now.wire ∙ (wire_now A u.lane answer).theirs) (omega arith)
-event_adds shape B u t l (Steps B answer) of_queue finds step clean kept talks =
-    let acts = acts_of shape B u t l answer finds step kept.counts talks in
-    own_adds B u.lane t.lane l (after l (OnLane (Steps B answer))) l.shape.slots l.transcript.server answer (0 + lost_by answer) refl refl
-    (λ goes. ap (λ (w : WireLog). w.wire.end_b) acts.now.wire ∙ (wire_now B u.lane answer).mine ∙ goes_same answer u.lane.wire.wire.end_b goes ∙ acts_up_at shape B u t l answer step.left acts goes)
-    (ap (λ (w : WireLog). w.wire.end_a) acts.now.wire ∙ (wire_now B u.lane answer).theirs) (omega arith)
+    → Adds (peer_of d) d u.lane t.lane l (after l (OnLane event)) (length (took d (OnLane event)) + lost_at (peer_of d) (OnLane event))
 event_adds shape B u t l (Steps A answer) of_queue finds step clean kept talks =
-    let acts = acts_of shape A u t l answer finds step kept.counts talks in
-    let one = took_one A answer in
-    peer_adds B u.lane t.lane l (after l (OnLane (Steps A answer))) l.shape.slots l.transcript.client answer (length (took A (OnLane (Steps A answer))) + 0) refl refl
-    (ap (λ (w : WireLog). w.wire.end_a) acts.now.wire ∙ (wire_now A u.lane answer).mine) (omega (arith, one))
+    own_adds shape A u t l answer step.left (0 + lost_by answer) (acts_of shape A u t l answer finds step kept.counts talks) (omega arith)
 event_adds shape A u t l (Steps B answer) of_queue finds step clean kept talks =
-    let acts = acts_of shape B u t l answer finds step kept.counts talks in
+    own_adds shape B u t l answer step.left (0 + lost_by answer) (acts_of shape B u t l answer finds step kept.counts talks) (omega arith)
+event_adds shape A u t l (Steps A answer) of_queue finds step clean kept talks =
+    let one = took_one A answer in
+    taker_adds shape A u t l answer step.left (length (took A (OnLane (Steps A answer))) + 0) (acts_of shape A u t l answer finds step kept.counts talks) (omega (arith, one))
+event_adds shape B u t l (Steps B answer) of_queue finds step clean kept talks =
     let one = took_one B answer in
-    peer_adds A u.lane t.lane l (after l (OnLane (Steps B answer))) l.shape.slots l.transcript.server answer (length (took B (OnLane (Steps B answer))) + 0) refl refl
-    (ap (λ (w : WireLog). w.wire.end_b) acts.now.wire ∙ (wire_now B u.lane answer).mine) (omega (arith, one))
-event_adds shape A u t l (Asked A lost) of_queue finds step clean kept talks =
-    anew_adds A u.lane t.lane l (after l (OnLane (Asked A lost))) (0 + lost) refl (omega arith) refl (ap (λ (x : NetLaneState). x.wire.wire.end_b) step.1)
-event_adds shape B u t l (Asked B lost) of_queue finds step clean kept talks =
-    anew_adds B u.lane t.lane l (after l (OnLane (Asked B lost))) (0 + lost) refl (omega arith) refl (ap (λ (x : NetLaneState). x.wire.wire.end_a) step.1)
-event_adds shape B u t l (Asked A lost) of_queue finds step clean kept talks = other_anew B u.lane t.lane l (after l (OnLane (Asked A lost))) refl refl
-event_adds shape A u t l (Asked B lost) of_queue finds step clean kept talks = other_anew A u.lane t.lane l (after l (OnLane (Asked B lost))) refl refl
-event_adds shape A u t l (Ticked queued lost) of_queue finds step clean kept talks =
-    anew_adds A u.lane t.lane l (after l (OnLane (Ticked queued lost))) (0 + lost) refl (omega arith) refl (ap (λ (x : NetLaneState). x.wire.wire.end_b) step.1.1)
-event_adds shape B u t l (Ticked queued lost) of_queue finds step clean kept talks = other_anew B u.lane t.lane l (after l (OnLane (Ticked queued lost))) refl refl
-event_adds shape A u t l (CalmTick queued) of_queue finds step clean kept talks = still_adds A u.lane t.lane l (after l (OnLane (CalmTick queued))) (ap (λ (x : NetLaneState). x.wire.wire.end_b) step.1) refl refl refl
-event_adds shape B u t l (CalmTick queued) of_queue finds step clean kept talks = still_adds B u.lane t.lane l (after l (OnLane (CalmTick queued))) (ap (λ (x : NetLaneState). x.wire.wire.end_a) step.1) refl refl refl
-event_adds shape A u t l (Gives A given) of_queue finds step clean kept talks =
-    let same = given_same given l.guest in
-    still_adds A u.lane t.lane l (after l (OnLane (Gives A given))) (ap (λ (x : NetLaneState). x.wire.wire.end_b) step.1) same.session same.gone refl
+    taker_adds shape B u t l answer step.left (length (took B (OnLane (Steps B answer))) + 0) (acts_of shape B u t l answer finds step kept.counts talks) (omega (arith, one))
+event_adds shape B u t l (Asked A lost) of_queue finds step clean kept talks =
+    anew_adds A B u.lane t.lane l (after l (OnLane (Asked A lost))) (0 + lost) refl (omega arith) refl (ap (λ (x : NetLaneState). x.wire.wire.end_b) step.1)
+event_adds shape A u t l (Asked B lost) of_queue finds step clean kept talks =
+    anew_adds B A u.lane t.lane l (after l (OnLane (Asked B lost))) (0 + lost) refl (omega arith) refl (ap (λ (x : NetLaneState). x.wire.wire.end_a) step.1)
+event_adds shape A u t l (Asked A lost) of_queue finds step clean kept talks = other_anew B A u.lane t.lane l (after l (OnLane (Asked A lost))) refl refl
+event_adds shape B u t l (Asked B lost) of_queue finds step clean kept talks = other_anew A B u.lane t.lane l (after l (OnLane (Asked B lost))) refl refl
+event_adds shape B u t l (Ticked queued lost) of_queue finds step clean kept talks =
+    anew_adds A B u.lane t.lane l (after l (OnLane (Ticked queued lost))) (0 + lost) refl (omega arith) refl (ap (λ (x : NetLaneState). x.wire.wire.end_b) step.1.1)
+event_adds shape A u t l (Ticked queued lost) of_queue finds step clean kept talks = other_anew B A u.lane t.lane l (after l (OnLane (Ticked queued lost))) refl refl
 event_adds shape B u t l (Gives A given) of_queue finds step clean kept talks =
-    still_adds B u.lane t.lane l (after l (OnLane (Gives A given))) (ap (λ (x : NetLaneState). x.wire.wire.end_a) step.1) refl refl (given_same given l.guest).session
-event_adds shape e u t l (Gives B given) of_queue finds step clean kept talks = absurd of_queue
-event_adds shape A u t l (Joins joining) of_queue finds step clean kept talks = still_adds A u.lane t.lane l (after l (OnLane (Joins joining))) (ap (λ (x : NetLaneState). x.wire.wire.end_b) step.1) refl refl refl
-event_adds shape B u t l (Joins joining) of_queue finds step clean kept talks = still_adds B u.lane t.lane l (after l (OnLane (Joins joining))) (ap (λ (x : NetLaneState). x.wire.wire.end_a) step.1) refl refl refl
-event_adds shape A u t l (Loses A packet) of_queue finds step clean kept talks = still_adds A u.lane t.lane l (after l (OnLane (Loses A packet))) (ap (λ (x : NetLaneState). x.wire.wire.end_b) step.1) refl refl refl
-event_adds shape A u t l (Loses B packet) of_queue finds step clean kept talks = still_adds A u.lane t.lane l (after l (OnLane (Loses B packet))) (ap (λ (x : NetLaneState). x.wire.wire.end_b) step.1) refl refl refl
-event_adds shape B u t l (Loses A packet) of_queue finds step clean kept talks = still_adds B u.lane t.lane l (after l (OnLane (Loses A packet))) (ap (λ (x : NetLaneState). x.wire.wire.end_a) step.1) refl refl refl
-event_adds shape B u t l (Loses B packet) of_queue finds step clean kept talks = still_adds B u.lane t.lane l (after l (OnLane (Loses B packet))) (ap (λ (x : NetLaneState). x.wire.wire.end_a) step.1) refl refl refl
-event_adds shape e u t l (Injects d packet) of_queue finds step clean kept talks = true_false clean
-event_adds shape e u t l (Pokes d at bytes) of_queue finds step clean kept talks = true_false clean
-event_adds shape A u t l (Declines d) of_queue finds step clean kept talks = still_adds A u.lane t.lane l (after l (OnLane (Declines d))) (ap (λ (x : NetLaneState). x.wire.wire.end_b) step.1) refl refl refl
-event_adds shape B u t l (Declines d) of_queue finds step clean kept talks = still_adds B u.lane t.lane l (after l (OnLane (Declines d))) (ap (λ (x : NetLaneState). x.wire.wire.end_a) step.1) refl refl refl
+    let same = given_same given l.guest in
+    still_adds A B u.lane t.lane l (after l (OnLane (Gives A given))) (ap (λ (x : NetLaneState). x.wire.wire.end_b) step.1) same.session same.gone refl
+event_adds shape A u t l (Gives A given) of_queue finds step clean kept talks =
+    still_adds B A u.lane t.lane l (after l (OnLane (Gives A given))) (ap (λ (x : NetLaneState). x.wire.wire.end_a) step.1) refl refl (given_same given l.guest).session
+event_adds shape d u t l (Gives B given) of_queue finds step clean kept talks = absurd of_queue
+event_adds shape d u t l (Injects e packet) of_queue finds step clean kept talks = true_false clean
+event_adds shape d u t l (Pokes e at bytes) of_queue finds step clean kept talks = true_false clean
+event_adds shape B u t l (Loses A packet) of_queue finds step clean kept talks =
+    still_adds A B u.lane t.lane l (after l (OnLane (Loses A packet))) (ap (λ (x : NetLaneState). x.wire.wire.end_b) step.1) refl refl refl
+event_adds shape A u t l (Loses A packet) of_queue finds step clean kept talks =
+    still_adds B A u.lane t.lane l (after l (OnLane (Loses A packet))) (ap (λ (x : NetLaneState). x.wire.wire.end_a) step.1) refl refl refl
+event_adds shape B u t l event of_queue finds step clean kept talks =
+    still_adds A B u.lane t.lane l (after l (OnLane event)) (ap (λ (x : NetLaneState). x.wire.wire.end_b) step.1) refl refl refl
+event_adds shape A u t l event of_queue finds step clean kept talks =
+    still_adds B A u.lane t.lane l (after l (OnLane event)) (ap (λ (x : NetLaneState). x.wire.wire.end_a) step.1) refl refl refl
 
 -- NO MORE OF AN END'S FRAMES ARE GONE than were taken or are said to be lost; while it is up and in session, that is so where those that
 -- were taken in it are gone too
-record Arrived (e : End) (s : NetLaneState) (l : PortLog) (n : ℕ) : Type 0 where
+record Arrived (e d : End) (s : NetLaneState) (l : PortLog) (n : ℕ) : Type 0 where
   all : (log_of_end e l).gone ≤ n
-  here : (v : SessionLog) → state_of e s.wire.wire ≡ Up → (log_of_end e l).session ≡ Some v → (log_of_end e l).gone + taken_of (peer_of e) s l ≤ n + v.seen
+  here : (v : SessionLog) → state_of e s.wire.wire ≡ Up → (log_of_end e l).session ≡ Some v → (log_of_end e l).gone + taken_of d s l ≤ n + v.seen
 
-arrives : (e : End) (s t : NetLaneState) (l m : PortLog) (n more : ℕ) → Bounds e t m → Moves e s t l m → Adds e s t l m more → Arrived e s l n → Arrived e t m (n + more)
-arrives e s t l m n more now moves adds had = record { all = by_state (state_of e t.wire.wire) (log_of_end e m).session refl refl; here = here }
+arrives : (e d : End) (s t : NetLaneState) (l m : PortLog) (n more : ℕ) → Bounds e d t m → Moves e d s t l m → Adds e d s t l m more → Arrived e d s l n → Arrived e d t m (n + more)
+arrives e d s t l m n more now moves adds had = record { all = by_state (state_of e t.wire.wire) (log_of_end e m).session refl refl; here = here }
   where
-    here : (v : SessionLog) → state_of e t.wire.wire ≡ Up → (log_of_end e m).session ≡ Some v → (log_of_end e m).gone + taken_of (peer_of e) t m ≤ (n + more) + v.seen
+    here : (v : SessionLog) → state_of e t.wire.wire ≡ Up → (log_of_end e m).session ≡ Some v → (log_of_end e m).gone + taken_of d t m ≤ (n + more) + v.seen
     here v up is = by_change (moves.changes v up is)
       where
-        by_change : Change e s t l m v → (log_of_end e m).gone + taken_of (peer_of e) t m ≤ (n + more) + v.seen
+        by_change : Change e d s t l m v → (log_of_end e m).gone + taken_of d t m ≤ (n + more) + v.seen
         by_change (Opened none gone) =
             let few = (now.within v up is).1 in
             omega (arith, few, adds.opened v none is, gone, had.all)
@@ -286,32 +277,33 @@ arrives e s t l m n more now moves adds had = record { all = by_state (state_of 
     by_state Resetting (Some v) state some = shut_now (λ up w is. (let never : Resetting ≡ Up = sym state ∙ up in absurd (cc never)))
 
 -- the wire and the log alone matter
-arrived_as : (e : End) (s u : NetLaneState) (l : PortLog) (n : ℕ) → u.wire ≡ s.wire → Arrived e s l n → Arrived e u l n
-arrived_as e s u l n same had = record {
+arrived_as : (e d : End) (s u : NetLaneState) (l : PortLog) (n : ℕ) → u.wire ≡ s.wire → Arrived e d s l n → Arrived e d u l n
+arrived_as e d s u l n same had = record {
   all = had.all;
   here = λ v up is.
       (let was = had.here v (ap (λ (w : WireLog). state_of e w.wire) (sym same) ∙ up) is in
-      let taken : taken_of (peer_of e) u l ≡ taken_of (peer_of e) s l = ap (λ (w : WireLog). taken_by (state_of (peer_of e) w.wire) (log_of_end (peer_of e) l).session) same in
+      let taken : taken_of d u l ≡ taken_of d s l = ap (λ (w : WireLog). taken_by (state_of d w.wire) (log_of_end d l).session) same in
       omega (arith, was, taken));
 }
 
--- ALONG A RUN
-record All (shape : NetShape) (s : PortState) (l : PortLog) (xs ys : List (List ℕ)) (of_guest of_hub : ℕ) : Type 0 where
-  once : Once shape s l xs ys
-  guest : l.wire.forged ≡ false → Arrived A s.lane l (length xs + of_guest)
-  hub : l.wire.forged ≡ false → Arrived B s.lane l (length ys + of_hub)
+-- ALONG A RUN: by the frames that each end took, and that the other says are lost
+record All (shape : NetShape) (s : PortState) (l : PortLog) (by_end : End → List (List ℕ)) (lost : End → ℕ) : Type 0 where
+  once : Once shape s l by_end
+  arrived : (d : End) → l.wire.forged ≡ false → Arrived (peer_of d) d s.lane l (length (by_end d) + lost d)
 
-same_count : (e : End) (s : NetLaneState) (l : PortLog) (n m : ℕ) → n ≡ m → Arrived e s l n → Arrived e s l m
-same_count e s l n m is had = subst (Arrived e s l) is had
-
-counts_add : (xs more all : List (List ℕ)) (lost new : ℕ) → length all ≡ length xs + length more → (length xs + lost) + (length more + new) ≡ length all + (lost + new)
-counts_add xs more all lost new is = omega (arith, is)
+counts_add : (xs more : List (List ℕ)) (lost new : ℕ) → (length xs + lost) + (length more + new) ≡ length (xs ++ more) + (lost + new)
+counts_add xs more lost new = omega (arith, length-append xs more)
 
 module _ (shape : NetShape) (is : IsNetShape shape) where
-  lane_arrives : (e : End) (s : PortState) (l : PortLog) (event : NetEvent) (t : PortState) (xs ys : List (List ℕ)) (n : ℕ) → Once shape s l xs ys → Once shape t (after l (OnLane event)) (xs ++ took B (OnLane event)) (ys ++ took A (OnLane event))
-      → PortStep s (OnLane event) t → (after l (OnLane event)).wire.forged ≡ false → Arrived e s.lane l n
-      → Arrived e t.lane (after l (OnLane event)) (n + (length (took (peer_of e) (OnLane event)) + lost_at e (OnLane event)))
-  lane_arrives e s l event t xs ys n had next step clean arrived =
+  received : (d : End) (s : PortState) (l : PortLog) (frame : List ℕ) (t : PortState) (n : ℕ) → t.lane.wire ≡ s.lane.wire → Arrived (peer_of d) d s.lane l n
+      → Arrived (peer_of d) d t.lane (after l (Receives frame)) (n + (length (took d (Receives frame)) + lost_at (peer_of d) (Receives frame)))
+  received A s l frame t n wire arrived = let there = arrived_as B A s.lane t.lane l n wire arrived in record { all = omega (arith, there.all); here = λ v up is. omega (arith, there.here v up is) }
+  received B s l frame t n wire arrived = let there = arrived_as A B s.lane t.lane l n wire arrived in record { all = omega (arith, there.all); here = λ v up is. omega (arith, there.here v up is) }
+
+  event_arrives : (d : End) (s : PortState) (l : PortLog) (event : PortEvent) (t : PortState) (by_end now : End → List (List ℕ)) (n : ℕ) → Once shape s l by_end → Once shape t (after l event) now
+      → PortStep s event t → (after l event).wire.forged ≡ false → (l.wire.forged ≡ false → Arrived (peer_of d) d s.lane l n)
+      → Arrived (peer_of d) d t.lane (after l event) (n + (length (took d event) + lost_at (peer_of d) event))
+  event_arrives d s l (OnLane event) t by_end now n had next step clean arrived =
       let u : PortState = before event s in
       let m : PortLog = after l (OnLane event) in
       let was : l.wire.forged ≡ false = was_clean l.wire event clean in
@@ -319,82 +311,55 @@ module _ (shape : NetShape) (is : IsNetShape shape) where
       let found : Finds shape t m = finds_before shape t m (CalmTick 0) is next.kept clean in
       let wire : t.lane.wire.forged ≡ false = ap (λ (w : WireLog). w.forged) next.kept.counts.wire ∙ clean in
       let talks = port_talks shape t m is next.kept.counts wire in
-      let moves = event_moves shape e u t l event (before_queue event s step.0) finds step.1 clean next.kept talks in
-      let adds = event_adds shape e u t l event (before_queue event s step.0) finds step.1 clean next.kept talks in
-      arrives e u.lane t.lane l m n (length (took (peer_of e) (OnLane event)) + lost_at e (OnLane event)) (bounds shape e t m found) moves adds
-      (arrived_as e s.lane u.lane l n (before_wire event s) arrived)
+      let moves = event_moves shape d u t l event (before_queue event s step.0) finds step.1 clean next.kept talks in
+      let adds = event_adds shape d u t l event (before_queue event s step.0) finds step.1 clean next.kept talks in
+      arrives (peer_of d) d u.lane t.lane l m n (length (took d (OnLane event)) + lost_at (peer_of d) (OnLane event)) (bounds shape d t m found) moves adds
+      (arrived_as (peer_of d) d s.lane u.lane l n (before_wire event s) (arrived was))
+  event_arrives d s l (Receives frame) t by_end now n had next step clean arrived = received d s l frame t n (ap (λ (x : PortState). x.lane.wire) step.2) (arrived clean)
 
-  all_step : (s : PortState) (l : PortLog) (event : PortEvent) (t : PortState) (xs ys : List (List ℕ)) (n m : ℕ) → All shape s l xs ys n m → PortStep s event t
-      → All shape t (after l event) (xs ++ took B event) (ys ++ took A event) (n + lost_at A event) (m + lost_at B event)
-  all_step s l (OnLane event) t xs ys n m had step =
-      let next = once_step shape is s l (OnLane event) t xs ys had.once step in
+  all_step : (s : PortState) (l : PortLog) (event : PortEvent) (t : PortState) (by_end : End → List (List ℕ)) (lost : End → ℕ) → All shape s l by_end lost → PortStep s event t
+      → All shape t (after l event) (λ d. by_end d ++ took d event) (λ d. lost d + lost_at (peer_of d) event)
+  all_step s l event t by_end lost had step =
+      let next = once_step shape is s l event t by_end had.once step in
       record {
         once = next;
-        guest = λ clean. same_count A t.lane (after l (OnLane event)) ((length xs + n) + (length (took B (OnLane event)) + lost_at A (OnLane event))) (length (xs ++ took B (OnLane event)) + (n + lost_at A (OnLane event)))
-            (counts_add xs (took B (OnLane event)) (xs ++ took B (OnLane event)) n (lost_at A (OnLane event)) (length-append xs (took B (OnLane event))))
-            (lane_arrives A s l event t xs ys (length xs + n) had.once next step clean (had.guest (was_clean l.wire event clean)));
-        hub = λ clean. same_count B t.lane (after l (OnLane event)) ((length ys + m) + (length (took A (OnLane event)) + lost_at B (OnLane event))) (length (ys ++ took A (OnLane event)) + (m + lost_at B (OnLane event)))
-            (counts_add ys (took A (OnLane event)) (ys ++ took A (OnLane event)) m (lost_at B (OnLane event)) (length-append ys (took A (OnLane event))))
-            (lane_arrives B s l event t xs ys (length ys + m) had.once next step clean (had.hub (was_clean l.wire event clean)));
+        arrived = λ d clean.
+            subst (Arrived (peer_of d) d t.lane (after l event)) (counts_add (by_end d) (took d event) (lost d) (lost_at (peer_of d) event))
+            (event_arrives d s l event t by_end (λ x. by_end x ++ took x event) (length (by_end d) + lost d) had.once next step clean (had.arrived d));
       }
-  all_step s l (Receives frame) t xs ys n m had step =
-      let wire : t.lane.wire ≡ s.lane.wire = ap (λ (x : PortState). x.lane.wire) step.2 in
-      record {
-        once = once_step shape is s l (Receives frame) t xs ys had.once step;
-        guest = λ clean. received A (length xs + n) (length (xs ++ []) + (n + 0)) (counts_add xs [] (xs ++ []) n 0 (length-append xs [])) refl refl wire (had.guest clean);
-        hub = λ clean. received B (length ys + m) (length (ys ++ []) + (m + 0)) (counts_add ys [] (ys ++ []) m 0 (length-append ys [])) refl refl wire (had.hub clean);
-      }
-    where
-      plain : (a b : ℕ) → a + (0 + 0) ≡ b → a ≡ b
-      plain a b same = omega (arith, same)
-
-      received : (e : End) (a b : ℕ) → a + (0 + 0) ≡ b → (log_of_end e (after l (Receives frame))).gone ≡ (log_of_end e l).gone → (after l (Receives frame)).wire ≡ l.wire → t.lane.wire ≡ s.lane.wire
-          → Arrived e s.lane l a → Arrived e t.lane (after l (Receives frame)) b
-      received A a b same gone clean wire arrived = let there = arrived_as A s.lane t.lane l a wire arrived in same_count A t.lane (after l (Receives frame)) a b (plain a b same) (record { all = there.all; here = there.here })
-      received B a b same gone clean wire arrived = let there = arrived_as B s.lane t.lane l a wire arrived in same_count B t.lane (after l (Receives frame)) a b (plain a b same) (record { all = there.all; here = there.here })
 
   -- so many at the end of a run
-  record Ended (s : PortState) (l : PortLog) (taken_by_hub taken_by_guest by_guest by_hub : ℕ) : Type 0 where
-    guest : l.wire.forged ≡ false → l.guest.gone ≤ taken_by_hub + by_guest
-    hub : l.wire.forged ≡ false → l.hub.gone ≤ taken_by_guest + by_hub
+  record Ended (s : PortState) (l : PortLog) (most : End → ℕ) : Type 0 where
+    gone : (d : End) → l.wire.forged ≡ false → (log_of_end (peer_of d) l).gone ≤ most d
     wire : s.lane.wire ≡ l.wire
 
-  sums : (k xs more all n new lost : ℕ) → k ≤ all + lost → all ≡ xs + more → lost ≡ n + new → k ≤ (xs + more) + (n + new)
-  sums k xs more all n new lost less all_is lost_is = omega (arith, less, all_is, lost_is)
-
-  along : (events : List PortEvent) (s t : PortState) (l : PortLog) (xs ys : List (List ℕ)) (n m : ℕ) → All shape s l xs ys n m → Run PortStep s events t
-      → Ended t (log_of after l events) (length xs + length (frames_taken B events)) (length ys + length (frames_taken A events)) (n + frames_lost A events) (m + frames_lost B events)
-  along [] s t l xs ys n m had run = record {
-    guest = λ clean. (let all = (had.guest clean).all in omega (arith, all));
-    hub = λ clean. (let all = (had.hub clean).all in omega (arith, all));
+  along : (events : List PortEvent) (s t : PortState) (l : PortLog) (by_end : End → List (List ℕ)) (lost : End → ℕ) → All shape s l by_end lost → Run PortStep s events t
+      → Ended t (log_of after l events) (λ d. (length (by_end d) + length (frames_taken d events)) + (lost d + frames_lost (peer_of d) events))
+  along [] s t l by_end lost had run = record {
+    gone = λ d clean. (let all = (had.arrived d clean).all in omega (arith, all));
     wire = ap (λ (x : PortState). x.lane.wire) (sym run) ∙ had.once.kept.counts.wire;
   }
-  along (event ∷ events) s t l xs ys n m had run =
-      let rest = along events run.0 t (after l event) (xs ++ took B event) (ys ++ took A event) (n + lost_at A event) (m + lost_at B event) (all_step s l event run.0 xs ys n m had run.1) run.2 in
+  along (event ∷ events) s t l by_end lost had run =
+      let rest = along events run.0 t (after l event) (λ d. by_end d ++ took d event) (λ d. lost d + lost_at (peer_of d) event) (all_step s l event run.0 by_end lost had run.1) run.2 in
       record {
-        guest = λ clean.
-            (let less = rest.guest clean in
-            let first = length-append xs (took B event) in
-            let both = length-append (took B event) (frames_taken B events) in
-            omega (arith, less, first, both));
-        hub = λ clean.
-            (let less = rest.hub clean in
-            let first = length-append ys (took A event) in
-            let both = length-append (took A event) (frames_taken A events) in
+        gone = λ d clean.
+            (let less = rest.gone d clean in
+            let first = length-append (by_end d) (took d event) in
+            let both = length-append (took d event) (frames_taken d events) in
             omega (arith, less, first, both));
         wire = rest.wire;
       }
 
-  fresh_all : All shape (fresh_port shape) (no_events shape) [] [] 0 0
-  fresh_all = record {
-    once = fresh_once shape is;
-    guest = λ clean. record { all = omega arith; here = λ v up none. none_some v none };
-    hub = λ clean. record { all = omega arith; here = λ v up none. none_some v none };
-  }
+  fresh_all : All shape (fresh_port shape) (no_events shape) (λ d. []) (λ d. 0)
+  fresh_all = record { once = fresh_once shape is; arrived = fresh_arrived }
+    where
+      fresh_arrived : (d : End) → false ≡ false → Arrived (peer_of d) d (fresh_port shape).lane (no_events shape) (0 + 0)
+      fresh_arrived A clean = record { all = omega arith; here = λ v up none. none_some v none }
+      fresh_arrived B clean = record { all = omega arith; here = λ v up none. none_some v none }
 
   ended : (events : List PortEvent) (s : PortState) → Run PortStep (fresh_port shape) events s
-      → Ended s (log_of after (no_events shape) events) (0 + length (frames_taken B events)) (0 + length (frames_taken A events)) (0 + frames_lost A events) (0 + frames_lost B events)
-  ended events s run = along events (fresh_port shape) s (no_events shape) [] [] 0 0 fresh_all run
+      → Ended s (log_of after (no_events shape) events) (λ d. (0 + length (frames_taken d events)) + (0 + frames_lost (peer_of d) events))
+  ended events s run = along events (fresh_port shape) s (no_events shape) (λ d. []) (λ d. 0) fresh_all run
 
 -- ALL IN ORDER: where as many stand in order as there are, they are all
 bounded : (n : ℕ) (frames given : List (List ℕ)) → n ≤ length given → InOrder n frames given → n + length frames ≤ length given
@@ -439,7 +404,7 @@ pub guest_counted : (shape : NetShape) (events : List PortEvent) (s : PortState)
 guest_counted shape events s is run clean =
     let l : PortLog = log_of after (no_events shape) events in
     let at = ended shape is events s run in
-    let less = at.guest (sym (ap (λ (w : WireLog). w.forged) at.wire) ∙ clean) in
+    let less = at.gone B (sym (ap (λ (w : WireLog). w.forged) at.wire) ∙ clean) in
     held_count s.lane.guest.frames l.guest.given l.guest.gone (length (frames_taken B events) + frames_lost A events) (guest_holds shape events s is run) (omega (arith, less))
 
 pub hub_counted : (shape : NetShape) (events : List PortEvent) (s : PortState) → IsNetShape shape → Run PortStep (fresh_port shape) events s → s.lane.wire.forged ≡ false
@@ -447,7 +412,7 @@ pub hub_counted : (shape : NetShape) (events : List PortEvent) (s : PortState) �
 hub_counted shape events s is run clean =
     let l : PortLog = log_of after (no_events shape) events in
     let at = ended shape is events s run in
-    let less = at.hub (sym (ap (λ (w : WireLog). w.forged) at.wire) ∙ clean) in
+    let less = at.gone A (sym (ap (λ (w : WireLog). w.forged) at.wire) ∙ clean) in
     held_count (s.lane.hub.frames ++ s.queue) l.hub.given l.hub.gone (length (frames_taken A events) + frames_lost B events) (hub_holds shape events s is run) (omega (arith, less))
 
 all_taken : (taken given held : List (List ℕ)) (lost : ℕ) → InOrder 0 taken given → length given ≤ (length taken + lost) + length held → lost ≡ 0 → held ≡ [] → taken ≡ given

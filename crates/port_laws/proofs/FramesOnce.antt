@@ -1,11 +1,10 @@
 -- On a port that nobody forged the frames that an end took are frames that the other end was given, in their order, each at most once. The
 -- place of the next one among those given never falls, and rises with each frame that is taken.
-use Rattle.std.proofs.Common.{◌≡◌, ◌≢◌, ℕ, ◌+◌, ◌-◌, ◌≤◌, ◌⊎◌, inl, inr, true, false, Option, Some, None, List, [], ◌∷◌, ◌++◌, refl, sym, subst, ap, ◌∙◌, arith, append_assoc}
+use Rattle.std.proofs.Common.{◌≡◌, ℕ, ◌+◌, ◌-◌, ◌≤◌, ◌⊎◌, inl, inr, true, false, Option, Some, None, List, [], ◌∷◌, ◌++◌, refl, sym, subst, ap, ◌∙◌, arith, append_assoc}
 use Rattle.std.specs.Prelude.{is_some, slice_get}
 use Rattle.std.proofs.lemmas.List.{append-nil}
-use Rattle.ldc_link.specs.declared.phase.Role.TheVariants.{Initiator, Responder}
 use Rattle.ldc_queue.specs.declared.end.ChannelState.{ChannelState}
-use Rattle.ldc_queue.specs.declared.end.ChannelState.TheVariants.{Down, Resetting, Up}
+use Rattle.ldc_queue.specs.declared.end.ChannelState.TheVariants.{Up}
 use Rattle.ldc_queue.specs.declared.end.End.{End}
 use Rattle.ldc_queue.specs.declared.end.End.TheVariants.{A, B}
 use Rattle.ldc_queue.specs.Transcript.{Turn}
@@ -19,13 +18,13 @@ use Rattle.channel_model.specs.WireLog.{WireLog}
 use Rattle.port_model.proofs.Refuting.{none_some, true_false}
 use Rattle.port_model.specs.EndLog.{EndLog, SessionLog, acked_by, acked_in, change, heard_in, heard_kind, lost_in, more_published, more_taken, said_in}
 use Rattle.port_model.specs.NetEndState.{NetEndState, NetSession, unseen}
-use Rattle.port_model.specs.NetEndStep.{BadLength, Blocked, Frame, Full, Given, Idle, Joined, NetAnswer, NetLeft, Published, Queued, Reset, Sent, Took}
-use Rattle.port_model.specs.NetEvent.{Asked, CalmTick, Declines, Gives, Injects, Joins, Loses, NetEvent, Pokes, Steps, Ticked, on_wire}
+use Rattle.port_model.specs.NetEndStep.{Blocked, Frame, Given, Idle, Joined, NetAnswer, NetLeft, Published, Queued, Reset, Sent, Took}
+use Rattle.port_model.specs.NetEvent.{Asked, CalmTick, Gives, Injects, Loses, NetEvent, Pokes, Steps, Ticked, on_wire}
 use Rattle.port_model.specs.NetLaneState.{IsNetShape, NetLaneState, NetShape, memory_of, net_end, role_at}
 use Rattle.port_model.specs.NetLaneStep.{EndSteps, NetLaneStep, moved_on}
 use Rattle.port_model.specs.PortLog.{PortLog, after, after_answer, after_given, log_of_end, no_events}
 use Rattle.port_model.specs.PortState.{OfQueue, OnLane, PortEvent, PortState, PortStep, Receives, before, fresh_port}
-use Rattle.port_model.specs.Spoken.{GroupsAck, GroupsInfo, GroupsNack, Other, RangeAck, RangeInfo, Spoken, spoken}
+use Rattle.port_model.specs.Spoken.{RangeInfo, Spoken, spoken}
 use Rattle.port_laws.specs.Counted.{unsaid}
 use Rattle.port_laws.specs.NetCore.{lane_core}
 use Rattle.port_laws.specs.InOrder.{InOrder, frames_taken, took}
@@ -35,8 +34,8 @@ use Rattle.port_laws.proofs.EndCounting.{left_seen, open_counts, shut_counts}
 use Rattle.port_laws.proofs.LogsStand.{held_given}
 use Rattle.port_laws.proofs.PortCounts.{before_queue, before_wire, queue_of}
 use Rattle.port_laws.proofs.StepCounts.{counts_stand}
-use Rattle.port_laws.proofs.RingActs.{Acts, Finds, acts_shut, acts_up_at, goes_same, left_taken, open_both, ring_of_end, step_now}
-use Rattle.port_laws.proofs.RingEvents.{Goes, mine_now, peer_up, theirs_now, wire_now}
+use Rattle.port_laws.proofs.RingActs.{Acts, Finds, LogNow, acts_shut, acts_up_at, goes_same, left_taken, log_now, open_both, peer_ring_of, step_now}
+use Rattle.port_laws.proofs.RingEvents.{Goes, kind_taken, none_down, peer_up, theirs_now, wire_now}
 use Rattle.port_laws.proofs.RingRuns.{Kept, finds_before, fresh_kept, kept_step, was_clean}
 use Rattle.port_laws.proofs.RingSteps.{opens_by}
 use Rattle.port_laws.proofs.RuleFrames.{both_open, end_counted, end_stood, lost_log, seen_within}
@@ -74,22 +73,23 @@ below_in n m (frame ∷ frames) given below = (below.0, below.1, below.2, below_
 -- Where the end isn't up and in session it is behind all that were published.
 abbrev place_by : ChannelState → Option SessionLog → (gone published taken : ℕ) → ℕ
 place_by Up (Some v) gone published taken = gone + (taken - v.seen)
-place_by Up None gone published taken = published
-place_by Down session gone published taken = published
-place_by Resetting session gone published taken = published
+place_by _ _ gone published taken = published
 
-abbrev place : End → NetLaneState → PortLog → ℕ
-place e s l = place_by (state_of e s.wire.wire) (log_of_end e l).session (log_of_end e l).gone (log_of_end e l).published (taken_of (peer_of e) s l)
+abbrev place : (e d : End) → NetLaneState → PortLog → ℕ
+place e d s l = place_by (state_of e s.wire.wire) (log_of_end e l).session (log_of_end e l).gone (log_of_end e l).published (taken_of d s l)
 
 -- its bounds
-pub record Bounds (e : End) (s : NetLaneState) (l : PortLog) : Type 0 where
-  pub within : (v : SessionLog) → state_of e s.wire.wire ≡ Up → (log_of_end e l).session ≡ Some v → (v.seen ≤ taken_of (peer_of e) s l) × (taken_of (peer_of e) s l ≤ v.published)
+pub record Bounds (e d : End) (s : NetLaneState) (l : PortLog) : Type 0 where
+  pub within : (v : SessionLog) → state_of e s.wire.wire ≡ Up → (log_of_end e l).session ≡ Some v → (v.seen ≤ taken_of d s l) × (taken_of d s l ≤ v.published)
   pub counted : (v : SessionLog) → (log_of_end e l).session ≡ Some v → (log_of_end e l).published ≡ (log_of_end e l).gone + (v.published - v.seen)
   pub shut : (log_of_end e l).session ≡ None → (log_of_end e l).published ≡ (log_of_end e l).gone
 
-pub bounds : (shape : NetShape) (e : End) (s : PortState) (l : PortLog) → Finds shape s l → Bounds e s.lane l
-bounds shape e s l finds = record { within = within; counted = counted; shut = shut }
+pub bounds : (shape : NetShape) (d : End) (s : PortState) (l : PortLog) → Finds shape s l → Bounds (peer_of d) d s.lane l
+bounds shape d s l finds = record { within = within; counted = counted; shut = shut }
   where
+    e : End
+    e = peer_of d
+
     f : NetEndState
     f = net_end e s.lane
 
@@ -97,11 +97,11 @@ bounds shape e s l finds = record { within = within; counted = counted; shut = s
     lost v p log is =
         sym (ap unseen is) ∙ lost_log (role_at e) shape.slots (queue_of e s) f (log_of_end e l) (end_counted shape e s l finds.ready) ∙ ap lost_in log
 
-    within : (v : SessionLog) → state_of e s.lane.wire.wire ≡ Up → (log_of_end e l).session ≡ Some v → (v.seen ≤ taken_of (peer_of e) s.lane l) × (taken_of (peer_of e) s.lane l ≤ v.published)
+    within : (v : SessionLog) → state_of e s.lane.wire.wire ≡ Up → (log_of_end e l).session ≡ Some v → (v.seen ≤ taken_of d s.lane l) × (taken_of d s.lane l ≤ v.published)
     within v up log =
         let both = both_open (role_at e) shape.slots (queue_of e s) f (log_of_end e l) v (end_counted shape e s l finds.ready) log in
-        let ring : RingHolds l.shape.slots both.p.seen (taken_of (peer_of e) s.lane l) both.p.published f.frames (memory_of e s.lane) =
-        subst (λ (x : Option NetSession). RingIn l.shape.slots (taken_of (peer_of e) s.lane l) x f.frames (memory_of e s.lane)) both.is (ring_of_end e s.lane l finds.rings up) in
+        let ring : RingHolds l.shape.slots both.p.seen (taken_of d s.lane l) both.p.published f.frames (memory_of e s.lane) =
+        subst (λ (x : Option NetSession). RingIn l.shape.slots (taken_of d s.lane l) x f.frames (memory_of e s.lane)) both.is (peer_ring_of d s.lane l finds.rings up) in
         let seen : both.p.seen ≡ v.seen = sym both.open_is.counts.ring.seen ∙ left_seen (unsaid f) both.open_is.of_log ∙ ap (λ (x : SessionLog). x.seen) both.same in
         let first = ring.seen_first in
         let most = ring.taken_first in
@@ -127,55 +127,49 @@ bounds shape e s l finds = record { within = within; counted = counted; shut = s
             true_false (sym (ap is_some is) ∙ both.shut none)
 
 -- WHAT AN EVENT DOES to the end's log, where it is up and in session after it: the session opened, or it stayed
-pub data Change (e : End) (s t : NetLaneState) (l m : PortLog) (v : SessionLog) : Type 0 where
-  Opened : (log_of_end e l).session ≡ None → (log_of_end e m).gone ≡ (log_of_end e l).gone → Change e s t l m v
+pub data Change (e d : End) (s t : NetLaneState) (l m : PortLog) (v : SessionLog) : Type 0 where
+  Opened : (log_of_end e l).session ≡ None → (log_of_end e m).gone ≡ (log_of_end e l).gone → Change e d s t l m v
   Stayed : (w : SessionLog) → state_of e s.wire.wire ≡ Up → (log_of_end e l).session ≡ Some w → (log_of_end e m).gone + w.seen ≡ (log_of_end e l).gone + v.seen
-      → taken_of (peer_of e) s l ≤ taken_of (peer_of e) t m → Change e s t l m v
+      → taken_of d s l ≤ taken_of d t m → Change e d s t l m v
 
-pub record Moves (e : End) (s t : NetLaneState) (l m : PortLog) : Type 0 where
+pub record Moves (e d : End) (s t : NetLaneState) (l m : PortLog) : Type 0 where
   pub grows : (log_of_end e l).published ≤ (log_of_end e m).published
-  pub changes : (v : SessionLog) → state_of e t.wire.wire ≡ Up → (log_of_end e m).session ≡ Some v → Change e s t l m v
+  pub changes : (v : SessionLog) → state_of e t.wire.wire ≡ Up → (log_of_end e m).session ≡ Some v → Change e d s t l m v
 
 place_most : (x : ChannelState) (session : Option SessionLog) (gone published taken : ℕ) → ((v : SessionLog) → x ≡ Up → session ≡ Some v → (taken ≤ v.published) × (v.seen ≤ taken) × (published ≡ gone + (v.published - v.seen)))
     → place_by x session gone published taken ≤ published
 place_most Up (Some v) gone published taken open_is = let at = open_is v refl refl in omega (arith, at.0, at.1, at.2)
-place_most Up None gone published taken open_is = omega arith
-place_most Down session gone published taken open_is = omega arith
-place_most Resetting session gone published taken open_is = omega arith
+place_most _ _ gone published taken open_is = omega arith
 
 shut_place : (x : ChannelState) (session : Option SessionLog) (gone published taken : ℕ) → session ≡ None → place_by x session gone published taken ≤ published
-shut_place Up None gone published taken none = omega arith
 shut_place Up (Some v) gone published taken none = none_some v (sym none)
-shut_place Down session gone published taken none = omega arith
-shut_place Resetting session gone published taken none = omega arith
+shut_place _ _ gone published taken none = omega arith
 
 place_less : (n : ℕ) (x : ChannelState) (session : Option SessionLog) (gone published taken : ℕ) → n ≤ published → ((v : SessionLog) → x ≡ Up → session ≡ Some v → n ≤ gone + (taken - v.seen))
     → n ≤ place_by x session gone published taken
 place_less n Up (Some v) gone published taken most inside = inside v refl refl
-place_less n Up None gone published taken most inside = most
-place_less n Down session gone published taken most inside = most
-place_less n Resetting session gone published taken most inside = most
+place_less n _ _ gone published taken most inside = most
 
-rises : (e : End) (s t : NetLaneState) (l m : PortLog) → Bounds e s l → Bounds e t m → Moves e s t l m → place e s l ≤ place e t m
-rises e s t l m was now moves =
-    place_less (place e s l) (state_of e t.wire.wire) (log_of_end e m).session (log_of_end e m).gone (log_of_end e m).published (taken_of (peer_of e) t m) (omega (arith, most, moves.grows)) inside
+rises : (e d : End) (s t : NetLaneState) (l m : PortLog) → Bounds e d s l → Bounds e d t m → Moves e d s t l m → place e d s l ≤ place e d t m
+rises e d s t l m was now moves =
+    place_less (place e d s l) (state_of e t.wire.wire) (log_of_end e m).session (log_of_end e m).gone (log_of_end e m).published (taken_of d t m) (omega (arith, most, moves.grows)) inside
   where
-    most : place e s l ≤ (log_of_end e l).published
+    most : place e d s l ≤ (log_of_end e l).published
     most =
-        place_most (state_of e s.wire.wire) (log_of_end e l).session (log_of_end e l).gone (log_of_end e l).published (taken_of (peer_of e) s l)
+        place_most (state_of e s.wire.wire) (log_of_end e l).session (log_of_end e l).gone (log_of_end e l).published (taken_of d s l)
         (λ v up log. let at = was.within v up log in (at.1, at.0, was.counted v log))
 
-    inside : (v : SessionLog) → state_of e t.wire.wire ≡ Up → (log_of_end e m).session ≡ Some v → place e s l ≤ (log_of_end e m).gone + (taken_of (peer_of e) t m - v.seen)
+    inside : (v : SessionLog) → state_of e t.wire.wire ≡ Up → (log_of_end e m).session ≡ Some v → place e d s l ≤ (log_of_end e m).gone + (taken_of d t m - v.seen)
     inside v up log = by_change (moves.changes v up log)
       where
-        by_change : Change e s t l m v → place e s l ≤ (log_of_end e m).gone + (taken_of (peer_of e) t m - v.seen)
+        by_change : Change e d s t l m v → place e d s l ≤ (log_of_end e m).gone + (taken_of d t m - v.seen)
         by_change (Opened none gone) =
-            let less = shut_place (state_of e s.wire.wire) (log_of_end e l).session (log_of_end e l).gone (log_of_end e l).published (taken_of (peer_of e) s l) none in
+            let less = shut_place (state_of e s.wire.wire) (log_of_end e l).session (log_of_end e l).gone (log_of_end e l).published (taken_of d s l) none in
             omega (arith, less, was.shut none, gone)
         by_change (Stayed w before_up before_log gone taken) =
-            let is : place e s l ≡ (log_of_end e l).gone + (taken_of (peer_of e) s l - w.seen) =
-            ap (λ (x : ChannelState). place_by x (log_of_end e l).session (log_of_end e l).gone (log_of_end e l).published (taken_of (peer_of e) s l)) before_up
-            ∙ ap (λ (o : Option SessionLog). place_by Up o (log_of_end e l).gone (log_of_end e l).published (taken_of (peer_of e) s l)) before_log in
+            let is : place e d s l ≡ (log_of_end e l).gone + (taken_of d s l - w.seen) =
+            ap (λ (x : ChannelState). place_by x (log_of_end e l).session (log_of_end e l).gone (log_of_end e l).published (taken_of d s l)) before_up
+            ∙ ap (λ (o : Option SessionLog). place_by Up o (log_of_end e l).gone (log_of_end e l).published (taken_of d s l)) before_log in
             let first = was.within w before_up before_log in
             let then_ = now.within v up log in
             omega (arith, is, first.0, then_.0, gone, taken)
@@ -191,28 +185,15 @@ heard_seen slots (Some message) w = by_kind (spoken message)
   where
     by_kind : (k : Spoken) → (heard_kind slots k message w).seen ≡ w.seen + acked_by slots k message
     by_kind RangeInfo = omega arith
-    by_kind RangeAck = omega arith
-    by_kind GroupsInfo = omega arith
-    by_kind GroupsAck = omega arith
-    by_kind GroupsNack = omega arith
-    by_kind Other = omega arith
+    by_kind _ = omega arith
 
 pub heard_taken : (slots : ℕ) (message : Option (List ℕ)) (w : SessionLog) → (heard_in slots message w).taken ≡ w.taken
 heard_taken slots None w = refl
-heard_taken slots (Some message) w = by_kind (spoken message)
-  where
-    by_kind : (k : Spoken) → (heard_kind slots k message w).taken ≡ w.taken
-    by_kind RangeInfo = refl
-    by_kind RangeAck = refl
-    by_kind GroupsInfo = refl
-    by_kind GroupsAck = refl
-    by_kind GroupsNack = refl
-    by_kind Other = refl
+heard_taken slots (Some message) w = kind_taken (spoken message) slots message w
 
 pub none_acked : (slots : ℕ) (message : Option (List ℕ)) (session : Option SessionLog) → session ≡ None → acked_in slots message session ≡ 0
-none_acked slots None session none = refl
-none_acked slots (Some message) None none = refl
 none_acked slots (Some message) (Some w) none = none_some w (sym none)
+none_acked slots _ _ none = refl
 
 -- how the end's own log changes
 record OwnChange (l m : EndLog) (v : SessionLog) (w : SessionLog) : Type 0 where
@@ -240,26 +221,18 @@ own_log slots turns (Sent packet false) l v goes shut is =
     let message = ended_by (half_said turns) packet in
     let made = changed (said_in message) l.session v is in
     LogStayed made.0 (record { was = made.1; gone = omega (arith, left_seen message made.0, ap (λ (x : SessionLog). x.seen) made.2) })
-own_log slots turns Blocked l v goes shut is = LogStayed v (record { was = is; gone = refl })
-own_log slots turns Idle l v goes shut is = LogStayed v (record { was = is; gone = refl })
 own_log slots turns (Published id) l v goes shut is =
     let made = changed more_published l.session v is in LogStayed made.0 (record { was = made.1; gone = omega (arith, ap (λ (x : SessionLog). x.seen) made.2) })
 own_log slots turns (Frame frame) l v goes shut is =
     let made = changed more_taken l.session v is in LogStayed made.0 (record { was = made.1; gone = omega (arith, ap (λ (x : SessionLog). x.seen) made.2) })
 own_log slots turns (Joined lost) l v goes shut is = absurd goes
 own_log slots turns (Reset cause packet lost) l v goes shut is = absurd goes
+own_log slots turns _ l v goes shut is = LogStayed v (record { was = is; gone = refl })
 
 own_grows : (slots : ℕ) (turns : List Turn) (answer : NetAnswer) (l : EndLog) → l.published ≤ (after_answer slots turns answer l).published
 own_grows slots turns (Took packet true) l = omega arith
-own_grows slots turns (Took packet false) l = omega arith
 own_grows slots turns (Sent packet true) l = omega arith
-own_grows slots turns (Sent packet false) l = omega arith
-own_grows slots turns Blocked l = omega arith
-own_grows slots turns Idle l = omega arith
-own_grows slots turns (Published id) l = omega arith
-own_grows slots turns (Frame frame) l = omega arith
-own_grows slots turns (Joined lost) l = omega arith
-own_grows slots turns (Reset cause packet lost) l = omega arith
+own_grows slots turns _ l = omega arith
 
 -- how many frames it took
 change_taken : (f : SessionLog → SessionLog) (n : ℕ) (session : Option SessionLog) → ((w : SessionLog) → w.taken + n ≤ (f w).taken) → taken_in session ≤ taken_in (change f session)
@@ -267,10 +240,8 @@ change_taken f n None more = omega arith
 change_taken f n (Some w) more = let one = more w in omega (arith, one)
 
 taken_grows : (slots : ℕ) (turns : List Turn) (answer : NetAnswer) (l : EndLog) → Goes answer → (opens_by answer ≡ true → l.session ≡ None) → taken_in l.session ≤ taken_in (after_answer slots turns answer l).session
-taken_grows slots turns (Took packet true) l goes shut = omega (arith, ap taken_in (shut refl))
 taken_grows slots turns (Took packet false) l goes shut =
     change_taken (heard_in slots (ended_by (half_heard turns) packet)) 0 l.session (λ w. omega (arith, heard_taken slots (ended_by (half_heard turns) packet) w))
-taken_grows slots turns (Sent packet true) l goes shut = omega (arith, ap taken_in (shut refl))
 taken_grows slots turns (Sent packet false) l goes shut =
     change_taken (said_in (ended_by (half_said turns) packet)) 0 l.session (λ w. omega (arith, left_taken (ended_by (half_said turns) packet) w))
 taken_grows slots turns Blocked l goes shut = omega arith
@@ -279,27 +250,34 @@ taken_grows slots turns (Published id) l goes shut = change_taken more_published
 taken_grows slots turns (Frame frame) l goes shut = change_taken more_taken 1 l.session (λ w. omega arith)
 taken_grows slots turns (Joined lost) l goes shut = absurd goes
 taken_grows slots turns (Reset cause packet lost) l goes shut = absurd goes
+taken_grows slots turns _ l goes shut = omega (arith, ap taken_in (shut refl))
 
 -- THE END ITSELF makes a step
-own_moves : (shape : NetShape) (e : End) (u t : PortState) (l m : PortLog) (answer : NetAnswer) (left : NetLeft) → Acts shape e u t l answer left
-    → log_of_end e m ≡ after_answer l.shape.slots (transcript_of e l.transcript) answer (log_of_end e l) → log_of_end (peer_of e) m ≡ log_of_end (peer_of e) l → Moves e u.lane t.lane l m
-own_moves shape e u t l m answer left acts mine theirs = record { grows = grows; changes = changes }
+acts_none : (shape : NetShape) (e : End) (u t : PortState) (l : PortLog) (answer : NetAnswer) (left : NetLeft) → Acts shape e u t l answer left → opens_by answer ≡ true → (log_of_end e l).session ≡ None
+acts_none shape e u t l answer left acts opens =
+    (open_both (role_at e) shape.slots (queue_of e u) (net_end e u.lane) (log_of_end e l) (end_counted shape e u l acts.finds.ready)).none (acts_shut shape e u t l answer left acts opens)
+
+own_moves : (shape : NetShape) (e : End) (u t : PortState) (l : PortLog) (answer : NetAnswer) (left : NetLeft) → Acts shape e u t l answer left
+    → Moves e (peer_of e) u.lane t.lane l (after l (OnLane (Steps e answer)))
+own_moves shape e u t l answer left acts = record { grows = grows; changes = changes }
   where
+    m : PortLog
+    m = after l (OnLane (Steps e answer))
+
     now : EndLog
     now = after_answer l.shape.slots (transcript_of e l.transcript) answer (log_of_end e l)
 
+    log : LogNow e l answer
+    log = log_now e l answer
+
     grows : (log_of_end e l).published ≤ (log_of_end e m).published
-    grows = omega (arith, own_grows l.shape.slots (transcript_of e l.transcript) answer (log_of_end e l), ap (λ (x : EndLog). x.published) mine)
+    grows = omega (arith, own_grows l.shape.slots (transcript_of e l.transcript) answer (log_of_end e l), ap (λ (x : EndLog). x.published) log.mine)
 
-    shut : opens_by answer ≡ true → (log_of_end e l).session ≡ None
-    shut opens =
-        (open_both (role_at e) shape.slots (queue_of e u) (net_end e u.lane) (log_of_end e l) (end_counted shape e u l acts.finds.ready)).none (acts_shut shape e u t l answer left acts opens)
-
-    changes : (v : SessionLog) → state_of e t.lane.wire.wire ≡ Up → (log_of_end e m).session ≡ Some v → Change e u.lane t.lane l m v
-    changes v up is = by_log (own_log l.shape.slots (transcript_of e l.transcript) answer (log_of_end e l) v goes shut here)
+    changes : (v : SessionLog) → state_of e t.lane.wire.wire ≡ Up → (log_of_end e m).session ≡ Some v → Change e (peer_of e) u.lane t.lane l m v
+    changes v up is = by_log (own_log l.shape.slots (transcript_of e l.transcript) answer (log_of_end e l) v goes (acts_none shape e u t l answer left acts) here)
       where
         here : now.session ≡ Some v
-        here = ap (λ (x : EndLog). x.session) (sym mine) ∙ is
+        here = ap (λ (x : EndLog). x.session) (sym log.mine) ∙ is
 
         goes : Goes answer
         goes = guest_goes l.shape.slots (transcript_of e l.transcript) answer (log_of_end e l) (λ gone. none_some v (sym gone ∙ here))
@@ -310,59 +288,63 @@ own_moves shape e u t l m answer left acts mine theirs = record { grows = grows;
             ∙ goes_theirs answer (state_of e u.lane.wire.wire) (state_of (peer_of e) u.lane.wire.wire) goes
 
         same : taken_of (peer_of e) t.lane m ≡ taken_of (peer_of e) u.lane l
-        same = ap (λ (x : ChannelState). taken_by x (log_of_end (peer_of e) m).session) state ∙ ap (λ (x : EndLog). taken_by (state_of (peer_of e) u.lane.wire.wire) x.session) theirs
+        same = ap (λ (x : ChannelState). taken_by x (log_of_end (peer_of e) m).session) state ∙ ap (λ (x : EndLog). taken_by (state_of (peer_of e) u.lane.wire.wire) x.session) log.theirs
 
-        by_log : OwnLog (log_of_end e l) now v → Change e u.lane t.lane l m v
-        by_log (LogOpened none gone) = Opened none (ap (λ (x : EndLog). x.gone) mine ∙ gone)
+        by_log : OwnLog (log_of_end e l) now v → Change e (peer_of e) u.lane t.lane l m v
+        by_log (LogOpened none gone) = Opened none (ap (λ (x : EndLog). x.gone) log.mine ∙ gone)
         by_log (LogStayed w change_is) =
-            Stayed w (acts_up_at shape e u t l answer left acts goes) change_is.was (omega (arith, change_is.gone, ap (λ (x : EndLog). x.gone) mine)) (omega (arith, same))
+            Stayed w (acts_up_at shape e u t l answer left acts goes) change_is.was (omega (arith, change_is.gone, ap (λ (x : EndLog). x.gone) log.mine)) (omega (arith, same))
 
--- THE OTHER END, which takes its frames, makes a step, or is reset
-not_up_taken : (x : ChannelState) (session : Option SessionLog) → x ≢ Up → taken_by x session ≡ 0
-not_up_taken Up session away = absurd (away refl)
-not_up_taken Down session away = refl
-not_up_taken Resetting session away = refl
-
-by_reset : (e : End) (s t : NetLaneState) (l m : PortLog) (v : SessionLog) → log_of_end e m ≡ log_of_end e l → peer_behind (state_of (peer_of e) s.wire.wire) (state_of e s.wire.wire) ≡ Up
-    → (log_of_end e m).session ≡ Some v → Change e s t l m v
-by_reset e s t l m v same up is =
-    let both = peer_up (state_of (peer_of e) s.wire.wire) (state_of e s.wire.wire) up in
-    Stayed v both.1 (ap (λ (x : EndLog). x.session) (sym same) ∙ is) (omega (arith, ap (λ (x : EndLog). x.gone) same))
-    (omega (arith, not_up_taken (state_of (peer_of e) s.wire.wire) (log_of_end (peer_of e) l).session both.0))
-
-consumer_moves : (e : End) (s t : NetLaneState) (l m : PortLog) (slots : ℕ) (turns : List Turn) (answer : NetAnswer) → log_of_end e m ≡ log_of_end e l
-    → log_of_end (peer_of e) m ≡ after_answer slots turns answer (log_of_end (peer_of e) l) → state_of e t.wire.wire ≡ theirs_now answer (state_of (peer_of e) s.wire.wire) (state_of e s.wire.wire)
-    → state_of (peer_of e) t.wire.wire ≡ mine_now answer (state_of (peer_of e) s.wire.wire) → (Goes answer → state_of (peer_of e) s.wire.wire ≡ Up)
-    → (opens_by answer ≡ true → (log_of_end (peer_of e) l).session ≡ None) → Moves e s t l m
-consumer_moves e s t l m slots turns answer same mine state peer_state up_at shut = record {
+-- THE OTHER END, which takes its frames, is reset, or makes a step
+anew_moves : (e d : End) (s t : NetLaneState) (l m : PortLog) → log_of_end e m ≡ log_of_end e l → state_of e t.wire.wire ≡ peer_behind (state_of d s.wire.wire) (state_of e s.wire.wire)
+    → Moves e d s t l m
+anew_moves e d s t l m same behind = record {
   grows = omega (arith, ap (λ (x : EndLog). x.published) same);
-  changes = λ v up is. by_answer answer refl v up is;
+  changes = λ v up is.
+      let both = peer_up (state_of d s.wire.wire) (state_of e s.wire.wire) (sym behind ∙ up) in
+      Stayed v both.1 (ap (λ (x : EndLog). x.session) (sym same) ∙ is) (omega (arith, ap (λ (x : EndLog). x.gone) same))
+      (omega (arith, none_down (state_of d s.wire.wire) (log_of_end d l).session both.0));
 }
+
+begins_or_goes : (answer : NetAnswer) (x y : ChannelState) → (theirs_now answer x y ≡ peer_behind x y) ⊎ Goes answer
+begins_or_goes (Joined lost) x y = inl refl
+begins_or_goes (Reset cause packet lost) x y = inl refl
+begins_or_goes _ x y = inr tt
+
+taker_moves : (shape : NetShape) (d : End) (u t : PortState) (l : PortLog) (answer : NetAnswer) (left : NetLeft) → Acts shape d u t l answer left
+    → Moves (peer_of d) d u.lane t.lane l (after l (OnLane (Steps d answer)))
+taker_moves shape d u t l answer left acts = by_way (begins_or_goes answer x y)
   where
-    goes_change : (v : SessionLog) → Goes answer → state_of e t.wire.wire ≡ Up → (log_of_end e m).session ≡ Some v → Change e s t l m v
-    goes_change v goes up is =
-        let before_up : state_of e s.wire.wire ≡ Up = sym (state ∙ goes_theirs answer (state_of (peer_of e) s.wire.wire) (state_of e s.wire.wire) goes) ∙ up in
-        let was : taken_of (peer_of e) s l ≡ taken_in (log_of_end (peer_of e) l).session = ap (λ (x : ChannelState). taken_by x (log_of_end (peer_of e) l).session) (up_at goes) in
-        let now : taken_of (peer_of e) t m ≡ taken_in (after_answer slots turns answer (log_of_end (peer_of e) l)).session =
-        ap (λ (x : ChannelState). taken_by x (log_of_end (peer_of e) m).session) (peer_state ∙ goes_same answer (state_of (peer_of e) s.wire.wire) goes ∙ up_at goes)
-        ∙ ap (λ (x : EndLog). taken_in x.session) mine in
-        Stayed v before_up (ap (λ (x : EndLog). x.session) (sym same) ∙ is) (omega (arith, ap (λ (x : EndLog). x.gone) same))
-        (omega (arith, was, now, taken_grows slots turns answer (log_of_end (peer_of e) l) goes shut))
+    m : PortLog
+    m = after l (OnLane (Steps d answer))
 
-    resets : (given : NetAnswer) → answer ≡ given → theirs_now given (state_of (peer_of e) s.wire.wire) (state_of e s.wire.wire) ≡ peer_behind (state_of (peer_of e) s.wire.wire) (state_of e s.wire.wire)
-        → (v : SessionLog) → state_of e t.wire.wire ≡ Up → (log_of_end e m).session ≡ Some v → Change e s t l m v
-    resets given is_given behind v up is =
-        by_reset e s t l m v same (sym behind ∙ ap (λ (x : NetAnswer). theirs_now x (state_of (peer_of e) s.wire.wire) (state_of e s.wire.wire)) (sym is_given) ∙ sym state ∙ up) is
+    x : ChannelState
+    x = state_of d u.lane.wire.wire
 
-    by_answer : (given : NetAnswer) → answer ≡ given → (v : SessionLog) → state_of e t.wire.wire ≡ Up → (log_of_end e m).session ≡ Some v → Change e s t l m v
-    by_answer (Joined lost) is_given v up is = resets (Joined lost) is_given refl v up is
-    by_answer (Reset cause packet lost) is_given v up is = resets (Reset cause packet lost) is_given refl v up is
-    by_answer (Took packet opens) is_given v up is = goes_change v (subst Goes (sym is_given) tt) up is
-    by_answer (Sent packet opens) is_given v up is = goes_change v (subst Goes (sym is_given) tt) up is
-    by_answer Blocked is_given v up is = goes_change v (subst Goes (sym is_given) tt) up is
-    by_answer Idle is_given v up is = goes_change v (subst Goes (sym is_given) tt) up is
-    by_answer (Published id) is_given v up is = goes_change v (subst Goes (sym is_given) tt) up is
-    by_answer (Frame frame) is_given v up is = goes_change v (subst Goes (sym is_given) tt) up is
+    y : ChannelState
+    y = state_of (peer_of d) u.lane.wire.wire
+
+    log : LogNow d l answer
+    log = log_now d l answer
+
+    state : state_of (peer_of d) t.lane.wire.wire ≡ theirs_now answer x y
+    state = ap (λ (w : WireLog). state_of (peer_of d) w.wire) acts.now.wire ∙ (wire_now d u.lane answer).theirs
+
+    by_way : (theirs_now answer x y ≡ peer_behind x y) ⊎ Goes answer → Moves (peer_of d) d u.lane t.lane l m
+    by_way (inl behind) = anew_moves (peer_of d) d u.lane t.lane l m log.theirs (state ∙ behind)
+    by_way (inr goes) =
+        let here : x ≡ Up = acts_up_at shape d u t l answer left acts goes in
+        let was : taken_of d u.lane l ≡ taken_in (log_of_end d l).session = ap (λ (z : ChannelState). taken_by z (log_of_end d l).session) here in
+        let up_now : state_of d t.lane.wire.wire ≡ Up = ap (λ (w : WireLog). state_of d w.wire) acts.now.wire ∙ (wire_now d u.lane answer).mine ∙ goes_same answer x goes ∙ here in
+        let now : taken_of d t.lane m ≡ taken_in (after_answer l.shape.slots (transcript_of d l.transcript) answer (log_of_end d l)).session =
+        ap (λ (z : ChannelState). taken_by z (log_of_end d m).session) up_now ∙ ap (λ (z : EndLog). taken_in z.session) log.mine in
+        let more = taken_grows l.shape.slots (transcript_of d l.transcript) answer (log_of_end d l) goes (acts_none shape d u t l answer left acts) in
+        record {
+          grows = omega (arith, ap (λ (z : EndLog). z.published) log.theirs);
+          changes = λ v up is.
+              Stayed v (sym (state ∙ goes_theirs answer x y goes) ∙ up) (ap (λ (z : EndLog). z.session) (sym log.theirs) ∙ is) (omega (arith, ap (λ (z : EndLog). z.gone) log.theirs))
+              (omega (arith, was, now, more));
+        }
 
 -- WHAT DOESN'T TOUCH a session
 pub record SameLog (l m : EndLog) : Type 0 where
@@ -370,84 +352,56 @@ pub record SameLog (l m : EndLog) : Type 0 where
   pub gone : m.gone ≡ l.gone
   pub published : m.published ≡ l.published
 
-same_moves : (e : End) (s t : NetLaneState) (l m : PortLog) → state_of e t.wire.wire ≡ state_of e s.wire.wire → state_of (peer_of e) t.wire.wire ≡ state_of (peer_of e) s.wire.wire
-    → SameLog (log_of_end e l) (log_of_end e m) → (log_of_end (peer_of e) m).session ≡ (log_of_end (peer_of e) l).session → Moves e s t l m
-same_moves e s t l m state peer_state same peer = record {
+same_moves : (e d : End) (s t : NetLaneState) (l m : PortLog) → state_of e t.wire.wire ≡ state_of e s.wire.wire → state_of d t.wire.wire ≡ state_of d s.wire.wire
+    → SameLog (log_of_end e l) (log_of_end e m) → (log_of_end d m).session ≡ (log_of_end d l).session → Moves e d s t l m
+same_moves e d s t l m state peer_state same peer = record {
   grows = omega (arith, same.published);
   changes = λ v up is.
       Stayed v (sym state ∙ up) (sym same.session ∙ is) (omega (arith, same.gone))
       (omega (
         arith,
-        ap (λ (x : ChannelState). taken_by x (log_of_end (peer_of e) m).session) peer_state,
-        ap (λ (o : Option SessionLog). taken_by (state_of (peer_of e) s.wire.wire) o) peer,
+        ap (λ (x : ChannelState). taken_by x (log_of_end d m).session) peer_state,
+        ap (λ (o : Option SessionLog). taken_by (state_of d s.wire.wire) o) peer,
       ));
 }
 
 pub given_same : (given : Given) (l : EndLog) → SameLog l (after_given given l)
 given_same (Queued id frame) l = record { session = refl; gone = refl; published = refl }
-given_same (Full frame) l = record { session = refl; gone = refl; published = refl }
-given_same (BadLength frame) l = record { session = refl; gone = refl; published = refl }
+given_same _ l = record { session = refl; gone = refl; published = refl }
 
-still : (e : End) (u t : PortState) (l : PortLog) (event : NetEvent) → state_of e t.lane.wire.wire ≡ state_of e u.lane.wire.wire → state_of (peer_of e) t.lane.wire.wire ≡ state_of (peer_of e) u.lane.wire.wire
-    → log_of_end e (after l (OnLane event)) ≡ log_of_end e l → log_of_end (peer_of e) (after l (OnLane event)) ≡ log_of_end (peer_of e) l → Moves e u.lane t.lane l (after l (OnLane event))
-still e u t l event state peer_state same peer =
-    same_moves e u.lane t.lane l (after l (OnLane event)) state peer_state
+still : (e d : End) (s t : NetLaneState) (l m : PortLog) → state_of e t.wire.wire ≡ state_of e s.wire.wire → state_of d t.wire.wire ≡ state_of d s.wire.wire → log_of_end e m ≡ log_of_end e l
+    → log_of_end d m ≡ log_of_end d l → Moves e d s t l m
+still e d s t l m state peer_state same peer =
+    same_moves e d s t l m state peer_state
     (record { session = ap (λ (x : EndLog). x.session) same; gone = ap (λ (x : EndLog). x.gone) same; published = ap (λ (x : EndLog). x.published) same }) (ap (λ (x : EndLog). x.session) peer)
 
 -- AN EVENT
-steps_shut : (shape : NetShape) (e : End) (u t : PortState) (l : PortLog) (answer : NetAnswer) (left : NetLeft) → Acts shape e u t l answer left → opens_by answer ≡ true → (log_of_end e l).session ≡ None
-steps_shut shape e u t l answer left acts opens =
-    (open_both (role_at e) shape.slots (queue_of e u) (net_end e u.lane) (log_of_end e l) (end_counted shape e u l acts.finds.ready)).none (acts_shut shape e u t l answer left acts opens)
-
-pub event_moves : (shape : NetShape) (e : End) (u t : PortState) (l : PortLog) (event : NetEvent) → OfQueue u event → Finds shape u l → NetLaneStep u.lane event t.lane → (moved_on l.wire (on_wire event)).forged ≡ false
-    → Kept shape t (after l (OnLane event)) → PortTalks shape (lane_core t.lane) (after l (OnLane event)) → Moves e u.lane t.lane l (after l (OnLane event))
-event_moves shape A u t l (Steps A answer) of_queue finds step clean kept talks =
-    own_moves shape A u t l (after l (OnLane (Steps A answer))) answer step.left (acts_of shape A u t l answer finds step kept.counts talks) refl refl
-event_moves shape B u t l (Steps B answer) of_queue finds step clean kept talks =
-    own_moves shape B u t l (after l (OnLane (Steps B answer))) answer step.left (acts_of shape B u t l answer finds step kept.counts talks) refl refl
-event_moves shape B u t l (Steps A answer) of_queue finds step clean kept talks =
-    let acts = acts_of shape A u t l answer finds step kept.counts talks in
-    consumer_moves B u.lane t.lane l (after l (OnLane (Steps A answer))) l.shape.slots l.transcript.client answer refl refl
-    (ap (λ (w : WireLog). w.wire.end_b) acts.now.wire ∙ (wire_now A u.lane answer).theirs) (ap (λ (w : WireLog). w.wire.end_a) acts.now.wire ∙ (wire_now A u.lane answer).mine)
-    (λ goes. acts_up_at shape A u t l answer step.left acts goes) (λ opens. steps_shut shape A u t l answer step.left acts opens)
-event_moves shape A u t l (Steps B answer) of_queue finds step clean kept talks =
-    let acts = acts_of shape B u t l answer finds step kept.counts talks in
-    consumer_moves A u.lane t.lane l (after l (OnLane (Steps B answer))) l.shape.slots l.transcript.server answer refl refl
-    (ap (λ (w : WireLog). w.wire.end_a) acts.now.wire ∙ (wire_now B u.lane answer).theirs) (ap (λ (w : WireLog). w.wire.end_b) acts.now.wire ∙ (wire_now B u.lane answer).mine)
-    (λ goes. acts_up_at shape B u t l answer step.left acts goes) (λ opens. steps_shut shape B u t l answer step.left acts opens)
-event_moves shape A u t l (Asked A lost) of_queue finds step clean kept talks = record { grows = omega arith; changes = λ v up is. none_some v is }
-event_moves shape B u t l (Asked B lost) of_queue finds step clean kept talks = record { grows = omega arith; changes = λ v up is. none_some v is }
-event_moves shape B u t l (Asked A lost) of_queue finds step clean kept talks = record {
-  grows = omega arith;
-  changes = λ v up is. by_reset B u.lane t.lane l (after l (OnLane (Asked A lost))) v refl (sym (ap (λ (x : NetLaneState). x.wire.wire.end_b) step.1) ∙ up) is;
-}
-event_moves shape A u t l (Asked B lost) of_queue finds step clean kept talks = record {
-  grows = omega arith;
-  changes = λ v up is. by_reset A u.lane t.lane l (after l (OnLane (Asked B lost))) v refl (sym (ap (λ (x : NetLaneState). x.wire.wire.end_a) step.1) ∙ up) is;
-}
-event_moves shape A u t l (Ticked queued lost) of_queue finds step clean kept talks = record { grows = omega arith; changes = λ v up is. none_some v is }
-event_moves shape B u t l (Ticked queued lost) of_queue finds step clean kept talks = record {
-  grows = omega arith;
-  changes = λ v up is. by_reset B u.lane t.lane l (after l (OnLane (Ticked queued lost))) v refl (sym (ap (λ (x : NetLaneState). x.wire.wire.end_b) step.1.1) ∙ up) is;
-}
-event_moves shape A u t l (CalmTick queued) of_queue finds step clean kept talks = still A u t l (CalmTick queued) (ap (λ (x : NetLaneState). x.wire.wire.end_a) step.1) (ap (λ (x : NetLaneState). x.wire.wire.end_b) step.1) refl refl
-event_moves shape B u t l (CalmTick queued) of_queue finds step clean kept talks = still B u t l (CalmTick queued) (ap (λ (x : NetLaneState). x.wire.wire.end_b) step.1) (ap (λ (x : NetLaneState). x.wire.wire.end_a) step.1) refl refl
-event_moves shape A u t l (Gives A given) of_queue finds step clean kept talks =
-    same_moves A u.lane t.lane l (after l (OnLane (Gives A given))) (ap (λ (x : NetLaneState). x.wire.wire.end_a) step.1) (ap (λ (x : NetLaneState). x.wire.wire.end_b) step.1) (given_same given l.guest) refl
+pub event_moves : (shape : NetShape) (d : End) (u t : PortState) (l : PortLog) (event : NetEvent) → OfQueue u event → Finds shape u l → NetLaneStep u.lane event t.lane → (moved_on l.wire (on_wire event)).forged ≡ false
+    → Kept shape t (after l (OnLane event)) → PortTalks shape (lane_core t.lane) (after l (OnLane event)) → Moves (peer_of d) d u.lane t.lane l (after l (OnLane event))
+event_moves shape B u t l (Steps A answer) of_queue finds step clean kept talks = own_moves shape A u t l answer step.left (acts_of shape A u t l answer finds step kept.counts talks)
+event_moves shape A u t l (Steps B answer) of_queue finds step clean kept talks = own_moves shape B u t l answer step.left (acts_of shape B u t l answer finds step kept.counts talks)
+event_moves shape d u t l (Steps _ answer) of_queue finds step clean kept talks = taker_moves shape d u t l answer step.left (acts_of shape d u t l answer finds step kept.counts talks)
+event_moves shape A u t l (Asked A lost) of_queue finds step clean kept talks = anew_moves B A u.lane t.lane l (after l (OnLane (Asked A lost))) refl (ap (λ (x : NetLaneState). x.wire.wire.end_b) step.1)
+event_moves shape B u t l (Asked B lost) of_queue finds step clean kept talks = anew_moves A B u.lane t.lane l (after l (OnLane (Asked B lost))) refl (ap (λ (x : NetLaneState). x.wire.wire.end_a) step.1)
+event_moves shape _ u t l (Asked e lost) of_queue finds step clean kept talks = record { grows = omega arith; changes = λ v up is. none_some v is }
+event_moves shape A u t l (Ticked queued lost) of_queue finds step clean kept talks = anew_moves B A u.lane t.lane l (after l (OnLane (Ticked queued lost))) refl (ap (λ (x : NetLaneState). x.wire.wire.end_b) step.1.1)
+event_moves shape B u t l (Ticked queued lost) of_queue finds step clean kept talks = record { grows = omega arith; changes = λ v up is. none_some v is }
 event_moves shape B u t l (Gives A given) of_queue finds step clean kept talks =
-    same_moves B u.lane t.lane l (after l (OnLane (Gives A given))) (ap (λ (x : NetLaneState). x.wire.wire.end_b) step.1) (ap (λ (x : NetLaneState). x.wire.wire.end_a) step.1)
+    same_moves A B u.lane t.lane l (after l (OnLane (Gives A given))) (ap (λ (x : NetLaneState). x.wire.wire.end_a) step.1) (ap (λ (x : NetLaneState). x.wire.wire.end_b) step.1) (given_same given l.guest) refl
+event_moves shape A u t l (Gives A given) of_queue finds step clean kept talks =
+    same_moves B A u.lane t.lane l (after l (OnLane (Gives A given))) (ap (λ (x : NetLaneState). x.wire.wire.end_b) step.1) (ap (λ (x : NetLaneState). x.wire.wire.end_a) step.1)
     (record { session = refl; gone = refl; published = refl }) (given_same given l.guest).session
-event_moves shape e u t l (Gives B given) of_queue finds step clean kept talks = absurd of_queue
-event_moves shape A u t l (Joins joining) of_queue finds step clean kept talks = still A u t l (Joins joining) (ap (λ (x : NetLaneState). x.wire.wire.end_a) step.1) (ap (λ (x : NetLaneState). x.wire.wire.end_b) step.1) refl refl
-event_moves shape B u t l (Joins joining) of_queue finds step clean kept talks = still B u t l (Joins joining) (ap (λ (x : NetLaneState). x.wire.wire.end_b) step.1) (ap (λ (x : NetLaneState). x.wire.wire.end_a) step.1) refl refl
-event_moves shape A u t l (Loses A packet) of_queue finds step clean kept talks = still A u t l (Loses A packet) (ap (λ (x : NetLaneState). x.wire.wire.end_a) step.1) (ap (λ (x : NetLaneState). x.wire.wire.end_b) step.1) refl refl
-event_moves shape A u t l (Loses B packet) of_queue finds step clean kept talks = still A u t l (Loses B packet) (ap (λ (x : NetLaneState). x.wire.wire.end_a) step.1) (ap (λ (x : NetLaneState). x.wire.wire.end_b) step.1) refl refl
-event_moves shape B u t l (Loses A packet) of_queue finds step clean kept talks = still B u t l (Loses A packet) (ap (λ (x : NetLaneState). x.wire.wire.end_b) step.1) (ap (λ (x : NetLaneState). x.wire.wire.end_a) step.1) refl refl
-event_moves shape B u t l (Loses B packet) of_queue finds step clean kept talks = still B u t l (Loses B packet) (ap (λ (x : NetLaneState). x.wire.wire.end_b) step.1) (ap (λ (x : NetLaneState). x.wire.wire.end_a) step.1) refl refl
-event_moves shape e u t l (Injects d packet) of_queue finds step clean kept talks = true_false clean
-event_moves shape e u t l (Pokes d at bytes) of_queue finds step clean kept talks = true_false clean
-event_moves shape A u t l (Declines d) of_queue finds step clean kept talks = still A u t l (Declines d) (ap (λ (x : NetLaneState). x.wire.wire.end_a) step.1) (ap (λ (x : NetLaneState). x.wire.wire.end_b) step.1) refl refl
-event_moves shape B u t l (Declines d) of_queue finds step clean kept talks = still B u t l (Declines d) (ap (λ (x : NetLaneState). x.wire.wire.end_b) step.1) (ap (λ (x : NetLaneState). x.wire.wire.end_a) step.1) refl refl
+event_moves shape d u t l (Gives B given) of_queue finds step clean kept talks = absurd of_queue
+event_moves shape d u t l (Injects e packet) of_queue finds step clean kept talks = true_false clean
+event_moves shape d u t l (Pokes e at bytes) of_queue finds step clean kept talks = true_false clean
+event_moves shape A u t l (Loses A packet) of_queue finds step clean kept talks =
+    still B A u.lane t.lane l (after l (OnLane (Loses A packet))) (ap (λ (x : NetLaneState). x.wire.wire.end_b) step.1) (ap (λ (x : NetLaneState). x.wire.wire.end_a) step.1) refl refl
+event_moves shape B u t l (Loses A packet) of_queue finds step clean kept talks =
+    still A B u.lane t.lane l (after l (OnLane (Loses A packet))) (ap (λ (x : NetLaneState). x.wire.wire.end_a) step.1) (ap (λ (x : NetLaneState). x.wire.wire.end_b) step.1) refl refl
+event_moves shape A u t l event of_queue finds step clean kept talks =
+    still B A u.lane t.lane l (after l (OnLane event)) (ap (λ (x : NetLaneState). x.wire.wire.end_b) step.1) (ap (λ (x : NetLaneState). x.wire.wire.end_a) step.1) refl refl
+event_moves shape B u t l event of_queue finds step clean kept talks =
+    still A B u.lane t.lane l (after l (OnLane event)) (ap (λ (x : NetLaneState). x.wire.wire.end_a) step.1) (ap (λ (x : NetLaneState). x.wire.wire.end_b) step.1) refl refl
 
 -- THE LIST of frames that an end was given only grows
 abbrev Grown : List (List ℕ) → List (List ℕ) → Type 0
@@ -458,100 +412,57 @@ same_given given = ([], sym (append-nil given))
 
 answer_given : (slots : ℕ) (turns : List Turn) (answer : NetAnswer) (l : EndLog) → Grown l.given (after_answer slots turns answer l).given
 answer_given slots turns (Took packet true) l = same_given l.given
-answer_given slots turns (Took packet false) l = same_given l.given
 answer_given slots turns (Sent packet true) l = same_given l.given
-answer_given slots turns (Sent packet false) l = same_given l.given
-answer_given slots turns Blocked l = same_given l.given
-answer_given slots turns Idle l = same_given l.given
-answer_given slots turns (Published id) l = same_given l.given
-answer_given slots turns (Frame frame) l = same_given l.given
-answer_given slots turns (Joined lost) l = same_given l.given
-answer_given slots turns (Reset cause packet lost) l = same_given l.given
+answer_given slots turns _ l = same_given l.given
 
 given_more : (given : Given) (l : EndLog) → Grown l.given (after_given given l).given
 given_more (Queued id frame) l = (frame ∷ [], refl)
-given_more (Full frame) l = same_given l.given
-given_more (BadLength frame) l = same_given l.given
+given_more _ l = same_given l.given
 
-guest_given : (l : PortLog) (event : NetEvent) → Grown l.guest.given (after l (OnLane event)).guest.given
-guest_given l (Steps A answer) = answer_given l.shape.slots l.transcript.client answer l.guest
-guest_given l (Steps B answer) = same_given l.guest.given
-guest_given l (Asked A lost) = same_given l.guest.given
-guest_given l (Asked B lost) = same_given l.guest.given
-guest_given l (Ticked queued lost) = same_given l.guest.given
-guest_given l (Gives A given) = given_more given l.guest
-guest_given l (Gives B given) = same_given l.guest.given
-guest_given l (CalmTick queued) = same_given l.guest.given
-guest_given l (Joins joining) = same_given l.guest.given
-guest_given l (Loses e packet) = same_given l.guest.given
-guest_given l (Injects e packet) = same_given l.guest.given
-guest_given l (Pokes e at bytes) = same_given l.guest.given
-guest_given l (Declines d) = same_given l.guest.given
-
-hub_given : (l : PortLog) (event : NetEvent) → Grown l.hub.given (after l (OnLane event)).hub.given
-hub_given l (Steps B answer) = answer_given l.shape.slots l.transcript.server answer l.hub
-hub_given l (Steps A answer) = same_given l.hub.given
-hub_given l (Asked A lost) = same_given l.hub.given
-hub_given l (Asked B lost) = same_given l.hub.given
-hub_given l (Ticked queued lost) = same_given l.hub.given
-hub_given l (Gives B given) = given_more given l.hub
-hub_given l (Gives A given) = same_given l.hub.given
-hub_given l (CalmTick queued) = same_given l.hub.given
-hub_given l (Joins joining) = same_given l.hub.given
-hub_given l (Loses e packet) = same_given l.hub.given
-hub_given l (Injects e packet) = same_given l.hub.given
-hub_given l (Pokes e at bytes) = same_given l.hub.given
-hub_given l (Declines d) = same_given l.hub.given
+event_given : (e : End) (l : PortLog) (event : NetEvent) → Grown (log_of_end e l).given (log_of_end e (after l (OnLane event))).given
+event_given A l (Steps A answer) = answer_given l.shape.slots l.transcript.client answer l.guest
+event_given B l (Steps B answer) = answer_given l.shape.slots l.transcript.server answer l.hub
+event_given A l (Asked A lost) = same_given l.guest.given
+event_given B l (Asked A lost) = same_given l.hub.given
+event_given A l (Gives A given) = given_more given l.guest
+event_given B l (Gives B given) = given_more given l.hub
+event_given A l _ = same_given l.guest.given
+event_given B l _ = same_given l.hub.given
 
 -- A FRAME THAT IS TAKEN is the next, and the place rises
 next_place : (x : ChannelState) (session : Option SessionLog) (gone published taken : ℕ) (w : SessionLog) → x ≡ Up → session ≡ Some w → place_by x session gone published taken ≡ gone + (taken - w.seen)
 next_place x session gone published taken w up log =
     ap (λ (y : ChannelState). place_by y session gone published taken) up ∙ ap (λ (o : Option SessionLog). place_by Up o gone published taken) log
 
-record Next (e : End) (s t : NetLaneState) (l m : PortLog) (frame : List ℕ) : Type 0 where
-  get : slice_get (log_of_end e l).given (place e s l) ≡ Some frame
-  more : place e s l + 1 ≤ place e t m
+record Next (e d : End) (s t : NetLaneState) (l m : PortLog) (frame : List ℕ) : Type 0 where
+  get : slice_get (log_of_end e l).given (place e d s l) ≡ Some frame
+  more : place e d s l + 1 ≤ place e d t m
 
-hub_next : (shape : NetShape) (u : PortState) (l : PortLog) (frame : List ℕ) (t : NetLaneState) → Finds shape u l → EndSteps B u.lane (Frame frame) t → Next A u.lane t l (after l (OnLane (Steps B (Frame frame)))) frame
-hub_next shape u l frame t finds step =
-    let takes : TakesPublished shape B u l frame step.step.new = takes_published shape B u l frame t finds step in
-    let now = step_now B u.lane t (Frame frame) step in
-    let m : PortLog = after l (OnLane (Steps B (Frame frame))) in
-    let counts = finds.ready.guest in
-    let log = open_counts Initiator shape.slots [] u.lane.guest l.guest takes.p counts takes.theirs in
-    let seen : log.of_log.seen ≡ takes.p.seen = sym (left_seen (unsaid u.lane.guest) log.of_log) ∙ log.counts.ring.seen in
-    let taken : taken_of B u.lane l ≡ takes.v.taken = ap (λ (x : ChannelState). taken_by x l.hub.session) takes.up ∙ ap taken_in takes.mine in
-    let here = next_place u.lane.wire.wire.end_a l.guest.session l.guest.gone l.guest.published (taken_of B u.lane l) log.of_log takes.peer_up log.is in
-    let at : l.guest.gone + (takes.v.taken - takes.p.seen) ≡ place A u.lane l = omega (arith, here, seen, taken) in
-    let then_taken : taken_of B t m ≡ takes.v.taken + 1 =
-    ap (λ (x : ChannelState). taken_by x m.hub.session) (ap (λ (w : WireLog). w.wire.end_b) now.wire ∙ takes.up) ∙ ap (λ (o : Option SessionLog). taken_in (change more_taken o)) takes.mine in
-    let then_ = next_place t.wire.wire.end_a m.guest.session m.guest.gone m.guest.published (taken_of B t m) log.of_log (ap (λ (w : WireLog). w.wire.end_a) now.wire ∙ takes.peer_up) log.is in
+next_of : (shape : NetShape) (d : End) (u : PortState) (l : PortLog) (frame : List ℕ) (t : NetLaneState) → Finds shape u l → EndSteps d u.lane (Frame frame) t
+    → Next (peer_of d) d u.lane t l (after l (OnLane (Steps d (Frame frame)))) frame
+next_of shape d u l frame t finds step =
+    let takes : TakesPublished shape d u l frame step.step.new = takes_published shape d u l frame t finds step in
+    let now = step_now d u.lane t (Frame frame) step in
+    let logs = log_now d l (Frame frame) in
+    let e : End = peer_of d in
+    let g : EndLog = log_of_end e l in
+    let m : PortLog = after l (OnLane (Steps d (Frame frame))) in
+    let counts = end_counted shape e u l finds.ready in
+    let log = open_counts (role_at e) shape.slots (queue_of e u) (net_end e u.lane) g takes.p counts takes.theirs in
+    let seen : log.of_log.seen ≡ takes.p.seen = sym (left_seen (unsaid (net_end e u.lane)) log.of_log) ∙ log.counts.ring.seen in
+    let taken : taken_of d u.lane l ≡ takes.v.taken = ap (λ (x : ChannelState). taken_by x (log_of_end d l).session) takes.up ∙ ap taken_in takes.mine in
+    let here = next_place (state_of e u.lane.wire.wire) g.session g.gone g.published (taken_of d u.lane l) log.of_log takes.peer_up log.is in
+    let at : g.gone + (takes.v.taken - takes.p.seen) ≡ place e d u.lane l = omega (arith, here, seen, taken) in
+    let then_taken : taken_of d t m ≡ takes.v.taken + 1 =
+    ap (λ (x : ChannelState). taken_by x (log_of_end d m).session) (ap (λ (w : WireLog). state_of d w.wire) now.wire ∙ takes.up) ∙ ap (λ (x : EndLog). taken_in x.session) logs.mine
+    ∙ ap (λ (o : Option SessionLog). taken_in (change more_taken o)) takes.mine in
+    let then_ = next_place (state_of e t.wire.wire) (log_of_end e m).session (log_of_end e m).gone (log_of_end e m).published (taken_of d t m) log.of_log
+    (ap (λ (w : WireLog). state_of e w.wire) now.wire ∙ takes.peer_up) (ap (λ (x : EndLog). x.session) logs.theirs ∙ log.is) in
     let first = takes.ring.seen_first in
     record {
-      get = subst (λ (n : ℕ). slice_get l.guest.given n ≡ Some frame) at
-          (held_given u.lane.guest.frames [] l.guest.given l.guest.gone (takes.v.taken - takes.p.seen) frame counts.frames takes.found.next);
-      more = omega (arith, here, then_, then_taken, taken, seen, first);
-    }
-
-guest_next : (shape : NetShape) (u : PortState) (l : PortLog) (frame : List ℕ) (t : NetLaneState) → Finds shape u l → EndSteps A u.lane (Frame frame) t → Next B u.lane t l (after l (OnLane (Steps A (Frame frame)))) frame
-guest_next shape u l frame t finds step =
-    let takes : TakesPublished shape A u l frame step.step.new = takes_published shape A u l frame t finds step in
-    let now = step_now A u.lane t (Frame frame) step in
-    let m : PortLog = after l (OnLane (Steps A (Frame frame))) in
-    let counts = finds.ready.hub in
-    let log = open_counts Responder shape.slots u.queue u.lane.hub l.hub takes.p counts takes.theirs in
-    let seen : log.of_log.seen ≡ takes.p.seen = sym (left_seen (unsaid u.lane.hub) log.of_log) ∙ log.counts.ring.seen in
-    let taken : taken_of A u.lane l ≡ takes.v.taken = ap (λ (x : ChannelState). taken_by x l.guest.session) takes.up ∙ ap taken_in takes.mine in
-    let here = next_place u.lane.wire.wire.end_b l.hub.session l.hub.gone l.hub.published (taken_of A u.lane l) log.of_log takes.peer_up log.is in
-    let at : l.hub.gone + (takes.v.taken - takes.p.seen) ≡ place B u.lane l = omega (arith, here, seen, taken) in
-    let then_taken : taken_of A t m ≡ takes.v.taken + 1 =
-    ap (λ (x : ChannelState). taken_by x m.guest.session) (ap (λ (w : WireLog). w.wire.end_a) now.wire ∙ takes.up) ∙ ap (λ (o : Option SessionLog). taken_in (change more_taken o)) takes.mine in
-    let then_ = next_place t.wire.wire.end_b m.hub.session m.hub.gone m.hub.published (taken_of A t m) log.of_log (ap (λ (w : WireLog). w.wire.end_b) now.wire ∙ takes.peer_up) log.is in
-    let first = takes.ring.seen_first in
-    record {
-      get = subst (λ (n : ℕ). slice_get l.hub.given n ≡ Some frame) at
-          (held_given u.lane.hub.frames u.queue l.hub.given l.hub.gone (takes.v.taken - takes.p.seen) frame counts.frames takes.found.next);
-      more = omega (arith, here, then_, then_taken, taken, seen, first);
+      get = subst (λ (n : ℕ). slice_get g.given n ≡ Some frame) at
+          (held_given (net_end e u.lane).frames (queue_of e u) g.given g.gone (takes.v.taken - takes.p.seen) frame counts.frames takes.found.next);
+      more = omega (arith, here, then_, then_taken, taken, seen, first, ap (λ (x : EndLog). x.gone) logs.theirs);
     }
 
 -- ONE MORE EVENT
@@ -561,60 +472,48 @@ goes_below n k frames new given behind none less grown below =
     (subst (λ (xs : List (List ℕ)). Below 0 k xs behind) (sym (append-nil frames))
     (subst (Below 0 k frames) (sym grown.1) (below_given 0 k frames given grown.0 (below_more 0 n k frames given less below))))
 
-last_below : (n k : ℕ) (frames given : List (List ℕ)) (frame : List ℕ) → slice_get given n ≡ Some frame → n + 1 ≤ k → Below 0 n frames given → Below 0 k (frames ++ frame ∷ []) given
-last_below n k frames given frame get less below = below_more 0 (n + 1) k (frames ++ frame ∷ []) given less (below_last 0 n frames given frame get below)
+last_below : (n k : ℕ) (frames new given behind : List (List ℕ)) (frame : List ℕ) → new ≡ frame ∷ [] → slice_get given n ≡ Some frame → n + 1 ≤ k → Grown given behind → Below 0 n frames given
+    → Below 0 k (frames ++ new) behind
+last_below n k frames new given behind frame one get less grown below =
+    subst (λ (xs : List (List ℕ)). Below 0 k (frames ++ xs) behind) (sym one)
+    (subst (Below 0 k (frames ++ frame ∷ [])) (sym grown.1)
+    (below_given 0 k (frames ++ frame ∷ []) given grown.0 (below_more 0 (n + 1) k (frames ++ frame ∷ []) given less (below_last 0 n frames given frame get below))))
 
-hub_takes : (event : NetEvent) → (took B (OnLane event) ≡ []) ⊎ ((frame : List ℕ) × (event ≡ Steps B (Frame frame)))
-hub_takes (Steps B (Frame frame)) = inr (frame, refl)
-hub_takes _ = inl refl
+record TakesOne (d : End) (event : NetEvent) : Type 0 where
+  frame : List ℕ
+  event_is : event ≡ Steps d (Frame frame)
+  took_is : took d (OnLane event) ≡ frame ∷ []
 
-guest_takes : (event : NetEvent) → (took A (OnLane event) ≡ []) ⊎ ((frame : List ℕ) × (event ≡ Steps A (Frame frame)))
-guest_takes (Steps A (Frame frame)) = inr (frame, refl)
-guest_takes _ = inl refl
+takes_one : (d : End) (event : NetEvent) → (took d (OnLane event) ≡ []) ⊎ TakesOne d event
+takes_one A (Steps A (Frame frame)) = inr (record { frame = frame; event_is = refl; took_is = refl })
+takes_one B (Steps B (Frame frame)) = inr (record { frame = frame; event_is = refl; took_is = refl })
+takes_one A _ = inl refl
+takes_one B _ = inl refl
 
-before_place : (e : End) (event : NetEvent) (s : PortState) (l : PortLog) → place e (before event s).lane l ≡ place e s.lane l
-before_place e event s l =
-    ap (λ (w : WireLog). place_by (state_of e w.wire) (log_of_end e l).session (log_of_end e l).gone (log_of_end e l).published (taken_by (state_of (peer_of e) w.wire) (log_of_end (peer_of e) l).session))
+before_place : (e d : End) (event : NetEvent) (s : PortState) (l : PortLog) → place e d (before event s).lane l ≡ place e d s.lane l
+before_place e d event s l =
+    ap (λ (w : WireLog). place_by (state_of e w.wire) (log_of_end e l).session (log_of_end e l).gone (log_of_end e l).published (taken_by (state_of d w.wire) (log_of_end d l).session))
     (before_wire event s)
 
-hub_frame : (shape : NetShape) → IsNetShape shape → (s : PortState) (l : PortLog) (event : NetEvent) (t : PortState) (xs : List (List ℕ)) (frame : List ℕ) → event ≡ Steps B (Frame frame) → Kept shape s l
-    → PortStep s (OnLane event) t → l.wire.forged ≡ false → Below 0 (place A s.lane l) xs l.guest.given
-    → Below 0 (place A t.lane (after l (OnLane event))) (xs ++ took B (OnLane event)) (after l (OnLane event)).guest.given
-hub_frame shape is s l event t xs frame same kept step clean below =
-    subst (λ (x : NetEvent). Below 0 (place A t.lane (after l (OnLane x))) (xs ++ took B (OnLane x)) (after l (OnLane x)).guest.given) (sym same)
-    (last_below (place A u.lane l) (place A t.lane (after l (OnLane (Steps B (Frame frame))))) xs l.guest.given frame next.get next.more
-    (subst (λ (n : ℕ). Below 0 n xs l.guest.given) (sym (before_place A (Steps B (Frame frame)) s l)) below))
+frame_next : (shape : NetShape) → IsNetShape shape → (d : End) (s : PortState) (l : PortLog) (event : NetEvent) (t : PortState) → (one : TakesOne d event) → Kept shape s l → PortStep s (OnLane event) t
+    → l.wire.forged ≡ false → Next (peer_of d) d (before event s).lane t.lane l (after l (OnLane event)) one.frame
+frame_next shape is d s l event t one kept step clean =
+    subst (λ (x : NetEvent). PortStep s (OnLane x) t → Next (peer_of d) d (before x s).lane t.lane l (after l (OnLane x)) one.frame) (sym one.event_is) made step
   where
-    u : PortState
-    u = before (Steps B (Frame frame)) s
+    frame_event : NetEvent
+    frame_event = Steps d (Frame one.frame)
 
-    made : PortStep s (OnLane (Steps B (Frame frame))) t
-    made = subst (λ (x : NetEvent). PortStep s (OnLane x) t) same step
+    made : PortStep s (OnLane frame_event) t → Next (peer_of d) d (before frame_event s).lane t.lane l (after l (OnLane frame_event)) one.frame
+    made of_frame = next_of shape d (before frame_event s) l one.frame t.lane (finds_before shape s l frame_event is kept clean) of_frame.1
 
-    next : Next A u.lane t.lane l (after l (OnLane (Steps B (Frame frame)))) frame
-    next = hub_next shape u l frame t.lane (finds_before shape s l (Steps B (Frame frame)) is kept clean) made.1
-
-guest_frame : (shape : NetShape) → IsNetShape shape → (s : PortState) (l : PortLog) (event : NetEvent) (t : PortState) (ys : List (List ℕ)) (frame : List ℕ) → event ≡ Steps A (Frame frame) → Kept shape s l
-    → PortStep s (OnLane event) t → l.wire.forged ≡ false → Below 0 (place B s.lane l) ys l.hub.given
-    → Below 0 (place B t.lane (after l (OnLane event))) (ys ++ took A (OnLane event)) (after l (OnLane event)).hub.given
-guest_frame shape is s l event t ys frame same kept step clean below =
-    subst (λ (x : NetEvent). Below 0 (place B t.lane (after l (OnLane x))) (ys ++ took A (OnLane x)) (after l (OnLane x)).hub.given) (sym same)
-    (last_below (place B s.lane l) (place B t.lane (after l (OnLane (Steps A (Frame frame))))) ys l.hub.given frame next.get next.more below)
-  where
-    made : PortStep s (OnLane (Steps A (Frame frame))) t
-    made = subst (λ (x : NetEvent). PortStep s (OnLane x) t) same step
-
-    next : Next B s.lane t.lane l (after l (OnLane (Steps A (Frame frame)))) frame
-    next = guest_next shape s l frame t.lane (finds_before shape s l (Steps A (Frame frame)) is kept clean) made.1
-
-pub record Once (shape : NetShape) (s : PortState) (l : PortLog) (by_hub by_guest : List (List ℕ)) : Type 0 where
+-- the frames that each end took
+pub record Once (shape : NetShape) (s : PortState) (l : PortLog) (by_end : End → List (List ℕ)) : Type 0 where
   pub kept : Kept shape s l
-  hub_took : l.wire.forged ≡ false → Below 0 (place A s.lane l) by_hub l.guest.given
-  guest_took : l.wire.forged ≡ false → Below 0 (place B s.lane l) by_guest l.hub.given
+  in_order : (d : End) → l.wire.forged ≡ false → Below 0 (place (peer_of d) d s.lane l) (by_end d) (log_of_end (peer_of d) l).given
 
-once_lane : (shape : NetShape) → IsNetShape shape → (s : PortState) (l : PortLog) (event : NetEvent) (t : PortState) (xs ys : List (List ℕ)) → Once shape s l xs ys → PortStep s (OnLane event) t
-    → Once shape t (after l (OnLane event)) (xs ++ took B (OnLane event)) (ys ++ took A (OnLane event))
-once_lane shape is s l event t xs ys had step = record { kept = kept; hub_took = hub_took; guest_took = guest_took }
+once_lane : (shape : NetShape) → IsNetShape shape → (s : PortState) (l : PortLog) (event : NetEvent) (t : PortState) (by_end : End → List (List ℕ)) → Once shape s l by_end → PortStep s (OnLane event) t
+    → Once shape t (after l (OnLane event)) (λ d. by_end d ++ took d (OnLane event))
+once_lane shape is s l event t by_end had step = record { kept = kept; in_order = in_order }
   where
     u : PortState
     u = before event s
@@ -625,77 +524,94 @@ once_lane shape is s l event t xs ys had step = record { kept = kept; hub_took =
     kept : Kept shape t m
     kept = kept_step shape is s l (OnLane event) t had.kept step
 
-    place_rises : (e : End) → m.wire.forged ≡ false → place e s.lane l ≤ place e t.lane m
-    place_rises e clean =
+    place_rises : (d : End) → m.wire.forged ≡ false → place (peer_of d) d s.lane l ≤ place (peer_of d) d t.lane m
+    place_rises d clean =
         let was : l.wire.forged ≡ false = was_clean l.wire event clean in
         let finds : Finds shape u l = finds_before shape s l event is had.kept was in
         let found : Finds shape t m = finds_before shape t m (CalmTick 0) is kept clean in
         let wire : t.lane.wire.forged ≡ false = ap (λ (w : WireLog). w.forged) kept.counts.wire ∙ clean in
-        let moves = event_moves shape e u t l event (before_queue event s step.0) finds step.1 clean kept (port_talks shape t m is kept.counts wire) in
-        let rise = rises e u.lane t.lane l m (bounds shape e u l finds) (bounds shape e t m found) moves in
-        omega (arith, rise, before_place e event s l)
+        let moves = event_moves shape d u t l event (before_queue event s step.0) finds step.1 clean kept (port_talks shape t m is kept.counts wire) in
+        let rise = rises (peer_of d) d u.lane t.lane l m (bounds shape d u l finds) (bounds shape d t m found) moves in
+        omega (arith, rise, before_place (peer_of d) d event s l)
 
-    hub_took : m.wire.forged ≡ false → Below 0 (place A t.lane m) (xs ++ took B (OnLane event)) m.guest.given
-    hub_took clean = by_event (hub_takes event)
+    in_order : (d : End) → m.wire.forged ≡ false → Below 0 (place (peer_of d) d t.lane m) (by_end d ++ took d (OnLane event)) (log_of_end (peer_of d) m).given
+    in_order d clean = by_event (takes_one d event)
       where
-        below : Below 0 (place A s.lane l) xs l.guest.given
-        below = had.hub_took (was_clean l.wire event clean)
+        was : l.wire.forged ≡ false
+        was = was_clean l.wire event clean
 
-        by_event : (took B (OnLane event) ≡ []) ⊎ ((frame : List ℕ) × (event ≡ Steps B (Frame frame))) → Below 0 (place A t.lane m) (xs ++ took B (OnLane event)) m.guest.given
-        by_event (inl none) = goes_below (place A s.lane l) (place A t.lane m) xs (took B (OnLane event)) l.guest.given m.guest.given none (place_rises A clean) (guest_given l event) below
-        by_event (inr (frame, same)) = hub_frame shape is s l event t xs frame same had.kept step (was_clean l.wire event clean) below
+        n : ℕ
+        n = place (peer_of d) d s.lane l
 
-    guest_took : m.wire.forged ≡ false → Below 0 (place B t.lane m) (ys ++ took A (OnLane event)) m.hub.given
-    guest_took clean = by_event (guest_takes event)
-      where
-        below : Below 0 (place B s.lane l) ys l.hub.given
-        below = had.guest_took (was_clean l.wire event clean)
+        k : ℕ
+        k = place (peer_of d) d t.lane m
 
-        by_event : (took A (OnLane event) ≡ []) ⊎ ((frame : List ℕ) × (event ≡ Steps A (Frame frame))) → Below 0 (place B t.lane m) (ys ++ took A (OnLane event)) m.hub.given
-        by_event (inl none) = goes_below (place B s.lane l) (place B t.lane m) ys (took A (OnLane event)) l.hub.given m.hub.given none (place_rises B clean) (hub_given l event) below
-        by_event (inr (frame, same)) = guest_frame shape is s l event t ys frame same had.kept step (was_clean l.wire event clean) below
+        given : List (List ℕ)
+        given = (log_of_end (peer_of d) l).given
 
-pub once_step : (shape : NetShape) → IsNetShape shape → (s : PortState) (l : PortLog) (event : PortEvent) (t : PortState) (xs ys : List (List ℕ)) → Once shape s l xs ys → PortStep s event t
-    → Once shape t (after l event) (xs ++ took B event) (ys ++ took A event)
-once_step shape is s l (OnLane event) t xs ys had step = once_lane shape is s l event t xs ys had step
-once_step shape is s l (Receives frame) t xs ys had step =
-    let lane : t.lane ≡ s.lane = ap (λ (x : PortState). x.lane) step.2 in
-    let m : PortLog = after l (Receives frame) in
-    record {
-      kept = kept_step shape is s l (Receives frame) t had.kept step;
-      hub_took = λ clean.
-          subst (λ (x : NetLaneState). Below 0 (place A x m) (xs ++ []) m.guest.given) (sym lane)
-          (goes_below (place A s.lane l) (place A s.lane l) xs [] l.guest.given l.guest.given refl (omega arith) (same_given l.guest.given) (had.hub_took clean));
-      guest_took = λ clean.
-          subst (λ (x : NetLaneState). Below 0 (place B x m) (ys ++ []) m.hub.given) (sym lane)
-          (goes_below (place B s.lane l) (place B s.lane l) ys [] l.hub.given (l.hub.given ++ frame ∷ []) refl (omega arith) (frame ∷ [], refl) (had.guest_took clean));
-    }
+        by_event : (took d (OnLane event) ≡ []) ⊎ TakesOne d event → Below 0 k (by_end d ++ took d (OnLane event)) (log_of_end (peer_of d) m).given
+        by_event (inl none) = goes_below n k (by_end d) (took d (OnLane event)) given (log_of_end (peer_of d) m).given none (place_rises d clean) (event_given (peer_of d) l event) (had.in_order d was)
+        by_event (inr one) =
+            let next = frame_next shape is d s l event t one had.kept step was in
+            let same = before_place (peer_of d) d event s l in
+            last_below n k (by_end d) (took d (OnLane event)) given (log_of_end (peer_of d) m).given one.frame one.took_is (subst (λ (i : ℕ). slice_get given i ≡ Some one.frame) same next.get)
+            (subst (λ (i : ℕ). i + 1 ≤ k) same next.more) (event_given (peer_of d) l event) (had.in_order d was)
+
+received_given : (e : End) (l : PortLog) (frame : List ℕ) → Grown (log_of_end e l).given (log_of_end e (after l (Receives frame))).given
+received_given A l frame = same_given l.guest.given
+received_given B l frame = (frame ∷ [], refl)
+
+received_place : (d : End) (s : NetLaneState) (l : PortLog) (frame : List ℕ) → place (peer_of d) d s (after l (Receives frame)) ≡ place (peer_of d) d s l
+received_place A s l frame = refl
+received_place B s l frame = refl
+
+received_none : (d : End) (frame : List ℕ) → took d (Receives frame) ≡ []
+received_none A frame = refl
+received_none B frame = refl
+
+pub once_step : (shape : NetShape) → IsNetShape shape → (s : PortState) (l : PortLog) (event : PortEvent) (t : PortState) (by_end : End → List (List ℕ)) → Once shape s l by_end → PortStep s event t
+    → Once shape t (after l event) (λ d. by_end d ++ took d event)
+once_step shape is s l (OnLane event) t by_end had step = once_lane shape is s l event t by_end had step
+once_step shape is s l (Receives frame) t by_end had step = record {
+  kept = kept_step shape is s l (Receives frame) t had.kept step;
+  in_order = λ d clean.
+      let m : PortLog = after l (Receives frame) in
+      let same : place (peer_of d) d t.lane m ≡ place (peer_of d) d s.lane l = ap (λ (x : PortState). place (peer_of d) d x.lane m) step.2 ∙ received_place d s.lane l frame in
+      goes_below (place (peer_of d) d s.lane l) (place (peer_of d) d t.lane m) (by_end d) (took d (Receives frame)) (log_of_end (peer_of d) l).given (log_of_end (peer_of d) m).given
+      (received_none d frame) (omega (arith, same)) (received_given (peer_of d) l frame) (had.in_order d clean);
+}
 
 -- ALONG A RUN
-along : (shape : NetShape) → IsNetShape shape → (events : List PortEvent) (s t : PortState) (l : PortLog) (xs ys : List (List ℕ)) → Once shape s l xs ys → Run PortStep s events t
-    → Once shape t (log_of after l events) (xs ++ frames_taken B events) (ys ++ frames_taken A events)
-along shape is [] s t l xs ys had run =
-    subst (λ (x : PortState). Once shape x l (xs ++ []) (ys ++ [])) run
-    (subst (λ (zs : List (List ℕ)). Once shape s l zs (ys ++ [])) (sym (append-nil xs)) (subst (Once shape s l xs) (sym (append-nil ys)) had))
-along shape is (event ∷ events) s t l xs ys had run =
-    let rest = along shape is events run.0 t (after l event) (xs ++ took B event) (ys ++ took A event) (once_step shape is s l event run.0 xs ys had run.1) run.2 in
-    subst (λ (zs : List (List ℕ)). Once shape t (log_of after (after l event) events) zs (ys ++ (took A event ++ frames_taken A events))) (append_assoc xs (took B event) (frames_taken B events))
-    (subst (Once shape t (log_of after (after l event) events) ((xs ++ took B event) ++ frames_taken B events)) (append_assoc ys (took A event) (frames_taken A events)) rest)
+same_once : (shape : NetShape) (s : PortState) (l : PortLog) (by_end now : End → List (List ℕ)) → ((d : End) → by_end d ≡ now d) → Once shape s l by_end → Once shape s l now
+same_once shape s l by_end now same had = record {
+  kept = had.kept;
+  in_order = λ d clean. subst (λ (xs : List (List ℕ)). Below 0 (place (peer_of d) d s.lane l) xs (log_of_end (peer_of d) l).given) (same d) (had.in_order d clean);
+}
 
-pub fresh_once : (shape : NetShape) → IsNetShape shape → Once shape (fresh_port shape) (no_events shape) [] []
+along : (shape : NetShape) → IsNetShape shape → (events : List PortEvent) (s t : PortState) (l : PortLog) (by_end : End → List (List ℕ)) → Once shape s l by_end → Run PortStep s events t
+    → Once shape t (log_of after l events) (λ d. by_end d ++ frames_taken d events)
+along shape is [] s t l by_end had run =
+    subst (λ (x : PortState). Once shape x l (λ d. by_end d ++ [])) run (same_once shape s l by_end (λ d. by_end d ++ []) (λ d. sym (append-nil (by_end d))) had)
+along shape is (event ∷ events) s t l by_end had run =
+    same_once shape t (log_of after (after l event) events) (λ d. (by_end d ++ took d event) ++ frames_taken d events) (λ d. by_end d ++ (took d event ++ frames_taken d events))
+    (λ d. append_assoc (by_end d) (took d event) (frames_taken d events))
+    (along shape is events run.0 t (after l event) (λ d. by_end d ++ took d event) (once_step shape is s l event run.0 by_end had run.1) run.2)
+
+pub fresh_once : (shape : NetShape) → IsNetShape shape → Once shape (fresh_port shape) (no_events shape) (λ d. [])
 unfolding Below
-fresh_once shape is = record { kept = fresh_kept shape is; hub_took = λ clean. omega arith; guest_took = λ clean. omega arith }
+fresh_once shape is = record { kept = fresh_kept shape is; in_order = λ d clean. omega arith }
+
+takes_in_order : (shape : NetShape) (events : List PortEvent) (s : PortState) (d : End) → IsNetShape shape → Run PortStep (fresh_port shape) events s → s.lane.wire.forged ≡ false
+    → InOrder 0 (frames_taken d events) (log_of_end (peer_of d) (log_of after (no_events shape) events)).given
+takes_in_order shape events s d is run clean =
+    let all = along shape is events (fresh_port shape) s (no_events shape) (λ x. []) (fresh_once shape is) run in
+    let l : PortLog = log_of after (no_events shape) events in
+    below_in 0 (place (peer_of d) d s.lane l) (frames_taken d events) (log_of_end (peer_of d) l).given (all.in_order d (sym (ap (λ (w : WireLog). w.forged) all.kept.counts.wire) ∙ clean))
 
 pub hub_takes_in_order : (shape : NetShape) (events : List PortEvent) (s : PortState) → IsNetShape shape → Run PortStep (fresh_port shape) events s → s.lane.wire.forged ≡ false
     → InOrder 0 (frames_taken B events) (log_of after (no_events shape) events).guest.given
-hub_takes_in_order shape events s is run clean =
-    let all = along shape is events (fresh_port shape) s (no_events shape) [] [] (fresh_once shape is) run in
-    let l : PortLog = log_of after (no_events shape) events in
-    below_in 0 (place A s.lane l) (frames_taken B events) l.guest.given (all.hub_took (sym (ap (λ (w : WireLog). w.forged) all.kept.counts.wire) ∙ clean))
+hub_takes_in_order shape events s is run clean = takes_in_order shape events s B is run clean
 
 pub guest_takes_in_order : (shape : NetShape) (events : List PortEvent) (s : PortState) → IsNetShape shape → Run PortStep (fresh_port shape) events s → s.lane.wire.forged ≡ false
     → InOrder 0 (frames_taken A events) (log_of after (no_events shape) events).hub.given
-guest_takes_in_order shape events s is run clean =
-    let all = along shape is events (fresh_port shape) s (no_events shape) [] [] (fresh_once shape is) run in
-    let l : PortLog = log_of after (no_events shape) events in
-    below_in 0 (place B s.lane l) (frames_taken A events) l.hub.given (all.guest_took (sym (ap (λ (w : WireLog). w.forged) all.kept.counts.wire) ∙ clean))
+guest_takes_in_order shape events s is run clean = takes_in_order shape events s A is run clean

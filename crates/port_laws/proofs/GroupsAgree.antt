@@ -15,7 +15,7 @@ use Rattle.port_model.specs.Groups.{is_in}
 use Rattle.port_model.specs.NetEndPutting.{answers, net_holds, net_opens, opened_by_put}
 use Rattle.port_model.specs.NetEndRule.{Fetches, Idles, Joins as JoinsRule, NetRule, Publishes, Puts, Takes, port_rule}
 use Rattle.port_model.specs.NetEndState.{Activity, NetEndState, NetSession}
-use Rattle.port_model.specs.NetEndStep.{Already, BadLength, Blocked, Frame, Full, Given, GroupsFull, Idle, Joined, Joining, Member, NetAnswer, NetEndStep, NetGives, NetJoins, NetLeft, Published, Queued, Reset, Sent, Took}
+use Rattle.port_model.specs.NetEndStep.{Already, BadLength, Blocked, Frame, Full, Given, GroupsFull, Idle, Joining, Member, NetAnswer, NetEndStep, NetGives, NetJoins, NetLeft, Published, Queued, Sent, Took}
 use Rattle.port_model.specs.NetEndTaking.{GoesOn}
 use Rattle.port_model.specs.NetEvent.{Asked, Gives, Injects, Joins, NetEvent, Pokes, Steps, Ticked}
 use Rattle.port_model.specs.NetLaneState.{NetLaneState, NetShape}
@@ -51,7 +51,6 @@ opened_same true s = refl
 opened_same false s = refl
 
 step_same : (s : NetEndState) (at : Seen) (memory : List ℕ) (reach : Reach) (answer : NetAnswer) (t : NetLeft) → NetFits Initiator s → NetEndStep Initiator s at memory reach answer t → Same s t.end
-step_same s at memory reach (Joined lost) t fits step = ap (λ (x : NetLeft). x.end.groups) step.2
 step_same s at memory reach (Took packet opens) t fits step = (packet_goes Initiator s memory packet (GoesOn t.end opens t.own) fits step.1).groups refl
 step_same s at memory reach (Sent packet opens) t fits step =
     ap (λ (x : NetLeft). x.end.groups) step.is ∙ opened_same (net_opens step.held) _ ∙ held_same s reach (port_rule Initiator s at) step.held step.holds
@@ -59,7 +58,7 @@ step_same s at memory reach Blocked t fits step = held_same s reach (port_rule I
 step_same s at memory reach Idle t fits step = ap (λ (x : NetLeft). x.end.groups) step.1
 step_same s at memory reach (Published id) t fits step = ap (λ (x : NetLeft). x.end.groups) step.is
 step_same s at memory reach (Frame frame) t fits step = ap (λ (x : NetLeft). x.end.groups) step.is
-step_same s at memory reach (Reset cause packet lost) t fits step = ap (λ (x : NetLeft). x.end.groups) step.2
+step_same s at memory reach _ t fits step = ap (λ (x : NetLeft). x.end.groups) step.2
 
 -- AN EVENT leaves them, or joins one
 abbrev pub GroupsAre : NetLaneState → List (List ℕ) → Type 0

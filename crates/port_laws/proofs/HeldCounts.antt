@@ -3,7 +3,7 @@ use Rattle.std.proofs.Common.{◌≡◌, ℕ, zero, ◌+◌, ◌-◌, ◌^◌, �
 use Rattle.std.specs.Prelude.{◌%◌, is_none}
 use Rattle.std.proofs.Math.Nat.{mod-lt}
 use Rattle.ldc_packet.specs.declared.packet.Subtype.{Subtype}
-use Rattle.ldc_packet.specs.declared.packet.Subtype.TheVariants.{Ack, Info, Nack}
+use Rattle.ldc_packet.specs.declared.packet.Subtype.TheVariants.{Ack, Info}
 use Rattle.ldc_packet.specs.Spelling.{subtype_code}
 use Rattle.ldc_link.specs.declared.phase.Role.{Role}
 use Rattle.ldc_link.specs.declared.phase.Role.TheVariants.{Initiator, Responder}
@@ -79,15 +79,13 @@ formed role slots queue s l p q v message k counts log forms =
 
 -- THE ANSWER to groups is the one that is owed
 said_none : (s : Subtype) (message : List ℕ) (v : SessionLog) → IsAnswer s → said_kind (groups_spoken (subtype_code s)) message v ≡ record v { owed = None }
-said_none Ack message v is = refl
-said_none Nack message v is = refl
 said_none Info message v is = absurd is
+said_none _ message v is = refl
 
 right_owed : (slots : ℕ) (groups : List (List ℕ)) (v : SessionLog) (message : List ℕ) (s : Subtype) → IsAnswer s → v.owed ≡ Some (groups_fields message)
     → SaysRightly slots groups v message (groups_spoken (subtype_code s))
-right_owed slots groups v message Ack is owed = owed
-right_owed slots groups v message Nack is owed = owed
 right_owed slots groups v message Info is owed = absurd is
+right_owed slots groups v message _ is owed = owed
 
 replies_forms : (role : Role) (slots : ℕ) (s : NetEndState) (p : NetSession) (v : SessionLog) (published gone : ℕ) (reply : GroupsReply) (begun : Bool) → s.handshake.owed ≡ None → ReplyFits reply → AnswersFor reply v.owed
     → SessionCounts role slots s.groups published gone None begun p v
@@ -187,8 +185,7 @@ none_begun : (role : Role) (slots : ℕ) (groups : List (List ℕ)) (published g
     → Counts role slots groups published gone None b session log → Counts role slots groups published gone None c session log
 none_begun role slots groups published gone b c None None counts = counts
 none_begun role slots groups published gone b c (Some p) (Some v) counts = record { right = tt; ring = counts.ring; peer = counts.peer; guest = counts.guest; reply = counts.reply }
-none_begun role slots groups published gone b c None (Some v) counts = absurd counts
-none_begun role slots groups published gone b c (Some p) None counts = absurd counts
+none_begun role slots groups published gone b c _ _ counts = absurd counts
 
 -- with another link and handshake, where nothing of the session is held before and after
 pub linked_counts : (role : Role) (slots : ℕ) (queue : List (List ℕ)) (s t : NetEndState) (l : EndLog) → EndCounts role slots queue s l → unsaid s ≡ None → unsaid t ≡ None → t.slots ≡ s.slots

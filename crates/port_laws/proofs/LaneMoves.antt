@@ -6,7 +6,7 @@ use Rattle.cookie_copy.specs.Faults.{is_up}
 use Rattle.ldc_link.specs.declared.phase.Role.{Role}
 use Rattle.ldc_link.specs.declared.phase.Role.TheVariants.{Initiator, Responder}
 use Rattle.ldc_queue.specs.declared.end.ChannelState.{ChannelState}
-use Rattle.ldc_queue.specs.declared.end.ChannelState.TheVariants.{Down, Resetting, Up}
+use Rattle.ldc_queue.specs.declared.end.ChannelState.TheVariants.{Resetting, Up}
 use Rattle.ldc_queue.specs.declared.end.End.{End}
 use Rattle.ldc_queue.specs.declared.end.End.TheVariants.{A, B}
 use Rattle.ldc_queue.specs.Wire.{Wire, peer_behind, state_of, waiting_for}
@@ -25,7 +25,7 @@ use Rattle.port_model.specs.NetEndPutting.{net_holds}
 use Rattle.port_model.specs.NetEndRule.{Announces, Fetches, Idles, Joins, NetRule, Publishes, Puts, Replies, Says, Takes, Tells, port_rule}
 use Rattle.port_model.specs.NetEndState.{NetEndState, NetSession, joined_net_end, with_frame}
 use Rattle.port_model.specs.NetEndStep.{Already, BadLength, Blocked, Frame, Full, Given, GroupsFull, Idle, Joined, Joining, Member, NetAnswer, NetEndStep, NetFails, NetGives, NetJoins, NetLeft, Published, Queued, Reset, Sent, Took, untold}
-use Rattle.port_model.specs.NetEvent.{Asked, CalmTick, Declines, Gives, Injects, Joins as JoinsGroup, Loses, NetEvent, Pokes, Steps, Ticked, on_wire}
+use Rattle.port_model.specs.NetEvent.{Asked, Declines, Gives, Injects, Joins as JoinsGroup, Loses, NetEvent, Pokes, Steps, Ticked, on_wire}
 use Rattle.port_model.specs.NetLaneState.{NetLaneState, NetShape, fresh_net, net_end, reach_of, role_at, seen_at, memory_of}
 use Rattle.port_model.specs.NetLaneStep.{NetLaneStep, Resets, declined_at, moved_on, net_wire, sizes_of}
 use Rattle.port_model.proofs.OwnResets.{net_resets_own}
@@ -44,13 +44,11 @@ wire_same l (Some event) = refl
 -- WHERE AN ANSWER STANDS
 up_of : (state : ChannelState) → is_up state ≡ true → state ≡ Up
 up_of Up is = refl
-up_of Down is = false_true is
-up_of Resetting is = false_true is
+up_of _ is = false_true is
 
 not_up : (state : ChannelState) → is_up state ≡ false → state ≢ Up
 not_up Up is = true_false is
-not_up Down is = λ up. false_true (ap is_up up)
-not_up Resetting is = λ up. false_true (ap is_up up)
+not_up _ is = λ up. false_true (ap is_up up)
 
 pub holds_up : (role : Role) (s : NetEndState) (at : Seen) (reach : Reach) (rule : NetRule) (held : NetEndState) → port_rule role s at ≡ rule → net_holds rule s reach ≡ Some held → is_up at.state ≡ true
 holds_up role s at reach Puts held is same = (says_of role s at Puts is).0
@@ -97,12 +95,11 @@ answer_stands e s Blocked left step =
 answer_stands e s Idle left step =
     let says = says_of (role_at e) (net_end e s) (seen_at e s) Idles step.0 in
     (up_of (state_of e s.wire.wire) says.0.up, none_waits (waiting_for e s.wire.wire) says.1)
-answer_stands e s (Published id) left step = tt
-answer_stands e s (Frame frame) left step = tt
 answer_stands e s (Reset cause packet lost) left step =
     subst (λ (x : Giver). MayReset x packet e s.wire.wire)
     (sym (net_resets_own (role_at e) (port_rule (role_at e) (net_end e s) (seen_at e s)) (net_end e s) (memory_of e s) (reach_of e s) cause packet step.0))
     (fails_stand e s (port_rule (role_at e) (net_end e s) (seen_at e s)) cause packet refl step.0)
+answer_stands e s _ left step = tt
 
 -- WHAT IT IS for both ends
 reset_is : (cause : Cause) (packet : Option (List ℕ)) → giver cause ≡ ByStep → reset_move (giver cause) cause packet ≡ Fails cause packet
@@ -211,13 +208,10 @@ end_moves e s (Joined lost) left fits step =
     let now = is_begun (state_of e (net_wire (Steps e (Joined lost)) s).wire) in
     subst (λ (m : EndMove). EndStep (role_at e) (net_core_at (role_at e) before (net_end e s)) m (net_core_at (role_at e) now left.end)) (sym (moves_own e s (Joined lost) left step))
     (joined_moves (role_at e) before now (net_end e s) left.end (ap (λ (x : NetLeft). x.end) step.2))
-end_moves e s (Took packet opens) left fits step = up_moves e s (Took packet opens) left fits step (answer_stands e s (Took packet opens) left step).0
-end_moves e s (Sent packet opens) left fits step = up_moves e s (Sent packet opens) left fits step (answer_stands e s (Sent packet opens) left step).0
-end_moves e s Blocked left fits step = up_moves e s Blocked left fits step (answer_stands e s Blocked left step).0
-end_moves e s Idle left fits step = up_moves e s Idle left fits step (answer_stands e s Idle left step).0
 end_moves e s (Published id) left fits step = up_moves e s (Published id) left fits step (published_up e s id left step)
 end_moves e s (Frame frame) left fits step = up_moves e s (Frame frame) left fits step (frame_up e s frame left step)
 end_moves e s (Reset cause packet lost) left fits step = up_moves e s (Reset cause packet lost) left fits step (reset_up e s cause packet lost left step)
+end_moves e s answer left fits step = up_moves e s answer left fits step (answer_stands e s answer left step).0
 
 hub_begun : (s : NetLaneState) (answer : NetAnswer) → is_begun (net_wire (Steps A answer) s).wire.end_b ≡ is_begun s.wire.wire.end_b
 hub_begun s (Joined lost) = peer_begun s.wire.wire.end_a s.wire.wire.end_b
@@ -319,8 +313,6 @@ event_core_step s (Steps B answer) t fits step =
     })
 event_core_step s (Asked e lost) t fits step = asked_core e s lost t step
 event_core_step s (Ticked queued lost) t fits step = ticked_core s queued lost t step.1
-event_core_step s (CalmTick queued) t fits step =
-    subst (Embeds s (CalmTick queued)) (sym step.1) (record { entries = refl; stands = tt; wire = refl; a = still Initiator (guest_up s) s.guest; b = still Responder (hub_up s) s.hub })
 event_core_step s (Gives A given) t fits step =
     subst (Embeds s (Gives A given)) (sym step.1)
     (record { entries = refl; stands = tt; wire = refl; a = stays_at Initiator (guest_up s) (guest_up s) s.guest t.guest refl (gives_stays Initiator s.guest given t.guest step.0); b = still Responder (hub_up s) s.hub })
@@ -338,12 +330,12 @@ event_core_step s (Injects A packet) t fits step =
     subst (Embeds s (Injects A packet)) (sym step.2) (record { entries = refl; stands = (step.0, step.1); wire = refl; a = still Initiator (guest_up s) s.guest; b = still Responder (hub_up s) s.hub })
 event_core_step s (Injects B packet) t fits step =
     subst (Embeds s (Injects B packet)) (sym step.2) (record { entries = refl; stands = (step.0, step.1); wire = refl; a = still Initiator (guest_up s) s.guest; b = still Responder (hub_up s) s.hub })
-event_core_step s (Pokes A at bytes) t fits step =
-    subst (Embeds s (Pokes A at bytes)) (sym step.1) (record { entries = refl; stands = tt; wire = refl; a = still Initiator (guest_up s) s.guest; b = still Responder (hub_up s) s.hub })
-event_core_step s (Pokes B at bytes) t fits step =
-    subst (Embeds s (Pokes B at bytes)) (sym step.1) (record { entries = refl; stands = tt; wire = refl; a = still Initiator (guest_up s) s.guest; b = still Responder (hub_up s) s.hub })
 event_core_step s (Declines d) t fits step =
     subst (Embeds s (Declines d)) (sym step.1) (record { entries = refl; stands = declined_stands d s step.0; wire = refl; a = still Initiator (guest_up s) s.guest; b = still Responder (hub_up s) s.hub })
+event_core_step s (Pokes A at bytes) t fits step =
+    subst (Embeds s (Pokes A at bytes)) (sym step.1) (record { entries = refl; stands = tt; wire = refl; a = still Initiator (guest_up s) s.guest; b = still Responder (hub_up s) s.hub })
+event_core_step s event t fits step =
+    subst (Embeds s event) (sym step.1) (record { entries = refl; stands = tt; wire = refl; a = still Initiator (guest_up s) s.guest; b = still Responder (hub_up s) s.hub })
 
 -- A RUN
 pub run_core : (s t : NetLaneState) (events : List NetEvent) → BothFit s → Run NetLaneStep s events t → Run CoreStep (lane_core s) (core_events events) (lane_core t)

@@ -11,7 +11,7 @@ use Rattle.channel_model.specs.Messages.{ended_by}
 use Rattle.channel_model.specs.Sayings.{half_heard, half_said}
 use Rattle.channel_model.specs.TranscriptLog.{transcript_of}
 use Rattle.port_model.specs.EndLog.{EndLog, OpenedLog, SessionLog, change, ends_log, gives_log, heard_in, heard_kind, more_published, more_taken, opens_log, published_in, said_in, said_kind}
-use Rattle.port_model.specs.NetEndStep.{BadLength, Blocked, Frame, Full, Given, Idle, Joined, NetAnswer, NetGives, Published, Queued, Reset, Sent, Took}
+use Rattle.port_model.specs.NetEndStep.{Blocked, Frame, Given, Idle, NetAnswer, NetGives, Published, Queued, Sent, Took}
 use Rattle.port_model.specs.NetEndState.{NetEndState}
 use Rattle.port_model.specs.NetEvent.{Asked, Gives, Injects, NetEvent, Pokes, Steps, Ticked}
 use Rattle.port_model.specs.NetLaneState.{NetLaneState, NetShape, fresh_table}
@@ -76,8 +76,6 @@ publishes_head (Some v) [] published head = head
 publishes_head (Some v) (one ∷ rest) published head = (head.0, ap (λ (n : ℕ). n + 1) head.1, omega (arith, head.2))
 
 answer_log : (slots : ℕ) (turns : List Turn) (answer : NetAnswer) (l : EndLog) → EndLogStands l → EndLogStands (after_answer slots turns answer l)
-answer_log slots turns (Joined lost) l stands = record { head = tt; given = stands.given }
-answer_log slots turns (Reset cause packet lost) l stands = record { head = tt; given = stands.given }
 answer_log slots turns (Took packet opens) l stands =
     opens_head opens _ _
     (record { head = head_change (heard_in slots (ended_by (half_heard turns) packet)) l.session l.opened l.published (heard_same slots (ended_by (half_heard turns) packet)) stands.head; given = stands.given })
@@ -89,6 +87,7 @@ answer_log slots turns Idle l stands = stands
 answer_log slots turns (Published id) l stands = record { head = publishes_head l.session l.opened l.published stands.head; given = stands.given }
 answer_log slots turns (Frame frame) l stands =
     record { head = head_change more_taken l.session l.opened l.published (record { sid = λ v. refl; published = λ v. refl }) stands.head; given = stands.given }
+answer_log slots turns _ l stands = record { head = tt; given = stands.given }
 
 -- A FRAME MORE
 pub frame_of : (frame : List ℕ) → is_frame_length (length frame) ≡ true → IsFrame frame
@@ -113,8 +112,7 @@ gives_stands frame l stands is = record { head = stands.head; given = each_more 
 
 given_log : (s : NetEndState) (given : Given) (t : NetEndState) (l : EndLog) → NetGives s given t → EndLogStands l → EndLogStands (after_given given l)
 given_log s (Queued id frame) t l gives stands = gives_stands frame l stands (frame_of frame gives.0)
-given_log s (Full frame) t l gives stands = stands
-given_log s (BadLength frame) t l gives stands = stands
+given_log s _ t l gives stands = stands
 
 ends_stands : (lost : ℕ) (l : EndLog) → EndLogStands l → EndLogStands (ends_log lost l)
 ends_stands lost l stands = record { head = tt; given = stands.given }
@@ -154,10 +152,10 @@ tables_as shape s t guest hub stands = record { guest = guest ∙ stands.guest; 
 pub tables_event : (shape : NetShape) (u : NetLaneState) (event : NetEvent) (t : NetLaneState) → NetLaneStep u event t → TablesStand shape u → TablesStand shape t
 tables_event shape u (Steps A answer) t step = tables_as shape u t (ap (λ (x : NetLaneState). x.guest_table) step.is) (ap (λ (x : NetLaneState). x.hub_table) step.is)
 tables_event shape u (Steps B answer) t step = tables_as shape u t (ap (λ (x : NetLaneState). x.guest_table) step.is) (ap (λ (x : NetLaneState). x.hub_table) step.is)
-tables_event shape u (Asked A lost) t step = tables_as shape u t (ap (λ (x : NetLaneState). x.guest_table) step.1) (ap (λ (x : NetLaneState). x.hub_table) step.1)
 tables_event shape u (Ticked queued lost) t step = tables_as shape u t (ap (λ (x : NetLaneState). x.guest_table) step.1.1) (ap (λ (x : NetLaneState). x.hub_table) step.1.1)
-tables_event shape u (Gives A given) t step = tables_as shape u t (ap (λ (x : NetLaneState). x.guest_table) step.1) (ap (λ (x : NetLaneState). x.hub_table) step.1)
 tables_event shape u (Injects e packet) t step = tables_as shape u t (ap (λ (x : NetLaneState). x.guest_table) step.2) (ap (λ (x : NetLaneState). x.hub_table) step.2)
+tables_event shape u (Asked A lost) t step = tables_as shape u t (ap (λ (x : NetLaneState). x.guest_table) step.1) (ap (λ (x : NetLaneState). x.hub_table) step.1)
+tables_event shape u (Gives A given) t step = tables_as shape u t (ap (λ (x : NetLaneState). x.guest_table) step.1) (ap (λ (x : NetLaneState). x.hub_table) step.1)
 tables_event shape u (Pokes A at bytes) t step = tables_as shape u t (ap (λ (x : NetLaneState). x.guest_table) step.1) (ap (λ (x : NetLaneState). x.hub_table) step.1)
 tables_event shape u _ t step = tables_as shape u t (ap (λ (x : NetLaneState). x.guest_table) step.1) (ap (λ (x : NetLaneState). x.hub_table) step.1)
 

@@ -175,16 +175,16 @@ event_long shape u l (Steps B answer) t ready room logs step long_ =
     let same = step_long Responder u.lane.hub l.transcript.server (seen_at B u.lane) u.lane.hub_memory (reach_of B u.lane) answer step.left (some_slots shape B u l ready) (fits_of shape B u l ready room)
     (owns_of shape B u l ready room logs) step.step in
     subst (LongMemory shape.slots) (sym step.is) (record { guest = same.1 ∙ long_.guest; hub = same.0 ∙ long_.hub })
-event_long shape u l (Asked A lost) t ready room logs step long_ = subst (LongMemory shape.slots) (sym step.1) (record { guest = long_.guest; hub = long_.hub })
 event_long shape u l (Ticked queued lost) t ready room logs step long_ = subst (LongMemory shape.slots) (sym step.1.1) (record { guest = long_.guest; hub = long_.hub })
 event_long shape u l (CalmTick queued) t ready room logs step long_ = subst (LongMemory shape.slots) (sym step.1) long_
-event_long shape u l (Gives A given) t ready room logs step long_ = subst (LongMemory shape.slots) (sym step.1) (record { guest = long_.guest; hub = long_.hub })
 event_long shape u l (Injects e packet) t ready room logs step long_ = subst (LongMemory shape.slots) (sym step.2) (record { guest = long_.guest; hub = long_.hub })
 event_long shape u l (Pokes A at bytes) t ready room logs step long_ =
     subst (LongMemory shape.slots) (sym step.1) (record { guest = length-put_at at bytes u.lane.guest_memory step.0 ∙ long_.guest; hub = long_.hub })
 event_long shape u l (Pokes B at bytes) t ready room logs step long_ =
     subst (LongMemory shape.slots) (sym step.1) (record { guest = long_.guest; hub = length-put_at at bytes u.lane.hub_memory step.0 ∙ long_.hub })
 event_long shape u l (Declines d) t ready room logs step long_ = subst (LongMemory shape.slots) (sym step.1) long_
+event_long shape u l (Asked A lost) t ready room logs step long_ = subst (LongMemory shape.slots) (sym step.1) (record { guest = long_.guest; hub = long_.hub })
+event_long shape u l (Gives A given) t ready room logs step long_ = subst (LongMemory shape.slots) (sym step.1) (record { guest = long_.guest; hub = long_.hub })
 event_long shape u l _ t ready room logs step long_ = subst (LongMemory shape.slots) (sym step.1) (record { guest = long_.guest; hub = long_.hub })
 
 -- A RUN

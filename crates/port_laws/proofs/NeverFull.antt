@@ -1,6 +1,6 @@
 -- Never do both ends of a port that nobody forged find no room, one directly after the other. In the opening one of them waits for the other,
 -- and a guest in session has few packets on the way.
-use Rattle.std.proofs.Common.{◌≡◌, ◌+◌, ◌≤◌, ◌⊎◌, inl, inr, true, false, Option, Some, None, List, [], ◌∷◌, ◌++◌, length, refl, sym, subst, ap, ◌∙◌, arith}
+use Rattle.std.proofs.Common.{◌≡◌, ◌≤◌, ◌⊎◌, inl, inr, true, false, Option, Some, None, List, [], ◌∷◌, ◌++◌, length, refl, sym, subst, ap, ◌∙◌, arith}
 use Rattle.std.specs.Prelude.{is_none, is_some}
 use Rattle.ldc_link.specs.declared.phase.LinkPhase.TheVariants as phase
 use Rattle.ldc_link.specs.declared.phase.Role.{Role}
@@ -31,7 +31,7 @@ use Rattle.cookie_copy.specs.Reach.{Reach}
 use Rattle.port_model.proofs.Refuting.{none_some}
 use Rattle.port_model.proofs.Ruling.{says_of}
 use Rattle.port_model.specs.NetEndPutting.{net_holds}
-use Rattle.port_model.specs.NetEndRule.{Announces, Fetches, Idles, Joins, NetRule, Publishes, Puts, Replies, Says, Takes, Tells, port_rule}
+use Rattle.port_model.specs.NetEndRule.{Announces, Fetches, NetRule, Puts, Replies, Says, Tells, port_rule}
 use Rattle.port_model.specs.NetEndState.{NetEndState, NetSession}
 use Rattle.port_model.specs.NetEndStep.{Blocked}
 use Rattle.port_model.specs.NetEvent.{CalmTick, Steps}
@@ -72,10 +72,7 @@ shut_owes role s at reach (Replies p reply) held turns stands none up is same = 
 shut_owes role s at reach (Fetches p activity) held turns stands none up is same = none_some p (sym none ∙ (says_of role s at (Fetches p activity) is).0.session)
 shut_owes role s at reach (Tells p) held turns stands none up is same = none_some p (sym none ∙ (says_of role s at (Tells p) is).0.in_session.session)
 shut_owes role s at reach (Announces p) held turns stands none up is same = none_some p (sym none ∙ (says_of role s at (Announces p) is).0.in_session.session)
-shut_owes role s at reach Joins held turns stands none up is same = none_some held same
-shut_owes role s at reach (Takes packet) held turns stands none up is same = none_some held same
-shut_owes role s at reach (Publishes p frame) held turns stands none up is same = none_some held same
-shut_owes role s at reach Idles held turns stands none up is same = none_some held same
+shut_owes role s at reach _ held turns stands none up is same = none_some held same
 
 owes_or_open : (role : Role) (s : NetEndState) (at : Seen) (reach : Reach) (held : NetEndState) (turns : List Turn) (session : Option NetSession) → EndStands role (net_core role s) turns
     → s.link.phase ≡ phase.Established → net_holds (port_rule role s at) s reach ≡ Some held → s.session ≡ session → (is_some s.handshake.owed ≡ true) ⊎ (is_some s.session ≡ true)

@@ -5,7 +5,7 @@ use Rattle.ldc_link.specs.declared.phase.Role.{Role}
 use Rattle.ldc_link.specs.declared.phase.Role.TheVariants.{Initiator, Responder}
 use Rattle.ldc_link.specs.LinkState.{is_up}
 use Rattle.ldc_queue.specs.declared.end.ChannelState.{ChannelState}
-use Rattle.ldc_queue.specs.declared.end.ChannelState.TheVariants.{Down, Resetting, Up}
+use Rattle.ldc_queue.specs.declared.end.ChannelState.TheVariants.{Up}
 use Rattle.ldc_queue.specs.Transcript.{Turn}
 use Rattle.vio_handshake.specs.declared.handshake.Handshake.{Handshake}
 use Rattle.vio_handshake.specs.declared.session.Offer.{Offer}
@@ -186,8 +186,7 @@ peer_open asks answers role s talks up many = by_state s.theirs.state refl
 
     by_state : (x : ChannelState) → s.theirs.state ≡ x → PeerIn s
     by_state Up is = by_link is (is_up s.theirs.core.link) refl
-    by_state Down is = never (λ now. let wrong : Down ≡ Up = sym is ∙ now in cc wrong)
-    by_state Resetting is = never (λ now. let wrong : Resetting ≡ Up = sym is ∙ now in cc wrong)
+    by_state x is = never (λ now. let wrong : x ≡ Up = sym is ∙ now in cc wrong)
 
 -- an end in session has a peer that is up
 pub peer_is_up : (asks answers : Offer) (role : Role) (s : Sides) → Talks asks answers role s → s.mine.state ≡ Up → 1 ≤ length (heard s.mine.turns) → s.theirs.state ≡ Up
@@ -201,5 +200,4 @@ peer_is_up asks answers role s talks up some = by_state s.theirs.state refl
 
     by_state : (x : ChannelState) → s.theirs.state ≡ x → s.theirs.state ≡ Up
     by_state Up is = is
-    by_state Down is = never (λ now. let wrong : Down ≡ Up = sym is ∙ now in cc wrong)
-    by_state Resetting is = never (λ now. let wrong : Resetting ≡ Up = sym is ∙ now in cc wrong)
+    by_state x is = never (λ now. let wrong : x ≡ Up = sym is ∙ now in cc wrong)

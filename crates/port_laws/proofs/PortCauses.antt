@@ -16,7 +16,7 @@ use Rattle.ldc_queue.specs.Transcript.{Turn}
 use Rattle.vio_handshake.specs.declared.handshake.Handshake.{Handshake}
 use Rattle.vio_handshake.specs.declared.handshake.Phase.TheVariants.{Open}
 use Rattle.vio_handshake.specs.declared.session.Offer.{Offer}
-use Rattle.vio_handshake.specs.Rules.{Faults, Goes, GoesOpen, HandshakeTake, handshake_take, is_declined, sid_fault}
+use Rattle.vio_handshake.specs.Rules.{GoesOpen, HandshakeTake, handshake_take, is_declined, sid_fault}
 use Rattle.vio_tag.specs.declared.cause.Cause.{Cause}
 use Rattle.vio_tag.specs.declared.cause.Cause.TheVariants as the_cause
 use Rattle.vio_tag.specs.declared.message.Message.{Message}
@@ -67,9 +67,8 @@ opens_none Initiator s memory = refl
 opens_none Responder s memory = refl
 
 handshake_cause : (role : Role) (s : NetEndState) (memory : List ℕ) (take : HandshakeTake) → cause_in (by_handshake role s memory take) ≡ refused_by take
-handshake_cause role s memory (Goes h) = refl
 handshake_cause role s memory (GoesOpen h) = opens_none role (record s { handshake = h }) memory
-handshake_cause role s memory (Faults cause) = refl
+handshake_cause role s memory _ = refl
 
 info_judged : (s : NetEndState) (m : LinkState) (p : NetSession) (memory : List ℕ) (seq ident start end : ℕ)
     → cause_in (takes_info (record s { link = m }) p memory seq ident start end) ≡ info_cause s p seq ident start end

@@ -7,7 +7,7 @@ use Rattle.cookie_copy.specs.Faults.{is_up}
 use Rattle.ldc_link.specs.declared.phase.Role.{Role}
 use Rattle.ldc_link.specs.declared.phase.Role.TheVariants.{Initiator, Responder}
 use Rattle.ldc_queue.specs.declared.end.ChannelState.{ChannelState}
-use Rattle.ldc_queue.specs.declared.end.ChannelState.TheVariants.{Down, Resetting, Up}
+use Rattle.ldc_queue.specs.declared.end.ChannelState.TheVariants.{Down}
 use Rattle.ldc_queue.specs.declared.end.End.{End}
 use Rattle.ldc_queue.specs.declared.end.End.TheVariants.{A, B}
 use Rattle.ldc_queue.specs.Transcript.{Turn}
@@ -29,7 +29,7 @@ use Rattle.port_model.specs.NetLaneStep.{NetLaneStep, moved_on}
 use Rattle.port_model.specs.Offers.{port_offer}
 use Rattle.port_model.specs.PortLog.{PortLog, after, after_answer, after_given, end_after, no_events}
 use Rattle.port_model.specs.PortState.{OfQueue, OnLane, PortEvent, PortState, PortStep, Receives, before, fresh_port, moves_first, takes_more}
-use Rattle.port_model.specs.Spoken.{GroupsAck, GroupsInfo, GroupsNack, Other, RangeAck, RangeInfo, Spoken, spoken}
+use Rattle.port_model.specs.Spoken.{GroupsInfo, Other, Spoken, spoken}
 use Rattle.port_laws.specs.Counted.{AreAddresses, Counts, EndCounts, GroupCounts, IsBehind, SaysRightly, UnsaidRight, unsaid}
 use Rattle.port_laws.specs.NetCore.{is_begun, lane_core, net_core_at}
 use Rattle.port_laws.specs.NetFits.{NetFits}
@@ -130,15 +130,14 @@ before_wire event s = before_keeps (λ (x : PortState). x.lane.wire ≡ s.lane.w
 pub wire_event : (u : NetLaneState) (event : NetEvent) (t : NetLaneState) → NetLaneStep u event t → t.wire ≡ moved_on u.wire (on_wire event)
 wire_event u (Steps e answer) t step = ap (λ (x : NetLaneState). x.wire) step.is
 wire_event u (Ticked queued lost) t step = ap (λ (x : NetLaneState). x.wire) step.1.1
-wire_event u (Gives A given) t step = ap (λ (x : NetLaneState). x.wire) step.1
 wire_event u (Injects e packet) t step = ap (λ (x : NetLaneState). x.wire) step.2
+wire_event u (Gives A given) t step = ap (λ (x : NetLaneState). x.wire) step.1
 wire_event u _ t step = ap (λ (x : NetLaneState). x.wire) step.1
 
 -- WHAT IS KNOWN of an end that is up, before its step
 up_begun : (c : ChannelState) → is_up c ≡ true → is_begun c ≡ true
-up_begun Up is = refl
 up_begun Down is = false_true is
-up_begun Resetting is = refl
+up_begun _ is = refl
 
 slots_fit : (shape : NetShape) → IsNetShape shape → SlotsFit shape.slots
 slots_fit shape is = record { some = omega (arith, is.some_slots); most = is.most_slots }
@@ -221,12 +220,9 @@ behind_either false p groups address v is counts = named_behind v.membership gro
 
 right_more : (slots : ℕ) (groups : List (List ℕ)) (address : List ℕ) (v : SessionLog) (message : List ℕ) (k : Spoken) → SaysRightly slots groups v message k
     → SaysRightly slots (groups ++ address ∷ []) v message k
-right_more slots groups address v message RangeInfo right = right
-right_more slots groups address v message RangeAck right = right
 right_more slots groups address v message GroupsInfo right = (behind_more v.membership groups address right.0, right.1)
-right_more slots groups address v message GroupsAck right = right
-right_more slots groups address v message GroupsNack right = right
 right_more slots groups address v message Other right = tt
+right_more slots groups address v message _ right = right
 
 unsaid_more : (slots : ℕ) (groups : List (List ℕ)) (address : List ℕ) (begun : Bool) (v : SessionLog) (left : Option (List ℕ)) → UnsaidRight slots groups begun v left
     → UnsaidRight slots (groups ++ address ∷ []) begun v left
@@ -256,8 +252,7 @@ member_counts slots groups address published gone left begun (Some p) (Some v) c
   };
   reply = counts.reply;
 }
-member_counts slots groups address published gone left begun None (Some v) counts = absurd counts
-member_counts slots groups address published gone left begun (Some p) None counts = absurd counts
+member_counts slots groups address published gone left begun _ _ counts = absurd counts
 
 joins_counts : (slots : ℕ) (s : NetEndState) (joining : Joining) (t : NetEndState) (l : EndLog) → EndCounts Initiator slots [] s l → NetJoins s joining t → EndCounts Initiator slots [] t l
 joins_counts slots s (Already address) t l counts joins = subst (λ (x : NetEndState). EndCounts Initiator slots [] x l) (sym joins.1) counts

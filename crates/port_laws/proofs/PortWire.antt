@@ -3,13 +3,13 @@
 use Rattle.std.proofs.Common.{◌≡◌, ℕ, ◌+◌, ◌≤◌, Bool, false, Option, Some, None, List, [], ◌∷◌, ◌++◌, length, refl, sym, subst, ap, ◌∙◌, arith, length-append}
 use Rattle.ldc_link.specs.declared.phase.Role.TheVariants.{Initiator, Responder}
 use Rattle.ldc_queue.specs.declared.end.ChannelState.{ChannelState}
-use Rattle.ldc_queue.specs.declared.end.ChannelState.TheVariants.{Down, Resetting, Up}
+use Rattle.ldc_queue.specs.declared.end.ChannelState.TheVariants.{Up}
 use Rattle.ldc_queue.specs.declared.end.End.{End}
 use Rattle.ldc_queue.specs.declared.end.End.TheVariants.{A}
 use Rattle.ldc_queue.specs.Wire.{state_of}
 use Rattle.channel_model.specs.WireLog.{WireLog, lossy_behind}
 use Rattle.port_model.specs.NetEndState.{NetEndState, NetSession}
-use Rattle.port_model.specs.NetEndStep.{Blocked, Frame, Idle, Joined, NetAnswer, Published, Reset, Sent, Took}
+use Rattle.port_model.specs.NetEndStep.{Blocked, Idle, Joined, NetAnswer, Reset}
 use Rattle.port_model.specs.NetEvent.{NetEvent, Steps, Ticked, on_wire}
 use Rattle.port_model.specs.NetLaneState.{reach_of, seen_at}
 use Rattle.port_model.specs.NetLaneStep.{moved_on}
@@ -31,13 +31,7 @@ was_unforged s (Receives frame) t step clean = sym (ap (λ (x : PortState). x.la
 
 answer_forges : (w : WireLog) (e : End) (answer : NetAnswer) → (moved_on w (on_wire (Steps e answer))).forged ≡ w.forged
 answer_forges w e (Joined lost) = refl
-answer_forges w e (Took packet opens) = refl
-answer_forges w e (Sent packet opens) = refl
-answer_forges w e Blocked = refl
-answer_forges w e Idle = refl
-answer_forges w e (Published id) = refl
-answer_forges w e (Frame frame) = refl
-answer_forges w e (Reset cause packet lost) = refl
+answer_forges w e _ = refl
 
 pub step_unforged : (s : PortState) (e : End) (answer : NetAnswer) (t : PortState) → PortStep s (OnLane (Steps e answer)) t → t.lane.wire.forged ≡ s.lane.wire.forged
 step_unforged s e answer t step = ap (λ (w : WireLog). w.forged) (port_wire s (Steps e answer) t step) ∙ answer_forges s.lane.wire e answer
@@ -48,18 +42,12 @@ tick_unforged s queued lost t step = ap (λ (w : WireLog). w.forged) (port_wire 
 -- LOSING
 stays_whole : (x : ChannelState) (lossy : Bool) → lossy ≡ false → lossy_behind x lossy ≡ false
 stays_whole Up lossy whole = refl
-stays_whole Down lossy whole = whole
-stays_whole Resetting lossy whole = whole
+stays_whole _ lossy whole = whole
 
 answer_loses : (w : WireLog) (e : End) (answer : NetAnswer) → w.lossy ≡ false → (moved_on w (on_wire (Steps e answer))).lossy ≡ false
 answer_loses w e (Joined lost) whole = stays_whole (state_of e w.wire) w.lossy whole
-answer_loses w e (Took packet opens) whole = whole
-answer_loses w e (Sent packet opens) whole = whole
-answer_loses w e Blocked whole = whole
-answer_loses w e Idle whole = whole
-answer_loses w e (Published id) whole = whole
-answer_loses w e (Frame frame) whole = whole
 answer_loses w e (Reset cause packet lost) whole = stays_whole (state_of e w.wire) w.lossy whole
+answer_loses w e _ whole = whole
 
 pub step_lossless : (s : PortState) (e : End) (answer : NetAnswer) (t : PortState) → PortStep s (OnLane (Steps e answer)) t → s.lane.wire.lossy ≡ false → t.lane.wire.lossy ≡ false
 step_lossless s e answer t step whole = ap (λ (w : WireLog). w.lossy) (port_wire s (Steps e answer) t step) ∙ answer_loses s.lane.wire e answer whole
@@ -89,8 +77,7 @@ session_more memory s more (Some p) is =
 
 end_more : (x : ChannelState) (memory : List ℕ) (s : NetEndState) (more : ℕ) → end_left x Responder (more + 1) memory s ≤ end_left x Responder more memory s + 8
 end_more Up memory s more = session_more memory s more s.session refl
-end_more Down memory s more = omega arith
-end_more Resetting memory s more = omega arith
+end_more _ memory s more = omega arith
 
 pub port_received : (s : PortState) (frame : List ℕ) (t : PortState) → PortStep s (Receives frame) t → remaining t ≤ remaining s + 8
 port_received s frame t step =

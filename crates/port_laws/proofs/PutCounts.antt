@@ -92,8 +92,7 @@ said_counts role slots groups published gone left ended b c (Some p) (Some v) sa
     let is : said_in ended v ≡ said_in left v = same p v refl refl in
     subst (λ (x : SessionLog). SessionCounts role slots groups published gone None c p x) (sym is)
     (record { right = tt; ring = counts.ring; peer = counts.peer; guest = counts.guest; reply = counts.reply })
-said_counts role slots groups published gone left ended b c None (Some v) same counts = absurd counts
-said_counts role slots groups published gone left ended b c (Some p) None same counts = absurd counts
+said_counts role slots groups published gone left ended b c _ _ same counts = absurd counts
 
 -- RIGHT TO SAY is what the packet ends, as the log stood before it
 abbrev pub SaidRight : ℕ → List (List ℕ) → EndLog → Option (List ℕ) → Type 0

@@ -49,10 +49,9 @@ spare Responder = 0
 
 session_most : (role : Role) (slots held packets : ℕ) (memory : List ℕ) (session : Option NetSession) → FewReady slots held memory session
     → put_weight role * packets + session_left role slots held memory session ≤ 4 * (packets + more_of session) + spare role + 8 * held
-session_most Initiator slots held packets memory None few = omega arith
-session_most Responder slots held packets memory None few = omega arith
 session_most Initiator slots held packets memory (Some p) few = omega (arith, few.0, few.1, took_one p.active, one_most p.untold)
 session_most Responder slots held packets memory (Some p) few = omega (arith, few.0, few.1, took_one p.active)
+session_most _ slots held packets memory _ few = omega arith
 
 end_most : (x : ChannelState) (role : Role) (more : ℕ) (memory : List ℕ) (s : NetEndState) → (x ≡ Up → FewReady s.slots (length s.frames + more) memory s.session)
     → end_left x role more memory s + absent x ≤ 4 * live_count x (first_of role) (spent (net_core_at role (is_begun x) s)) + spare role + 8 * (length s.frames + more)
@@ -67,8 +66,7 @@ end_most Resetting Responder more memory s few = omega arith
 -- BOTH ENDS
 live_one : (x : ChannelState) (b : Bool) → live_count x 0 (one_if b) ≤ 1
 live_one Up b = one_most b
-live_one Down b = omega arith
-live_one Resetting b = omega arith
+live_one _ b = omega arith
 
 life_most : (shape : NetShape) (events : List PortEvent) (s : PortState) → IsNetShape shape → Run PortStep (fresh_port shape) events s → s.lane.wire.forged ≡ false
     → life s.lane.wire.wire s.lane (length s.queue) + 4 * one_if s.lane.wire.lossy ≤ 117 + 8 * frames_held s

@@ -14,7 +14,7 @@ use Rattle.channel_model.specs.WireAt.{IsUp}
 use Rattle.channel_model.specs.WireLog.{WireLog}
 use Rattle.port_model.proofs.FramesKept.{held_in}
 use Rattle.port_model.specs.NetEndState.{NetEndState, NetSession, joined_net_end, unseen}
-use Rattle.port_model.specs.NetEndStep.{Blocked, Frame, Idle, Joined, NetAnswer, NetLeft, Published, Reset, Sent, Took}
+use Rattle.port_model.specs.NetEndStep.{Blocked, Frame, Idle, NetAnswer, NetLeft, Reset, Took}
 use Rattle.port_model.specs.NetEvent.{Asked, NetEvent, Steps, Ticked}
 use Rattle.port_model.specs.NetLaneState.{IsNetShape, NetLaneState, NetShape, with_left}
 use Rattle.port_model.specs.NetLaneStep.{net_wire}
@@ -65,14 +65,12 @@ away_left _ role more memory s = refl
 begins_a : (x : ChannelState) (g : NetEndState) (u : NetLaneState) (queued : ℕ) → x ≡ Up → up_left Initiator 0 u.guest_memory g ≡ first_left Initiator (length u.guest.frames + 0 - unseen u.guest.session)
     → remaining_of (joined_a x g u) queued ≡ 75 + 8 * kept_in u queued
 begins_a Up g u queued up first = omega (arith, first, away u.wire.wire.end_b, away_left u.wire.wire.end_b Responder queued u.hub_memory u.hub)
-begins_a Down g u queued up first = absurd (cc up)
-begins_a Resetting g u queued up first = absurd (cc up)
+begins_a _ g u queued up first = absurd (cc up)
 
 begins_b : (x : ChannelState) (h : NetEndState) (u : NetLaneState) (queued : ℕ) → x ≡ Up → up_left Responder queued u.hub_memory h ≡ first_left Responder (length u.hub.frames + queued - unseen u.hub.session)
     → remaining_of (joined_b x h u) queued ≡ 75 + 8 * kept_in u queued
 begins_b Up h u queued up first = omega (arith, first, away u.wire.wire.end_a, away_left u.wire.wire.end_a Initiator 0 u.guest_memory u.guest)
-begins_b Down h u queued up first = absurd (cc up)
-begins_b Resetting h u queued up first = absurd (cc up)
+begins_b _ h u queued up first = absurd (cc up)
 
 begins_at : (e : End) (shape : NetShape) (u : PortState) (l : PortLog) → Ready shape u l → IsUp e u.lane.wire.wire → remaining_of (joined_at e u.lane) (length u.queue) ≡ 75 + 8 * frames_kept u
 begins_at A shape u l ready up = begins_a u.lane.wire.wire.end_a (joined_net_end Initiator u.lane.guest) u.lane (length u.queue) up (begun_left A shape u l ready)
@@ -137,8 +135,7 @@ port_begins shape events s e _ t sound run step is up = absurd is
 
 up_or_not : (x : ChannelState) → (x ≡ Up) ⊎ (x ≢ Up)
 up_or_not Up = inl refl
-up_or_not Down = inr (λ up. cc up)
-up_or_not Resetting = inr (λ up. cc up)
+up_or_not _ = inr (λ up. cc up)
 
 pub port_again : (shape : NetShape) (events : List PortEvent) (s : PortState) (e : End) (event : PortEvent) (t : PortState) → IsNetShape shape → Run PortStep (fresh_port shape) events s
     → PortStep s event t → IsReset e event → (IsUp e s.lane.wire.wire → s.lane.wire.lossy ≡ true) → remaining t < remaining s
@@ -182,11 +179,9 @@ port_own shape events s e cause packet lost t sound run clean step =
 -- so each step but a calm one lowers what remains
 pub port_lowers : (shape : NetShape) (events : List PortEvent) (s : PortState) (e : End) (answer : NetAnswer) (t : PortState) → IsNetShape shape → Run PortStep (fresh_port shape) events s
     → s.lane.wire.forged ≡ false → PortStep s (OnLane (Steps e answer)) t → (IsCalm answer × (remaining t ≤ remaining s)) ⊎ (remaining t < remaining s)
-port_lowers shape events s e (Joined lost) t sound run clean step = inr (port_falls shape events s e (Joined lost) t sound run step tt)
-port_lowers shape events s e (Sent packet opens) t sound run clean step = inr (port_falls shape events s e (Sent packet opens) t sound run step tt)
-port_lowers shape events s e (Published id) t sound run clean step = inr (port_falls shape events s e (Published id) t sound run step tt)
 port_lowers shape events s e (Took packet opens) t sound run clean step = inr (port_took shape events s e packet opens t sound run clean step)
 port_lowers shape events s e (Frame frame) t sound run clean step = inr (port_frame shape events s e frame t sound run clean step)
 port_lowers shape events s e (Reset cause packet lost) t sound run clean step = inr (port_own shape events s e cause packet lost t sound run clean step)
 port_lowers shape events s e Blocked t sound run clean step = inl (tt, port_calm shape events s e Blocked t sound run step tt)
 port_lowers shape events s e Idle t sound run clean step = inl (tt, port_calm shape events s e Idle t sound run step tt)
+port_lowers shape events s e answer t sound run clean step = inr (port_falls shape events s e answer t sound run step tt)

@@ -5,7 +5,7 @@ use Rattle.ldc_link.specs.declared.phase.Role.{Role}
 use Rattle.ldc_link.specs.declared.phase.Role.TheVariants.{Initiator, Responder}
 use Rattle.ldc_link.specs.LinkState.{first_phase}
 use Rattle.ldc_queue.specs.declared.end.ChannelState.{ChannelState}
-use Rattle.ldc_queue.specs.declared.end.ChannelState.TheVariants.{Down, Resetting, Up}
+use Rattle.ldc_queue.specs.declared.end.ChannelState.TheVariants.{Up}
 use Rattle.ldc_queue.specs.declared.end.End.{End}
 use Rattle.ldc_queue.specs.declared.end.End.TheVariants.{A, B}
 use Rattle.ldc_queue.specs.Transcript.{Turn}
@@ -49,8 +49,7 @@ use Rattle.port_laws.proofs.RuleUnforged.{reach_memory}
 moved_end : (x : ChannelState) (memory : List ℕ) (s : NetEndState) (frame : List ℕ) (more queued : ℕ) → length (s.frames ++ frame ∷ []) + more ≡ length s.frames + queued
     → end_left x Responder more memory (with_frame frame s) ≡ end_left x Responder queued memory s
 moved_end Up memory s frame more queued same = ap (λ (n : ℕ). put_weight Responder * packets_left (net_core Responder s) + session_left Responder s.slots n memory s.session) same
-moved_end Down memory s frame more queued same = ap (λ (n : ℕ). first_left Responder (n - unseen s.session)) same
-moved_end Resetting memory s frame more queued same = ap (λ (n : ℕ). first_left Responder (n - unseen s.session)) same
+moved_end _ memory s frame more queued same = ap (λ (n : ℕ). first_left Responder (n - unseen s.session)) same
 
 moves_same : (b : Bool) (queue : List (List ℕ)) (s : PortState) → s.queue ≡ queue → remaining (moves_first b queue s) ≡ remaining s
 moves_same true [] s is = refl
@@ -152,15 +151,13 @@ joins_a : (x : ChannelState) (g : NetEndState) (u : NetLaneState) (queued : ℕ)
     → remaining_of (joined_a x g u) queued + 1 ≤ absent x + absent u.wire.wire.end_b + length u.wire.wire.to_a + 3 * length u.wire.wire.to_b
     + end_left x Initiator 0 u.guest_memory u.guest + end_left u.wire.wire.end_b Responder queued u.hub_memory u.hub + second_life u.wire.lossy
 joins_a Up g u queued away first = absurd (away refl)
-joins_a Down g u queued away first = omega (arith, first)
-joins_a Resetting g u queued away first = omega (arith, first)
+joins_a _ g u queued away first = omega (arith, first)
 
 joins_b : (x : ChannelState) (h : NetEndState) (u : NetLaneState) (queued : ℕ) → x ≢ Up → up_left Responder queued u.hub_memory h ≡ first_left Responder (length u.hub.frames + queued - unseen u.hub.session)
     → remaining_of (joined_b x h u) queued + 1 ≤ absent u.wire.wire.end_a + absent x + length u.wire.wire.to_a + 3 * length u.wire.wire.to_b
     + end_left u.wire.wire.end_a Initiator 0 u.guest_memory u.guest + end_left x Responder queued u.hub_memory u.hub + second_life u.wire.lossy
 joins_b Up h u queued away first = absurd (away refl)
-joins_b Down h u queued away first = omega (arith, first)
-joins_b Resetting h u queued away first = omega (arith, first)
+joins_b _ h u queued away first = omega (arith, first)
 
 pub begun_left : (e : End) (shape : NetShape) (u : PortState) (l : PortLog) → Ready shape u l → up_left (role_at e) (more_at e (length u.queue)) (memory_of e u.lane) (joined_net_end (role_at e) (net_end e u.lane))
     ≡ first_left (role_at e) (length (net_end e u.lane).frames + more_at e (length u.queue) - unseen (net_end e u.lane).session)
@@ -177,8 +174,7 @@ away_falls B shape u l ready away = joins_b u.lane.wire.wire.end_b (joined_net_e
 -- A STEP, by its answer
 not_up : (x : ChannelState) → is_up x ≡ false → x ≢ Up
 not_up Up is = true_false is
-not_up Down is = λ up. false_true (ap is_up up)
-not_up Resetting is = λ up. false_true (ap is_up up)
+not_up _ is = λ up. false_true (ap is_up up)
 
 pub room_at : (e : End) (slots : ℕ) (u : NetLaneState) → MemoryHasRoom slots u → 8192 + 2048 * slots ≤ length (memory_of e u)
 room_at A slots u room = room.guest

@@ -122,11 +122,11 @@ step_now B u t answer step = record {
   reaches = refl;
 }
 
-record LogNow (e : End) (l : PortLog) (answer : NetAnswer) : Type 0 where
-  mine : log_of_end e (after l (OnLane (Steps e answer))) ≡ after_answer l.shape.slots (transcript_of e l.transcript) answer (log_of_end e l)
-  theirs : log_of_end (peer_of e) (after l (OnLane (Steps e answer))) ≡ log_of_end (peer_of e) l
+pub record LogNow (e : End) (l : PortLog) (answer : NetAnswer) : Type 0 where
+  pub mine : log_of_end e (after l (OnLane (Steps e answer))) ≡ after_answer l.shape.slots (transcript_of e l.transcript) answer (log_of_end e l)
+  pub theirs : log_of_end (peer_of e) (after l (OnLane (Steps e answer))) ≡ log_of_end (peer_of e) l
 
-log_now : (e : End) (l : PortLog) (answer : NetAnswer) → LogNow e l answer
+pub log_now : (e : End) (l : PortLog) (answer : NetAnswer) → LogNow e l answer
 log_now A l answer = record { mine = refl; theirs = refl }
 log_now B l answer = record { mine = refl; theirs = refl }
 

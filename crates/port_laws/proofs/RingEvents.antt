@@ -71,14 +71,11 @@ turns_at B l _ = record { mine = refl; theirs = refl }
 
 pub up_is : (x : ChannelState) → is_up x ≡ true → x ≡ Up
 up_is Up is = refl
-up_is Down is = false_true is
-up_is Resetting is = false_true is
+up_is _ is = false_true is
 
 -- AN END THAT ACTS is up, but where it joins
 pub acts_up : (role : Role) (s : NetEndState) (at : Seen) (memory : List ℕ) (reach : Reach) (answer : NetAnswer) (left : NetLeft) → NetEndStep role s at memory reach answer left
     → (x : ChannelState) → at.state ≡ x → mine_now answer x ≡ x → x ≡ Up
-acts_up role s at memory reach (Joined lost) left step x is now = sym now
-acts_up role s at memory reach (Reset cause packet lost) left step x is now = sym now
 acts_up role s at memory reach (Took packet opens) left step x is now = up_is x (sym (ap is_up is) ∙ (says_of role s at (Takes packet) step.0).0.up)
 acts_up role s at memory reach (Sent packet opens) left step x is now = up_is x (sym (ap is_up is) ∙ holds_up role s at reach (port_rule role s at) step.held refl step.holds)
 acts_up role s at memory reach Blocked left step x is now = up_is x (sym (ap is_up is) ∙ holds_up role s at reach (port_rule role s at) left.end refl step.0)
@@ -87,6 +84,7 @@ acts_up role s at memory reach (Published id) left step x is now =
     up_is x (sym (ap is_up is) ∙ (says_of role s at (Publishes step.session step.frame) step.rule).0.in_session.free.up)
 acts_up role s at memory reach (Frame frame) left step x is now =
     up_is x (sym (ap is_up is) ∙ (says_of role s at (Fetches step.session step.activity) step.rule).0.free.up)
+acts_up role s at memory reach _ left step x is now = sym now
 
 -- it doesn't begin anew
 abbrev pub Goes : NetAnswer → Type 0
@@ -95,7 +93,7 @@ Goes (Reset cause packet lost) = ⊥
 Goes _ = ⊤
 
 -- THE FRAMES THAT IT TOOK in its session, after an answer
-kind_taken : (k : Spoken) (slots : ℕ) (message : List ℕ) (v : SessionLog) → (heard_kind slots k message v).taken ≡ v.taken
+pub kind_taken : (k : Spoken) (slots : ℕ) (message : List ℕ) (v : SessionLog) → (heard_kind slots k message v).taken ≡ v.taken
 kind_taken GroupsInfo slots message v = refl
 kind_taken _ slots message v = refl
 
@@ -135,12 +133,11 @@ answer_taken slots turns (Took packet opens) l x now up shut some goes =
     opened_taken opens (opening_sid (half_heard turns) packet) l.session (hears_log slots (ended_by (half_heard turns) packet) l) shut (heard_taken slots (ended_by (half_heard turns) packet) l.session)
 answer_taken slots turns (Sent packet opens) l x now up shut some goes =
     opened_taken opens (opening_sid (half_said turns) packet) l.session (says_log (ended_by (half_said turns) packet) l) shut (said_taken (ended_by (half_said turns) packet) l.session)
-answer_taken slots turns Blocked l x now up shut some goes = refl
-answer_taken slots turns Idle l x now up shut some goes = refl
 answer_taken slots turns (Published id) l x now up shut some goes = published_taken l.session
 answer_taken slots turns (Frame frame) l x now up shut some goes = frame_taken l.session some
 answer_taken slots turns (Joined lost) l x now up shut some goes = absurd goes
 answer_taken slots turns (Reset cause packet lost) l x now up shut some goes = absurd goes
+answer_taken slots turns _ l x now up shut some goes = refl
 
 -- THE RING OF THE END THAT ACTS
 pub own_stands : (role : Role) (slots : ℕ) (x y : ChannelState) (log : Option SessionLog) (s : NetEndState) (turns : List Turn) (at : Seen) (memory : List ℕ) (reach : Reach) (answer : NetAnswer)
@@ -160,12 +157,7 @@ own_stands role slots x y log s turns at memory reach answer left owns same none
         → RingIn slots (taken_by (theirs_now given x y) log) left.end.session left.end.frames left.own
     by_answer (Joined lost) nothing moves up = subst (λ (z : NetLeft). RingIn slots (taken_by (peer_behind x y) log) z.end.session z.end.frames z.own) (sym moves.2) tt
     by_answer (Reset cause packet lost) nothing moves up = subst (λ (z : NetLeft). RingIn slots (taken_by (peer_behind x y) log) z.end.session z.end.frames z.own) (sym moves.2) tt
-    by_answer (Took packet opens) nothing moves up = goes (Took packet opens) nothing moves up
-    by_answer (Sent packet opens) nothing moves up = goes (Sent packet opens) nothing moves up
-    by_answer Blocked nothing moves up = goes Blocked nothing moves up
-    by_answer Idle nothing moves up = goes Idle nothing moves up
-    by_answer (Published id) nothing moves up = goes (Published id) nothing moves up
-    by_answer (Frame frame) nothing moves up = goes (Frame frame) nothing moves up
+    by_answer given nothing moves up = goes given nothing moves up
 
 -- THE RING OF ITS PEER
 pub peer_up : (x y : ChannelState) → peer_behind x y ≡ Up → (x ≢ Up) × (y ≡ Up)
@@ -176,8 +168,7 @@ peer_up Up _ is = absurd (cc is)
 
 pub none_down : (x : ChannelState) (log : Option SessionLog) → x ≢ Up → taken_by x log ≡ 0
 none_down Up log not = absurd (not refl)
-none_down Down log not = refl
-none_down Resetting log not = refl
+none_down _ log not = refl
 
 pub peer_stands : (role : Role) (slots pages : ℕ) (x y : ChannelState) (log : Option SessionLog) (turns : List Turn) (l : EndLog) (session : Option NetSession) (frames : List (List ℕ)) (f : NetEndState)
     (at : Seen) (memory : List ℕ) (reach : Reach) (answer : NetAnswer) (left : NetLeft) → at.state ≡ x → l.session ≡ log → 1 ≤ slots → (opens_by answer ≡ true → log ≡ None) → Frames answer log
@@ -210,12 +201,7 @@ peer_stands role slots pages x y log turns l session frames f at memory reach an
         let both = peer_up x y up in
         subst (λ (z : NetLeft). RingIn slots 0 session frames z.peer) (sym moves.2)
         (subst (λ (n : ℕ). RingIn slots n session frames reach.memory) (none_down x log both.0) (ring both.1))
-    by_answer (Took packet opens) shut_now busy_now takes_now moves up = goes (Took packet opens) tt refl shut_now busy_now takes_now moves up
-    by_answer (Sent packet opens) shut_now busy_now takes_now moves up = goes (Sent packet opens) tt refl shut_now busy_now takes_now moves up
-    by_answer Blocked shut_now busy_now takes_now moves up = goes Blocked tt refl shut_now busy_now takes_now moves up
-    by_answer Idle shut_now busy_now takes_now moves up = goes Idle tt refl shut_now busy_now takes_now moves up
-    by_answer (Published id) shut_now busy_now takes_now moves up = goes (Published id) tt refl shut_now busy_now takes_now moves up
-    by_answer (Frame frame) shut_now busy_now takes_now moves up = goes (Frame frame) tt refl shut_now busy_now takes_now moves up
+    by_answer given shut_now busy_now takes_now moves up = goes given tt refl shut_now busy_now takes_now moves up
 
 -- WHAT THE LOG SAYS of the end that acts
 pub record Turned (role : Role) (turns now : List Turn) (log behind : Option SessionLog) : Type 0 where
@@ -259,8 +245,6 @@ work_case role turns f (Some v) means spoke = means v refl spoke
 pub spoke_after : (role : Role) (slots : ℕ) (turns : List Turn) (answer : NetAnswer) (l : EndLog) → (opens_by answer ≡ true → l.session ≡ None) → Active answer l.session
     → (Goes answer → Turned role turns (turns_now answer turns) l.session (after_answer slots turns answer l).session) → SpokeIn role turns l.session
     → SpokeIn role (turns_now answer turns) (after_answer slots turns answer l).session
-spoke_after role slots turns (Joined lost) l shut active turned spoke = tt
-spoke_after role slots turns (Reset cause packet lost) l shut active turned spoke = tt
 spoke_after role slots turns (Took packet opens) l shut active turned spoke = took_case role slots turns packet opens l.session l refl shut (turned tt) spoke
 spoke_after role slots turns (Sent packet opens) l shut active turned spoke = sent_case role slots turns packet opens l.session l refl shut (turned tt) spoke
 spoke_after role slots turns Blocked l shut active turned spoke = spoke
@@ -268,3 +252,4 @@ spoke_after role slots turns Idle l shut active turned spoke = spoke
 spoke_after role slots turns (Published id) l shut active turned spoke = work_case role turns more_published l.session (λ v is had. published_spoke role turns v had) spoke
 spoke_after role slots turns (Frame frame) l shut active turned spoke =
     work_case role turns one_taken l.session (λ v is had. frame_spoke role turns v (subst (Active (Frame frame)) is active) had) spoke
+spoke_after role slots turns _ l shut active turned spoke = tt

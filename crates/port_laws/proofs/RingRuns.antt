@@ -16,7 +16,7 @@ use Rattle.port_model.proofs.Refuting.{true_false}
 use Rattle.port_model.specs.EndLog.{SessionLog}
 use Rattle.port_model.specs.NetEndState.{NetEndState, NetSession}
 use Rattle.port_model.specs.NetEndStep.{Already, BadLength, Full, Given, GroupsFull, Joined, Joining, Member, NetGives, NetJoins, Queued, untold}
-use Rattle.port_model.specs.NetEvent.{Asked, CalmTick, Declines, Gives, Injects, Joins, Loses, NetEvent, Pokes, Steps, Ticked, on_wire}
+use Rattle.port_model.specs.NetEvent.{Asked, Gives, Injects, Joins, Loses, NetEvent, Pokes, Steps, Ticked, on_wire}
 use Rattle.port_model.specs.NetLaneState.{IsNetShape, NetLaneState, NetShape}
 use Rattle.port_model.specs.NetLaneStep.{NetLaneStep, Resets, moved_on}
 use Rattle.port_model.specs.PortLog.{PortLog, after, after_given, no_events}
@@ -75,16 +75,6 @@ asked_rings B u l lost t resets rings =
       hub_ring = λ up. tt;
     })
 
-ticked_rings : (u : NetLaneState) (l : PortLog) (queued lost : ℕ) (t : NetLaneState) → Resets A (Ticked queued lost) u lost t → Rings u l → Rings t (after l (OnLane (Ticked queued lost)))
-ticked_rings u l queued lost t resets rings =
-    subst (λ (x : NetLaneState). Rings x (after l (OnLane (Ticked queued lost)))) (sym resets.1)
-    (record {
-      guest_spoke = tt;
-      hub_spoke = rings.hub_spoke;
-      guest_ring = λ up. tt;
-      hub_ring = λ up. begun_ring l.shape.slots u.wire.wire.end_a u.wire.wire.end_b l.guest.session u.hub.session u.hub.frames u.hub_memory rings.hub_ring up;
-    })
-
 given_ring : (slots taken : ℕ) (memory : List ℕ) (s : NetEndState) (given : Given) (t : NetEndState) → NetGives s given t → RingIn slots taken s.session s.frames memory
     → RingIn slots taken t.session t.frames memory
 given_ring slots taken memory s (BadLength frame) t gives ring = subst (λ (x : NetEndState). RingIn slots taken x.session x.frames memory) (sym gives.1) ring
@@ -108,10 +98,7 @@ lane_rings : (shape : NetShape) (u t : PortState) (l : PortLog) (event : NetEven
     → PortCounts shape t (after l (OnLane event)) → PortTalks shape (lane_core t.lane) (after l (OnLane event)) → Rings t.lane (after l (OnLane event))
 lane_rings shape u t l (Steps e answer) of_queue finds step clean counts talks = steps_rings shape e u t l answer finds step counts talks
 lane_rings shape u t l (Asked e lost) of_queue finds step clean counts talks = asked_rings e u.lane l lost t.lane step finds.rings
-lane_rings shape u t l (Ticked queued lost) of_queue finds step clean counts talks = ticked_rings u.lane l queued lost t.lane step.1 finds.rings
-lane_rings shape u t l (CalmTick queued) of_queue finds step clean counts talks =
-    subst (λ (x : NetLaneState). Rings x (after l (OnLane (CalmTick queued)))) (sym step.1)
-    (record { guest_spoke = finds.rings.guest_spoke; hub_spoke = finds.rings.hub_spoke; guest_ring = finds.rings.guest_ring; hub_ring = finds.rings.hub_ring })
+lane_rings shape u t l (Ticked queued lost) of_queue finds step clean counts talks = asked_rings A u.lane l lost t.lane step.1 finds.rings
 lane_rings shape u t l (Gives A given) of_queue finds step clean counts talks =
     subst (λ (x : NetLaneState). Rings x (after l (OnLane (Gives A given)))) (sym step.1)
     (record {
@@ -138,23 +125,20 @@ lane_rings shape u t l (Joins joining) of_queue finds step clean counts talks =
       guest_ring = λ up. joined_ring l.shape.slots (taken_by u.lane.wire.wire.end_b l.hub.session) u.lane.guest_memory u.lane.guest joining t.lane.guest step.0 (finds.rings.guest_ring up);
       hub_ring = finds.rings.hub_ring;
     })
+lane_rings shape u t l (Injects e packet) of_queue finds step clean counts talks = true_false clean
+lane_rings shape u t l (Pokes e at bytes) of_queue finds step clean counts talks = true_false clean
 lane_rings shape u t l (Loses A packet) of_queue finds step clean counts talks =
     subst (λ (x : NetLaneState). Rings x (after l (OnLane (Loses A packet)))) (sym step.1)
     (record { guest_spoke = finds.rings.guest_spoke; hub_spoke = finds.rings.hub_spoke; guest_ring = finds.rings.guest_ring; hub_ring = finds.rings.hub_ring })
-lane_rings shape u t l (Loses B packet) of_queue finds step clean counts talks =
-    subst (λ (x : NetLaneState). Rings x (after l (OnLane (Loses B packet)))) (sym step.1)
-    (record { guest_spoke = finds.rings.guest_spoke; hub_spoke = finds.rings.hub_spoke; guest_ring = finds.rings.guest_ring; hub_ring = finds.rings.hub_ring })
-lane_rings shape u t l (Injects e packet) of_queue finds step clean counts talks = true_false clean
-lane_rings shape u t l (Pokes e at bytes) of_queue finds step clean counts talks = true_false clean
-lane_rings shape u t l (Declines d) of_queue finds step clean counts talks =
-    subst (λ (x : NetLaneState). Rings x (after l (OnLane (Declines d)))) (sym step.1)
+lane_rings shape u t l event of_queue finds step clean counts talks =
+    subst (λ (x : NetLaneState). Rings x (after l (OnLane event))) (sym step.1)
     (record { guest_spoke = finds.rings.guest_spoke; hub_spoke = finds.rings.hub_spoke; guest_ring = finds.rings.guest_ring; hub_ring = finds.rings.hub_ring })
 
 -- nobody had forged before
 pub was_clean : (w : WireLog) (event : NetEvent) → (moved_on w (on_wire event)).forged ≡ false → w.forged ≡ false
-was_clean w (Steps e (Joined lost)) clean = clean
 was_clean w (Injects e packet) clean = true_false clean
 was_clean w (Pokes e at bytes) clean = true_false clean
+was_clean w (Steps e (Joined lost)) clean = clean
 was_clean w _ clean = clean
 
 -- ALONG EVERY RUN

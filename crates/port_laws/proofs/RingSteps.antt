@@ -23,7 +23,7 @@ use Rattle.port_model.specs.Groups.{membership}
 use Rattle.port_model.specs.NetEndPutting.{announcement, answer, answers, cleared_by_put, cleared_ring, groups_answer, holding, holding_own, net_holds, net_kind, net_opens, net_put, opened_by_put}
 use Rattle.port_model.specs.NetEndRule.{Announces, Fetches, NetRule, Publishes, Puts, Replies, Says, Tells, port_rule}
 use Rattle.port_model.specs.NetEndState.{Activity, NetEndState, NetSession, unseen_in}
-use Rattle.port_model.specs.NetEndStep.{Blocked, Frame, Idle, Joined, NetAnswer, NetEndStep, NetLeft, NetSends, Published, Reset, Sent, Took, published, published_memory, taken}
+use Rattle.port_model.specs.NetEndStep.{Blocked, Frame, Idle, NetAnswer, NetEndStep, NetLeft, NetSends, Published, Reset, Sent, Took, published, published_memory, taken}
 use Rattle.port_model.specs.NetEndTaking.{GoesOn, NetTake, NetTakes, Resets, freed}
 use Rattle.port_laws.specs.NetCore.{net_core}
 use Rattle.port_laws.specs.RingHolds.{RingHolds}
@@ -158,7 +158,6 @@ published_ring role taken s turns at memory p frame owns rule ring =
 pub own_ring : (role : Role) (taken : ℕ) (s : NetEndState) (turns : List Turn) (at : Seen) (memory : List ℕ) (reach : Reach) (answer : NetAnswer) (left : NetLeft) → Owns role s turns memory
     → (opens_by answer ≡ true → taken ≡ 0) → NetEndStep role s at memory reach answer left → RingIn s.slots taken s.session s.frames memory
     → RingIn s.slots taken left.end.session left.end.frames left.own
-own_ring role taken s turns at memory reach (Joined lost) left owns none step ring = subst (λ (x : NetLeft). RingIn s.slots taken x.end.session x.end.frames x.own) (sym step.2) tt
 own_ring role taken s turns at memory reach (Took packet opens) left owns none step ring =
     took_ring role taken memory packet s left.end turns opens left.own owns.ends owns.fits step.1 none ring
 own_ring role taken s turns at memory reach (Sent packet opens) left owns none step ring = sent_ring role taken s at memory reach packet opens left none step ring
@@ -170,7 +169,7 @@ own_ring role taken s turns at memory reach (Published id) left owns none step r
 own_ring role taken s turns at memory reach (Frame frame) left owns none step ring =
     let says = says_of role s at (Fetches step.session step.activity) step.rule in
     subst (λ (x : NetLeft). RingIn s.slots taken x.end.session x.end.frames x.own) (sym step.is) (ring_of s.slots taken s.session step.session s.frames memory says.0.session ring)
-own_ring role taken s turns at memory reach (Reset cause packet lost) left owns none step ring = subst (λ (x : NetLeft). RingIn s.slots taken x.end.session x.end.frames x.own) (sym step.2) tt
+own_ring role taken s turns at memory reach _ left owns none step ring = subst (λ (x : NetLeft). RingIn s.slots taken x.end.session x.end.frames x.own) (sym step.2) tt
 
 -- A STEP OF THE PEER, which may take a frame of the ring
 abbrev pub more_taken : NetAnswer → ℕ → ℕ
@@ -197,11 +196,10 @@ pub peer_ring : (role : Role) (slots pages taken : ℕ) (session : Option NetSes
     → RingIn slots (more_taken answer taken) session frames left.peer
 peer_ring role slots pages taken session frames f at memory reach (Frame frame) left some takes step ring =
     fetched_ring role slots pages taken session frames f at memory reach frame left some takes step ring
-peer_ring role slots pages taken session frames f at memory reach (Joined lost) left some takes step ring = subst (λ (x : NetLeft). RingIn slots taken session frames x.peer) (sym step.2) ring
 peer_ring role slots pages taken session frames f at memory reach (Took packet opens) left some takes step ring = subst (RingIn slots taken session frames) (sym step.2) ring
 peer_ring role slots pages taken session frames f at memory reach (Sent packet opens) left some takes step ring = subst (λ (x : NetLeft). RingIn slots taken session frames x.peer) (sym step.is) ring
-peer_ring role slots pages taken session frames f at memory reach Blocked left some takes step ring = subst (λ (x : NetLeft). RingIn slots taken session frames x.peer) (sym step.2) ring
 peer_ring role slots pages taken session frames f at memory reach Idle left some takes step ring = subst (λ (x : NetLeft). RingIn slots taken session frames x.peer) (sym step.1) ring
 peer_ring role slots pages taken session frames f at memory reach (Published id) left some takes step ring = subst (λ (x : NetLeft). RingIn slots taken session frames x.peer) (sym step.is) ring
 peer_ring role slots pages taken session frames f at memory reach (Reset cause packet lost) left some takes step ring =
     subst (λ (x : NetLeft). RingIn slots taken session frames x.peer) (sym step.2) ring
+peer_ring role slots pages taken session frames f at memory reach _ left some takes step ring = subst (λ (x : NetLeft). RingIn slots taken session frames x.peer) (sym step.2) ring

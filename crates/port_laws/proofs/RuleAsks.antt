@@ -1,5 +1,5 @@
 -- An INFO that an end of a port takes is the next, and an ACK for which it resets itself as its slot isn't DONE is one of its own ring.
-use Rattle.std.proofs.Common.{◌≡◌, ℕ, ◌+◌, ◌-◌, ◌<◌, ◌≤◌, ◌⊎◌, Bool, true, false, Option, Some, None, List, inl, inr, refl, sym, subst, ap, ◌∙◌, arith}
+use Rattle.std.proofs.Common.{◌≡◌, ℕ, ◌+◌, ◌<◌, ◌≤◌, ◌⊎◌, Bool, true, false, Option, Some, None, List, inl, inr, refl, sym, subst, ap, ◌∙◌, arith}
 use Rattle.std.specs.Prelude.{◌%◌, ◌==◌, ◌&&◌, is_some, Result, Ok, Err, nat_eq, nat_le, nat_lt, not, if◌then◌else◌, ⊤}
 use Rattle.std.proofs.lemmas.Bool.{and_parts, eqb-true, leb-false, leb-true}
 use Rattle.ldc_link.specs.declared.phase.Role.{Role}
@@ -138,11 +138,6 @@ record IsInfo (s : Subtype) (b : MsgBody) : Type 0 where
 
 info_body : (s : Subtype) (b : MsgBody) → HasForm b → spoken_by (envelope_code b) (subtype_code s) ≡ RangeInfo → IsInfo s b
 info_body Info (DringData seq ident start end state) form is = record { subtype = refl; seq = seq; ident = ident; start = start; end = end; state = state; body = refl }
-info_body Ack (DringData seq ident start end state) form is = absurd (cc is)
-info_body Nack (DringData seq ident start end state) form is = absurd (cc is)
-info_body Info (Mcast set count addresses) form is = absurd (cc is)
-info_body Ack (Mcast set count addresses) form is = absurd (cc is)
-info_body Nack (Mcast set count addresses) form is = absurd (cc is)
 info_body s (Plain envelope) (inl at) is = let never = sym (ap (λ (n : ℕ). spoken_by n (subtype_code s)) at) ∙ is in absurd (cc never)
 info_body s (Plain envelope) (inr at) is = let never = sym (ap (λ (n : ℕ). spoken_by n (subtype_code s)) at) ∙ is in absurd (cc never)
 info_body s _ form is = absurd (cc is)

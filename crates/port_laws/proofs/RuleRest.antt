@@ -5,7 +5,7 @@ use Rattle.std.proofs.lemmas.Bool.{and_parts, eqb-true}
 use Rattle.cookie_copy.specs.Faults.{is_up}
 use Rattle.ldc_link.specs.declared.phase.Role.TheVariants.{Initiator, Responder}
 use Rattle.ldc_queue.specs.declared.end.ChannelState.{ChannelState}
-use Rattle.ldc_queue.specs.declared.end.ChannelState.TheVariants.{Down, Resetting, Up}
+use Rattle.ldc_queue.specs.declared.end.ChannelState.TheVariants.{Up}
 use Rattle.ldc_queue.specs.declared.end.End.{End}
 use Rattle.ldc_queue.specs.Wire.{state_of}
 use Rattle.runs.specs.Lawful.{Lawful}
@@ -38,8 +38,7 @@ use Rattle.port_laws.proofs.TookCounts.{free_empty}
 -- ONLY AN END THAT IS UP publishes a frame or takes one
 pub up_state : (c : ChannelState) → is_up c ≡ true → c ≡ Up
 up_state Up is = refl
-up_state Down is = false_true is
-up_state Resetting is = false_true is
+up_state _ is = false_true is
 
 end_up : (shape : NetShape) (e : End) (u : PortState) (l : PortLog) → Ready shape u l → is_up (seen_at e u.lane).state ≡ true → IsUp e l.wire.wire
 end_up shape e u l ready up = subst (λ (w : WireLog). IsUp e w.wire) ready.wire (up_state (state_of e u.lane.wire.wire) up)

@@ -10,7 +10,7 @@ use Rattle.channel_model.specs.Messages.{ended_by, opening_sid, sid_in, sid_of, 
 use Rattle.channel_model.specs.Sayings.{half_heard, half_said, heard, said, whole_by, whole_past}
 use Rattle.port_model.proofs.Refuting.{none_some}
 use Rattle.port_model.specs.EndLog.{SessionLog, heard_in, heard_kind, opened_log, said_in, said_kind}
-use Rattle.port_model.specs.Spoken.{GroupsAck, GroupsInfo, GroupsNack, Other, RangeAck, RangeInfo, Spoken, spoken}
+use Rattle.port_model.specs.Spoken.{GroupsInfo, GroupsNack, Other, RangeInfo, Spoken, spoken}
 use Rattle.port_laws.proofs.PeerOpens.{row}
 
 -- A SESSION of the log
@@ -170,16 +170,12 @@ kind_spoke RangeInfo role slots turns now o message v spoke grows is six = recor
   quiet = λ none. absurd (omega (arith, none));
   many = λ some. omega (arith, six, ap length is, length-append (heard turns) (message ∷ []));
 }
-kind_spoke RangeAck role slots turns now o message v spoke grows is six =
-    same_spoke role turns now o v (heard_kind slots RangeAck message v) spoke grows (omega (arith, ap length is, length-append (heard turns) (message ∷ []))) (record { sid = refl; asked = refl; taken = refl })
-kind_spoke GroupsInfo role slots turns now o message v spoke grows is six =
-    same_spoke role turns now o v (heard_kind slots GroupsInfo message v) spoke grows (omega (arith, ap length is, length-append (heard turns) (message ∷ []))) (record { sid = refl; asked = refl; taken = refl })
-kind_spoke GroupsAck role slots turns now o message v spoke grows is six =
-    same_spoke role turns now o v (heard_kind slots GroupsAck message v) spoke grows (omega (arith, ap length is, length-append (heard turns) (message ∷ []))) (record { sid = refl; asked = refl; taken = refl })
 kind_spoke GroupsNack role slots turns now o message v spoke grows is six =
     same_spoke role turns now o v v spoke grows (omega (arith, ap length is, length-append (heard turns) (message ∷ []))) (record { sid = refl; asked = refl; taken = refl })
 kind_spoke Other role slots turns now o message v spoke grows is six =
     same_spoke role turns now o v v spoke grows (omega (arith, ap length is, length-append (heard turns) (message ∷ []))) (record { sid = refl; asked = refl; taken = refl })
+kind_spoke k role slots turns now o message v spoke grows is six =
+    same_spoke role turns now o v (heard_kind slots k message v) spoke grows (omega (arith, ap length is, length-append (heard turns) (message ∷ []))) (record { sid = refl; asked = refl; taken = refl })
 
 ended_spoke : (ended : Option (List ℕ)) (role : Role) (slots : ℕ) (turns now : List Turn) (o : Option (List ℕ)) (v : SessionLog) → Spoke role turns v → Grown o (row role turns) (row role now)
     → Grown ended (heard turns) (heard now) → 6 ≤ length (heard turns) → Spoke role now (heard_in slots ended v)

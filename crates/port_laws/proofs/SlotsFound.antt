@@ -30,9 +30,7 @@ use Rattle.port_model.specs.NetEndStep.{FetchFails}
 past_first : (up aligned holds : Bool) (rest : Option CopyFault)
     → (if not up then Some fault.Channel else if not aligned then Some fault.BadAlign else if not holds then Some fault.Short else rest) ≡ None → holds ≡ true
 past_first true true true rest is = refl
-past_first true true false rest is = absurd (cc is)
-past_first true false holds rest is = absurd (cc is)
-past_first false aligned holds rest is = absurd (cc is)
+past_first _ _ _ rest is = absurd (cc is)
 
 copied_long : (reach : Reach) (cookies : List Cookie) (n : ℕ) → first_copy_fault reach.both Read reach.table cookies 0 n ≡ None → length (moved_in reach.table reach.memory cookies 0 n) ≡ n
 copied_long reach cookies n none =

@@ -18,7 +18,7 @@ use Rattle.port_model.proofs.Ruling.{says_of}
 use Rattle.port_model.specs.NetEndPutting.{net_holds, opened_by_put}
 use Rattle.port_model.specs.NetEndRule.{Fetches, Publishes, port_rule}
 use Rattle.port_model.specs.NetEndState.{NetEndState, NetSession, first_id, opened_session}
-use Rattle.port_model.specs.NetEndStep.{Blocked, Frame, Idle, Joined, NetAnswer, NetLeft, Published, Reset, Sent, Took, published, taken}
+use Rattle.port_model.specs.NetEndStep.{Blocked, Frame, Idle, NetAnswer, NetLeft, Published, Sent, Took, published, taken}
 use Rattle.port_model.specs.NetEndTaking.{GoesOn, NetTakes, Resets}
 use Rattle.port_model.specs.NetEvent.{Steps}
 use Rattle.port_model.specs.NetLaneState.{NetLaneState, NetShape, seen_at, reach_of}
@@ -222,8 +222,6 @@ module _ (shape : NetShape) (u t : PortState) (l : PortLog) (left : NetLeft) (p 
 guest_in : (shape : NetShape) (u t : PortState) (l : PortLog) (answer : NetAnswer) (left : NetLeft) (p q : NetSession) → Acts shape A u t l answer left → Goes answer → u.lane.guest.session ≡ Some p
     → left.end.session ≡ Some q → IsUp A u.lane.wire.wire → IsUp B u.lane.wire.wire → IsFront (heard (turns_now answer l.transcript.client)) (said l.transcript.server)
     → Between u.lane.guest u.lane.hub l.transcript.client l.transcript.server p → Between left.end u.lane.hub (turns_now answer l.transcript.client) l.transcript.server q
-guest_in shape u t l (Joined lost) left p q acts goes session now up other front was = absurd goes
-guest_in shape u t l (Reset cause packet lost) left p q acts goes session now up other front was = absurd goes
 guest_in shape u t l Idle left p q acts goes session now up other front was =
     let same : left.end ≡ u.lane.guest = ap (λ (x : NetLeft). x.end) acts.step.1 in
     quiet_now shape u t l left p q session now other was p (ap (λ (x : NetEndState). x.session) same ∙ session) (ap (λ (x : NetEndState). x.groups) same) (ap (λ (x : NetEndState). x.handshake) same)
@@ -266,6 +264,7 @@ guest_in shape u t l (Sent packet opens) left p q acts goes session now up other
     (outbox u.lane.hub l.transcript.server l.transcript.client) u.lane.hub.session u.lane.hub.groups) same forms.talk)
 guest_in shape u t l (Took packet opens) left p q acts goes session now up other front was =
     took_now shape u t l left p q session now other was packet opens (acting_at shape A u l acts.finds up) acts.finds.talks up front acts.step.1
+guest_in shape u t l _ left p q acts goes session now up other front was = absurd goes
 
 -- IT OPENS
 guest_opens : (shape : NetShape) (u t : PortState) (l : PortLog) (packet : List ℕ) (left : NetLeft) (q : NetSession) → Acts shape A u t l (Sent packet true) left → IsUp A t.lane.wire.wire → IsUp B t.lane.wire.wire

@@ -161,8 +161,6 @@ module _ (shape : NetShape) (u t : PortState) (l : PortLog) (left : NetLeft) (p 
 hub_in : (shape : NetShape) (u t : PortState) (l : PortLog) (answer : NetAnswer) (left : NetLeft) (p q : NetSession) → Acts shape B u t l answer left → Goes answer → u.lane.hub.session ≡ Some q
     → u.lane.guest.session ≡ Some p → Fresh [] u.lane.guest.groups → IsUp A u.lane.wire.wire → IsUp B u.lane.wire.wire → IsFront (heard (turns_now answer l.transcript.server)) (said l.transcript.client)
     → Between u.lane.guest u.lane.hub l.transcript.client l.transcript.server p → Between u.lane.guest left.end l.transcript.client (turns_now answer l.transcript.server) p
-hub_in shape u t l (Joined lost) left p q acts goes session guest fresh up other front was = absurd goes
-hub_in shape u t l (Reset cause packet lost) left p q acts goes session guest fresh up other front was = absurd goes
 hub_in shape u t l Idle left p q acts goes session guest fresh up other front was =
     let same : left.end ≡ u.lane.hub = ap (λ (x : NetLeft). x.end) acts.step.1 in
     quiet_now shape u t l left p q session fresh was q (ap (λ (x : NetEndState). x.session) same ∙ session) (ap (λ (x : NetEndState). x.groups) same) (ap (λ (x : NetEndState). x.handshake) same)
@@ -208,6 +206,7 @@ hub_in shape u t l (Took packet opens) left p q acts goes session guest fresh up
     let says = says_of Responder u.lane.hub (seen_at B u.lane) (Takes packet) acts.step.0 in
     let listens : MayListen q = subst (λ (x : Option NetSession). IfOpen x MayListen) session says.2 in
     took_now shape u t l left p q session fresh was packet opens (acting_at shape B u l acts.finds other) acts.finds.talks up other listens.0 front acts.step.1
+hub_in shape u t l _ left p q acts goes session guest fresh up other front was = absurd goes
 
 -- WITHOUT A SESSION
 pub record ShutLeft (s t : NetEndState) : Type 0 where
@@ -272,8 +271,6 @@ pub record ShutAfter (answer : NetAnswer) (s t : NetEndState) : Type 0 where
 
 pub shut_after : (s : NetEndState) (at : Seen) (memory : List ℕ) (reach : Reach) (answer : NetAnswer) (left : NetLeft) → s.session ≡ None → Goes answer → NetEndStep Responder s at memory reach answer left
     → ShutAfter answer s left.end
-shut_after s at memory reach (Joined lost) left none goes step = absurd goes
-shut_after s at memory reach (Reset cause packet lost) left none goes step = absurd goes
 shut_after s at memory reach Idle left none goes step =
     let same : left.end ≡ s = ap (λ (x : NetLeft). x.end) step.1 in
     record {
@@ -291,6 +288,7 @@ shut_after s at memory reach (Sent packet opens) left none goes step =
     record { left = record { groups = ap (λ (x : NetLeft). x.end.groups) step.is ∙ held.1; reply = ap reply_in (session ∙ held.0) }; stays = session ∙ held.0 }
 shut_after s at memory reach (Took packet opens) left none goes step =
     let took = shut_took s left.end memory packet left.own opens none step.1 in record { left = record { groups = took.groups; reply = took.reply }; stays = tt }
+shut_after s at memory reach _ left none goes step = absurd goes
 
 -- WHAT IS ON THE WAY then
 not_low : (m : List ℕ) → envelope_at m < 0x0042 → is_groups m ≡ false

@@ -12,7 +12,7 @@ use Rattle.port_model.proofs.Refuting.{none_some, true_false}
 use Rattle.port_model.specs.Groups.{is_in}
 use Rattle.port_model.specs.NetEndState.{NetEndState, NetSession}
 use Rattle.port_model.specs.NetEndStep.{Already, BadLength, Full, Given, GroupsFull, Joining, Member, NetGives, NetJoins, Queued, untold}
-use Rattle.port_model.specs.NetEvent.{Asked, CalmTick, Declines, Gives, Injects, Joins, Loses, NetEvent, Pokes, Steps, Ticked, on_wire}
+use Rattle.port_model.specs.NetEvent.{Asked, Gives, Injects, Joins, Loses, NetEvent, Pokes, Steps, Ticked, on_wire}
 use Rattle.port_model.specs.NetLaneState.{IsNetShape, NetLaneState, NetShape}
 use Rattle.port_model.specs.NetLaneStep.{NetLaneStep, moved_on}
 use Rattle.port_model.specs.PortLog.{PortLog, after, no_events}
@@ -71,8 +71,6 @@ lane_talk shape u t l (Asked B lost) of_queue finds step clean counts talks fres
     let both = open_both Initiator shape.slots [] u.lane.guest l.guest finds.ready.guest in
     never_alone shape u l _ finds (λ gone. true_false (sym (ap is_some here) ∙ both.shut gone)) (sym (ap (λ (x : NetLaneState). x.wire.wire.end_a) step.1) ∙ up)
 lane_talk shape u t l (Ticked queued lost) of_queue finds step clean counts talks fresh talk = λ p up other some. none_some p (sym (ap (λ (x : NetLaneState). x.guest.session) step.1.1) ∙ some)
-lane_talk shape u t l (CalmTick queued) of_queue finds step clean counts talks fresh talk =
-    subst (λ (x : NetLaneState). TalkStands x (after l (OnLane (CalmTick queued)))) (sym step.1) talk
 lane_talk shape u t l (Gives A given) of_queue finds step clean counts talks fresh talk =
     subst (λ (x : NetLaneState). TalkStands x (after l (OnLane (Gives A given)))) (sym step.1)
     (λ p up other some. given_talk u.lane.guest given t.lane.guest u.lane.hub l.transcript.client l.transcript.server p step.0 (λ is. talk p up other is) some)
@@ -80,14 +78,12 @@ lane_talk shape u t l (Gives B given) of_queue finds step clean counts talks fre
 lane_talk shape u t l (Joins joining) of_queue finds step clean counts talks fresh talk =
     subst (λ (x : NetLaneState). TalkStands x (after l (OnLane (Joins joining)))) (sym step.1)
     (λ p up other some. joined_talk u.lane.guest joining t.lane.guest u.lane.hub l.transcript.client l.transcript.server p step.0 (λ q is. talk q up other is) some)
-lane_talk shape u t l (Loses A packet) of_queue finds step clean counts talks fresh talk =
-    subst (λ (x : NetLaneState). TalkStands x (after l (OnLane (Loses A packet)))) (sym step.1) (λ p up other some. talk p up other some)
-lane_talk shape u t l (Loses B packet) of_queue finds step clean counts talks fresh talk =
-    subst (λ (x : NetLaneState). TalkStands x (after l (OnLane (Loses B packet)))) (sym step.1) (λ p up other some. talk p up other some)
 lane_talk shape u t l (Injects e packet) of_queue finds step clean counts talks fresh talk = true_false clean
 lane_talk shape u t l (Pokes e at bytes) of_queue finds step clean counts talks fresh talk = true_false clean
-lane_talk shape u t l (Declines d) of_queue finds step clean counts talks fresh talk =
-    subst (λ (x : NetLaneState). TalkStands x (after l (OnLane (Declines d)))) (sym step.1) (λ p up other some. talk p up other some)
+lane_talk shape u t l (Loses A packet) of_queue finds step clean counts talks fresh talk =
+    subst (λ (x : NetLaneState). TalkStands x (after l (OnLane (Loses A packet)))) (sym step.1) (λ p up other some. talk p up other some)
+lane_talk shape u t l event of_queue finds step clean counts talks fresh talk =
+    subst (λ (x : NetLaneState). TalkStands x (after l (OnLane event))) (sym step.1) (λ p up other some. talk p up other some)
 
 -- ALONG EVERY RUN
 pub record KeptTalk (shape : NetShape) (s : PortState) (l : PortLog) : Type 0 where

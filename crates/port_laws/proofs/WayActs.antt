@@ -71,12 +71,11 @@ closed_acts slots turns others (Took packet false) l w is goes fits ways =
     subst (λ (o : Option SessionLog). Between slots (Heard packet ∷ turns) others (or_new (change (heard_in slots (ended_by (half_heard turns) packet)) o)) w) (sym is)
     (hears_plain slots (ended_by (half_heard turns) packet) (said turns) (heard turns) (heard (Heard packet ∷ turns)) (said others) (heard others) fits.front.0 (opened_log 0) w ways (heard_grown turns packet)
     fits.front.1 fits.heard_plain)
-closed_acts slots turns others Blocked l w is goes fits ways = subst (λ (o : Option SessionLog). Between slots turns others (or_new o) w) (sym is) ways
-closed_acts slots turns others Idle l w is goes fits ways = subst (λ (o : Option SessionLog). Between slots turns others (or_new o) w) (sym is) ways
 closed_acts slots turns others (Published id) l w is goes fits ways = subst (λ (o : Option SessionLog). Between slots turns others (or_new (change more_published o)) w) (sym is) ways
 closed_acts slots turns others (Frame frame) l w is goes fits ways = subst (λ (o : Option SessionLog). Between slots turns others (or_new (change more_taken o)) w) (sym is) ways
 closed_acts slots turns others (Joined lost) l w is goes fits ways = absurd goes
 closed_acts slots turns others (Reset cause packet lost) l w is goes fits ways = absurd goes
+closed_acts slots turns others _ l w is goes fits ways = subst (λ (o : Option SessionLog). Between slots turns others (or_new o) w) (sym is) ways
 
 -- THE FIRST SESSION of both opens, with nothing on the way
 pub first_ways : (slots sid : ℕ) (turns others : List Turn) → IsFront (heard turns) (said others) → IsFront (heard others) (said turns) → Plain (said turns) → Plain (said others)

@@ -11,7 +11,7 @@ use Rattle.channel_model.specs.Ranges.{wrapped}
 use Rattle.dring.specs.Slots.{range_length}
 use Rattle.port_model.specs.EndLog.{SessionLog, heard_in, heard_kind, more_published, more_taken, range_of, said_in, said_kind}
 use Rattle.port_model.specs.FrameLaws.{Acknowledges, Announces}
-use Rattle.port_model.specs.Spoken.{GroupsAck, GroupsInfo, GroupsNack, Other, RangeAck, RangeInfo, Spoken, spoken}
+use Rattle.port_model.specs.Spoken.{GroupsInfo, GroupsNack, Other, RangeAck, RangeInfo, Spoken, spoken}
 use Rattle.port_laws.specs.Counted.{SaysRightly}
 use Rattle.port_laws.specs.WaysStand.{Comes, Goes, Rests, Way, Ways, Works, ack_first, acks_in, info_first, infos_in}
 use Rattle.port_laws.proofs.SessionsHeard.{Grown}
@@ -212,17 +212,11 @@ says_kind RangeAck slots v w groups going coming message is right mine theirs =
       theirs = way_as slots w w now now (infos_in coming) (infos_in coming) (acks_in going ++ message ∷ []) (acks_in (going ++ message ∷ [])) (same_asks w) (same_answers now) refl acks
           (answers_way slots w v (infos_in coming) (acks_in going) message right theirs);
     }
-says_kind GroupsInfo slots v w groups going coming message is right mine theirs = plain_said slots v w (said_kind GroupsInfo message v) going coming message
-    (ap (λ (k : Spoken). info_first k message []) is) (ap (λ (k : Spoken). ack_first k message []) is) (record { asking = refl; infos = refl; seen = refl })
-    (record { asked = refl; acks = refl; answered = refl; taken = refl }) mine theirs
-says_kind GroupsAck slots v w groups going coming message is right mine theirs = plain_said slots v w (said_kind GroupsAck message v) going coming message
-    (ap (λ (k : Spoken). info_first k message []) is) (ap (λ (k : Spoken). ack_first k message []) is) (record { asking = refl; infos = refl; seen = refl })
-    (record { asked = refl; acks = refl; answered = refl; taken = refl }) mine theirs
-says_kind GroupsNack slots v w groups going coming message is right mine theirs = plain_said slots v w (said_kind GroupsNack message v) going coming message
-    (ap (λ (k : Spoken). info_first k message []) is) (ap (λ (k : Spoken). ack_first k message []) is) (record { asking = refl; infos = refl; seen = refl })
-    (record { asked = refl; acks = refl; answered = refl; taken = refl }) mine theirs
 says_kind Other slots v w groups going coming message is right mine theirs = plain_said slots v w v going coming message
     (ap (λ (k : Spoken). info_first k message []) is) (ap (λ (k : Spoken). ack_first k message []) is) (same_asks v) (same_answers v) mine theirs
+says_kind k slots v w groups going coming message is right mine theirs = plain_said slots v w (said_kind k message v) going coming message
+    (ap (λ (k : Spoken). info_first k message []) is) (ap (λ (k : Spoken). ack_first k message []) is) (record { asking = refl; infos = refl; seen = refl })
+    (record { asked = refl; acks = refl; answered = refl; taken = refl }) mine theirs
 
 with_said : (slots : ℕ) (sa sa_now ha sb hb : List (List ℕ)) (v w now : SessionLog) (message : List ℕ) → (ways : Ways slots sa ha sb hb v w) → sa_now ≡ sa ++ message ∷ []
     → OneSaid slots v w now ways.going ways.coming message → Ways slots sa_now ha sb hb now w
@@ -305,18 +299,15 @@ hears_kind RangeAck slots v w going rest message is one turn mine theirs =
       theirs = way_as slots w w v now (infos_in (message ∷ rest)) (infos_in rest) (acks_in going) (acks_in going) (same_asks w) (record { asked = refl; acks = refl; answered = refl; taken = refl })
           (sym (ap (λ (k : Spoken). info_first k message (infos_in rest)) is)) refl theirs;
     }
-hears_kind GroupsInfo slots v w going rest message is one turn mine theirs =
-    plain_heard slots v w (heard_kind slots GroupsInfo message v) going rest message (ap (λ (k : Spoken). info_first k message (infos_in rest)) is)
-    (ap (λ (k : Spoken). ack_first k message (acks_in rest)) is) (record { asking = refl; infos = refl; seen = refl }) (record { asked = refl; acks = refl; answered = refl; taken = refl }) mine theirs
-hears_kind GroupsAck slots v w going rest message is one turn mine theirs =
-    plain_heard slots v w (heard_kind slots GroupsAck message v) going rest message (ap (λ (k : Spoken). info_first k message (infos_in rest)) is)
-    (ap (λ (k : Spoken). ack_first k message (acks_in rest)) is) (record { asking = refl; infos = refl; seen = refl }) (record { asked = refl; acks = refl; answered = refl; taken = refl }) mine theirs
 hears_kind GroupsNack slots v w going rest message is one turn mine theirs =
     plain_heard slots v w v going rest message (ap (λ (k : Spoken). info_first k message (infos_in rest)) is) (ap (λ (k : Spoken). ack_first k message (acks_in rest)) is) (same_asks v) (same_answers v)
     mine theirs
 hears_kind Other slots v w going rest message is one turn mine theirs =
     plain_heard slots v w v going rest message (ap (λ (k : Spoken). info_first k message (infos_in rest)) is) (ap (λ (k : Spoken). ack_first k message (acks_in rest)) is) (same_asks v) (same_answers v)
     mine theirs
+hears_kind k slots v w going rest message is one turn mine theirs =
+    plain_heard slots v w (heard_kind slots k message v) going rest message (ap (λ (k : Spoken). info_first k message (infos_in rest)) is)
+    (ap (λ (k : Spoken). ack_first k message (acks_in rest)) is) (record { asking = refl; infos = refl; seen = refl }) (record { asked = refl; acks = refl; answered = refl; taken = refl }) mine theirs
 
 -- the message that it heard was the first that came
 pub first_came : (slots : ℕ) (ha ha_now sb coming rest : List (List ℕ)) (message : List ℕ) → sb ≡ ha ++ coming → ha_now ≡ ha ++ message ∷ [] → sb ≡ ha_now ++ rest → coming ≡ message ∷ rest

@@ -1,11 +1,12 @@
 -- What is said and heard before a session opens has no INFO and no ACK of a ring.
+use Rattle.std.proofs.lemmas.Bool.{ltb-true}
 use Rattle.std.proofs.Common.{◌≡◌, ℕ, ◌<◌, ◌≤◌, Bool, true, false, List, [], ◌∷◌, ◌++◌, length, inl, inr, refl, sym, ap, ◌∙◌, subst, arith, length-append}
 use Rattle.std.proofs.lemmas.List.{append-nil}
 use Rattle.ldc_link.specs.declared.phase.Role.{Role}
 use Rattle.ldc_link.specs.LinkState.{is_up}
 use Rattle.ldc_queue.specs.declared.end.ChannelState.TheVariants.{Up}
 use Rattle.vio_handshake.specs.declared.session.Offer.{Offer}
-use Rattle.vio_handshake.proofs.Places.{AllSaid, AttributesAnswered, AttributesSaid, Deal, PeerReadyAnswered, PeerReadySaid, PeerRingAnswered, PeerRingSaid, Place, ReadyAnswered, ReadySaid, RingAnswered, RingSaid, VersionAnswered, VersionSaid, owner}
+use Rattle.vio_handshake.proofs.Places.{AllSaid, AttributesAnswered, Deal, Place, owner}
 use Rattle.vio_tag.specs.Spelling.{canonical, envelope_at}
 use Rattle.channel_model.specs.Sayings.{heard, said}
 use Rattle.channel_laws.proofs.EndStanding.{open_up}
@@ -26,19 +27,8 @@ place_other d _ = refl
 
 place_low : (d : Deal) (n : Place) → envelope_at (bytes_at d n) < 0x0042
 unfolding canonical
-place_low d VersionSaid = let is : envelope_at (bytes_at d VersionSaid) ≡ 1 = refl in omega (arith, is)
-place_low d VersionAnswered = let is : envelope_at (bytes_at d VersionAnswered) ≡ 1 = refl in omega (arith, is)
-place_low d AttributesSaid = let is : envelope_at (bytes_at d AttributesSaid) ≡ 2 = refl in omega (arith, is)
-place_low d AttributesAnswered = let is : envelope_at (bytes_at d AttributesAnswered) ≡ 2 = refl in omega (arith, is)
-place_low d RingSaid = let is : envelope_at (bytes_at d RingSaid) ≡ 3 = refl in omega (arith, is)
-place_low d RingAnswered = let is : envelope_at (bytes_at d RingAnswered) ≡ 3 = refl in omega (arith, is)
-place_low d PeerRingSaid = let is : envelope_at (bytes_at d PeerRingSaid) ≡ 3 = refl in omega (arith, is)
-place_low d PeerRingAnswered = let is : envelope_at (bytes_at d PeerRingAnswered) ≡ 3 = refl in omega (arith, is)
-place_low d ReadySaid = let is : envelope_at (bytes_at d ReadySaid) ≡ 5 = refl in omega (arith, is)
-place_low d ReadyAnswered = let is : envelope_at (bytes_at d ReadyAnswered) ≡ 5 = refl in omega (arith, is)
-place_low d PeerReadySaid = let is : envelope_at (bytes_at d PeerReadySaid) ≡ 5 = refl in omega (arith, is)
-place_low d PeerReadyAnswered = let is : envelope_at (bytes_at d PeerReadyAnswered) ≡ 5 = refl in omega (arith, is)
-place_low d AllSaid = let is : envelope_at (bytes_at d AllSaid) ≡ 5 = refl in omega (arith, is)
+place_low d AttributesAnswered = ltb-true (envelope_at (bytes_at d AttributesAnswered)) 0x0042 refl
+place_low d n = ltb-true (envelope_at (bytes_at d n)) 0x0042 refl
 
 plain_one : (b : Bool) (message : List ℕ) (messages : List (List ℕ)) → spoken message ≡ Other → envelope_at message < 0x0042 → Plain messages → Plain (one_if b message messages)
 plain_one true message messages is low plain = record {

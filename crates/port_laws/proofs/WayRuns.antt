@@ -20,7 +20,7 @@ use Rattle.channel_laws.specs.Sides.{sides_of, swapped}
 use Rattle.port_model.proofs.Refuting.{none_some, true_false}
 use Rattle.port_model.specs.EndLog.{EndLog, SessionLog, change, opened_log}
 use Rattle.port_model.specs.NetEndState.{NetSession}
-use Rattle.port_model.specs.NetEndStep.{Blocked, Frame, Given, Idle, Joined, NetAnswer, NetLeft, Published, Queued, Reset, Sent, Took}
+use Rattle.port_model.specs.NetEndStep.{Frame, Given, Joined, NetAnswer, NetLeft, Queued, Reset, Sent, Took}
 use Rattle.port_model.specs.NetEvent.{Asked, Gives, Injects, Loses, NetEvent, Pokes, Steps, Ticked, on_wire}
 use Rattle.port_model.specs.NetLaneState.{IsNetShape, NetLaneState, NetShape, memory_of, net_end, reach_of, role_at, seen_at}
 use Rattle.port_model.specs.NetLaneStep.{EndSteps, NetLaneStep, moved_on}
@@ -114,11 +114,7 @@ fits_at shape e u t l answer left v acts other is front = by_answer answer acts 
         let busy = step_busy (role_at e) shape.slots (queue_of e u) (net_end e u.lane) (log_of_end e l) (transcript_of e l.transcript) (seen_at e u.lane) (memory_of e u.lane) (reach_of e u.lane) (Frame frame)
         left (λ up. end_acts shape e u l moves.finds.ready up) moves.step in
         subst (Active (Frame frame)) is busy.active
-    by_answer Blocked moves ahead = tt
-    by_answer Idle moves ahead = tt
-    by_answer (Published id) moves ahead = tt
-    by_answer (Joined lost) moves ahead = tt
-    by_answer (Reset cause packet lost) moves ahead = tt
+    by_answer _ moves ahead = tt
 
 pub goes_theirs : (answer : NetAnswer) (x y : ChannelState) → Goes answer → theirs_now answer x y ≡ y
 goes_theirs (Joined lost) x y goes = absurd goes
