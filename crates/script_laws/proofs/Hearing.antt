@@ -1,4 +1,4 @@
--- What an end that is up heard is a front of what the other end said, by the log of their lane.
+-- What an end that is up heard is a front of what the other end said, by the log of their lane: of a disk, and of a port.
 use Rattle.std.proofs.Common.{◌≡◌, false, List, sym, subst}
 use Rattle.runs.specs.Lawful.{log_of}
 use Rattle.runs.specs.Run.{Run}
@@ -9,9 +9,23 @@ use Rattle.world_parts.specs.disk_model.LaneStep.{LaneStep}
 use Rattle.world_parts.proofs.lane_laws.LaneCores.{transcript_is}
 use Rattle.world_parts.proofs.lane_laws.HeardFront.{heard_messages, heard_packets}
 use Rattle.world_parts.specs.lane_laws.LaneTranscripts.{transcript_behind}
-use Rattle.world_parts.specs.channel_model.TranscriptLog.{TranscriptLog}
+use Rattle.world_parts.specs.channel_model.TranscriptLog.{TranscriptLog, transcript_of}
 use Rattle.world_parts.specs.channel_model.WireAt.{IsUp}
+use Rattle.world_parts.specs.channel_model.WireLog.{WireLog}
+use Rattle.channel_laws.proofs.ConversingRuns as core
+use Rattle.world_parts.proofs.port_laws.CoreLaws.{port_front, sizes_fit}
+use Rattle.world_parts.proofs.port_laws.PortRuns.{fresh_port_core, spoken_behind}
+use Rattle.world_parts.specs.port_laws.PortCore.{port_core, port_events}
+use Rattle.world_parts.specs.port_model.NetLaneState.{IsNetShape, NetShape, role_at}
+use Rattle.world_parts.specs.port_model.Offers.{port_offer}
+use Rattle.world_parts.specs.port_model.PortLog.{PortLog, after as port_after, no_events}
+use Rattle.world_parts.specs.port_model.PortState.{PortEvent, PortState, PortStep, fresh_port}
 use Rattle.ldc_queue.specs.declared.end.End.{End}
+use Rattle.ldc_queue.specs.declared.end.End.TheVariants.{A, B}
+use Rattle.ldc_queue.specs.OneStream.{IsFront}
+use Rattle.ldc_queue.specs.Transcript.{numbered_heard, numbered_said}
+use Rattle.ldc_queue.specs.Wire.{peer_of}
+use Rattle.script_laws.proofs.PortLogs.{same_wire}
 use Rattle.script_laws.specs.Lanes.{HearsAFront}
 
 pub hears_a_front : (shape : Shape) (events : List DiskEvent) (s : LaneState) (e : End) → IsShape shape
@@ -24,3 +38,24 @@ hears_a_front shape events s e sound run clean up =
       packets = heard_packets shape events s e sound run clean up;
       messages = heard_messages shape events s e sound run clean up;
     })
+
+-- OF A PORT, where its log says that the end is up
+module _ (shape : NetShape) (sound : IsNetShape shape) (events : List PortEvent) (s : PortState)
+    (run : Run PortStep (fresh_port shape) events s) where
+  abbrev log : PortLog
+  log = log_of port_after (no_events shape) events
+
+  port_packets : (e : End) → s.lane.wire.forged ≡ false → IsUp e s.lane.wire.wire
+      → IsFront (numbered_heard (transcript_of e log.transcript)) (numbered_said (transcript_of (peer_of e) log.transcript))
+  port_packets e clean up =
+      subst (λ (t : TranscriptLog). IsFront (numbered_heard (transcript_of e t)) (numbered_said (transcript_of (peer_of e) t)))
+      (spoken_behind shape events)
+      (core.heard_packets shape.entries (port_offer (role_at A) shape.address shape.slots)
+      (port_offer (role_at B) shape.address shape.slots) (port_events events) (port_core s) e (sizes_fit shape sound)
+      (fresh_port_core shape events s run) clean up)
+
+  pub port_hears : (e : End) → s.lane.wire.forged ≡ false → IsUp e log.wire.wire → HearsAFront e log.transcript
+  port_hears e clean up =
+      let there : IsUp e s.lane.wire.wire =
+      subst (λ (w : WireLog). IsUp e w.wire) (sym (same_wire shape sound events s run)) up in
+      record { packets = port_packets e clean there; messages = port_front shape events s e sound run clean there }

@@ -6,11 +6,14 @@ use Rattle.disk_law.specs.ListState.{ImageState}
 use Rattle.domain_script.specs.declared.event.DiskDecl.{DiskDecl}
 use Rattle.lane_kinds.proofs.Places.{get_within}
 use Rattle.lane_kinds.specs.Lanes.{EachOf}
+use Rattle.ldc_queue.specs.declared.end.End.{End}
 use Rattle.ldc_queue.specs.declared.end.End.TheVariants.{A, B}
+use Rattle.world_parts.specs.channel_model.WireAt.{IsUp}
 use Rattle.world_parts.proofs.port_laws.EveryRun.{every_run}
 use Rattle.world_parts.specs.port_laws.InOrder.{InOrder}
 use Rattle.world_parts.specs.port_laws.Lost.{frames_lost}
 use Rattle.world_parts.specs.port_model.NetLaneState.{IsNetShape, NetShape}
+use Rattle.world_parts.specs.port_model.PortLog.{PortLog, no_events}
 use Rattle.world_parts.specs.port_model.PortState.{PortState, PortStep, fresh_port}
 use Rattle.world_parts.specs.switch_laws.Events.{Switched}
 use Rattle.world_parts.specs.switch_laws.Reached.{IsUnforged}
@@ -23,10 +26,14 @@ use Rattle.world_parts.specs.domain_laws.Domain.{DomainState, DomainStep, PortsS
 use Rattle.world_parts.specs.domain_laws.Forged.{NobodyForgesPort}
 use Rattle.world_parts.specs.domain_laws.Frames.{frames_arrived, frames_put, frames_queued, frames_switched, port_events}
 use Rattle.world_parts.specs.domain_laws.Settling.{HoldsNoFrame}
+use Rattle.script_laws.proofs.Hearing.{port_hears}
 use Rattle.script_laws.proofs.Leading.{Leads}
+use Rattle.script_laws.proofs.PortLogs.{told_log}
 use Rattle.script_laws.proofs.Settling.{PortsRestAt}
 use Rattle.script_laws.proofs.Untold.{Untold, all_told, real_forged, real_settled, real_switched, told_arrived, told_forged, told_put, told_queued, told_switched, untold}
+use Rattle.script_laws.specs.Lanes.{HearsAFront}
 use Rattle.script_laws.specs.Ports.{GoesByStates, OfPort, PortsStand, RestsBehind}
+use Rattle.script_laws.specs.Told.{port_log_at}
 use Rattle.world_parts.specs.Declared.{shapes_of, world_of}
 use Rattle.world_parts.specs.WorldEvents.{told_of}
 
@@ -129,6 +136,17 @@ module _ (disks : List DiskDecl) (nets : List NetShape) (image : ImageState) (ar
     in_order a b c d one two order =
         subst (λ (l : List (List ℕ)). InOrder 0 l b) (sym one) (subst (InOrder 0 c) (sym two) order)
 
+    -- what an end heard
+    hears_there : (front : List SettleEntry) → FrontLed front → NobodyForgesPort (port_happened k front)
+        → (e : End) → IsUp e (port_log_at shape k front).wire.wire → HearsAFront e (port_log_at shape k front).transcript
+    hears_there front at none e up =
+        let same : port_log_at shape k front ≡ port_log_at shape k at.past =
+        ap (port_log_at shape k) at.told_is ∙ told_log k at.past (no_events shape) in
+        subst (λ (l : PortLog). HearsAFront e l.transcript) (sym same)
+        (port_hears shape (sound_at nets k shape are of_shape) (port_events k at.past) at.one
+        (own_run (shapes_of 0 disks) image nets are at.past at.at k shape at.one at.led of_shape at.here) e
+        (clean_there front at none) (subst (λ (l : PortLog). IsUp e l.wire.wire) same up))
+
     switch_order : (front : List SettleEntry) → FrontLed front → NobodyForgesPort (port_happened k front)
         → InOrder 0 (frames_switched k front) (frames_queued k front)
     switch_order front at none =
@@ -204,6 +222,7 @@ module _ (disks : List DiskDecl) (nets : List NetShape) (image : ImageState) (ar
       run = run;
       lawful = every_run shape (port_events k leads.real) s (sound_at nets k shape are of_shape) run;
       forged = forged;
+      hears = λ front behind is none. hears_there front (front_led front behind is) none;
       to_switch = λ front behind is none. switch_order front (front_led front behind is) none;
       to_guest = λ front behind is none. guest_order front (front_led front behind is) none;
       all_to_switch = all_switch;

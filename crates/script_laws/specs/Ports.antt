@@ -1,7 +1,9 @@
 -- What holds of each port along a script's lines, and at their end.
 use Rattle.std.specs.Prelude.{◌≡◌, ◌↔◌, ℕ, List, [], ◌∷◌, ◌++◌, map, Some, slice_get}
 use Rattle.runs.specs.Run.{Run}
+use Rattle.ldc_queue.specs.declared.end.End.{End}
 use Rattle.ldc_queue.specs.declared.end.End.TheVariants.{A, B}
+use Rattle.world_parts.specs.channel_model.WireAt.{IsUp}
 use Rattle.world_parts.specs.port_laws.InOrder.{InOrder}
 use Rattle.world_parts.specs.port_laws.Lost.{frames_lost}
 use Rattle.world_parts.specs.port_model.NetLaneState.{NetShape}
@@ -17,6 +19,8 @@ use Rattle.world_parts.specs.domain_laws.Forged.{NobodyForgesPort}
 use Rattle.world_parts.specs.domain_laws.Frames.{frames_arrived, frames_put, frames_queued, frames_switched, port_events}
 use Rattle.world_parts.specs.domain_laws.Settling.{HoldsNoFrame}
 use Rattle.world_parts.specs.WorldEvents.{told_of}
+use Rattle.script_laws.specs.Lanes.{HearsAFront}
+use Rattle.script_laws.specs.Told.{port_log_at}
 
 -- BEHIND A SETTLE the port came to a state, by what happened to it; where nobody forged it, its guest is in session, and
 -- no frame is held. The entries are those of which these are told.
@@ -28,12 +32,15 @@ pub record RestsBehind (shape : NetShape) (k : ℕ) (before : List SettleEntry) 
   pub rests : IsUnforged at → HoldsNoFrame at
 
 -- OF EACH PORT, by its number: what happened to it led it here, and is lawful, forged or not. What is told says whether
--- somebody forged it. As far as nobody did, its frames arrive in order, each at most once; and where the script ends
--- settled and none is said to be lost, all of them. Behind each settle it is at rest.
+-- somebody forged it. As far as nobody did, an end that is up heard a front of what the other said, and its frames arrive
+-- in order, each at most once; and where the script ends settled and none is said to be lost, all of them. Behind each
+-- settle it is at rest.
 pub record OfPort (shape : NetShape) (k : ℕ) (entries real : List SettleEntry) (s : PortState) : Type 0 where
   pub run : Run PortStep (fresh_port shape) (port_events k real) s
   pub lawful : IsLawfulPort shape (port_events k real)
   pub forged : (IsUnforged s) ↔ NobodyForgesPort (port_happened k entries)
+  pub hears : (front behind : List SettleEntry) → entries ≡ front ++ behind → NobodyForgesPort (port_happened k front)
+      → (e : End) → IsUp e (port_log_at shape k front).wire.wire → HearsAFront e (port_log_at shape k front).transcript
   pub to_switch : (front behind : List SettleEntry) → entries ≡ front ++ behind
       → NobodyForgesPort (port_happened k front) → InOrder 0 (frames_switched k front) (frames_queued k front)
   pub to_guest : (front behind : List SettleEntry) → entries ≡ front ++ behind
