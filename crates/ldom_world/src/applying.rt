@@ -1,21 +1,16 @@
 // What a line of a script says, done to a world.
 
 ghost use Rattle.std.specs.Prelude.{◌≡◌, ◌<◌, length, take, OnErr, OnOk};
-ghost use Rattle.recorded_lanes.specs.world_parts.domain_laws.Lines as script;
-ghost use Rattle.recorded_lanes.specs.world_parts.domain_laws.Lines.{Asked, Calls, Joins, Pokes, Sends};
+ghost use Rattle.recorded_lanes.specs.world_parts.domain_laws.Lines.{Asked, Joins, Sends};
 ghost use Rattle.domain_script.specs.Fills.{IsPiece};
-ghost use Rattle.ldc_queue.specs.declared.end.End.TheVariants.{A};
-ghost use Rattle.recorded_lanes.specs.ldom_report.LaneEvents.{end_of};
-ghost use Rattle.recorded_lanes.specs.Called.{call_of};
-ghost use Rattle.recorded_lanes.specs.OnePort.{IsCallOf, IsPortCall};
 ghost use Rattle.recorded_lanes.specs.Steps.{Counted};
 ghost use Rattle.ldom_world.specs.TurnsMade.{SameNumbers};
 ghost use Rattle.vdisk_msg.specs.Fills.{IsRequest};
-ghost use Rattle.recorded_lanes.specs.world_parts.Lines.{HasMemory, IsForLanes, IsLaneOf, lane_named, line_of};
+ghost use Rattle.recorded_lanes.specs.world_parts.Lines.{IsForLanes, line_of};
 ghost use Rattle.recorded_lanes.specs.world_parts.Parts.{Fits, FitsSoFar};
 
 use crate::world::World;
-use domain_script::{EndName, Event, Lane, LaneKind, Piece, Request, Side};
+use domain_script::{Event, Piece, Request};
 use recorded_lanes::{Journal, LaneCall, fill_bytes};
 use vio_bytes::NoMemory;
 use vio_io::Store;
@@ -58,53 +53,6 @@ impl<D: Store> World<D> {
         }
     }
 
-    /// Calls a lane, among those of its kind.
-    pub(crate) fn call_on(
-        &mut self,
-        lane: Lane,
-        call: LaneCall,
-        journal: &mut Journal,
-    ) -> Result<(), NoMemory>
-        requires lane { IsLaneOf self.old lane }
-        requires call { IsCallOf lane.kind call }
-        requires agrees { Counted journal.old.entries self.old }
-        ensures fits { OnOk result (Fits self.old (Calls (lane_named lane) (call_of call)) journal.old.entries
-            journal.new.entries self.new) }
-        ensures so_far { OnErr result (FitsSoFar self.old (Calls (lane_named lane) (call_of call)) journal.old.entries
-            journal.new.entries self.new) }
-        ensures agrees { Counted journal.new.entries self.new }
-    {
-        match lane.kind {
-            LaneKind::Disk => self.answer_call(lane.number, call, journal),
-            LaneKind::Port => self.answer_port(lane.number, call, journal),
-        }
-    }
-
-    /// Pokes the memory of an end, among the lanes of its kind: a disk's is its client's, and a port has one at each.
-    fn poke_on(
-        &mut self,
-        end: EndName,
-        at: u64,
-        bytes: &[u8],
-        journal: &mut Journal,
-    ) -> Result<(), NoMemory>
-        requires lane { IsLaneOf self.old end.lane }
-        requires memory { HasMemory end.lane.kind end.side }
-        requires agrees { Counted journal.old.entries self.old }
-        ensures fits { OnOk result (Fits self.old (Calls (lane_named end.lane) (Pokes (end_of end.side) at bytes.now))
-            journal.old.entries journal.new.entries self.new) }
-        ensures so_far { OnErr result (FitsSoFar self.old
-            (Calls (lane_named end.lane) (Pokes (end_of end.side) at bytes.now)) journal.old.entries
-            journal.new.entries self.new) }
-        ensures agrees { Counted journal.new.entries self.new }
-    {
-        match (end.lane.kind, end.side) {
-            (LaneKind::Disk, Side::Client) => self.poke_disk(end.lane.number, at, bytes, journal),
-            (LaneKind::Disk, Side::Server) => unreachable!(),
-            (LaneKind::Port, side) => self.poke_port(end.lane.number, side, at, bytes, journal),
-        }
-    }
-
     /// A guest asks the disk with this number: the request is accepted with its id, or refused, or finds no room.
     fn issue(&mut self, disk: u32, request: &Request, journal: &mut Journal) -> Result<(), NoMemory>
         requires disk { disk < length self.old.first.lanes }
@@ -117,43 +65,6 @@ impl<D: Store> World<D> {
         ensures agrees { Counted journal.new.entries self.new }
     {
         self.disks.issue(disk, request, journal)
-    }
-
-    /// Calls the lane of the disk with this number.
-    fn answer_call(
-        &mut self,
-        disk: u32,
-        call: LaneCall,
-        journal: &mut Journal,
-    ) -> Result<(), NoMemory>
-        requires disk { disk < length self.old.first.lanes }
-        requires agrees { Counted journal.old.entries self.old }
-        ensures fits { OnOk result (Fits self.old (Calls (script.DiskLane disk) (call_of call)) journal.old.entries
-            journal.new.entries self.new) }
-        ensures so_far { OnErr result (FitsSoFar self.old (Calls (script.DiskLane disk) (call_of call))
-            journal.old.entries journal.new.entries self.new) }
-        ensures agrees { Counted journal.new.entries self.new }
-    {
-        self.disks.answer_call(disk, call, journal)
-    }
-
-    /// Pokes the memory of the disk with this number.
-    fn poke_disk(
-        &mut self,
-        disk: u32,
-        at: u64,
-        bytes: &[u8],
-        journal: &mut Journal,
-    ) -> Result<(), NoMemory>
-        requires disk { disk < length self.old.first.lanes }
-        requires agrees { Counted journal.old.entries self.old }
-        ensures fits { OnOk result (Fits self.old (Calls (script.DiskLane disk) (Pokes A at bytes.now))
-            journal.old.entries journal.new.entries self.new) }
-        ensures so_far { OnErr result (FitsSoFar self.old (Calls (script.DiskLane disk) (Pokes A at bytes.now))
-            journal.old.entries journal.new.entries self.new) }
-        ensures agrees { Counted journal.new.entries self.new }
-    {
-        self.disks.poke(disk, at, bytes, journal)
     }
 
     /// The guest of the port with this number is given a frame.
@@ -180,45 +91,6 @@ impl<D: Store> World<D> {
         ensures agrees { Counted journal.new.entries self.new }
     {
         self.ports.join(port, address, journal)
-    }
-
-    /// Calls the port with this number.
-    fn answer_port(
-        &mut self,
-        port: u32,
-        call: LaneCall,
-        journal: &mut Journal,
-    ) -> Result<(), NoMemory>
-        requires port { port < length self.old.second }
-        requires call { IsPortCall call }
-        requires agrees { Counted journal.old.entries self.old }
-        ensures fits { OnOk result (Fits self.old (Calls (script.PortLane port) (call_of call))
-            journal.old.entries journal.new.entries self.new) }
-        ensures so_far { OnErr result (FitsSoFar self.old (Calls (script.PortLane port) (call_of call))
-            journal.old.entries journal.new.entries self.new) }
-        ensures agrees { Counted journal.new.entries self.new }
-    {
-        self.ports.answer_call(port, call, journal)
-    }
-
-    /// Pokes the memory of an end of the port with this number.
-    fn poke_port(
-        &mut self,
-        port: u32,
-        side: Side,
-        at: u64,
-        bytes: &[u8],
-        journal: &mut Journal,
-    ) -> Result<(), NoMemory>
-        requires port { port < length self.old.second }
-        requires agrees { Counted journal.old.entries self.old }
-        ensures fits { OnOk result (Fits self.old (Calls (script.PortLane port) (Pokes (end_of side) at bytes.now))
-            journal.old.entries journal.new.entries self.new) }
-        ensures so_far { OnErr result (FitsSoFar self.old (Calls (script.PortLane port) (Pokes (end_of side) at bytes.now))
-            journal.old.entries journal.new.entries self.new) }
-        ensures agrees { Counted journal.new.entries self.new }
-    {
-        self.ports.poke(port, side, at, bytes, journal)
     }
 }
 

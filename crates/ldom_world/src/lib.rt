@@ -4,6 +4,7 @@
 #![tactic(auto)]
 
 mod applying;
+mod kinds;
 mod lanes;
 mod settling;
 mod turns;

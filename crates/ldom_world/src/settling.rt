@@ -295,18 +295,6 @@ impl<D: Store> World<D> {
         calm && !self.waits(lane)
     }
 
-    /// Whether a lane isn't finished, nor a disk's whose server is stopped.
-    fn waits(&self, lane: Lane) -> bool
-        requires lane { IsLaneOf self.now lane }
-        ensures { (s : (in_world lane.kind).Lane) → slice_get ((in_world lane.kind).lanes self.now) lane.number ≡ Some s
-            → result ≡ (in_world lane.kind).kind.waits_on s }
-    {
-        match lane.kind {
-            LaneKind::Disk => self.disks.waits(lane.number),
-            LaneKind::Port => self.ports.waits(lane.number),
-        }
-    }
-
     /// How many rounds a settle may make: 4,096, and 64 for each pending request and frame.
     fn most_rounds(&self) -> u64
         ensures most { result ≡ most_rounds self.now }
