@@ -2,7 +2,7 @@
 
 ghost use Rattle.std.specs.Prelude.{◌∷◌, [], OnErr, OnOk};
 ghost use Rattle.recorded_lanes.specs.world_parts.domain_laws.Domain.{lanes_in};
-ghost use Rattle.recorded_lanes.specs.world_parts.domain_laws.Lines.{both_ends, round_turns, Rounds, Steps, turn};
+ghost use Rattle.recorded_lanes.specs.world_parts.domain_laws.Lines.{both_ends, round_turns, Rounds, Steps};
 ghost use Rattle.recorded_lanes.specs.ldom_report.LaneEvents.{end_of};
 ghost use Rattle.recorded_lanes.specs.Steps.{Counted};
 ghost use Rattle.ldom_world.specs.TurnsMade.{kind_turns, SameNumbers, TurnsBegun, TurnsMade};
