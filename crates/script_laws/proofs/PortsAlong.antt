@@ -15,12 +15,13 @@ use Rattle.world_parts.specs.port_laws.Lost.{frames_lost}
 use Rattle.world_parts.specs.port_model.NetLaneState.{IsNetShape, NetShape}
 use Rattle.world_parts.specs.port_model.PortLog.{PortLog, no_events}
 use Rattle.world_parts.specs.port_model.PortState.{PortState, PortStep, fresh_port}
+use Rattle.world_parts.proofs.switch_laws.Steps.{run_on_port}
 use Rattle.world_parts.specs.switch_laws.Events.{Switched}
 use Rattle.world_parts.specs.switch_laws.Reached.{IsUnforged}
 use Rattle.world_parts.specs.world_laws.Settle.{OfPort as PortEntry, SettleEntry, Settled}
 use Rattle.world_parts.proofs.domain_laws.Arriving.{own_run, rested_to_guest, rested_to_switch, sound_at, to_guest, to_switch}
 use Rattle.world_parts.proofs.domain_laws.ForgedPorts.{port_told}
-use Rattle.world_parts.proofs.domain_laws.Running.{fresh_many, port_runs, ports_run}
+use Rattle.world_parts.proofs.domain_laws.Running.{fresh_many, port_moved, port_runs, ports_run}
 use Rattle.world_parts.specs.domain_laws.Along.{port_happened}
 use Rattle.world_parts.specs.domain_laws.Domain.{DomainState, DomainStep, PortsStep}
 use Rattle.world_parts.specs.domain_laws.Forged.{NobodyForgesPort}
@@ -199,7 +200,8 @@ module _ (disks : List DiskDecl) (nets : List NetShape) (image : ImageState) (ar
         ∙ sym put
 
     -- behind each settle
-    rests_behind : (before behind : List SettleEntry) → entries ≡ before ++ Settled ∷ behind → RestsBehind shape k before
+    rests_behind : (before behind : List SettleEntry) → entries ≡ before ++ Settled ∷ behind
+        → RestsBehind shape k before leads.real s
     rests_behind before behind is =
         let at : Untold leads.real before Settled behind = untold leads.real before Settled behind (sym leads.told_is ∙ is) in
         let real : leads.real ≡ at.past ++ Settled ∷ at.rest =
@@ -210,10 +212,14 @@ module _ (disks : List DiskDecl) (nets : List NetShape) (image : ImageState) (ar
         (within k (length nets) (length rest.at.second) (slice_get_within nets k shape of_shape)
         (sym (fresh_many nets at.past rest.at.second led))) in
         record {
-          real = at.past;
+          past = at.past;
+          later = Settled ∷ at.rest;
+          is = real;
           told_is = at.past_is;
           at = one.0;
           run = port_runs nets at.past rest.at.second k shape one.0 led of_shape one.1;
+          leads = run_on_port one.0 (port_happened k at.rest) s
+              (port_moved rest.at.second at.rest v.second k one.0 s (ports_run rest.at at.rest v rest.on) one.1 there);
           rests = rest.rests k one.0 one.1;
         }
 
@@ -232,7 +238,8 @@ module _ (disks : List DiskDecl) (nets : List NetShape) (image : ImageState) (ar
 
   -- a frame that was switched went by the states before it
   goes_by : (before : List SettleEntry) (k : ℕ) (frame : List ℕ) (out full : ℕ) (behind : List SettleEntry)
-      → entries ≡ before ++ PortEntry k (Switched frame out full) ∷ behind → GoesByStates nets before k frame out full
+      → entries ≡ before ++ PortEntry k (Switched frame out full) ∷ behind
+      → GoesByStates nets before k frame out full leads.real v.second
   goes_by before k frame out full behind is =
       let entry : SettleEntry = PortEntry k (Switched frame out full) in
       let at : Untold leads.real before entry behind = untold leads.real before entry behind (sym leads.told_is ∙ is) in
@@ -243,10 +250,13 @@ module _ (disks : List DiskDecl) (nets : List NetShape) (image : ImageState) (ar
       (ports_run Start leads.real v leads.led) in
       let split = run_split PortsStep (map fresh_port nets) v.second at.past (entry ∷ at.rest) run in
       record {
-        real = at.past;
+        past = at.past;
+        later = entry ∷ at.rest;
+        is = real;
         told_is = at.past_is;
         at = split.0;
         run = split.1;
+        leads = split.2;
         forwards = split.2.1.entry.step.sees;
       }
 

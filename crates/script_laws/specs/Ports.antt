@@ -22,13 +22,17 @@ use Rattle.world_parts.specs.WorldEvents.{told_of}
 use Rattle.script_laws.specs.Lanes.{HearsAFront}
 use Rattle.script_laws.specs.Told.{port_log_at}
 
--- BEHIND A SETTLE the port came to a state, by what happened to it; where nobody forged it, its guest is in session, and
--- no frame is held. The entries are those of which these are told.
-pub record RestsBehind (shape : NetShape) (k : ℕ) (before : List SettleEntry) : Type 0 where
-  pub real : List SettleEntry
-  pub told_is : before ≡ map told_of real
+-- BEHIND A SETTLE the port came to a state, by what happened to it, from which what is left of the entries led to the last
+-- one; where nobody forged it, its guest is in session, and no frame is held. The entries are those of which these are
+-- told.
+pub record RestsBehind (shape : NetShape) (k : ℕ) (before real : List SettleEntry) (s : PortState) : Type 0 where
+  pub past : List SettleEntry
+  pub later : List SettleEntry
+  pub is : real ≡ past ++ later
+  pub told_is : before ≡ map told_of past
   pub at : PortState
-  pub run : Run PortStep (fresh_port shape) (port_events k real) at
+  pub run : Run PortStep (fresh_port shape) (port_events k past) at
+  pub leads : Run PortStep at (port_events k later) s
   pub rests : IsUnforged at → HoldsNoFrame at
 
 -- OF EACH PORT, by its number: what happened to it led it here, and is lawful, forged or not. What is told says whether
@@ -49,16 +53,21 @@ pub record OfPort (shape : NetShape) (k : ℕ) (entries real : List SettleEntry)
       → frames_lost A (port_events k real) ≡ 0 → frames_switched k entries ≡ frames_queued k entries
   pub all_to_guest : (front : List SettleEntry) → entries ≡ front ++ Settled ∷ [] → IsUnforged s
       → frames_lost B (port_events k real) ≡ 0 → frames_arrived k entries ≡ frames_put k entries
-  pub rests : (before behind : List SettleEntry) → entries ≡ before ++ Settled ∷ behind → RestsBehind shape k before
+  pub rests : (before behind : List SettleEntry) → entries ≡ before ++ Settled ∷ behind
+      → RestsBehind shape k before real s
 
 -- A FRAME THAT WAS SWITCHED went to one set of ports and missed another, whose out queues were full: together they are
 -- the other ports in session that its destination names. So it was by the states of all ports, to which the entries before
--- it led; the entries are those of which these are told.
-pub record GoesByStates (nets : List NetShape) (before : List SettleEntry) (k : ℕ) (frame : List ℕ) (out full : ℕ) : Type 0 where
-  pub real : List SettleEntry
-  pub told_is : before ≡ map told_of real
+-- it led, and from which it and those after it led to the last ones; the entries are those of which these are told.
+pub record GoesByStates (nets : List NetShape) (before : List SettleEntry) (k : ℕ) (frame : List ℕ) (out full : ℕ)
+    (real : List SettleEntry) (ports : List PortState) : Type 0 where
+  pub past : List SettleEntry
+  pub later : List SettleEntry
+  pub is : real ≡ past ++ later
+  pub told_is : before ≡ map told_of past
   pub at : List PortState
-  pub run : Run PortsStep (map fresh_port nets) real at
+  pub run : Run PortsStep (map fresh_port nets) past at
+  pub leads : Run PortsStep at later ports
   pub forwards : Forwards at k frame out full
 
 -- OF ALL PORTS, by the entries of which these are told
@@ -68,4 +77,5 @@ pub record PortsStand (nets : List NetShape) (entries : List SettleEntry) (ports
   pub each : (k : ℕ) (shape : NetShape) (s : PortState) → slice_get nets k ≡ Some shape → slice_get ports k ≡ Some s
       → OfPort shape k entries real s
   pub forwards : (before : List SettleEntry) (k : ℕ) (frame : List ℕ) (out full : ℕ) (behind : List SettleEntry)
-      → entries ≡ before ++ PortEntry k (Switched frame out full) ∷ behind → GoesByStates nets before k frame out full
+      → entries ≡ before ++ PortEntry k (Switched frame out full) ∷ behind
+      → GoesByStates nets before k frame out full real ports
