@@ -374,7 +374,7 @@ impl Journal {
         });
     }
 
-    /// PutsEntry an entry last, into room that was reserved. It takes no memory.
+    /// Puts an entry last, into room that was reserved. It takes no memory.
     pub fn push(&mut self, entry: Entry)
         requires { 0 < self.old.room }
         ensures entries { self.new.entries ≡ self.old.entries ++ entry ∷ [] }
@@ -394,7 +394,7 @@ impl Journal {
         }
     }
 
-    /// PutsEntry an entry last that neither takes up a request nor completes one, and isn't a frame.
+    /// Puts an entry last that neither takes up a request nor completes one, and isn't a frame.
     fn push_other(&mut self, entry: Entry)
         requires room { 0 < self.old.room }
         requires accepted { is_accepted entry ≡ false }

@@ -73,7 +73,7 @@ impl KeptEntries {
         Ok(())
     }
 
-    /// PutsEntry an entry last beside which nothing stands.
+    /// Puts an entry last beside which nothing stands.
     pub(crate) fn push_plain(&mut self, header: Header)
         requires room { 0 < self.old.room }
         requires share { share header ≡ needs 0 0 }
@@ -84,7 +84,7 @@ impl KeptEntries {
         self.room -= 1;
     }
 
-    /// PutsEntry an entry last beside which a number stands.
+    /// Puts an entry last beside which a number stands.
     pub(crate) fn push_number(&mut self, header: Header, n: u64)
         requires room { 0 < self.old.room }
         requires share { share header ≡ needs 1 0 }
@@ -95,7 +95,7 @@ impl KeptEntries {
         self.room -= 1;
     }
 
-    /// PutsEntry an entry last beside which two numbers stand.
+    /// Puts an entry last beside which two numbers stand.
     pub(crate) fn push_numbers(&mut self, header: Header, n: u64, m: u64)
         requires room { 0 < self.old.room }
         requires share { share header ≡ needs 2 0 }
@@ -106,7 +106,7 @@ impl KeptEntries {
         self.room -= 1;
     }
 
-    /// PutsEntry an entry last beside which a packet stands.
+    /// Puts an entry last beside which a packet stands.
     pub(crate) fn push_packet(&mut self, header: Header, packet: &[u8; 64])
         requires room { 0 < self.old.room }
         requires share { share header ≡ needs 0 1 }
@@ -117,7 +117,7 @@ impl KeptEntries {
         self.room -= 1;
     }
 
-    /// PutsEntry an entry last beside which two numbers and bytes stand.
+    /// Puts an entry last beside which two numbers and bytes stand.
     fn push_read(&mut self, header: Header, n: u64, m: u64, bytes: Bytes)
         requires room { 0 < self.old.room }
         requires share { share header ≡ these 2 0 0 1 0 0 }
@@ -128,7 +128,7 @@ impl KeptEntries {
         self.room -= 1;
     }
 
-    /// PutsEntry an entry last beside which a frame stands, and numbers.
+    /// Puts an entry last beside which a frame stands, and numbers.
     pub(crate) fn push_frame(&mut self, header: Header, numbers: &[u64], frame: &[u8])
         requires room { 0 < self.old.room }
         requires few { length numbers.now ≤ 2 }

@@ -22,15 +22,16 @@ ghost use Rattle.world_parts.specs.Script.{FitsScript, ScriptParts};
 /// over only where the most rounds were made, and never where nobody forged a lane before. Where it gave its whole
 /// part, it names exactly those lanes that moved in its last round or aren't finished, though their server runs. Let
 /// the image tell its bytes, and let nobody forge the disk and no call of the store fail for it, as where the image
-/// counts no fault. Then each completed read shows the last earlier write, and so does each until somebody did. Each block of the disk is that of its
-/// completed writes or of one that isn't completed. Where all are completed, the disk holds exactly the accepted ones
-/// applied once in order. Outside of all disks the image stays. Each port is lawful too. Where nobody forged it its
-/// frames arrive in order, and it rests behind each settle that ends settled; and all arrive where the script ends so
-/// and none is said to be lost. What is said of a disk's ticks, of its ends behind a settle and of its being left over
-/// holds of a port, which has no server that stops. It is finished where its guest is in session and told all its
-/// groups, and no frame is held. Each frame that is switched goes to one set of ports and misses another, whose out
-/// queues are full: together they are those that its destination names. A line that is for one lane leaves all others,
-/// but for frames in out queues, and so does what was done of one that want of memory cut off.
+/// counts no fault. Then each completed read shows the last earlier write, and so does each until somebody did. Each
+/// block of the disk is that of its completed writes or of one that isn't completed. Where all are completed, the disk
+/// holds exactly the accepted ones applied once in order. Outside of all disks the image stays. Each port is lawful
+/// too. Where nobody forged it its frames arrive in order, and it rests behind each settle that ends settled; and all
+/// arrive where the script ends so and none is said to be lost. What is said of a disk's ticks, of its ends behind a
+/// settle and of its being left over holds of a port, which has no server that stops. It is finished where its guest is
+/// in session and told all its groups, and no frame is held. Each frame that is switched goes to one set of ports and
+/// misses another, whose out queues are full: together they are those that its destination names. A line that is for
+/// one lane leaves all others, but for frames in out queues, and so does what was done of one that want of memory cut
+/// off.
 pub fn the_headline_holds()
     ensures { (disks : List DiskDecl) (nets : List NetShape) (image : ImageState) (parts : ScriptParts)
         (v : DomainState) → AreDisks disks → length disks ≤ 8 → EachOf IsNetShape nets → length nets ≤ 8
