@@ -18,7 +18,7 @@ pub tick_of_lane : (kind : LaneKind) → IsCallOf kind lane.Tick
 tick_of_lane kinds.Disk = tt
 tick_of_lane kinds.Port = tt
 
-pub inject_of_lane : (kind : LaneKind) (side : Side) (packet : List ℕ) → IsCallOf kind (lane.Inject side packet)
+pub inject_of_lane : (kind : LaneKind) (side : Side) (packet : _) → IsCallOf kind (lane.Inject side packet)
 inject_of_lane kinds.Disk side packet = tt
 inject_of_lane kinds.Port side packet = tt
 

@@ -97,9 +97,9 @@ impl<D: Store> World<D> {
         requires lane { IsLaneOf self.old lane }
         requires call { IsCallOf lane.kind call }
         requires agrees { Counted journal.old.entries self.old }
-        ensures fits { OnOk result (Fits self.old (Calls (lane_named lane) (call_of call)) journal.old.entries
+        ensures fits { OnOk result (Fits self.old (Calls (lane_named lane) (call_of call.entry)) journal.old.entries
             journal.new.entries self.new) }
-        ensures so_far { OnErr result (FitsSoFar self.old (Calls (lane_named lane) (call_of call)) journal.old.entries
+        ensures so_far { OnErr result (FitsSoFar self.old (Calls (lane_named lane) (call_of call.entry)) journal.old.entries
             journal.new.entries self.new) }
         ensures agrees { Counted journal.new.entries self.new }
     {
@@ -174,9 +174,9 @@ impl<D: Store> World<D> {
     ) -> Result<(), NoMemory>
         requires disk { disk < length self.old.first.lanes }
         requires agrees { Counted journal.old.entries self.old }
-        ensures fits { OnOk result (Fits self.old (Calls (script.DiskLane disk) (call_of call)) journal.old.entries
+        ensures fits { OnOk result (Fits self.old (Calls (script.DiskLane disk) (call_of call.entry)) journal.old.entries
             journal.new.entries self.new) }
-        ensures so_far { OnErr result (FitsSoFar self.old (Calls (script.DiskLane disk) (call_of call))
+        ensures so_far { OnErr result (FitsSoFar self.old (Calls (script.DiskLane disk) (call_of call.entry))
             journal.old.entries journal.new.entries self.new) }
         ensures agrees { Counted journal.new.entries self.new }
     {
@@ -243,9 +243,9 @@ impl<D: Store> World<D> {
         requires port { port < length self.old.second }
         requires call { IsPortCall call }
         requires agrees { Counted journal.old.entries self.old }
-        ensures fits { OnOk result (Fits self.old (Calls (script.PortLane port) (call_of call))
+        ensures fits { OnOk result (Fits self.old (Calls (script.PortLane port) (call_of call.entry))
             journal.old.entries journal.new.entries self.new) }
-        ensures so_far { OnErr result (FitsSoFar self.old (Calls (script.PortLane port) (call_of call))
+        ensures so_far { OnErr result (FitsSoFar self.old (Calls (script.PortLane port) (call_of call.entry))
             journal.old.entries journal.new.entries self.new) }
         ensures agrees { Counted journal.new.entries self.new }
     {

@@ -1,10 +1,10 @@
 -- What a call of a lane came to, and its entry: by what the call answered.
-use Rattle.std.proofs.Common.{◌≡◌, ℕ, Bool, true, false, Option, Some, None, List, length, Result, Ok, Err, refl, ap, subst, ◌∙◌}
+use Rattle.std.proofs.Common.{◌≡◌, ℕ, ◌+◌, Bool, true, false, Option, Some, None, List, [], ◌∷◌, ◌++◌, length, Result, Ok, Err, refl, ap, subst, ◌∙◌}
 use Rattle.std.proofs.lemmas.Bool.{eq-eqb}
 use Rattle.std.specs.Prelude.{◌==◌, ◌&&◌}
 use Rattle.disk_lane.specs.Events.{injected_event, lost_event, poked_event, reset_event, restart_event, start_event, stop_event, tick_event}
 use Rattle.disk_law.specs.ListState.{ImageState}
-use Rattle.world_parts.specs.disk_model.DiskEvent.{Asks, CalmReset, CalmRestart, CalmStart, CalmStop, CalmTick, OnWire, Calms}
+use Rattle.world_parts.specs.disk_model.DiskEvent.{Asks, CalmReset, CalmRestart, CalmStart, CalmStop, CalmTick, DiskEvent, OnWire, Calms}
 use Rattle.world_parts.specs.disk_model.DiskEvent as disk
 use Rattle.world_parts.specs.disk_model.LaneState.{LaneState}
 use Rattle.world_parts.specs.disk_model.LaneStep.{LaneStep}
@@ -14,7 +14,7 @@ use Rattle.domain_script.specs.declared.event.Side.TheVariants.{Client, Server}
 use Rattle.world_parts.specs.channel_model.WireEvent.{Declines, InjectedFull, NothingLost, NotInjected, PokeRefused}
 use Rattle.world_parts.specs.channel_model.WireEvent as wire
 use Rattle.world_parts.specs.world_laws.Settle.{OfLane, SettleEntry}
-use Rattle.world_parts.specs.domain_laws.Lines.{AnswersCall, AnswersRequest, Asked, Calls, Injects, Loses, Pokes, Resets, Restarts, Starts, Stops, Ticks, DiskLane}
+use Rattle.world_parts.specs.domain_laws.Lines.{AnswersCall, AnswersRequest, Asked, Calls, Injects, Line, Loses, Pokes, Resets, Restarts, Starts, Stops, Ticks, DiskLane}
 use Rattle.ldc_queue.specs.declared.end.End.TheVariants.{A, B}
 use Rattle.ldc_queue.specs.declared.end.PutFault.{PutFault}
 use Rattle.ldc_queue.specs.declared.end.PutFault.TheVariants as put_fault

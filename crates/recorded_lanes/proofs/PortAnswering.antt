@@ -1,5 +1,5 @@
 -- What a call of a port came to, and its entry: by what the call answered.
-use Rattle.std.proofs.Common.{◌≡◌, ℕ, zero, suc, ◌+◌, ◌<◌, ◌≤◌, Bool, true, false, Option, Some, None, List, [], ◌∷◌, length, Result, Ok, Err, refl, ap, subst, ◌∙◌, arith}
+use Rattle.std.proofs.Common.{◌≡◌, ℕ, zero, suc, ◌+◌, ◌<◌, ◌≤◌, Bool, true, false, Option, Some, None, List, [], ◌∷◌, ◌++◌, length, Result, Ok, Err, refl, ap, subst, ◌∙◌, arith}
 use Rattle.std.proofs.lemmas.Bool.{and_parts, eq-eqb, leb-true}
 use Rattle.std.specs.Prelude.{◌==◌, ◌&&◌, nat_le}
 use Rattle.domain_script.specs.LaneKinds.{port_lane}
@@ -21,6 +21,7 @@ use Rattle.ldc_queue.specs.declared.end.End.{End}
 use Rattle.ldc_queue.specs.declared.end.End.TheVariants.{A}
 use Rattle.ldc_queue.specs.declared.end.PutFault.{PutFault}
 use Rattle.ldc_queue.specs.declared.end.PutFault.TheVariants as put_fault
+use Rattle.ldom_entries.specs.JournalState.{JournalState}
 use Rattle.ldom_entries.specs.declared.entry.Entry.{Entry}
 use Rattle.ldom_entries.specs.declared.entry.Entry.TheVariants as entry
 use Rattle.ldom_entries.specs.declared.entry.Who.TheVariants.{Lane as OfWhole, End as OfEnd}
@@ -40,8 +41,18 @@ use Rattle.vio_tag.specs.declared.cause.Cause.TheVariants as the_cause
 use Rattle.world_parts.specs.world_laws.Settle.{SettleEntry}
 use Rattle.world_parts.specs.WorldEvents.{if_so, is_end, is_same, of_net, told_of, world_event}
 use Rattle.recorded_lanes.specs.Called.{port_end, unsent_entry}
-use Rattle.recorded_lanes.specs.OnePort.{PortAnswers}
+use Rattle.recorded_lanes.specs.OnePort.{PortAnswers, RecordsPortAnswer}
 use Rattle.recorded_lanes.proofs.Answering.{own_said, same_end}
+
+-- AN ANSWER IS RECORDED, whose entry was put last
+pub port_recorded : (k : ℕ) (w v : List PortState) (x : Entry) (old new : JournalState) (line : Line)
+    (Answers : SwitchEvent → Type 0) → PortAnswers line k Answers w x v → new.entries ≡ old.entries ++ x ∷ []
+    → new.room + 1 ≡ old.room → RecordsPortAnswer line k Answers w old new v
+port_recorded k w v x old new line Answers answer entries room = record {
+  entry = x;
+  puts = record { entries = entries; room = room };
+  answer = answer;
+}
 
 -- the line names the port, or the end, that the entry is about
 own_end : (k : ℕ) (side : Side) → is_end (PortLane k) (end_of side) (port_end k side) ≡ true

@@ -60,8 +60,8 @@ impl<D: Store> Disks<D> {
     ) -> Result<(), NoMemory>
         requires disk { disk < length self.old.lanes }
         requires agrees { accepted_count journal.old.entries ≡ issued_on self.old.lanes }
-        ensures made { OnOk result (MakesAnswer WorldStep (Calls (script.DiskLane disk) (call_of call)) disk
-            (AnswersCall (call_of call)) self.old journal.old.entries journal.new.entries self.new) }
+        ensures made { OnOk result (MakesAnswer WorldStep (Calls (script.DiskLane disk) (call_of call.entry)) disk
+            (AnswersCall (call_of call.entry)) self.old journal.old.entries journal.new.entries self.new) }
         ensures same { OnErr result ((self.new ≡ self.old) × (journal.new.entries ≡ journal.old.entries)) }
         ensures many { length self.new.lanes ≡ length self.old.lanes }
         ensures agrees { accepted_count journal.new.entries ≡ issued_on self.new.lanes }
@@ -73,9 +73,10 @@ impl<D: Store> Disks<D> {
 }
 
 /// Calls a lane, and puts the entry of what came of it.
+#[tactic(auto, using(crate::proofs::Answering::recorded))]
 fn call_lane(lane: &mut DiskLane, disk: u32, call: LaneCall<'_>, journal: &mut Journal)
     requires room { 0 < journal.old.room }
-    ensures answers { RecordsAnswer (Calls (script.DiskLane disk) (call_of call)) disk (AnswersCall (call_of call)) lane.old
+    ensures answers { RecordsAnswer (Calls (script.DiskLane disk) (call_of call.entry)) disk (AnswersCall (call_of call.entry)) lane.old
         journal.old journal.new lane.new }
     ensures shape { lane.new.shape ≡ lane.old.shape }
 {

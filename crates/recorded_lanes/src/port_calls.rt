@@ -77,8 +77,8 @@ impl PortLanes {
         requires port { port < length self.old }
         requires call { IsPortCall call }
         requires agrees { GivenBelow (length journal.old.entries + 1) self.old }
-        ensures made { OnOk result (MakesPortAnswer PortsStep (Calls (script.PortLane port) (call_of call)) port
-            (AnswersPortCall (call_of call)) self.old journal.old.entries journal.new.entries self.new) }
+        ensures made { OnOk result (MakesPortAnswer PortsStep (Calls (script.PortLane port) (call_of call.entry)) port
+            (AnswersPortCall (call_of call.entry)) self.old journal.old.entries journal.new.entries self.new) }
         ensures same { OnErr result ((self.new ≡ self.old) × (journal.new.entries ≡ journal.old.entries)) }
         ensures many { length self.new ≡ length self.old }
         ensures agrees { GivenBelow (length journal.new.entries + 1) self.new }
@@ -162,11 +162,12 @@ fn join_group(lanes: &mut Ports, port: u32, address: [u8; 6]) -> Entry
 }
 
 /// Calls a port, and puts the entry of what came of it.
+#[tactic(auto, using(crate::proofs::PortAnswering::port_recorded))]
 fn call_port(lanes: &mut Ports, port: u32, call: LaneCall<'_>, journal: &mut Journal)
     requires port { port < length lanes.old }
     requires call { IsPortCall call }
     requires ready { 0 < journal.old.room }
-    ensures { RecordsPortAnswer (Calls (script.PortLane port) (call_of call)) port (AnswersPortCall (call_of call))
+    ensures { RecordsPortAnswer (Calls (script.PortLane port) (call_of call.entry)) port (AnswersPortCall (call_of call.entry))
         lanes.old journal.old journal.new lanes.new }
 {
     match call {
