@@ -17,7 +17,7 @@ use Rattle.script_laws.proofs.PortsSettle.{port_settles}
 use Rattle.script_laws.proofs.Disks.{of_disk}
 use Rattle.script_laws.proofs.Isolated.{stand_apart}
 use Rattle.script_laws.proofs.Leading.{Leads, script_leads}
-use Rattle.script_laws.proofs.SettleLines.{EachSettles, each_whole, rules_at, script_settles}
+use Rattle.script_laws.proofs.SettleLines.{EachLeads, EachSettles, each_whole, rules_at, script_settles}
 use Rattle.script_laws.proofs.LeftWhere.{left_where_busy, rounds_ran_out}
 use Rattle.script_laws.proofs.SettleRests.{rests_or_ticked}
 use Rattle.script_laws.proofs.Settling.{settle_at, settled_where}
@@ -55,7 +55,8 @@ headline_law disks nets image parts v disks_are few_disks nets_are few_nets long
     record { disks_are = disks_are; few_disks = few_disks; nets_are = nets_are; few_nets = few_nets } in
     let entries : List SettleEntry = told (all_lines parts) in
     let leads : Leads disks nets image entries v = script_leads disks nets image are parts v fits in
-    let each : EachSettles disks nets image (all_lines parts) = script_settles disks nets image parts v fits in
+    let on : EachLeads disks nets image (all_lines parts) v = script_settles disks nets image parts v fits in
+    let each : EachSettles disks nets image (all_lines parts) = λ before part behind is. (on before part behind is).of in
     record {
       many = (lanes_run (shapes_of 0 disks) image entries v.first leads.run).many ∙ many_shapes 0 disks;
       each = of_disk disks nets image disks_are long entries v leads;
@@ -65,11 +66,11 @@ headline_law disks nets image parts v disks_are few_disks nets_are few_nets long
         ends = settle_at disks nets image are parts.whole fits.middle fits.run;
         settled = settled_where disks nets image are parts.whole fits.middle fits.run;
         left = λ before part behind so_far x rest is place.
-            rounds_ran_out disks nets image are before (told_by (Settle, part)) so_far (Unsettled x) rest tt (real_unsettled x)
-            (each before part behind is) place;
+            rounds_ran_out disks nets image are before part behind v so_far (Unsettled x) rest tt (real_unsettled x)
+            (on before part behind is) place;
         port_left = λ before part behind so_far k rest is place.
-            rounds_ran_out disks nets image are before (told_by (Settle, part)) so_far (UnsettledPort k) rest tt
-            (real_unsettled_port k) (each before part behind is) place;
+            rounds_ran_out disks nets image are before part behind v so_far (UnsettledPort k) rest tt
+            (real_unsettled_port k) (on before part behind is) place;
         none_left = leads.none_left;
         no_port_left = leads.no_port_left;
       };

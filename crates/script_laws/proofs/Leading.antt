@@ -1,11 +1,10 @@
 -- What a script's journal leads to, also where want of memory cut off its last line: no lane is left over where nobody
 -- forged one before, and after each settle all disks are finished whose servers run and that nobody forged.
-use Rattle.std.proofs.Common.{◌≡◌, inl, inr, ℕ, Option, Some, None, List, [], ◌∷◌, ◌++◌, refl, sym, ap, ◌∙◌, subst, append_assoc, append-nil}
+use Rattle.std.proofs.Common.{◌≡◌, inl, inr, ℕ, Option, Some, None, List, [], ◌∷◌, ◌++◌, refl, sym, ap, ◌∙◌, subst}
 use Rattle.runs.specs.Run.{Run, run_append}
 use Rattle.disk_law.specs.ListState.{ImageState}
 use Rattle.domain_script.specs.declared.event.DiskDecl.{DiskDecl}
 use Rattle.domain_script.specs.declared.event.Event.{Event}
-use Rattle.lane_kinds.proofs.Places.{map_both}
 use Rattle.world_parts.specs.port_model.NetLaneState.{NetShape}
 use Rattle.world_parts.specs.world_laws.Settle.{SettleEntry, Settled, Unsettled, UnsettledPort}
 use Rattle.world_parts.specs.world_laws.World.{WorldStep, fresh_world}
@@ -20,14 +19,13 @@ use Rattle.script_laws.proofs.LineEntries.{begins_lanes, begins_unsettled}
 use Rattle.script_laws.proofs.Places.{InEither, place_in}
 use Rattle.script_laws.proofs.ReachedLanes.{AreLanes, any_front}
 use Rattle.script_laws.proofs.Settling.{FinishedAt, PortsRestAt, finished_at, none_over, ports_rest_at, reached_lines, told_finished, unforged_lines}
-use Rattle.script_laws.proofs.DeclaredWorlds.{AsLines, as_lines, says_told}
+use Rattle.script_laws.proofs.DeclaredWorlds.{AsLines, as_lines, cut_told, says_told}
 use Rattle.script_laws.proofs.Untold.{Untold, all_told, real_settled, real_unsettled, real_unsettled_port, told_forged_all, told_run, untold}
 use Rattle.script_laws.specs.Settled.{NobodyForgesAll}
-use Rattle.script_laws.specs.Told.{told, told_by}
+use Rattle.script_laws.specs.Told.{told}
 use Rattle.world_parts.specs.Declared.{shapes_of, world_of}
 use Rattle.world_parts.specs.Lines.{EventStep, line_of}
 use Rattle.world_parts.specs.Script.{FitsScript, LastStarts, ScriptParts, all_lines, with_last}
-use Rattle.world_parts.specs.WorldEvents.{told_of}
 
 -- WHAT THE REAL ENTRIES lead to
 record LeadsTo (disks : List DiskDecl) (nets : List NetShape) (image : ImageState) (entries : List SettleEntry)
@@ -54,14 +52,6 @@ pub record Leads (disks : List DiskDecl) (nets : List NetShape) (image : ImageSt
       → entries ≡ before ++ UnsettledPort k ∷ behind → NobodyForgesAll before → ⊥
   pub finished : (before behind : List SettleEntry) → entries ≡ before ++ Settled ∷ behind
       → FinishedAt disks image before
-
--- the parts of all lines but the last, and then its own
-told_more : (lines : List (Event × List Entry)) (line : Event × List Entry)
-    → told (lines ++ line ∷ []) ≡ told lines ++ told_by line
-told_more [] line = append-nil (told_by line)
-told_more (first ∷ lines) line =
-    ap (λ (l : List SettleEntry). told_by first ++ l) (told_more lines line)
-    ∙ sym (append_assoc (told_by first) (told lines) (told_by line))
 
 module _ (disks : List DiskDecl) (nets : List NetShape) (image : ImageState) where
   abbrev Start : DomainState
@@ -181,9 +171,7 @@ module _ (disks : List DiskDecl) (nets : List NetShape) (image : ImageState) whe
           let real : AsLines Start whole m = as_lines Start whole m run in
           let past : List SettleEntry = world.entries_of_lines real.real in
           let is : told (whole ++ line ∷ []) ≡ all_told (past ++ last.entries) =
-          told_more whole line ∙ ap (λ (l : List SettleEntry). l ++ told_by line) real.told_is
-          ∙ ap (λ (l : List SettleEntry). all_told past ++ l) (says_told line last.entries last.says)
-          ∙ sym (map_both told_of past last.entries) in
+          cut_told whole line past last.entries real.told_is (says_told line last.entries last.says) in
           subst (λ (l : List SettleEntry). Leads disks nets image l v) (sym is)
           (as_told (past ++ last.entries) v (cut_lead real.real m (line_of line.0) last.entries v real.run last.begins))
 

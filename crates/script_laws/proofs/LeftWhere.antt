@@ -33,7 +33,7 @@ use Rattle.world_parts.proofs.domain_laws.Counting.{made_move}
 use Rattle.world_parts.proofs.domain_laws.DiskParts.{disks_end as names_move, rounds_move_disks}
 use Rattle.world_parts.proofs.domain_laws.LineEntries.{AllRound, EachEntry, each_in}
 use Rattle.world_parts.specs.domain_laws.Counts.{moves, moves_in}
-use Rattle.world_parts.specs.domain_laws.Domain.{Lanes, lanes, lanes_in, port_entries, switch}
+use Rattle.world_parts.specs.domain_laws.Domain.{DomainState, Lanes, lanes, lanes_in, port_entries, switch}
 use Rattle.world_parts.specs.domain_laws.Lines.{fronts}
 use Rattle.ldom_entries.specs.declared.entry.Entry.{Entry}
 use Rattle.script_laws.proofs.DiskShapes.{are_shapes, many_shapes}
@@ -42,7 +42,7 @@ use Rattle.script_laws.proofs.LedLanes.{led_run, told_run}
 use Rattle.script_laws.proofs.Places.{InEither, place_in}
 use Rattle.script_laws.proofs.ReachedLanes.{AreLanes}
 use Rattle.script_laws.proofs.NamesAt.{LastRound, NamesAt, last_round, names_at}
-use Rattle.script_laws.proofs.SettleLines.{EachSettles, SettlesBehind}
+use Rattle.script_laws.proofs.SettleLines.{EachSettles, SettlesBehind, SettlesOn}
 use Rattle.script_laws.proofs.TicksNeeded.{waits_by}
 use Rattle.script_laws.proofs.TicksStand.{MovedTo, moved_to}
 use Rattle.script_laws.proofs.Untold.{Untold, all_told, real_unsettled, told_happened, told_moves, untold}
@@ -162,10 +162,13 @@ module _ (disks : List DiskDecl) (nets : List NetShape) (image : ImageState) (ar
       }
 
   -- of any lane that is named
-  pub rounds_ran_out : (before : List (Event × List Entry)) (part so_far : List SettleEntry) (entry : SettleEntry)
-      (rest : List SettleEntry) → IsName entry → ((x : SettleEntry) → entry ≡ told_of x → x ≡ entry)
-      → SettlesBehind disks nets image before part → part ≡ so_far ++ entry ∷ rest → RunsOutIn disks nets image before so_far
-  rounds_ran_out before part so_far entry rest name as_real of is =
+  pub rounds_ran_out : (before : List (Event × List Entry)) (part : List Entry) (behind : List (Event × List Entry))
+      (v : DomainState) (so_far : List SettleEntry) (entry : SettleEntry) (rest : List SettleEntry) → IsName entry
+      → ((x : SettleEntry) → entry ≡ told_of x → x ≡ entry) → SettlesOn disks nets image before part behind v
+      → told_by (Settle, part) ≡ so_far ++ entry ∷ rest
+      → RunsOutIn disks nets image before ((Settle, part) ∷ behind) so_far v
+  rounds_ran_out before part behind v so_far entry rest name as_real on is =
+      let of : SettlesBehind disks nets image before (told_by (Settle, part)) = on.of in
       let at : Untold of.real so_far entry rest = untold of.real so_far entry rest (sym of.told_is ∙ is) in
       let real : of.real ≡ at.past ++ entry ∷ at.rest =
       at.is ∙ ap (λ (e : SettleEntry). at.past ++ e ∷ at.rest) (as_real at.real at.real_is) in
@@ -176,6 +179,7 @@ module _ (disks : List DiskDecl) (nets : List NetShape) (image : ImageState) (ar
       record {
         at = of.at;
         run = of.run;
+        leads = on.leads;
         requests = requests;
         most = most_is (pending_on of.at.first.lanes) (sum_of pending of.at.second) (pending_of 0 (length disks) (told before))
             (moves_in at.past) (moves_in so_far) (name_at (lanes_in of.at) of.real of.behind of.goes entry name at.past at.rest real) requests

@@ -42,7 +42,7 @@ pub record Headline (disks : List DiskDecl) (nets : List NetShape) (start : Imag
   pub many : length v.first.lanes ≡ length disks
   pub each : (x : ℕ) (shape : Shape) (s : LaneState) → slice_get (shapes_of 0 disks) x ≡ Some shape
       → slice_get v.first.lanes x ≡ Some s → OfDisk shape x start (told (all_lines parts)) s v.first.image
-  pub settles : SettlesEnd disks nets start parts
+  pub settles : SettlesEnd disks nets start parts v
   pub ticks : (x : ℕ) (shape : Shape) → slice_get (shapes_of 0 disks) x ≡ Some shape
       → TicksAreNeeded shape x (all_lines parts)
   pub left : (x : ℕ) (shape : Shape) → slice_get (shapes_of 0 disks) x ≡ Some shape

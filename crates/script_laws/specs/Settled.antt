@@ -18,7 +18,7 @@ use Rattle.runs.specs.Run.{Run}
 use Rattle.world_parts.specs.switch_laws.Ports.{pending}
 use Rattle.world_parts.specs.domain_laws.Along.{port_happened}
 use Rattle.world_parts.specs.domain_laws.Counts.{disk_stuck, moves_in, port_stuck}
-use Rattle.world_parts.specs.domain_laws.Domain.{DomainState}
+use Rattle.world_parts.specs.domain_laws.Domain.{DomainState, DomainStep}
 use Rattle.world_parts.specs.domain_laws.Forged.{NobodyForgesPort}
 use Rattle.world_parts.specs.domain_laws.Settling.{port_ticks_in}
 use Rattle.ldc_queue.specs.declared.end.End.{End}
@@ -28,6 +28,7 @@ use Rattle.script_laws.specs.Told.{log_at, told, told_by}
 use Rattle.world_parts.specs.Declared.{world_of}
 use Rattle.world_parts.specs.Lines.{EventStep}
 use Rattle.world_parts.specs.Script.{ScriptParts, all_lines}
+use Rattle.world_parts.specs.WorldEvents.{told_of}
 
 -- NOBODY FORGED a disk or a port, by these entries
 pub record NobodyForgesAll (entries : List SettleEntry) : Type 0 where
@@ -97,19 +98,27 @@ pub record EndsUnsettled (part : List SettleEntry) : Type 0 where
   pub some : 1 ≤ length disks + length ports
   pub is : part ≡ front ++ (map Unsettled disks ++ map UnsettledPort ports)
 
+-- FROM A STATE these lines lead to another one, also where want of memory cut off the last of them
+pub record LeadsOn (at : DomainState) (lines : List (Event × List Entry)) (v : DomainState) : Type 0 where
+  pub later : List SettleEntry
+  pub told_is : told lines ≡ map told_of later
+  pub run : Run DomainStep at later v
+
 -- THE ROUNDS RAN OUT, after these lines: the steps other than Blocked and the ticks so far are as many as may be made, by
 -- how much was pending as the settle began. These are the requests of disks, as the entries tell them, and the frames
--- that ports held.
-pub record RunsOutIn (disks : List DiskDecl) (nets : List NetShape) (image : ImageState) (before : List (Event × List Entry))
-    (so_far : List SettleEntry) : Type 0 where
+-- that ports held in the state from which the settle and the lines behind it led to the last one.
+pub record RunsOutIn (disks : List DiskDecl) (nets : List NetShape) (image : ImageState)
+    (before behind : List (Event × List Entry)) (so_far : List SettleEntry) (v : DomainState) : Type 0 where
   pub at : DomainState
   pub run : Run EventStep (world_of disks nets image) before at
+  pub leads : LeadsOn at behind v
   pub requests : pending_on at.first.lanes ≡ pending_of 0 (length disks) (told before)
   pub most : 4096 + 64 * (pending_of 0 (length disks) (told before) + sum_of pending at.second) ≤ moves_in so_far
 
 -- so each settle of a script's lines, of which the whole ones end. A lane is left over only where the rounds ran out, and
 -- only where somebody forged a disk or a port before.
-pub record SettlesEnd (disks : List DiskDecl) (nets : List NetShape) (image : ImageState) (parts : ScriptParts) : Type 0 where
+pub record SettlesEnd (disks : List DiskDecl) (nets : List NetShape) (image : ImageState) (parts : ScriptParts)
+    (v : DomainState) : Type 0 where
   pub each : (before : List (Event × List Entry)) (part : List Entry) (behind : List (Event × List Entry))
       → all_lines parts ≡ before ++ (Settle, part) ∷ behind → KeepsRules (told_by (Settle, part))
   pub ends : (before : List (Event × List Entry)) (part : List Entry) (behind : List (Event × List Entry))
@@ -121,11 +130,13 @@ pub record SettlesEnd (disks : List DiskDecl) (nets : List NetShape) (image : Im
   pub left : (before : List (Event × List Entry)) (part : List Entry) (behind : List (Event × List Entry))
       (so_far : List SettleEntry) (x : ℕ) (rest : List SettleEntry)
       → all_lines parts ≡ before ++ (Settle, part) ∷ behind
-      → told_by (Settle, part) ≡ so_far ++ Unsettled x ∷ rest → RunsOutIn disks nets image before so_far
+      → told_by (Settle, part) ≡ so_far ++ Unsettled x ∷ rest
+      → RunsOutIn disks nets image before ((Settle, part) ∷ behind) so_far v
   pub port_left : (before : List (Event × List Entry)) (part : List Entry) (behind : List (Event × List Entry))
       (so_far : List SettleEntry) (k : ℕ) (rest : List SettleEntry)
       → all_lines parts ≡ before ++ (Settle, part) ∷ behind
-      → told_by (Settle, part) ≡ so_far ++ UnsettledPort k ∷ rest → RunsOutIn disks nets image before so_far
+      → told_by (Settle, part) ≡ so_far ++ UnsettledPort k ∷ rest
+      → RunsOutIn disks nets image before ((Settle, part) ∷ behind) so_far v
   pub none_left : (before : List SettleEntry) (x : ℕ) (behind : List SettleEntry)
       → told (all_lines parts) ≡ before ++ Unsettled x ∷ behind → NobodyForgesAll before → ⊥
   pub no_port_left : (before : List SettleEntry) (k : ℕ) (behind : List SettleEntry)
