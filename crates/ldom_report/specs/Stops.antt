@@ -1,6 +1,7 @@
 -- Why no further line of a source is taken up.
-use Rattle.std.specs.Prelude.{ℕ, ◌+◌, ◌-◌, List, Option, ⊤}
+use Rattle.std.specs.Prelude.{◌≡◌, ◌⊎◌, ℕ, ◌+◌, ◌-◌, List, Option, ⊤}
 use Rattle.std.specs.Io.KnownBytes.{IsAtEnd, Keeps}
+use Rattle.vio_io.specs.Causes.{next_count}
 use Rattle.script_reader.specs.declared.lines.LinesFault.{LinesFault}
 use Rattle.script_reader.specs.declared.lines.LinesFault.TheVariants as reader
 use Rattle.domain_script.specs.Pieces.{DecidesNothing}
@@ -53,3 +54,9 @@ IsReaders status.SinkFault = ⊥
 IsReaders status.HostFault = ⊥
 IsReaders status.StoreFault = ⊥
 IsReaders (status.ImageSize need have) = ⊥
+
+-- how often the source of a run or a dump that ended so said that it is at its end: not at all where it failed, and else
+-- at most once
+pub record EndsTold (why : Status) (before now : ℕ) : Type 0 where
+  pub once : (now ≡ before) ⊎ (now ≡ next_count before)
+  pub failed : why ≡ status.SourceFault → now ≡ before
