@@ -1,6 +1,7 @@
 // The command `dump`.
 ghost use Rattle.std.specs.Prelude.{◌≡◌, ◌≢◌, ◌≤◌, ◌⊎◌, ℕ, List, Some};
 ghost use Rattle.vio_io.specs.Causes.{Rose};
+ghost use Rattle.ldom_report.specs.Stops.{EndsTold};
 ghost use Rattle.ldom_dump.specs.DumpReport.{Dumps};
 ghost use Rattle.ldom_dump.specs.Whole.{IsWhole};
 
@@ -35,6 +36,9 @@ pub fn dump<S: Source, K: Sink>(alloc: Global, script: &mut S, out: &mut K) -> S
     ensures source_unfailed { result ≢ Status.SourceFault → result ≢ Status.SinkFault
         → S.faults script.new ≡ S.faults script.old }
     ensures sink_unfailed { result ≢ Status.SinkFault → K.faults out.new ≡ K.faults out.old }
+
+    // A source says at most once that it is at its end, and one that failed never said so: it isn't asked again.
+    ensures ends { EndsTold result (S.ends script.old) (S.ends script.new) }
     ensures source_count { S.faults script.old ≤ S.faults script.new }
     ensures sink_count { K.faults out.old ≤ K.faults out.new }
 {

@@ -1,4 +1,4 @@
-use Rattle.std.proofs.Common.{rules}
+use Rattle.std.proofs.Common.{rules, sym, ◌∙◌}
 use Rattle.ldom_dump.proofs.DumpLemmas.{dumps}
 use Rattle.ldom_dump.proofs.WholeDump.{completes}
 use Rattle.ldom_dump.proofs.command.dump.Goals as goal
@@ -20,3 +20,9 @@ pub returns-clause-complete : goal.returns-clause-complete
 returns-clause-complete g c bytes is whole source sink =
     completes (g.S.Source.left c.args.script.now) (g.S.Source.left c.dump_all-ended.new.source) c.finish.result (g.K.Sink.written c.args.out.now) (g.K.Sink.written c.finish.new.out) bytes _ _ (returns-clause-dumps g c) is whole
     (λ was. source (returns-clause-source_fault g c was)) (λ was. sink (returns-clause-sink_fault g c was))
+
+pub returns-clause-ends : goal.returns-clause-ends
+returns-clause-ends g c = record {
+  once = c.dump_all-ended.ensures.ends.once;
+  failed = λ failed. c.dump_all-ended.ensures.ends.failed (sym (c.finish.ensures.other (λ is. cc (failed, is))) ∙ failed);
+}

@@ -15,6 +15,7 @@ loop-bytes-preserved-in-Ok-true g c =
       so_far = so_far_packet c.loop-bytes.lines.stop c.read_bytes.new.lines.stop start rest left (g.K.Sink.written c.args.out.now) (g.K.Sink.written c.loop-bytes.out) (g.K.Sink.written c.put_packet.new.out)
           c.in-Ok.bytes c.loop-bytes.text c.put_packet.new.text _ c.loop-bytes.lines.number c.read_bytes.new.lines.number c.loop-bytes.packets c.loop-bytes.faults
           c.loop-bytes.invariant.so_far c.in-Ok.ensures.bytes c.in-Ok.ensures.next.0 c.in-Ok.ensures.next.1 c.in-Ok-true.ensures.told c.in-Ok-true.field-0-test;
+      ends = λ base is. c.in-Ok.ensures.ends base (c.loop-bytes.invariant.ends base is);
       source = c.in-Ok.ensures.source.unfailed (λ is. cc) ∙ c.loop-bytes.invariant.source;
       sink = c.in-Ok-true.ensures.faults.unfailed (λ is. cc) ∙ c.loop-bytes.invariant.sink;
     }
@@ -31,6 +32,7 @@ loop-bytes-preserved g c =
       so_far = so_far_fault c.loop-bytes.lines.stop c.read_bytes.new.lines.stop start rest left (g.K.Sink.written c.args.out.now) (g.K.Sink.written c.loop-bytes.out) (g.K.Sink.written c.put_packet.new.out)
           c.in-Ok.bytes c.loop-bytes.text c.put_packet.new.text _ c.loop-bytes.lines.number c.read_bytes.new.lines.number c.loop-bytes.packets c.loop-bytes.faults
           c.loop-bytes.invariant.so_far c.in-Ok.ensures.bytes c.in-Ok.ensures.next.0 c.in-Ok.ensures.next.1 c.in-Ok-false.ensures.told c.in-Ok-false.field-0-test;
+      ends = λ base is. c.in-Ok.ensures.ends base (c.loop-bytes.invariant.ends base is);
       source = c.in-Ok.ensures.source.unfailed (λ is. cc) ∙ c.loop-bytes.invariant.source;
       sink = c.in-Ok-false.ensures.faults.unfailed (λ is. cc) ∙ c.loop-bytes.invariant.sink;
     }
