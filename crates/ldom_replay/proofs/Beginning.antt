@@ -1,5 +1,5 @@
 -- The lanes of a script's disks and ports before anything was asked, and the image as it was attached.
-use Rattle.std.proofs.Common.{◌≡◌, ℕ, ◌+◌, List, [], ◌∷◌, length, map, refl, ap, sym, subst, ◌∙◌, Option, arith}
+use Rattle.std.proofs.Common.{◌≡◌, ◌≢◌, ℕ, ◌+◌, List, [], ◌∷◌, length, map, refl, ap, sym, subst, ◌∙◌, Option, arith}
 use Rattle.disk_law.specs.ListState.{ImageState, as_image, attached}
 use Rattle.vio_io.specs.declared.store.Store.{Ghosts}
 use Rattle.domain_script.specs.NamesState.{NamesState}
@@ -7,7 +7,10 @@ use Rattle.domain_script.specs.declared.event.DiskDecl.{DiskDecl}
 use Rattle.domain_script.specs.declared.event.PortDecl.{PortDecl}
 use Rattle.ldom_world.specs.world_parts.domain_laws.Domain.{DomainState, Lanes, lanes_in}
 use Rattle.ldom_world.specs.world_parts.port_model.PortState.{PortState, fresh_port}
-use Rattle.script_laws.specs.Replayed.{start_of}
+use Rattle.script_laws.specs.Replayed.{attach_status, start_of}
+use Rattle.vio_io.specs.declared.host.AttachFault.{AttachFault}
+use Rattle.vio_io.specs.declared.host.AttachFault.TheVariants.{Failed, Memory}
+use Rattle.ldom_report.specs.declared.status.Status.TheVariants as status
 use Rattle.ldom_world.specs.world_parts.disk_model.LaneState.{LaneState, fresh}
 use Rattle.ldom_world.specs.world_parts.world_laws.World.{WorldState}
 use Rattle.ldom_world.specs.world_parts.Declared.{nets_of, shapes_of}
@@ -82,3 +85,8 @@ same_lanes left w disks ports = ap (λ (l : List LaneState). both l left.second)
   where
     both : List LaneState → List PortState → Lanes
     both disks ports = record { first = disks; second = ports }
+
+-- where a host gave no image, that is no fault of the source
+pub attach_unfailed : (fault : AttachFault) → attach_status fault ≢ status.SourceFault
+attach_unfailed Failed is = cc is
+attach_unfailed Memory is = cc is

@@ -11,6 +11,7 @@ ghost use Rattle.disk_law.specs.Issued.{CompletesOnceInOrder};
 ghost use Rattle.gathered_text.specs.Gathered.{WroteFront};
 ghost use Rattle.ldom_report.specs.HasWords.{HasWords};
 ghost use Rattle.ldom_report.specs.Report.{report, usage_line};
+ghost use Rattle.ldom_report.specs.Stops.{EndsTold};
 ghost use Rattle.ldom_dump.specs.DumpReport.{Dumps};
 ghost use Rattle.ldom_dump.specs.Whole.{IsWhole};
 ghost use Rattle.script_laws.specs.Counts.{FaultsTold, NoneFailed, counts};
@@ -170,6 +171,10 @@ pub fn replay<H: Host, S: Source, K: Sink>(
     ensures ran_usage { AsksNoRun (map string_bytes words.now) → (AsksDump (map string_bytes words.now) → ⊥)
         → result.ran ≡ Status.Usage }
 
+    // For all words and every status: the source says at most once that it is at its end, and one that failed never said
+    // so. It isn't asked again.
+    ensures ends { EndsTold result.ran (S.ends script.old) (S.ends script.new) }
+
     // A fault of the source, the host or the sink is answered only where its count rose, and each other status where it
     // didn't, but that a fault of the sink comes last. At status 0 the image never failed either.
     ensures faults { FaultsTold result.status
@@ -209,6 +214,7 @@ fn report_dump<D: Store, S: Source, K: Sink>(
     ensures source_unfailed { result.status ≢ Status.SourceFault → result.status ≢ Status.SinkFault
         → S.faults script.new ≡ S.faults script.old }
     ensures sink_unfailed { result.status ≢ Status.SinkFault → K.faults out.new ≡ K.faults out.old }
+    ensures ends { EndsTold result.ran (S.ends script.old) (S.ends script.new) }
     ensures source_count { S.faults script.old ≤ S.faults script.new }
     ensures sink_count { K.faults out.old ≤ K.faults out.new }
 {

@@ -9,6 +9,7 @@ use Rattle.ldom_replay.proofs.Beginning.{begins_counted, has_all, same_world}
 use Rattle.ldom_world.proofs.Declaring.{all_within}
 use Rattle.script_laws.proofs.Assembly.{replayed_as, replayed_short}
 use Rattle.script_laws.proofs.Sizes.{long_told, sized_as, sized_short}
+use Rattle.ldom_report.proofs.StopLemmas.{ends_told}
 use Rattle.ldom_replay.proofs.run.run_over.Goals as goal
 
 pub returns-then-have-need-clause-replayed : goal.returns-then-have-need-clause-replayed
@@ -60,3 +61,7 @@ run_world-requires-clause-lanes g c =
 pub run_world-requires-clause-agrees : goal.run_world-requires-clause-agrees
 run_world-requires-clause-agrees g c =
     begins_counted c.args.reader.names c.over.result c.args.lanes c.over.ensures.lanes c.over.ensures.ports c.requires.lanes
+
+pub returns-then-have-need-clause-ends : goal.returns-then-have-need-clause-ends
+returns-then-have-need-clause-ends g c base is =
+    ends_told c.args.reader.lines.stop c.into_run.result.status base (g.S.Source.ends c.args.source.now) is (λ failed. cc (failed, c.into_run.ensures.status))

@@ -1,12 +1,12 @@
-use Rattle.std.proofs.Common.{List, [], ℕ, ◌*◌, ◌∙◌, Option, None, arith, refl, ap, rules, subst, sym}
+use Rattle.std.proofs.Common.{◌≡◌, List, [], ℕ, ◌*◌, ◌∙◌, Option, None, arith, refl, ap, rules, subst, sym}
 use Rattle.domain_script.specs.ScriptEvents.{no_names}
-use Rattle.script_reader.specs.LinesState.{GoesOn, LinesState, to_come}
+use Rattle.script_reader.specs.LinesState.{GoesOn, LinesState, ends_after, to_come}
 use Rattle.ldom_entries.specs.JournalState.{JournalState}
 use Rattle.ldom_report.specs.declared.status.Status.{Status}
 use Rattle.ldom_report.specs.declared.status.Status.TheVariants as status
 use Rattle.ldom_report.specs.declared.stop.Stop.{Stop}
-use Rattle.ldom_report.specs.Stops.{stop_lines, stop_status}
-use Rattle.ldom_report.proofs.StopLemmas.{done_at_end, readers_of}
+use Rattle.ldom_report.specs.Stops.{EndsTold, stop_lines, stop_status}
+use Rattle.ldom_report.proofs.StopLemmas.{done_at_end, ends_told, failed_at_source, readers_of}
 use Rattle.script_laws.specs.Opening.{Opens, OpensAndStops}
 use Rattle.script_laws.proofs.Assembly.{from_start, replayed_as, replayed_none, replayed_unattached}
 use Rattle.disk_law.specs.ListState.{as_image}
@@ -32,6 +32,8 @@ returns-in_default g c =
     let read = c.read_opening.new.reader in
     let why : Status = stop_status c.in-Err-read_opening.stop read.lines.number in
     let lines : ℕ = stop_lines c.in-Err-read_opening.stop read.lines.number in
+    let base : ℕ = g.S.Source.ends c.args.source.now in
+    let begun : base ≡ ends_after c.in-Ok.reader.lines.stop base = sym (ap (λ (l : LinesState). ends_after l.stop base) c.in-Ok.ensures.lines) in
     record {
       replayed =
           replayed_as (as_image g.H.Disk.Store) left (g.S.Source.left c.read_opening.new.source) gives why c.into_run.result.status lines c.into_run.result.lines
@@ -47,6 +49,9 @@ returns-in_default g c =
       source = record { unfailed = search rules; count = search rules; cause = search rules };
       host = record { unfailed = search rules; count = omega arith; cause = search rules };
       image = gave_as _ _ None c.into_run.result.image c.into_run.ensures.image refl;
+      ends = subst (λ (w : Status). EndsTold w base (g.S.Source.ends c.read_opening.new.source)) (sym (c.into_run.ensures.status ∙ c.status-status.ensures))
+          (ends_told read.lines.stop why base (g.S.Source.ends c.read_opening.new.source) (c.read_opening.ensures.ends base begun)
+          (λ failed. c.in-Err-read_opening.ensures.again (let at_source = failed_at_source c.in-Err-read_opening.stop read.lines.number failed in cc at_source)));
     }
 
 pub returns-in-Ok-read_opening-clause-replayed : goal.returns-in-Ok-read_opening-clause-replayed
@@ -69,3 +74,15 @@ returns-in-End-clause-replayed g c =
 
 pub read_opening-requires-clause-goes : goal.read_opening-requires-clause-goes
 read_opening-requires-clause-goes g c = subst (λ (l : LinesState). GoesOn l (g.S.Source.left c.args.source.now)) (sym c.in-Ok.ensures.lines) tt
+
+pub returns-in-Ok-read_opening-clause-ends : goal.returns-in-Ok-read_opening-clause-ends
+returns-in-Ok-read_opening-clause-ends g c =
+    let base : ℕ = g.S.Source.ends c.args.source.now in
+    let begun : base ≡ ends_after c.in-Ok.reader.lines.stop base = sym (ap (λ (l : LinesState). ends_after l.stop base) c.in-Ok.ensures.lines) in
+    c.attach.ensures.ends base (c.read_opening.ensures.ends base begun)
+
+pub returns-in-End-clause-ends : goal.returns-in-End-clause-ends
+returns-in-End-clause-ends g c =
+    let base : ℕ = g.S.Source.ends c.args.source.now in
+    let begun : base ≡ ends_after c.in-Ok.reader.lines.stop base = sym (ap (λ (l : LinesState). ends_after l.stop base) c.in-Ok.ensures.lines) in
+    c.attach-in-End.ensures.ends base (c.read_opening.ensures.ends base begun)
