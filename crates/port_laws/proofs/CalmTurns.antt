@@ -31,6 +31,7 @@ use Rattle.port_laws.proofs.RuleFrames.{held_frames}
 use Rattle.port_laws.proofs.RuleNoneLeft.{idle_end, port_none_left}
 use Rattle.port_laws.proofs.RuleNoneUntold.{port_none_untold}
 use Rattle.port_laws.proofs.RuleRest.{port_ticks}
+use Rattle.port_laws.proofs.RuleUnforged.{in_some}
 
 lt_some : (n : ℕ) → 1 ≤ n → nat_lt 0 n ≡ true
 lt_some n some = grind (arith, nat_tests, some)
@@ -45,11 +46,6 @@ queue_empty false queue s takes is slots opened none = by_test (nat_lt (length s
     by_test : (c : Bool) → nat_lt (length s.lane.hub.frames) s.lane.hub.slots ≡ c → s.queue ≡ []
     by_test true less = true_false (sym (ap (λ (x : Bool). x && nat_lt (length s.lane.hub.frames) s.lane.hub.slots) opened ∙ less) ∙ takes)
     by_test false past = true_false (sym (ap (λ (n : ℕ). nat_lt n s.lane.hub.slots) none ∙ lt_some s.lane.hub.slots slots) ∙ past)
-
--- a session of which this holds
-some_in : (session : Option SessionLog) (P : SessionLog → Type 0) → InSession session P → (v : SessionLog) × (session ≡ Some v) × P v
-some_in None P here = absurd here
-some_in (Some v) P here = (v, refl, here)
 
 some_not : {X : Type 0} (o : Option X) (x : X) → o ≡ Some x → o ≢ None
 some_not {X} o x is none = none_some x (sym none ∙ is)
@@ -111,7 +107,7 @@ idle_turn shape events s m t is run clean whole first second = by_test (is_finis
     found = finds_before shape m l (CalmTick 0) is (port_kept shape so_far m is run_one) unforged
 
     session : (v : SessionLog) × (l.hub.session ≡ Some v) × AllSeen v
-    session = some_in l.hub.session AllSeen none.hub
+    session = in_some l.hub.session AllSeen none.hub
 
     no_frames : length u.lane.hub.frames ≡ 0
     no_frames = omega (arith, (idle_end shape B u l session.0 finds second.1.step.0 session.1).unseen, session.2)

@@ -25,17 +25,14 @@ use Rattle.channel_model.specs.WireLog.{WireLog}
 use Rattle.channel_laws.specs.Standing.{EndStands}
 use Rattle.cookie_copy.specs.Faults.{is_up}
 use Rattle.cookie_copy.specs.Reach.{Reach}
-use Rattle.port_model.proofs.Refuting.{none_some}
 use Rattle.port_model.proofs.Ruling.{says_of}
 use Rattle.port_model.specs.EndLog.{EndLog}
-use Rattle.port_model.specs.Fetching.{Fetched, NotReady, fetched}
 use Rattle.port_model.specs.FramesStand.{CountsStand, FramesStand}
-use Rattle.port_model.specs.NetEndPutting.{announcement, answer, answers, cleared_by_put, groups_answer, holding, holding_own, net_holds, net_kind, net_opens, net_put, opened_by_put}
-use Rattle.port_model.specs.Groups.{membership}
-use Rattle.port_model.specs.NetEndRule.{Announces, Fetches, NetRule, Publishes, Puts, Replies, Says, Tells, port_rule}
-use Rattle.port_model.specs.NetEndState.{Activity, NetEndState, NetSession, joined_net_end, unseen, unseen_in}
-use Rattle.port_model.specs.NetEndStep.{Blocked, Frame, Idle, NetAnswer, NetEndStep, NetLeft, NetPublishes, NetSends, Published, Sent, Took, published, taken}
-use Rattle.port_model.specs.NetEndTaking.{GoesOn, NetTake, NetTakes, Resets, active, freed}
+use Rattle.port_model.specs.NetEndPutting.{answer, answers, cleared_by_put, holding_own, net_kind, net_opens, net_put, opened_by_put}
+use Rattle.port_model.specs.NetEndRule.{Fetches, Publishes}
+use Rattle.port_model.specs.NetEndState.{NetEndState, NetSession, joined_net_end, unseen, unseen_in}
+use Rattle.port_model.specs.NetEndStep.{Blocked, Frame, Idle, Joined, NetAnswer, NetEndStep, NetLeft, NetPublishes, NetSends, Published, Reset, Sent, Took, published, taken}
+use Rattle.port_model.specs.NetEndTaking.{GoesOn, NetTake, NetTakes, Resets, freed}
 use Rattle.port_model.specs.NetEvent.{CalmTick, Steps, Ticked}
 use Rattle.port_model.specs.NetLaneState.{IsNetShape, NetLaneState, NetShape, reach_of, seen_at}
 use Rattle.port_model.specs.NetLaneStep.{EndSteps}
@@ -52,16 +49,17 @@ use Rattle.port_laws.proofs.PortCounts.{Ready}
 use Rattle.port_laws.proofs.MemoryRoom.{MemoryHasRoom}
 use Rattle.port_laws.proofs.ReadyFrames.{ready_most}
 use Rattle.port_laws.proofs.PutCounts.{not_some}
-use Rattle.port_laws.proofs.RemainingEnds.{held_slots, kind_shut}
+use Rattle.port_laws.proofs.RemainingEnds.{kind_shut}
 use Rattle.port_laws.proofs.RemainingFrames.{ready_falls}
 use Rattle.port_laws.proofs.RemainingReady.{cleared_none, freed_less, published_more}
 use Rattle.port_laws.proofs.RingActs.{Finds, step_now}
-use Rattle.port_laws.proofs.RingEvents.{acts_up, mine_now}
+use Rattle.port_laws.proofs.RingEvents.{Goes, acts_up, mine_now}
 use Rattle.port_laws.proofs.RingRuns.{finds_before, port_kept}
 use Rattle.port_laws.proofs.RuleFrames.{end_acts}
 use Rattle.port_laws.proofs.RuleUnforged.{TakesPublished, takes_published}
 use Rattle.port_laws.proofs.StepCounts.{Acting, counts_stand}
 use Rattle.port_laws.proofs.TookWhat.{Fails, Opens, Reads, Stays, TookWhat, took_what}
+use Rattle.port_laws.proofs.HeldMessages.{HeldBy, HeldOn, HeldOwed, HeldOwn, OwnMessage, OwnReply, held_now, held_rest}
 
 -- A GUEST THAT IS UP
 abbrev own_untaken : List ℕ → NetEndState → ℕ
@@ -70,36 +68,19 @@ own_untaken memory s = fresh_frames s + ready_in s.slots memory s.session
 abbrev Kept : List ℕ → NetEndState → List ℕ → NetEndState → Type 0
 Kept memory s new t = own_untaken new t ≤ own_untaken memory s
 
-of_some : {X : Type 0} (P : X → Type 0) (x y : X) → Some x ≡ Some y → P x → P y
-of_some {X} P x y same holds = let is : x ≡ y = cc in subst P is holds
-
 -- in a session of the same counts
 in_session : (memory : List ℕ) (s : NetEndState) (p : NetSession) (n : ℕ) → s.session ≡ Some p → n ≤ (length s.frames - unseen_in p) + ready_slots s.slots memory → n ≤ own_untaken memory s
 in_session memory s p n is less = subst (λ (x : Option NetSession). n ≤ (length s.frames - unseen x) + ready_in s.slots memory x) (sym is) less
 
 -- IT HOLDS a message
-slot_kept : (memory : List ℕ) (s : NetEndState) (p : NetSession) (activity : Activity) (last : Option ℕ) (found : Fetched) (held : NetEndState) → s.session ≡ Some p
-    → answers s p activity last found ≡ Some held → Kept memory s memory held
-slot_kept memory s p activity (Some last) (NotReady state) held is same =
-    of_some (Kept memory s memory) (holding_own (answer s activity last) (record p { active = None }) s) held same (in_session memory s p _ is (omega arith))
-slot_kept memory s p activity _ _ held is same = none_some held same
+own_kept : (memory : List ℕ) (s : NetEndState) (message : Message) (p q : NetSession) → s.session ≡ Some p → OwnMessage Initiator s p message q → Kept memory s memory (holding_own message q s)
+own_kept memory s _ p _ is (OwnReply reply replies) = in_session memory s p _ is (omega arith)
+own_kept memory s _ p _ is _ = in_session memory s p _ is (omega arith)
 
-held_kept : (memory : List ℕ) (s : NetEndState) (at : Seen) (reach : Reach) (rule : NetRule) (held : NetEndState) → port_rule Initiator s at ≡ rule → net_holds rule s reach ≡ Some held
-    → Kept memory s memory held
-held_kept memory s at reach Puts held is same = of_some (Kept memory s memory) s held same (omega arith)
-held_kept memory s at reach (Says message) held is same = of_some (Kept memory s memory) (holding message s) held same (omega arith)
-held_kept memory s at reach (Replies p reply) held is same =
-    of_some (Kept memory s memory) (holding_own (groups_answer s reply) (record p { reply = None }) s) held same
-    (in_session memory s p _ (says_of Initiator s at (Replies p reply) is).0.session (omega arith))
-held_kept memory s at reach (Fetches p activity) held is same =
-    slot_kept memory s p activity activity.last (fetched s reach p.place) held (says_of Initiator s at (Fetches p activity) is).0.session same
-held_kept memory s at reach (Tells p) held is same =
-    of_some (Kept memory s memory) (holding_own (membership s.handshake.draft.sid s.groups) (record p { untold = false; telling = true }) s) held same
-    (in_session memory s p _ (says_of Initiator s at (Tells p) is).0.in_session.session (omega arith))
-held_kept memory s at reach (Announces p) held is same =
-    of_some (Kept memory s memory) (holding_own (announcement s p) (record p { infos = p.infos + 1; asking = true }) s) held same
-    (in_session memory s p _ (says_of Initiator s at (Announces p) is).0.in_session.session (omega arith))
-held_kept memory s at reach _ held is same = none_some held same
+held_kept : (memory : List ℕ) (s : NetEndState) (at : Seen) (held : NetEndState) → HeldBy Initiator s at held → Kept memory s memory held
+held_kept memory s at _ (HeldOn up owing) = omega arith
+held_kept memory s at _ (HeldOwed message up quiet owed) = omega arith
+held_kept memory s at _ (HeldOwn message p q free own) = own_kept memory s message p q free.session own
 
 -- IT PUTS what it holds; a session that opens by that has a cleared ring
 opened_kept : (opens : Bool) (memory : List ℕ) (s : NetEndState) → (opens ≡ true → s.session ≡ None)
@@ -113,14 +94,14 @@ sends_kept : (slots : ℕ) (queue : List (List ℕ)) (s : NetEndState) (l : EndL
     → Acting Initiator slots queue s l turns → NetSends Initiator s at memory reach packet opens t → Kept memory s t.own t.end
 sends_kept slots queue s l turns at memory reach packet opens t acting step =
     let held : NetEndState = step.held in
-    let core : HeldCore Initiator s held = held_core Initiator s at reach (port_rule Initiator s at) held acting.fits refl step.holds in
+    let core : HeldCore Initiator s held = held_core Initiator s at held acting.fits (held_now Initiator s at reach held step.holds) in
     let held_so = held_stands Initiator (net_core Initiator s) (net_core Initiator held) turns core.what acting.ends core.holds in
     let now : NetEndState = record held { link = behind_put held.link; handshake = handshake_behind (net_kind held) held.handshake } in
     let shut : net_opens held ≡ true → held.session ≡ None = λ is. not_some held.session (held_so.opened ∙ kind_shut (net_kind held) held.handshake is) in
-    let slots_is : held.slots ≡ s.slots = held_slots s reach (port_rule Initiator s at) held step.holds in
+    let slots_is : held.slots ≡ s.slots = ap (λ (x : NetEndState). x.slots) (held_rest Initiator s at held (held_now Initiator s at reach held step.holds)) in
     let put : own_untaken (cleared_by_put Initiator (net_opens held) s.slots memory) (net_put Initiator held) ≤ own_untaken memory held =
     subst (λ (n : ℕ). own_untaken (cleared_by_put Initiator (net_opens held) n memory) (net_put Initiator held) ≤ own_untaken memory held) slots_is (opened_kept (net_opens held) memory now shut) in
-    let kept = held_kept memory s at reach (port_rule Initiator s at) held refl step.holds in
+    let kept = held_kept memory s at held (held_now Initiator s at reach held step.holds) in
     subst (λ (x : NetLeft). Kept memory s x.own x.end) (sym step.is) (omega (arith, put, kept))
 
 -- IT PUBLISHES a frame
@@ -212,46 +193,38 @@ guest_crossing shape u l answer t ready room step = by_answer answer step
     acting : IsUp A u.lane.wire.wire → Acting Initiator shape.slots [] g l.guest l.transcript.client
     acting up = end_acts shape A u l ready (ap is_up up)
 
-    by_answer : (given : NetAnswer) → EndSteps A u.lane given t → lane_crossing t ≤ lane_crossing u.lane
-    by_answer (Took packet opens) made =
-        let now = step_now A u.lane t (Took packet opens) made in
-        let up = up_at (Took packet opens) made.left made.step refl in
+    kept : (given : NetAnswer) → (made : EndSteps A u.lane given t) → Goes given → IsUp A u.lane.wire.wire → Kept u.lane.guest_memory g made.left.own made.left.end
+    kept (Took packet opens) made on up =
         let acts = acting up in
         let slots_is = acts.counts.slots_is in
         let some = acts.slots_fit.some in
         let most = acts.slots_fit.most in
         let place = room.guest in
-        goes_kept u.lane t made.left.own made.left.end up (ap (λ (w : WireLog). w.wire.end_a) now.wire) now.end now.own
-        (takes_kept u.lane.guest_memory packet g l.transcript.client (GoesOn made.left.end opens made.left.own) acts.ends acts.stands (omega (arith, slots_is, some)) (omega (arith, slots_is, most, place)) made.step.1)
-    by_answer (Sent packet opens) made =
-        let now = step_now A u.lane t (Sent packet opens) made in
-        let up = up_at (Sent packet opens) made.left made.step refl in
-        goes_kept u.lane t made.left.own made.left.end up (ap (λ (w : WireLog). w.wire.end_a) now.wire) now.end now.own
-        (sends_kept shape.slots [] g l.guest l.transcript.client (seen_at A u.lane) u.lane.guest_memory (reach_of A u.lane) packet opens made.left (acting up) made.step)
-    by_answer Blocked made =
-        let now = step_now A u.lane t Blocked made in
-        let up = up_at Blocked made.left made.step refl in
-        goes_kept u.lane t u.lane.guest_memory made.left.end up (ap (λ (w : WireLog). w.wire.end_a) now.wire) now.end (now.own ∙ ap (λ (x : NetLeft). x.own) made.step.2)
-        (held_kept u.lane.guest_memory g (seen_at A u.lane) (reach_of A u.lane) (port_rule Initiator g (seen_at A u.lane)) made.left.end refl made.step.0)
-    by_answer Idle made =
-        let now = step_now A u.lane t Idle made in
-        goes_kept u.lane t u.lane.guest_memory g (up_at Idle made.left made.step refl) (ap (λ (w : WireLog). w.wire.end_a) now.wire) (now.end ∙ ap (λ (x : NetLeft). x.end) made.step.1)
-        (now.own ∙ ap (λ (x : NetLeft). x.own) made.step.1) (omega arith)
-    by_answer (Published id) made =
-        let now = step_now A u.lane t (Published id) made in
-        let up = up_at (Published id) made.left made.step refl in
-        goes_kept u.lane t made.left.own made.left.end up (ap (λ (w : WireLog). w.wire.end_a) now.wire) now.end now.own
-        (publishes_kept shape.slots [] g l.guest l.transcript.client (seen_at A u.lane) u.lane.guest_memory (reach_of A u.lane) id made.left (acting up) room.guest made.step)
-    by_answer (Frame frame) made =
-        let now = step_now A u.lane t (Frame frame) made in
-        let up = up_at (Frame frame) made.left made.step refl in
+        takes_kept u.lane.guest_memory packet g l.transcript.client (GoesOn made.left.end opens made.left.own) acts.ends acts.stands (omega (arith, slots_is, some)) (omega (arith, slots_is, most, place)) made.step.1
+    kept (Sent packet opens) made on up =
+        sends_kept shape.slots [] g l.guest l.transcript.client (seen_at A u.lane) u.lane.guest_memory (reach_of A u.lane) packet opens made.left (acting up) made.step
+    kept Blocked made on up =
+        subst (λ (x : List ℕ). Kept u.lane.guest_memory g x made.left.end) (sym (ap (λ (x : NetLeft). x.own) made.step.2))
+        (held_kept u.lane.guest_memory g (seen_at A u.lane) made.left.end (held_now Initiator g (seen_at A u.lane) (reach_of A u.lane) made.left.end made.step.0))
+    kept Idle made on up = subst (λ (x : NetLeft). Kept u.lane.guest_memory g x.own x.end) (sym made.step.1) (omega arith)
+    kept (Published id) made on up =
+        publishes_kept shape.slots [] g l.guest l.transcript.client (seen_at A u.lane) u.lane.guest_memory (reach_of A u.lane) id made.left (acting up) room.guest made.step
+    kept (Frame frame) made on up =
         let p : NetSession = made.step.session in
         let says = says_of Initiator g (seen_at A u.lane) (Fetches p made.step.activity) made.step.rule in
-        goes_kept u.lane t u.lane.guest_memory (record g { session = Some (taken g p made.step.activity); last = frame }) up (ap (λ (w : WireLog). w.wire.end_a) now.wire)
-        (now.end ∙ ap (λ (x : NetLeft). x.end) made.step.is) (now.own ∙ ap (λ (x : NetLeft). x.own) made.step.is) (in_session u.lane.guest_memory g p _ says.0.session (omega arith))
+        subst (λ (x : NetLeft). Kept u.lane.guest_memory g x.own x.end) (sym made.step.is) (in_session u.lane.guest_memory g p _ says.0.session (omega arith))
+    kept _ made on up = absurd on
+
+    begins : (given : NetAnswer) → (made : EndSteps A u.lane given t) → t.wire.wire.end_a ≡ Up → made.left.end ≡ joined_net_end Initiator g → lane_crossing t ≤ lane_crossing u.lane
+    begins given made up is = let now = step_now A u.lane t given made in begins_kept u.lane t made.left.own up (now.end ∙ is) now.own
+
+    by_answer : (given : NetAnswer) → EndSteps A u.lane given t → lane_crossing t ≤ lane_crossing u.lane
+    by_answer (Joined lost) made = begins (Joined lost) made (ap (λ (x : NetLaneState). x.wire.wire.end_a) made.is) (ap (λ (x : NetLeft). x.end) made.step.2)
+    by_answer (Reset cause packet lost) made = begins (Reset cause packet lost) made (ap (λ (x : NetLaneState). x.wire.wire.end_a) made.is) (ap (λ (x : NetLeft). x.end) made.step.2)
     by_answer given made =
         let now = step_now A u.lane t given made in
-        begins_kept u.lane t made.left.own (ap (λ (w : WireLog). w.wire.end_a) now.wire) (now.end ∙ ap (λ (x : NetLeft). x.end) made.step.2) now.own
+        let up = up_at given made.left made.step refl in
+        goes_kept u.lane t made.left.own made.left.end up (ap (λ (w : WireLog). w.wire.end_a) now.wire) now.end now.own (kept given made tt up)
 
 -- A STEP OF THE SWITCH'S END leaves the guest, whose end may have to begin anew
 upset_less : (x : ChannelState) (memory : List ℕ) (s : NetEndState) → untaken (upset x) memory s ≤ untaken x memory s

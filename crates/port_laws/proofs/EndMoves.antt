@@ -1,6 +1,7 @@
 -- Each step of an end of a port is a move of an end on a channel.
 use Rattle.std.proofs.Common.{◌≡◌, ℕ, Bool, true, false, Option, Some, None, List, [], ◌∷◌, length, drop, refl, sym, subst, ap, ◌∙◌, arith}
-use Rattle.std.specs.Prelude.{Result, Ok, Err, ◌+◌, ◌≤◌, ◌&&◌, not, nat_le, is_none, is_some}
+use Rattle.std.specs.Prelude.{Result, Ok, Err, ◌+◌, ◌≤◌, not, nat_le, is_none, is_some}
+use Rattle.std.proofs.lemmas.Bool.{and_parts}
 use Rattle.std.proofs.lemmas.Bool.Decides.{nat_tests}
 use Rattle.std.proofs.lemmas.List.{length-drop}
 use Rattle.ldc_link.specs.Calls.{Puts as PutsPacket}
@@ -26,10 +27,9 @@ use Rattle.channel_model.specs.Seeing.{Seen}
 use Rattle.cookie_copy.specs.Reach.{Reach}
 use Rattle.channel_laws.specs.EndCore.{Begins, EndMove, Fails, Hears, Says as SaysPacket, Stays, Waits, holds}
 use Rattle.channel_laws.specs.EndStep.{EndBegins, EndFails, EndHears, EndSays, EndStays, EndStep, EndWaits, HearsWhole, Holding, Holds, HoldsOn, HoldsOwed, HoldsOwn, IsOfSession, LinkFails, MayTake, WholeFails, opened_by, risen_at}
-use Rattle.port_model.specs.Fetching.{Fetched, NotReady, fetched}
 use Rattle.port_model.specs.Groups.{membership}
-use Rattle.port_model.specs.NetEndPutting.{announcement, answer, answers, groups_answer, holding, holding_own, net_holds, net_kind, net_opens, net_put, opened_by_put}
-use Rattle.port_model.specs.NetEndRule.{Announces, Fetches, NetRule, Publishes, Puts, Replies, Says, Takes, Tells, port_rule}
+use Rattle.port_model.specs.NetEndPutting.{announcement, answer, groups_answer, holding_own, net_kind, net_opens, net_put, opened_by_put}
+use Rattle.port_model.specs.NetEndRule.{Fetches, NetRule, Publishes, Takes, port_rule}
 use Rattle.port_model.specs.NetEndState.{Activity, GroupsReply, NetEndState, NetSession, joined_net_end}
 use Rattle.port_model.specs.NetEndStep.{Blocked, Frame, Idle, Joined, NetAnswer, NetEndStep, NetFails, NetLeft, NetSends, Published, Reset, Sent, Took, published, taken}
 use Rattle.port_model.specs.NetEndTaking as take
@@ -40,7 +40,8 @@ use Rattle.port_laws.specs.NetCore.{more_in, more_of, net_core, one_if}
 use Rattle.port_laws.specs.NetFits.{AreShort, GroupsFit, NetFits, ReplyFits, SessionFits, SomeFits}
 use Rattle.port_laws.proofs.ShortMessages.{announcement_short, answer_short, membership_short, read_long, read_short, reply_short}
 use Rattle.port_laws.proofs.Taking.{BodyFits, TakeGoes, message_goes}
-use Rattle.port_model.proofs.Refuting.{false_true, none_some, of_some, true_false}
+use Rattle.port_model.proofs.Refuting.{false_true, none_some, true_false}
+use Rattle.port_laws.proofs.HeldMessages.{HeldBy, HeldOn, HeldOwed, HeldOwn, OwnAnswer, OwnGroups, OwnInfo, OwnMessage, OwnReply, held_now}
 
 -- HOW MANY MORE messages
 pub one_most : (b : Bool) → one_if b ≤ 1
@@ -77,58 +78,41 @@ pub record HeldCore (role : Role) (s held : NetEndState) : Type 0 where
   pub what : Holding
   pub holds : Holds (net_core role s) what (net_core role held)
 
-held_to : (role : Role) (s one held : NetEndState) (what : Holding) → Some one ≡ Some held → Holds (net_core role s) what (net_core role one) → HeldCore role s held
-held_to role s one held what same holds = of_some (HeldCore role s) one held same (record { what = what; holds = holds })
-
 pub reply_of : (s : NetEndState) (p : NetSession) (reply : GroupsReply) → SessionFits s.session → s.session ≡ Some p → p.reply ≡ Some reply → ReplyFits reply
 reply_of s p reply fits session is = subst SomeFits is (subst SessionFits session fits)
 
-slot_held : (role : Role) (s : NetEndState) (at : Seen) (p : NetSession) (activity : Activity) (last : Option ℕ) (found : Fetched) (held : NetEndState) → IsFreeIn s at p
-    → p.active ≡ Some activity → answers s p activity last found ≡ Some held → HeldCore role s held
-slot_held role s at p activity (Some last) (NotReady state) held free is same =
+own_core : (role : Role) (s : NetEndState) (at : Seen) (message : Message) (p q : NetSession) → NetFits role s → IsFreeIn s at p → OwnMessage role s p message q
+    → Holds (net_core role s) (HoldsOwn message) (net_core role (holding_own message q s))
+own_core role s at _ p _ fits free (OwnReply reply is) =
+    let one : one_if (is_some p.reply) ≡ 1 = ap (λ (x : Option GroupsReply). one_if (is_some x)) is in
+    own_held role s at (groups_answer s reply) p (record p { reply = None }) free tt refl (reply_short s reply (reply_of s p reply fits.session free.session is)) (omega (arith, one))
+own_core role s at _ p _ fits free (OwnAnswer activity last is some) =
     let one : one_if (is_some p.active) ≡ 1 = ap (λ (x : Option Activity). one_if (is_some x)) is in
-    held_to role s (holding_own (answer s activity last) (record p { active = None }) s) held (HoldsOwn (answer s activity last)) same
-    (own_held role s at (answer s activity last) p (record p { active = None }) free tt refl (answer_short s activity last) (omega (arith, one)))
-slot_held role s at p activity _ _ held free is same = none_some held same
+    own_held role s at (answer s activity last) p (record p { active = None }) free tt refl (answer_short s activity last) (omega (arith, one))
+own_core role s at _ p _ fits free (OwnGroups guest untold telling) =
+    let one : one_if (not p.telling) ≡ 1 = ap (λ (b : Bool). one_if (not b)) telling in
+    let short : AreShort s.groups = subst (λ (x : Role). GroupsFit x s.groups) guest fits.groups in
+    own_held role s at (membership s.handshake.draft.sid s.groups) p (record p { untold = false; telling = true }) free tt refl (membership_short s.handshake.draft.sid s.groups short) (omega (arith, one))
+own_core role s at _ p _ fits free (OwnInfo some asking) =
+    let one : one_if (not p.asking) ≡ 1 = ap (λ (b : Bool). one_if (not b)) asking in
+    own_held role s at (announcement s p) p (record p { infos = p.infos + 1; asking = true }) free tt refl (announcement_short s p) (omega (arith, one))
 
-pub held_core : (role : Role) (s : NetEndState) (at : Seen) (reach : Reach) (rule : NetRule) (held : NetEndState) → NetFits role s → port_rule role s at ≡ rule
-    → net_holds rule s reach ≡ Some held → HeldCore role s held
-held_core role s at reach Puts held fits is same = held_to role s s held HoldsOn same refl
-held_core role s at reach (Says message) held fits is same =
-    let says = says_of role s at (Says message) is in
-    held_to role s (holding message s) held (HoldsOwed message) same
-    (record {
-      quiet = says.1;
-      owed = says.2;
-      link = refl;
-      handshake = refl;
-      offer = refl;
-      is_open = refl;
-      own = λ up. ap (λ (x : Option Message). is_none x) says.2;
-      more = omega arith;
-    })
-held_core role s at reach (Replies p reply) held fits is same =
-    let says = says_of role s at (Replies p reply) is in
-    let one : one_if (is_some p.reply) ≡ 1 = ap (λ (x : Option GroupsReply). one_if (is_some x)) says.1 in
-    held_to role s (holding_own (groups_answer s reply) (record p { reply = None }) s) held (HoldsOwn (groups_answer s reply)) same
-    (own_held role s at (groups_answer s reply) p (record p { reply = None }) says.0 tt refl
-    (reply_short s reply (reply_of s p reply fits.session says.0.session says.1)) (omega (arith, one)))
-held_core role s at reach (Fetches p activity) held fits is same =
-    let says = says_of role s at (Fetches p activity) is in
-    slot_held role s at p activity activity.last (fetched s reach p.place) held says.0 says.1 same
-held_core role s at reach (Tells p) held fits is same =
-    let says = says_of role s at (Tells p) is in
-    let one : one_if (not p.telling) ≡ 1 = ap (λ (b : Bool). one_if (not b)) says.3 in
-    let short : AreShort s.groups = subst (λ (x : Role). GroupsFit x s.groups) says.1 fits.groups in
-    held_to role s (holding_own (membership s.handshake.draft.sid s.groups) (record p { untold = false; telling = true }) s) held (HoldsOwn (membership s.handshake.draft.sid s.groups)) same
-    (own_held role s at (membership s.handshake.draft.sid s.groups) p (record p { untold = false; telling = true }) says.0.in_session tt refl
-    (membership_short s.handshake.draft.sid s.groups short) (omega (arith, one)))
-held_core role s at reach (Announces p) held fits is same =
-    let says = says_of role s at (Announces p) is in
-    let one : one_if (not p.asking) ≡ 1 = ap (λ (b : Bool). one_if (not b)) says.2 in
-    held_to role s (holding_own (announcement s p) (record p { infos = p.infos + 1; asking = true }) s) held (HoldsOwn (announcement s p)) same
-    (own_held role s at (announcement s p) p (record p { infos = p.infos + 1; asking = true }) says.0.in_session tt refl (announcement_short s p) (omega (arith, one)))
-held_core role s at reach _ held fits is same = none_some held same
+pub held_core : (role : Role) (s : NetEndState) (at : Seen) (held : NetEndState) → NetFits role s → HeldBy role s at held → HeldCore role s held
+held_core role s at _ fits (HeldOn up owing) = record { what = HoldsOn; holds = refl }
+held_core role s at _ fits (HeldOwed message up quiet owed) = record {
+  what = HoldsOwed message;
+  holds = record {
+    quiet = quiet;
+    owed = owed;
+    link = refl;
+    handshake = refl;
+    offer = refl;
+    is_open = refl;
+    own = λ open_link. ap (λ (x : Option Message). is_none x) owed;
+    more = omega arith;
+  };
+}
+held_core role s at _ fits (HeldOwn message p q free own) = record { what = HoldsOwn message; holds = own_core role s at message p q fits free own }
 
 -- IT PUTS. The handshake changes where its message ends, and then the link holds nothing.
 empty_of : (xs : List ℕ) → length xs ≡ 0 → is_empty xs ≡ true
@@ -202,16 +186,12 @@ some_left : (left : List ℕ) (k : LinkState) → is_some (part_owed k left) ≡
 some_left [] k quiet held = false_true held
 some_left (byte ∷ bytes) k quiet held = true_false quiet
 
-both_true : (a b : Bool) → (a && b) ≡ true → (a ≡ true) × (b ≡ true)
-both_true true b is = (refl, is)
-both_true false b is = false_true is
-
 phase_held : (ph : LinkPhase) (k : LinkState) → k.phase ≡ ph → is_established ph ≡ true → owes k ≡ false → not (is_empty k.to_send) ≡ true → ⊥
 phase_held phase.Established k is up quiet held = some_left k.to_send k (subst (λ (x : LinkPhase). is_some (owed_in x k) ≡ false) is quiet) held
 phase_held _ k is up quiet held = false_true up
 
 not_held : (k : LinkState) → owes k ≡ false → holds k ≡ true → ⊥
-not_held k quiet held = let both = both_true (is_established k.phase) (not (is_empty k.to_send)) held in phase_held k.phase k refl both.0 quiet both.1
+not_held k quiet held = let both = and_parts (is_established k.phase) (not (is_empty k.to_send)) held in phase_held k.phase k refl both.0 quiet both.1
 
 may_take : (role : Role) (s : NetEndState) (at : Seen) → IsFree s at → MayTake (net_core role s)
 may_take role s at free = record { owed = free.owed; quiet = λ closed. free.quiet }
@@ -376,7 +356,7 @@ LeftMoves role s move left = EndStep role (net_core role s) move (net_core role 
 sent_core : (role : Role) (s : NetEndState) (at : Seen) (memory : List ℕ) (reach : Reach) (packet : List ℕ) (opens : Bool) (t : NetLeft) → NetFits role s
     → NetSends role s at memory reach packet opens t → LeftMoves role s (SaysPacket packet opens) t
 sent_core role s at memory reach packet opens t fits step =
-    let core = held_core role s at reach (port_rule role s at) step.held fits refl step.holds in
+    let core = held_core role s at step.held fits (held_now role s at reach step.held step.holds) in
     let puts : PutsPacket step.held.link packet (behind_put step.held.link) =
     subst (PutsPacket step.held.link packet) (puts_behind step.held.link packet t.end.link step.packet) step.packet in
     subst (λ (x : Bool). LeftMoves role s (SaysPacket packet x) t) (sym step.opens_is)
@@ -391,7 +371,7 @@ step_core role s at memory reach (Joined lost) t fits step = subst (LeftMoves ro
 step_core role s at memory reach (Took packet opens) t fits step =
     hears_core role s at packet t.end opens (says_of role s at (Takes packet) step.0).0 (packet_goes role s memory packet (take.GoesOn t.end opens t.own) fits step.1)
 step_core role s at memory reach (Sent packet opens) t fits step = sent_core role s at memory reach packet opens t fits step
-step_core role s at memory reach Blocked t fits step = waits_core role s t.end (held_core role s at reach (port_rule role s at) t.end fits refl step.0)
+step_core role s at memory reach Blocked t fits step = waits_core role s t.end (held_core role s at t.end fits (held_now role s at reach t.end step.0))
 step_core role s at memory reach Idle t fits step = subst (LeftMoves role s Stays) (sym step.1) (stays_with role s s refl refl refl refl refl (omega arith))
 step_core role s at memory reach (Published id) t fits step =
     let says = says_of role s at (Publishes step.session step.frame) step.rule in

@@ -2,27 +2,28 @@
 use Rattle.std.proofs.Common.{List, [], ◌∷◌, ◌++◌}
 use Rattle.runs.specs.Lawful.{Lawful, lawful_split, log_of}
 use Rattle.runs.specs.Run.{Run, run_push}
-use Rattle.channel_model.specs.ResetSays.{WireResetAt}
-use Rattle.channel_model.specs.WireAt.{WireAnswersAt, WireGapAt, WireHeardAt, WireSaidAt, WireTableAt, WireUnforgedAt}
-use Rattle.port_model.specs.FrameLaws.{AcknowledgesAt, AdmissionAt, AnnouncesAt, AsksAt, GroupsSaidAt, JoiningAt, LostAt, OpeningsAt, OwnResetAt, PublishedAt, SeesAt, TakingAt, TickAt, UndoneAt, WorksAt}
+use Rattle.channel_model.specs.WireAt.{WireHeardAt, WireSaidAt}
+use Rattle.port_model.specs.FrameLaws.{AcknowledgesAt, AdmissionAt, AnnouncesAt, GroupsSaidAt, JoiningAt, LostAt, OwnResetAt, PublishedAt, SeesAt, TakingAt, TickAt, WorksAt}
 use Rattle.port_model.specs.NetLaneState.{IsNetShape, NetShape}
 use Rattle.port_model.specs.PortLog.{PortLog, after, no_events}
-use Rattle.port_model.specs.PortMay.{IsLawfulPort, OfWire, PortMay, sizes_in}
-use Rattle.port_model.specs.PortState.{PortEvent, PortState, PortStep, fresh_port}
-use Rattle.port_model.specs.RestLaws.{IdleAt, TwoIdleAt, UnforgedAt}
+use Rattle.port_model.specs.PortMay.{IsLawfulPort, OfWire, PortMay}
+use Rattle.port_model.specs.PortState.{PortEvent, PortState, PortStep, before, fresh_port}
+use Rattle.port_model.specs.RestLaws.{IdleAt, TwoIdleAt}
 use Rattle.port_laws.proofs.GroupsAgree.{port_joins}
-use Rattle.port_laws.proofs.NoRefusal.{port_unforged_wire}
-use Rattle.port_laws.proofs.PortResets.{port_gaps_say, port_resets_say}
+use Rattle.port_laws.proofs.NoRefusal.{unforged_wire_at}
+use Rattle.port_laws.proofs.PortCounts.{ready_before}
+use Rattle.port_laws.proofs.PortResets.{gaps_if, resets_if, says_at}
 use Rattle.port_laws.proofs.PortRuns.{lawful_along}
-use Rattle.port_laws.proofs.RuleAsks.{port_asks, port_undone}
-use Rattle.port_laws.proofs.RuleFrames.{port_acknowledges, port_admits, port_announces, port_lost, port_published, port_sees, port_takes}
-use Rattle.port_laws.proofs.RuleGroups.{port_groups_said}
-use Rattle.port_laws.proofs.RuleIdle.{port_idle}
-use Rattle.port_laws.proofs.RuleRest.{port_resets, port_ticks, port_works}
-use Rattle.port_laws.proofs.RuleTable.{port_answers, port_table}
-use Rattle.port_laws.proofs.RuleTwoIdle.{port_two_idle}
-use Rattle.port_laws.proofs.RuleUnforged.{port_unforged}
-use Rattle.port_laws.proofs.WireLaws.{port_hears, port_opens, port_says}
+use Rattle.port_laws.proofs.RuleAsks.{asks_at, undone_at}
+use Rattle.port_laws.proofs.RuleFrames.{acknowledges_event, admission_event, announces_event, lane_at, lost_event, port_takes, published_event, sees_event}
+use Rattle.port_laws.proofs.RuleGroups.{groups_event}
+use Rattle.port_laws.proofs.RuleIdle.{idle_event}
+use Rattle.port_laws.proofs.RuleRest.{own_reset_event, port_ticks, works_event}
+use Rattle.port_laws.proofs.RuleTable.{answers_at, table_at}
+use Rattle.port_laws.proofs.RuleTwoIdle.{two_idle_event}
+use Rattle.port_laws.proofs.RuleUnforged.{unforged_at}
+use Rattle.port_laws.proofs.WireLaws.{opens_at, port_hears, port_says}
+use Rattle.port_model.specs.NetEvent.{CalmTick}
 
 -- what is lawful along a run with one event more is so at that event
 last : (May : PortLog → PortEvent → Type 0) (shape : NetShape) (events : List PortEvent) (event : PortEvent) → Lawful May after (no_events shape) (events ++ event ∷ [])
@@ -32,35 +33,44 @@ last May shape events event lawful = (lawful_split May after (no_events shape) e
 pub every_run : (shape : NetShape) (events : List PortEvent) (s : PortState) → IsNetShape shape → Run PortStep (fresh_port shape) events s → IsLawfulPort shape events
 every_run shape events s is run = lawful_along shape PortMay each events s run
   where
-    each : (before : List PortEvent) (s : PortState) (event : PortEvent) (t : PortState) → Run PortStep (fresh_port shape) before s → PortStep s event t
-        → PortMay (log_of after (no_events shape) before) event
-    each before s event t run step =
-        let events : List PortEvent = before ++ event ∷ [] in
-        let whole : Run PortStep (fresh_port shape) events t = run_push PortStep (fresh_port shape) s t before event run step in
+    each : (so_far : List PortEvent) (s : PortState) (event : PortEvent) (t : PortState) → Run PortStep (fresh_port shape) so_far s → PortStep s event t
+        → PortMay (log_of after (no_events shape) so_far) event
+    each so_far s event t run step =
+        let events : List PortEvent = so_far ++ event ∷ [] in
+        let whole : Run PortStep (fresh_port shape) events t = run_push PortStep (fresh_port shape) s t so_far event run step in
         record {
-          table = last (λ (x : PortLog) (event : PortEvent). OfWire (WireTableAt (sizes_in x) x.wire) event) shape before event (port_table shape events t is whole);
-          answers = last (λ (x : PortLog) (event : PortEvent). OfWire (WireAnswersAt (sizes_in x) x.wire) event) shape before event (port_answers shape events t is whole);
-          said = last (λ (x : PortLog) (event : PortEvent). OfWire (WireSaidAt x.transcript) event) shape before event (port_says shape events t is whole);
-          heard = last (λ (x : PortLog) (event : PortEvent). OfWire (WireHeardAt x.transcript) event) shape before event (port_hears shape events t is whole);
-          gap = last (λ (x : PortLog) (event : PortEvent). OfWire (WireGapAt x.transcript) event) shape before event (port_gaps_say shape events t is whole);
-          reset_says = last (λ (x : PortLog) (event : PortEvent). OfWire (WireResetAt x.transcript) event) shape before event (port_resets_say shape events t is whole);
-          unforged_wire = last (λ (x : PortLog) (event : PortEvent). OfWire (WireUnforgedAt x.wire) event) shape before event (port_unforged_wire shape events t is whole);
-          works = last WorksAt shape before event (port_works shape events t is whole);
-          admission = last AdmissionAt shape before event (port_admits shape events t is whole);
-          joining = last JoiningAt shape before event (port_joins shape events t whole);
-          tick = last TickAt shape before event (port_ticks shape events t is whole);
-          openings = last OpeningsAt shape before event (port_opens shape events t is whole);
-          published = last PublishedAt shape before event (port_published shape events t is whole);
-          lost = last LostAt shape before event (port_lost shape events t is whole);
-          announces = last AnnouncesAt shape before event (port_announces shape events t is whole);
-          sees = last SeesAt shape before event (port_sees shape events t is whole);
-          asks = last AsksAt shape before event (port_asks shape events t is whole);
-          taking = last TakingAt shape before event (port_takes shape events t is whole);
-          acknowledges = last AcknowledgesAt shape before event (port_acknowledges shape events t is whole);
-          own_resets = last OwnResetAt shape before event (port_resets shape events t is whole);
-          undone = last UndoneAt shape before event (port_undone shape events t is whole);
-          groups_said = last GroupsSaidAt shape before event (port_groups_said shape events t is whole);
-          idle = last IdleAt shape before event (port_idle shape events t is whole);
-          unforged = last UnforgedAt shape before event (port_unforged shape events t is whole);
-          two_idle = last TwoIdleAt shape before event (port_two_idle shape events t is whole);
+          table = table_at shape is so_far s event t run step;
+          answers = answers_at shape is so_far s event t run step;
+          said = last (λ (x : PortLog) (event : PortEvent). OfWire (WireSaidAt x.transcript) event) shape so_far event (port_says shape events t is whole);
+          heard = last (λ (x : PortLog) (event : PortEvent). OfWire (WireHeardAt x.transcript) event) shape so_far event (port_hears shape events t is whole);
+          gap = gaps_if (log_of after (no_events shape) so_far).transcript event (says_at shape is so_far s event t run step);
+          reset_says = resets_if (log_of after (no_events shape) so_far).transcript event (says_at shape is so_far s event t run step);
+          unforged_wire = unforged_wire_at shape is so_far s event t run step;
+          works = lane_at shape WorksAt is (λ x l event y counts ready moves. works_event shape (before event x) l event y.lane ready moves.1) (λ l frame. tt) so_far s event t run step;
+          admission = lane_at shape AdmissionAt is (λ x l event y counts ready moves. admission_event shape x (before event x) l event y ready moves.0 moves.1) (λ l frame. tt) so_far s event t run step;
+          joining = last JoiningAt shape so_far event (port_joins shape events t whole);
+          tick = last TickAt shape so_far event (port_ticks shape events t is whole);
+          openings = opens_at shape is so_far s event t run step;
+          published = lane_at shape PublishedAt is (λ x l event y counts ready moves. published_event shape (before event x) l event y.lane ready moves.1) (λ l frame. tt) so_far s event t run step;
+          lost = lane_at shape LostAt is (λ x l event y counts ready moves. lost_event shape (before event x) l event y.lane ready moves.1) (λ l frame. tt) so_far s event t run step;
+          announces = lane_at shape AnnouncesAt is (λ x l event y counts ready moves. announces_event shape (before event x) l event y.lane ready moves.1) (λ l frame. tt) so_far s event t run step;
+          sees = lane_at shape SeesAt is (λ x l event y counts ready moves. sees_event shape (before event x) l event y.lane ready moves.1) (λ l frame. tt) so_far s event t run step;
+          asks = asks_at shape is so_far s event t run step;
+          taking = last TakingAt shape so_far event (port_takes shape events t is whole);
+          acknowledges = lane_at shape AcknowledgesAt is (λ x l event y counts ready moves. acknowledges_event shape (before event x) l event y.lane ready moves.1) (λ l frame. tt) so_far s event t run step;
+          own_resets = lane_at shape OwnResetAt is (λ x l event y counts ready moves. own_reset_event shape (before event x) l event y.lane ready moves.1) (λ l frame. tt) so_far s event t run step;
+          undone = undone_at shape is so_far s event t run step;
+          groups_said = lane_at shape GroupsSaidAt is (λ x l event y counts ready moves. groups_event shape (before event x) l event y.lane ready moves.1) (λ l frame. tt) so_far s event t run step;
+          idle = lane_at shape IdleAt is (λ x l event y counts ready moves. idle_event shape x l event y counts ready moves.1) (λ l frame. tt) so_far s event t run step;
+          unforged = unforged_at shape is so_far s event t run step;
+          two_idle = lane_at shape TwoIdleAt is (λ x l event y counts ready moves. two_idle_event shape x l event y counts (ready_before shape x l (CalmTick 0) is counts) moves.1) (λ l frame. tt) so_far s event t run step;
         }
+
+-- so each of the laws holds along every run
+pub lawful_by : {May : PortLog → PortEvent → Type 0} → ((l : PortLog) (event : PortEvent) → PortMay l event → May l event) → (shape : NetShape) (events : List PortEvent) (s : PortState)
+    → IsNetShape shape → Run PortStep (fresh_port shape) events s → Lawful May after (no_events shape) events
+lawful_by {May} part shape events s is run = along events (no_events shape) (every_run shape events s is run)
+  where
+    along : (events : List PortEvent) (l : PortLog) → Lawful PortMay after l events → Lawful May after l events
+    along [] l lawful = tt
+    along (event ∷ events) l lawful = (part l event lawful.0, along events (after l event) lawful.1)

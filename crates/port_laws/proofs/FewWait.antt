@@ -42,6 +42,7 @@ use Rattle.port_laws.proofs.PutCounts.{own_half}
 use Rattle.port_laws.proofs.RingActs.{Finds, acting_at, open_both}
 use Rattle.port_laws.proofs.StepCounts.{Acting}
 use Rattle.port_laws.proofs.TalkGuest.{Between, TalkStands, guest_sid}
+use Rattle.port_laws.proofs.EndMoves.{one_most}
 
 -- LISTS
 suffix_of : {X : Type 0} (xs five ys rest : List X) → xs ++ ys ≡ five ++ rest → length five ≤ length xs → (x : List X) × (xs ≡ five ++ x) × (rest ≡ x ++ ys)
@@ -166,10 +167,6 @@ both_up _ is = absurd (cc is)
 longer : (xs ys : List (List ℕ)) → IsFront xs ys → length xs ≤ length ys
 longer xs ys front = omega (arith, ap length front.1, length-append xs front.0)
 
-telling_few : (b : Bool) → one_if b ≤ 1
-telling_few true = omega arith
-telling_few false = omega arith
-
 module _ (shape : NetShape) (u : PortState) (l : PortLog) (p : NetSession) (finds : Finds shape u l) (ways : WaysStand u.lane l) (talk : TalkStands u.lane l) (up : IsUp A u.lane.wire.wire)
     (other_up : IsUp B u.lane.wire.wire) (session : u.lane.guest.session ≡ Some p) (whole : u.lane.wire.lossy ≡ false) (parts : PartsSaid l.transcript.client) (long : LongSaid l.transcript.client) where
   abbrev sides : Sides
@@ -238,7 +235,7 @@ module _ (shape : NetShape) (u : PortState) (l : PortLog) (p : NetSession) (find
   groups_few : count_groups left.messages ≤ 1
   groups_few =
       let all = between.counted in
-      omega (arith, all, ap count_groups asks, count-append left.messages (listed (unsaid u.lane.guest)), telling_few p.telling)
+      omega (arith, all, ap count_groups asks, count-append left.messages (listed (unsaid u.lane.guest)), one_most p.telling)
 
   way : Ways l.shape.slots (said l.transcript.client) (heard l.transcript.client) (said l.transcript.server) (heard l.transcript.server) (or_new l.guest.session) (or_new l.hub.session)
   way = ways up other_up guest_in

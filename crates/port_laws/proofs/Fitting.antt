@@ -9,10 +9,9 @@ use Rattle.ldc_queue.specs.declared.end.End.TheVariants.{A, B}
 use Rattle.channel_model.specs.EndPuts.{handshake_behind}
 use Rattle.channel_model.specs.Seeing.{Seen}
 use Rattle.cookie_copy.specs.Reach.{Reach}
-use Rattle.port_model.specs.Fetching.{Fetched, NotReady, fetched}
-use Rattle.port_model.specs.NetEndPutting.{answers, net_holds, net_kind, net_opens, net_put, opened_by_put}
-use Rattle.port_model.specs.NetEndRule.{Announces, Fetches, NetRule, Publishes, Puts, Replies, Says, Tells, port_rule}
-use Rattle.port_model.specs.NetEndState.{Activity, NetEndState, NetSession, joined_net_end}
+use Rattle.port_model.specs.NetEndPutting.{holding, holding_own, net_kind, net_opens, net_put, opened_by_put}
+use Rattle.port_model.specs.NetEndRule.{Fetches, Publishes}
+use Rattle.port_model.specs.NetEndState.{NetEndState, NetSession, joined_net_end}
 use Rattle.port_model.specs.NetEndStep.{Already, BadLength, Blocked, Frame, Full, Given, GroupsFull, Idle, Joining, Member, NetAnswer, NetEndStep, NetGives, NetJoins, NetLeft, Published, Queued, Sent, Took, untold}
 use Rattle.port_model.specs.NetEndTaking.{GoesOn}
 use Rattle.port_model.specs.NetEvent.{Asked, Gives, Injects, Joins as JoinsGroup, NetEvent, Pokes, Steps, Ticked}
@@ -21,7 +20,7 @@ use Rattle.port_model.specs.NetLaneStep.{NetLaneStep, Resets}
 use Rattle.port_model.proofs.Ruling.{says_of}
 use Rattle.port_laws.specs.NetFits.{AreShort, GroupsFit, NetFits, SessionFits, SomeFits}
 use Rattle.port_laws.proofs.EndMoves.{packet_goes}
-use Rattle.port_model.proofs.Refuting.{none_some, of_some}
+use Rattle.port_laws.proofs.HeldMessages.{HeldBy, HeldOn, HeldOwed, HeldOwn, OwnAnswer, OwnGroups, OwnInfo, OwnMessage, OwnReply, held_now}
 
 -- the end with another session whose answer to groups is the same
 session_fits : (role : Role) (s t : NetEndState) (p q : NetSession) → NetFits role s → s.session ≡ Some p → t.groups ≡ s.groups → t.session ≡ Some q → q.reply ≡ p.reply → NetFits role t
@@ -40,26 +39,16 @@ joined_fits : (role : Role) (s : NetEndState) → NetFits role s → NetFits rol
 joined_fits Initiator s fits = record { groups = fits.groups; session = tt }
 joined_fits Responder s fits = record { groups = tt; session = tt }
 
-slot_fits : (role : Role) (s : NetEndState) (p : NetSession) (activity : Activity) (last : Option ℕ) (found : Fetched) (held : NetEndState) → NetFits role s → s.session ≡ Some p
-    → answers s p activity last found ≡ Some held → NetFits role held
-slot_fits role s p activity (Some last) (NotReady state) held fits is same =
-    of_some (NetFits role) _ held same (session_fits role s _ p (record p { active = None }) fits is refl refl refl)
-slot_fits role s p activity _ _ held fits is same = none_some held same
+own_fits : (role : Role) (s : NetEndState) (message : Message) (p q : NetSession) → NetFits role s → s.session ≡ Some p → OwnMessage role s p message q → NetFits role (holding_own message q s)
+own_fits role s _ p _ fits is (OwnReply reply replies) = record { groups = fits.groups; session = tt }
+own_fits role s _ p _ fits is (OwnAnswer activity last active some) = session_fits role s _ p (record p { active = None }) fits is refl refl refl
+own_fits role s _ p _ fits is (OwnGroups guest untold telling) = session_fits role s _ p (record p { untold = false; telling = true }) fits is refl refl refl
+own_fits role s _ p _ fits is (OwnInfo some asking) = session_fits role s _ p (record p { infos = p.infos + 1; asking = true }) fits is refl refl refl
 
-held_fits : (role : Role) (s : NetEndState) (at : Seen) (reach : Reach) (rule : NetRule) (held : NetEndState) → NetFits role s → port_rule role s at ≡ rule
-    → net_holds rule s reach ≡ Some held → NetFits role held
-held_fits role s at reach Puts held fits is same = of_some (NetFits role) s held same fits
-held_fits role s at reach (Says message) held fits is same = of_some (NetFits role) _ held same (same_fits role s _ fits refl refl)
-held_fits role s at reach (Replies p reply) held fits is same = of_some (NetFits role) _ held same (record { groups = fits.groups; session = tt })
-held_fits role s at reach (Fetches p activity) held fits is same =
-    slot_fits role s p activity activity.last (fetched s reach p.place) held fits (says_of role s at (Fetches p activity) is).0.session same
-held_fits role s at reach (Tells p) held fits is same =
-    of_some (NetFits role) _ held same
-    (session_fits role s _ p (record p { untold = false; telling = true }) fits (says_of role s at (Tells p) is).0.in_session.session refl refl refl)
-held_fits role s at reach (Announces p) held fits is same =
-    of_some (NetFits role) _ held same
-    (session_fits role s _ p (record p { infos = p.infos + 1; asking = true }) fits (says_of role s at (Announces p) is).0.in_session.session refl refl refl)
-held_fits role s at reach _ held fits is same = none_some held same
+held_fits : (role : Role) (s : NetEndState) (at : Seen) (held : NetEndState) → NetFits role s → HeldBy role s at held → NetFits role held
+held_fits role s at _ fits (HeldOn up owing) = fits
+held_fits role s at _ fits (HeldOwed message up quiet owed) = same_fits role s (holding message s) fits refl refl
+held_fits role s at _ fits (HeldOwn message p q free own) = own_fits role s message p q fits free.session own
 
 opened_fits : (role : Role) (opens : Bool) (s : NetEndState) → NetFits role s → NetFits role (opened_by_put role opens s)
 opened_fits Initiator true s fits = record { groups = fits.groups; session = tt }
@@ -78,8 +67,8 @@ pub step_fits : (role : Role) (s : NetEndState) (at : Seen) (memory : List ℕ) 
     → NetEndStep role s at memory reach answer t → NetFits role t.end
 step_fits role s at memory reach (Took packet opens) t fits step = (packet_goes role s memory packet (GoesOn t.end opens t.own) fits step.1).fits
 step_fits role s at memory reach (Sent packet opens) t fits step =
-    subst (LeftFits role) (sym step.is) (put_fits role step.held (held_fits role s at reach (port_rule role s at) step.held fits refl step.holds))
-step_fits role s at memory reach Blocked t fits step = held_fits role s at reach (port_rule role s at) t.end fits refl step.0
+    subst (LeftFits role) (sym step.is) (put_fits role step.held (held_fits role s at step.held fits (held_now role s at reach step.held step.holds)))
+step_fits role s at memory reach Blocked t fits step = held_fits role s at t.end fits (held_now role s at reach t.end step.0)
 step_fits role s at memory reach Idle t fits step = subst (LeftFits role) (sym step.1) fits
 step_fits role s at memory reach (Published id) t fits step =
     subst (LeftFits role) (sym step.is)

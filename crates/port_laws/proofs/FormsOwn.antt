@@ -22,14 +22,11 @@ use Rattle.channel_laws.proofs.EndResting.{held_handshake}
 use Rattle.channel_laws.proofs.EndStanding.{stands_step}
 use Rattle.channel_laws.specs.EndCore.{Waits}
 use Rattle.channel_laws.specs.Standing.{EndStands}
-use Rattle.port_model.proofs.Refuting.{none_some, of_some, true_false}
-use Rattle.port_model.proofs.Ruling.{says_of}
+use Rattle.port_model.proofs.Refuting.{none_some, true_false}
 use Rattle.port_model.specs.EndLog.{EndLog}
-use Rattle.port_model.specs.Fetching.{Fetched, NotReady, fetched}
 use Rattle.port_model.specs.Groups.{membership}
-use Rattle.port_model.specs.NetEndPutting.{announcement, answer, answers, groups_answer, holding_own, net_holds, net_opens, net_put}
-use Rattle.port_model.specs.NetEndRule.{Announces, Fetches, NetRule, Puts, Replies, Says, Tells, port_rule}
-use Rattle.port_model.specs.NetEndState.{Activity, GroupsReply, NetEndState, NetSession}
+use Rattle.port_model.specs.NetEndPutting.{announcement, answer, groups_answer, holding_own, net_opens, net_put}
+use Rattle.port_model.specs.NetEndState.{GroupsReply, NetEndState, NetSession}
 use Rattle.port_model.specs.NetEndStep.{NetLeft, NetSends}
 use Rattle.port_model.specs.RuleFacts.{IsFreeIn}
 use Rattle.port_laws.specs.Counted.{EndCounts, unsaid}
@@ -42,6 +39,7 @@ use Rattle.port_laws.proofs.Outbox.{SaysRange, says_range}
 use Rattle.port_laws.proofs.PutCounts.{own_half, own_short, put_empty, put_end, short_left, shut_put}
 use Rattle.port_laws.proofs.StepCounts.{Acting}
 use Rattle.port_laws.proofs.TookCounts.{free_empty, session_up}
+use Rattle.port_laws.proofs.HeldMessages.{HeldBy, HeldOn, HeldOwed, HeldOwn, OwnAnswer, OwnGroups, OwnInfo, OwnMessage, OwnReply, held_now}
 
 -- IT FORMS a message, with which its link was free
 pub record FormsIt (s held : NetEndState) (m : List ℕ) (q : NetSession) : Type 0 where
@@ -74,44 +72,30 @@ forms_it s at p q message free empty = record {
   handshake = refl;
 }
 
-slot_formed : (role : Role) (sid : ℕ) (s : NetEndState) (at : Seen) (p : NetSession) (activity : Activity) (last : Option ℕ) (found : Fetched) (held : NetEndState) → AllAgreed s.handshake sid → sid < 2 ^ 32
-    → (owes s.link ≡ false → s.link.to_send ≡ []) → IsFreeIn s at p → answers s p activity last found ≡ Some held → Formed role sid s p held
-slot_formed role sid s at p activity (Some last) (NotReady state) held agreed small empty free same =
-    of_some (Formed role sid s p) (holding_own (answer s activity last) (record p { active = None }) s) held same
-    (Ranged (canonical (answer s activity last)) (record p { active = None }) (forms_it s at p (record p { active = None }) (answer s activity last) free empty)
-    (says_range role sid Ack s.handshake.draft.sid activity.seq s.handshake.draft.ident_peer activity.start last 2 (inr refl) agreed.peer small) refl refl refl)
-slot_formed role sid s at p activity _ _ held agreed small empty free same = none_some held same
-
 same_session : {X : Type 0} (o : Option X) (p q : X) → o ≡ Some p → o ≡ Some q → q ≡ p
 same_session {X} o p q one two = let both : Some q ≡ Some p = sym two ∙ one in cc both
 
-pub formed_by : (role : Role) (sid : ℕ) (s : NetEndState) (at : Seen) (reach : Reach) (rule : NetRule) (held : NetEndState) (p : NetSession) → MayForm role sid s p → port_rule role s at ≡ rule
-    → net_holds rule s reach ≡ Some held → Formed role sid s p held
-formed_by role sid s at reach Puts held p may is same = let kept : s ≡ held = cc same in Kept (sym kept)
-formed_by role sid s at reach (Says message) held p may is same =
-    let says = says_of role s at (Says message) is in none_some message (sym may.agreed.owed ∙ says.2)
-formed_by role sid s at reach (Replies q reply) held p may is same =
-    let says = says_of role s at (Replies q reply) is in
-    subst (λ (x : NetSession). Formed role sid s x held) (same_session s.session p q may.session says.0.session)
-    (of_some (Formed role sid s q) (holding_own (groups_answer s reply) (record q { reply = None }) s) held same
-    (Replied (canonical (groups_answer s reply)) (record q { reply = None }) reply (forms_it s at q (record q { reply = None }) (groups_answer s reply) says.0 may.empty) says.1 refl refl refl))
-formed_by role sid s at reach (Fetches q activity) held p may is same =
-    let says = says_of role s at (Fetches q activity) is in
-    subst (λ (x : NetSession). Formed role sid s x held) (same_session s.session p q may.session says.0.session)
-    (slot_formed role sid s at q activity activity.last (fetched s reach q.place) held may.agreed may.small may.empty says.0 same)
-formed_by role sid s at reach (Tells q) held p may is same =
-    let says = says_of role s at (Tells q) is in
-    subst (λ (x : NetSession). Formed role sid s x held) (same_session s.session p q may.session says.0.in_session.session)
-    (of_some (Formed role sid s q) (holding_own (membership s.handshake.draft.sid s.groups) (record q { untold = false; telling = true }) s) held same
-    (Told (canonical (membership s.handshake.draft.sid s.groups)) (record q { untold = false; telling = true })
-    (forms_it s at q (record q { untold = false; telling = true }) (membership s.handshake.draft.sid s.groups) says.0.in_session may.empty) says.1 refl says.3 refl refl))
-formed_by role sid s at reach (Announces q) held p may is same =
-    let says = says_of role s at (Announces q) is in
-    subst (λ (x : NetSession). Formed role sid s x held) (same_session s.session p q may.session says.0.in_session.session)
-    (of_some (Formed role sid s q) (holding_own (announcement s q) (record q { infos = q.infos + 1; asking = true }) s) held same
-    (Ranged (canonical (announcement s q)) (record q { infos = q.infos + 1; asking = true }) (forms_it s at q (record q { infos = q.infos + 1; asking = true }) (announcement s q) says.0.in_session may.empty)
-    (says_range role sid Info s.handshake.draft.sid (wrapped (q.infos + 1)) s.handshake.draft.ident_own (q.seen % s.slots) 0xffffffff 1 (inl refl) may.agreed.own may.small) refl refl refl))
-formed_by role sid s at reach _ held p may is same = none_some held same
+own_formed : (role : Role) (sid : ℕ) (s : NetEndState) (at : Seen) (message : Message) (p q : NetSession) → MayForm role sid s p → IsFreeIn s at p → OwnMessage role s p message q
+    → Formed role sid s p (holding_own message q s)
+own_formed role sid s at _ p _ may free (OwnReply reply is) =
+    Replied (canonical (groups_answer s reply)) (record p { reply = None }) reply (forms_it s at p (record p { reply = None }) (groups_answer s reply) free may.empty) is refl refl refl
+own_formed role sid s at _ p _ may free (OwnAnswer activity last active is) =
+    Ranged (canonical (answer s activity last)) (record p { active = None }) (forms_it s at p (record p { active = None }) (answer s activity last) free may.empty)
+    (says_range role sid Ack s.handshake.draft.sid activity.seq s.handshake.draft.ident_peer activity.start last 2 (inr refl) may.agreed.peer may.small) refl refl refl
+own_formed role sid s at _ p _ may free (OwnGroups guest untold telling) =
+    Told (canonical (membership s.handshake.draft.sid s.groups)) (record p { untold = false; telling = true })
+    (forms_it s at p (record p { untold = false; telling = true }) (membership s.handshake.draft.sid s.groups) free may.empty) guest refl telling refl refl
+own_formed role sid s at _ p _ may free (OwnInfo some asking) =
+    Ranged (canonical (announcement s p)) (record p { infos = p.infos + 1; asking = true }) (forms_it s at p (record p { infos = p.infos + 1; asking = true }) (announcement s p) free may.empty)
+    (says_range role sid Info s.handshake.draft.sid (wrapped (p.infos + 1)) s.handshake.draft.ident_own (p.seen % s.slots) 0xffffffff 1 (inl refl) may.agreed.own may.small) refl refl refl
+
+pub formed_by : (role : Role) (sid : ℕ) (s : NetEndState) (at : Seen) (held : NetEndState) (p : NetSession) → MayForm role sid s p → HeldBy role s at held → Formed role sid s p held
+formed_by role sid s at _ p may (HeldOn up owing) = Kept refl
+formed_by role sid s at _ p may (HeldOwed message up quiet owed) = none_some message (sym may.agreed.owed ∙ owed)
+formed_by role sid s at _ p may (HeldOwn message r q free own) =
+    let same : r ≡ p = same_session s.session p r may.session free.session in
+    subst (λ (x : NetSession). Formed role sid s x (holding_own message q s)) same
+    (own_formed role sid s at message r q (subst (MayForm role sid s) (sym same) may) free own)
 
 -- IT PUTS the message that it holds, whole in one packet
 pub record PutsIt (held t : NetEndState) (turns : List Turn) (packet : List ℕ) : Type 0 where
@@ -153,12 +137,11 @@ pub sends_own : (role : Role) (slots : ℕ) (queue : List (List ℕ)) (s : NetEn
     → PutsIt step.held t.end turns packet
 sends_own role slots queue s l turns at memory reach packet opens t q acting step owed session =
     let held : NetEndState = step.held in
-    let core : HeldCore role s held = held_core role s at reach (port_rule role s at) held acting.fits refl step.holds in
+    let core : HeldCore role s held = held_core role s at held acting.fits (held_now role s at reach held step.holds) in
     let puts : PutsPacket held.link packet (behind_put held.link) = subst (PutsPacket held.link packet) (puts_behind held.link packet t.end.link step.packet) step.packet in
     let stands : EndStands role (net_core role held) turns = stands_step role (net_core role s) Waits (net_core role held) turns acting.ends (waits_core role s held core) in
     let counts : EndCounts role slots queue held l =
-    held_counts role slots queue s l at reach (port_rule role s at) held
-    (record { counts = acting.counts; fits = acting.fits; slots_fit = acting.slots_fit; empty = λ quiet. free_empty role s turns acting.ends quiet }) refl step.holds in
+    held_counts role slots queue s l at held (record { counts = acting.counts; fits = acting.fits; slots_fit = acting.slots_fit; empty = λ quiet. free_empty role s turns acting.ends quiet }) (held_now role s at reach held step.holds) in
     let same : held.handshake ≡ s.handshake = held_handshake (net_core role s) (net_core role held) core.what core.holds in
     let owns : is_none held.handshake.owed ≡ true = ap (λ (h : Handshake). is_none h.owed) same ∙ ap (λ (x : Option Message). is_none x) owed in
     let what : PutWhat role (net_core role held) turns packet (net_opens held) (net_core role (net_put role held)) =
@@ -179,7 +162,7 @@ pub opens_unsaid : (role : Role) (slots : ℕ) (queue : List (List ℕ)) (s : Ne
     (t : NetLeft) → Acting role slots queue s l turns → NetSends role s at memory reach packet opens t → opens ≡ true → unsaid t.end ≡ None
 opens_unsaid role slots queue s l turns at memory reach packet opens t acting step is =
     let held : NetEndState = step.held in
-    let core : HeldCore role s held = held_core role s at reach (port_rule role s at) held acting.fits refl step.holds in
+    let core : HeldCore role s held = held_core role s at held acting.fits (held_now role s at reach held step.holds) in
     let puts : PutsPacket held.link packet (behind_put held.link) = subst (PutsPacket held.link packet) (puts_behind held.link packet t.end.link step.packet) step.packet in
     let stands : EndStands role (net_core role held) turns = stands_step role (net_core role s) Waits (net_core role held) turns acting.ends (waits_core role s held core) in
     let what : PutWhat role (net_core role held) turns packet (net_opens held) (net_core role (net_put role held)) =

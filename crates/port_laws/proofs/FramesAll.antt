@@ -27,12 +27,12 @@ use Rattle.port_laws.specs.InOrder.{InOrder, frames_taken, took}
 use Rattle.port_laws.specs.Lost.{frames_lost, lost_at, lost_by}
 use Rattle.port_laws.specs.NetCore.{lane_core}
 use Rattle.port_laws.specs.RingStands.{taken_by, taken_of}
-use Rattle.port_laws.proofs.FramesOnce.{Bounds, Change, Moves, Once, Opened, Stayed, bounds, changed, event_moves, fresh_once, given_same, guest_takes_in_order, heard_taken, hub_takes_in_order, none_acked, once_step}
+use Rattle.port_laws.proofs.FramesOnce.{Bounds, Change, Moves, Once, Opened, Stayed, bounds, changed, event_moves, fresh_once, guest_takes_in_order, heard_taken, hub_takes_in_order, none_acked, once_step}
 use Rattle.port_laws.proofs.PortCounts.{before_queue, before_wire}
 use Rattle.port_laws.proofs.PortTalks.{PortTalks, port_talks}
 use Rattle.port_laws.proofs.RingActs.{Acts, Finds, LogNow, acts_up_at, goes_same, left_taken, log_now}
 use Rattle.port_laws.proofs.RingEvents.{Goes, mine_now, theirs_now, wire_now}
-use Rattle.port_laws.proofs.RingRuns.{Kept, finds_before, was_clean}
+use Rattle.port_laws.proofs.RingRuns.{Kept, finds_before, given_same, was_clean}
 use Rattle.port_laws.proofs.RuleFrames.{guest_holds, hub_holds}
 use Rattle.port_laws.proofs.WayRuns.{acts_of}
 

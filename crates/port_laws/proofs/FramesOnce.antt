@@ -36,7 +36,7 @@ use Rattle.port_laws.proofs.PortCounts.{before_queue, before_wire, queue_of}
 use Rattle.port_laws.proofs.StepCounts.{counts_stand}
 use Rattle.port_laws.proofs.RingActs.{Acts, Finds, LogNow, acts_shut, acts_up_at, goes_same, left_taken, log_now, open_both, peer_ring_of, step_now}
 use Rattle.port_laws.proofs.RingEvents.{Goes, kind_taken, none_down, peer_up, theirs_now, wire_now}
-use Rattle.port_laws.proofs.RingRuns.{Kept, finds_before, fresh_kept, kept_step, was_clean}
+use Rattle.port_laws.proofs.RingRuns.{Kept, SameLog, finds_before, fresh_kept, given_same, kept_step, was_clean}
 use Rattle.port_laws.proofs.RingSteps.{opens_by}
 use Rattle.port_laws.proofs.RuleFrames.{both_open, end_counted, end_stood, lost_log, seen_within}
 use Rattle.port_laws.proofs.RuleUnforged.{TakesPublished, takes_published}
@@ -347,11 +347,6 @@ taker_moves shape d u t l answer left acts = by_way (begins_or_goes answer x y)
         }
 
 -- WHAT DOESN'T TOUCH a session
-pub record SameLog (l m : EndLog) : Type 0 where
-  pub session : m.session ≡ l.session
-  pub gone : m.gone ≡ l.gone
-  pub published : m.published ≡ l.published
-
 same_moves : (e d : End) (s t : NetLaneState) (l m : PortLog) → state_of e t.wire.wire ≡ state_of e s.wire.wire → state_of d t.wire.wire ≡ state_of d s.wire.wire
     → SameLog (log_of_end e l) (log_of_end e m) → (log_of_end d m).session ≡ (log_of_end d l).session → Moves e d s t l m
 same_moves e d s t l m state peer_state same peer = record {
@@ -364,10 +359,6 @@ same_moves e d s t l m state peer_state same peer = record {
         ap (λ (o : Option SessionLog). taken_by (state_of d s.wire.wire) o) peer,
       ));
 }
-
-pub given_same : (given : Given) (l : EndLog) → SameLog l (after_given given l)
-given_same (Queued id frame) l = record { session = refl; gone = refl; published = refl }
-given_same _ l = record { session = refl; gone = refl; published = refl }
 
 still : (e d : End) (s t : NetLaneState) (l m : PortLog) → state_of e t.wire.wire ≡ state_of e s.wire.wire → state_of d t.wire.wire ≡ state_of d s.wire.wire → log_of_end e m ≡ log_of_end e l
     → log_of_end d m ≡ log_of_end d l → Moves e d s t l m

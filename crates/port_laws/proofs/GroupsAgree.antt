@@ -1,5 +1,5 @@
 -- The groups of a guest are those that it joined.
-use Rattle.std.proofs.Common.{◌≡◌, ℕ, Bool, true, false, Option, Some, List, [], ◌∷◌, ◌++◌, length, refl, subst, ap, ◌∙◌}
+use Rattle.std.proofs.Common.{◌≡◌, ℕ, Bool, true, false, List, [], ◌∷◌, ◌++◌, length, refl, subst, ap, ◌∙◌}
 use Rattle.std.specs.Prelude.{◌<◌}
 use Rattle.ldc_link.specs.declared.phase.Role.TheVariants.{Initiator}
 use Rattle.ldc_queue.specs.declared.end.End.{End}
@@ -9,12 +9,10 @@ use Rattle.runs.specs.Run.{Run}
 use Rattle.channel_model.specs.Seeing.{Seen}
 use Rattle.cookie_copy.specs.Reach.{Reach}
 use Rattle.port_model.proofs.Moving.{before_keeps}
-use Rattle.port_model.specs.Fetching.{Fetched, NotReady, fetched}
 use Rattle.port_model.specs.FrameLaws.{JoiningAt, MayJoin}
 use Rattle.port_model.specs.Groups.{is_in}
-use Rattle.port_model.specs.NetEndPutting.{answers, net_holds, net_opens, opened_by_put}
-use Rattle.port_model.specs.NetEndRule.{Fetches, Idles, Joins as JoinsRule, NetRule, Publishes, Puts, Takes, port_rule}
-use Rattle.port_model.specs.NetEndState.{Activity, NetEndState, NetSession}
+use Rattle.port_model.specs.NetEndPutting.{net_opens, opened_by_put}
+use Rattle.port_model.specs.NetEndState.{NetEndState}
 use Rattle.port_model.specs.NetEndStep.{Already, BadLength, Blocked, Frame, Full, Given, GroupsFull, Idle, Joining, Member, NetAnswer, NetEndStep, NetGives, NetJoins, NetLeft, Published, Queued, Sent, Took}
 use Rattle.port_model.specs.NetEndTaking.{GoesOn}
 use Rattle.port_model.specs.NetEvent.{Asked, Gives, Injects, Joins, NetEvent, Pokes, Steps, Ticked}
@@ -22,29 +20,19 @@ use Rattle.port_model.specs.NetLaneState.{NetLaneState, NetShape}
 use Rattle.port_model.specs.NetLaneStep.{NetLaneStep, Resets}
 use Rattle.port_model.specs.PortLog.{PortLog, after, members_after, no_events}
 use Rattle.port_model.specs.PortState.{OnLane, PortEvent, PortState, PortStep, Receives, before, fresh_port}
-use Rattle.port_model.proofs.Refuting.{none_some, of_some}
 use Rattle.port_laws.specs.NetFits.{NetFits}
 use Rattle.port_laws.proofs.EndMoves.{packet_goes}
 use Rattle.port_laws.proofs.Fitting.{BothFit}
 use Rattle.port_laws.proofs.LaneMoves.{fresh_fits}
 use Rattle.port_laws.proofs.PortRuns.{PortFits, before_fits, port_fits}
+use Rattle.port_laws.proofs.HeldMessages.{HeldBy, held_now, held_rest}
 
 -- A STEP of a guest leaves them
 abbrev Same : NetEndState → NetEndState → Type 0
 Same s t = t.groups ≡ s.groups
 
-slot_same : (s : NetEndState) (p : NetSession) (activity : Activity) (last : Option ℕ) (found : Fetched) (held : NetEndState) → answers s p activity last found ≡ Some held → Same s held
-slot_same s p activity (Some last) (NotReady state) held same = of_some (Same s) _ held same refl
-slot_same s p activity _ _ held same = none_some held same
-
-held_same : (s : NetEndState) (reach : Reach) (rule : NetRule) (held : NetEndState) → net_holds rule s reach ≡ Some held → Same s held
-held_same s reach Puts held same = of_some (Same s) s held same refl
-held_same s reach (Fetches p activity) held same = slot_same s p activity activity.last (fetched s reach p.place) held same
-held_same s reach JoinsRule held same = none_some held same
-held_same s reach (Takes packet) held same = none_some held same
-held_same s reach (Publishes p frame) held same = none_some held same
-held_same s reach Idles held same = none_some held same
-held_same s reach _ held same = of_some (Same s) _ held same refl
+held_same : (s : NetEndState) (at : Seen) (held : NetEndState) → HeldBy Initiator s at held → Same s held
+held_same s at held view = ap (λ (x : NetEndState). x.groups) (held_rest Initiator s at held view)
 
 opened_same : (opens : Bool) (s : NetEndState) → Same s (opened_by_put Initiator opens s)
 opened_same true s = refl
@@ -53,8 +41,8 @@ opened_same false s = refl
 step_same : (s : NetEndState) (at : Seen) (memory : List ℕ) (reach : Reach) (answer : NetAnswer) (t : NetLeft) → NetFits Initiator s → NetEndStep Initiator s at memory reach answer t → Same s t.end
 step_same s at memory reach (Took packet opens) t fits step = (packet_goes Initiator s memory packet (GoesOn t.end opens t.own) fits step.1).groups refl
 step_same s at memory reach (Sent packet opens) t fits step =
-    ap (λ (x : NetLeft). x.end.groups) step.is ∙ opened_same (net_opens step.held) _ ∙ held_same s reach (port_rule Initiator s at) step.held step.holds
-step_same s at memory reach Blocked t fits step = held_same s reach (port_rule Initiator s at) t.end step.0
+    ap (λ (x : NetLeft). x.end.groups) step.is ∙ opened_same (net_opens step.held) _ ∙ held_same s at step.held (held_now Initiator s at reach step.held step.holds)
+step_same s at memory reach Blocked t fits step = held_same s at t.end (held_now Initiator s at reach t.end step.0)
 step_same s at memory reach Idle t fits step = ap (λ (x : NetLeft). x.end.groups) step.1
 step_same s at memory reach (Published id) t fits step = ap (λ (x : NetLeft). x.end.groups) step.is
 step_same s at memory reach (Frame frame) t fits step = ap (λ (x : NetLeft). x.end.groups) step.is

@@ -2,7 +2,7 @@
 use Rattle.std.proofs.Common.{◌≡◌, ℕ, zero, suc, ◌≤◌, Bool, true, false, Some, None, List, [], ◌∷◌, ◌++◌, length, drop, refl, sym, subst, ap, ◌∙◌, arith, append_assoc}
 use Rattle.std.specs.Prelude.{◌||◌, nat_eq, take, if◌then◌else◌, ⊤}
 use Rattle.std.specs.Cmp.Lexicographic.{pointwise}
-use Rattle.std.proofs.lemmas.Bool.{le-leb}
+use Rattle.std.proofs.lemmas.Bool.{le-leb, or_right}
 use Rattle.std.proofs.lemmas.List.{append-nil, length-take, take-append-drop}
 use Rattle.port_model.proofs.GroupSets.{same_address}
 use Rattle.port_model.specs.Groups.{at_most_seven, groups_after, is_in, set_groups, with_groups}
@@ -32,13 +32,9 @@ or_first : (a b : Bool) → a ≡ true → (a || b) ≡ true
 or_first true b is = refl
 or_first false b is = absurd (cc is)
 
-or_second : (a b : Bool) → b ≡ true → (a || b) ≡ true
-or_second true b is = refl
-or_second false b is = is
-
 in_it : (xs : List (List ℕ)) (address : List ℕ) (ys : List (List ℕ)) → is_in (xs ++ address ∷ ys) address ≡ true
 in_it [] address ys = or_first (pointwise nat_eq address address) _ (same_address address)
-in_it (x ∷ xs) address ys = or_second (pointwise nat_eq address x) _ (in_it xs address ys)
+in_it (x ∷ xs) address ys = or_right (pointwise nat_eq address x) _ (in_it xs address ys)
 
 with_known : (done rest : List (List ℕ)) → with_groups (done ++ rest) rest ≡ done ++ rest
 with_known done [] = refl

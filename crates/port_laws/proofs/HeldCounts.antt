@@ -13,14 +13,10 @@ use Rattle.vio_tag.specs.declared.message.Message.{Message}
 use Rattle.vio_tag.specs.Spelling.{canonical}
 use Rattle.channel_model.specs.Ranges.{wrapped}
 use Rattle.channel_model.specs.Seeing.{Seen}
-use Rattle.cookie_copy.specs.Reach.{Reach}
-use Rattle.port_model.proofs.Refuting.{false_true, none_some, of_some, true_false}
-use Rattle.port_model.proofs.Ruling.{says_of}
+use Rattle.port_model.proofs.Refuting.{false_true, true_false}
 use Rattle.port_model.specs.EndLog.{EndLog, GroupsFields, SessionLog, groups_fields, said_kind}
-use Rattle.port_model.specs.Fetching.{Fetched, NotReady, fetched}
 use Rattle.port_model.specs.Groups.{membership, seven}
-use Rattle.port_model.specs.NetEndPutting.{announcement, answer, answers, groups_answer, holding as holding_shake, holding_own, net_holds}
-use Rattle.port_model.specs.NetEndRule.{Announces as AnnouncesRule, Fetches, NetRule, Puts, Replies, Says, Tells, port_rule}
+use Rattle.port_model.specs.NetEndPutting.{announcement, answer, answers, groups_answer, holding as holding_shake, holding_own}
 use Rattle.port_model.specs.NetEndState.{Activity, GroupsReply, NetEndState, NetSession}
 use Rattle.port_model.specs.RuleFacts.{IsFreeIn}
 use Rattle.port_model.specs.Spoken.{GroupsInfo, RangeAck, RangeInfo, Spoken, groups_spoken, spoken}
@@ -30,6 +26,7 @@ use Rattle.port_laws.proofs.EndCounting.{OpenCounts, guest_same, open_empty, own
 use Rattle.port_laws.proofs.OwnBytes.{end_is, groups_spoken_as, membership_reads, membership_says, range_spoken_as, reply_read, seq_is, start_is, state_is}
 use Rattle.port_laws.proofs.ShortMessages.{announcement_short, answer_short, membership_short, reply_short}
 use Rattle.port_laws.proofs.EndMoves.{reply_of}
+use Rattle.port_laws.proofs.HeldMessages.{HeldBy, HeldOn, HeldOwed, HeldOwn, OwnAnswer, OwnGroups, OwnInfo, OwnMessage, OwnReply}
 
 -- a ring has 1 to 64 slots
 pub record SlotsFit (slots : ℕ) : Type 0 where
@@ -221,49 +218,31 @@ opened_here : (role : Role) (slots : ℕ) (queue : List (List ℕ)) (s : NetEndS
     → OpenCounts role slots s.groups l.published l.gone None s.link.begun p l.session
 opened_here role slots queue s l at p holding free = open_empty role slots queue s l p holding.counts free.session (holding.empty free.free.quiet)
 
-slot_counts : (role : Role) (slots : ℕ) (queue : List (List ℕ)) (s : NetEndState) (l : EndLog) (at : Seen) (p : NetSession) (activity : Activity) (last : Option ℕ) (found : Fetched) (held : NetEndState)
-    → Holding role slots queue s l → IsFreeIn s at p → p.active ≡ Some activity → activity.last ≡ last → answers s p activity last found ≡ Some held → EndCounts role slots queue held l
-slot_counts role slots queue s l at p activity (Some last) (NotReady state) held holding free active is same =
+own_counts : (role : Role) (slots : ℕ) (queue : List (List ℕ)) (s : NetEndState) (l : EndLog) (at : Seen) (message : Message) (p q : NetSession) → Holding role slots queue s l → IsFreeIn s at p
+    → OwnMessage role s p message q → EndCounts role slots queue (holding_own message q s) l
+own_counts role slots queue s l at _ p _ holding free (OwnReply reply is) =
     let here = opened_here role slots queue s l at p holding free in
-    of_some (λ (x : NetEndState). EndCounts role slots queue x l) _ held same
-    (formed role slots queue s l p (record p { active = None }) here.of_log (answer s activity last) RangeAck holding.counts here.is
+    formed role slots queue s l p (record p { reply = None }) here.of_log (groups_answer s reply) (groups_spoken (subtype_code reply.subtype)) holding.counts here.is
+    (replies_forms role slots s p here.of_log l.published l.gone reply s.link.begun free.free.owed (reply_of s p reply holding.fits.session free.session is)
+    (subst (λ (o : Option GroupsReply). AnswersRightly o here.of_log.owed) is here.counts.reply) here.counts)
+own_counts role slots queue s l at _ p _ holding free (OwnAnswer activity last active is) =
+    let here = opened_here role slots queue s l at p holding free in
+    formed role slots queue s l p (record p { active = None }) here.of_log (answer s activity last) RangeAck holding.counts here.is
     (answers_forms role slots s p here.of_log l.published l.gone activity last s.link.begun free.free.owed holding.counts.slots_is holding.slots_fit
-    (subst (ActiveCounts slots here.of_log) active here.counts.peer.active) is here.counts))
-slot_counts role slots queue s l at p activity _ _ held holding free active is same = none_some held same
-
-tells_counts : (role : Role) (slots : ℕ) (queue : List (List ℕ)) (s : NetEndState) (l : EndLog) (at : Seen) (p : NetSession) → Holding role slots queue s l → IsFreeIn s at p → role ≡ Initiator → p.untold ≡ true
-    → EndCounts role slots queue (holding_own (membership s.handshake.draft.sid s.groups) (record p { untold = false; telling = true }) s) l
-tells_counts Initiator slots queue s l at p holding free guest untold =
+    (subst (ActiveCounts slots here.of_log) active here.counts.peer.active) is here.counts)
+own_counts Initiator slots queue s l at _ p _ holding free (OwnGroups guest untold telling) =
     let here = opened_here Initiator slots queue s l at p holding free in
     formed Initiator slots queue s l p (record p { untold = false; telling = true }) here.of_log (membership s.handshake.draft.sid s.groups) GroupsInfo holding.counts here.is
     (tells_forms slots s p here.of_log l.published l.gone s.link.begun free.free.owed holding.fits.groups holding.counts.groups untold here.counts)
-tells_counts Responder slots queue s l at p holding free guest untold = absurd (cc guest)
+own_counts Responder slots queue s l at _ p _ holding free (OwnGroups guest untold telling) = absurd (cc guest)
+own_counts role slots queue s l at _ p _ holding free (OwnInfo some asking) =
+    let here = opened_here role slots queue s l at p holding free in
+    formed role slots queue s l p (record p { infos = p.infos + 1; asking = true }) here.of_log (announcement s p) RangeInfo holding.counts here.is
+    (announces_forms role slots s p here.of_log l.published l.gone s.link.begun free.free.owed holding.counts.slots_is holding.slots_fit some asking here.counts)
 
-pub held_counts : (role : Role) (slots : ℕ) (queue : List (List ℕ)) (s : NetEndState) (l : EndLog) (at : Seen) (reach : Reach) (rule : NetRule) (held : NetEndState) → Holding role slots queue s l
-    → port_rule role s at ≡ rule → net_holds rule s reach ≡ Some held → EndCounts role slots queue held l
-held_counts role slots queue s l at reach Puts held holding is same = of_some (λ (x : NetEndState). EndCounts role slots queue x l) s held same holding.counts
-held_counts role slots queue s l at reach (Says message) held holding is same =
-    let says = says_of role s at (Says message) is in
-    of_some (λ (x : NetEndState). EndCounts role slots queue x l) _ held same
-    (linked_counts role slots queue s (holding_shake message s) l holding.counts (owed_unsaid s message says.2)
-    (owed_unsaid (holding_shake message s) message says.2) refl refl refl refl refl)
-held_counts role slots queue s l at reach (Replies p reply) held holding is same =
-    let says = says_of role s at (Replies p reply) is in
-    let here = opened_here role slots queue s l at p holding says.0 in
-    of_some (λ (x : NetEndState). EndCounts role slots queue x l) _ held same
-    (formed role slots queue s l p (record p { reply = None }) here.of_log (groups_answer s reply) (groups_spoken (subtype_code reply.subtype)) holding.counts here.is
-    (replies_forms role slots s p here.of_log l.published l.gone reply s.link.begun says.0.free.owed (reply_of s p reply holding.fits.session says.0.session says.1)
-    (subst (λ (o : Option GroupsReply). AnswersRightly o here.of_log.owed) says.1 here.counts.reply) here.counts))
-held_counts role slots queue s l at reach (Fetches p activity) held holding is same =
-    let says = says_of role s at (Fetches p activity) is in
-    slot_counts role slots queue s l at p activity activity.last (fetched s reach p.place) held holding says.0 says.1 refl same
-held_counts role slots queue s l at reach (Tells p) held holding is same =
-    let says = says_of role s at (Tells p) is in
-    of_some (λ (x : NetEndState). EndCounts role slots queue x l) _ held same (tells_counts role slots queue s l at p holding says.0.in_session says.1 says.2)
-held_counts role slots queue s l at reach (AnnouncesRule p) held holding is same =
-    let says = says_of role s at (AnnouncesRule p) is in
-    let here = opened_here role slots queue s l at p holding says.0.in_session in
-    of_some (λ (x : NetEndState). EndCounts role slots queue x l) _ held same
-    (formed role slots queue s l p (record p { infos = p.infos + 1; asking = true }) here.of_log (announcement s p) RangeInfo holding.counts here.is
-    (announces_forms role slots s p here.of_log l.published l.gone s.link.begun says.0.in_session.free.owed holding.counts.slots_is holding.slots_fit says.1 says.2 here.counts))
-held_counts role slots queue s l at reach _ held holding is same = none_some held same
+pub held_counts : (role : Role) (slots : ℕ) (queue : List (List ℕ)) (s : NetEndState) (l : EndLog) (at : Seen) (held : NetEndState) → Holding role slots queue s l → HeldBy role s at held
+    → EndCounts role slots queue held l
+held_counts role slots queue s l at _ holding (HeldOn up owing) = holding.counts
+held_counts role slots queue s l at _ holding (HeldOwed message up quiet owed) =
+    linked_counts role slots queue s (holding_shake message s) l holding.counts (owed_unsaid s message owed) (owed_unsaid (holding_shake message s) message owed) refl refl refl refl refl
+held_counts role slots queue s l at _ holding (HeldOwn message p q free own) = own_counts role slots queue s l at message p q holding free own

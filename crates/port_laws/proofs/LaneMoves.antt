@@ -12,8 +12,6 @@ use Rattle.ldc_queue.specs.declared.end.End.TheVariants.{A, B}
 use Rattle.ldc_queue.specs.Wire.{Wire, peer_behind, state_of, waiting_for}
 use Rattle.runs.specs.Run.{Run, run_keeps}
 use Rattle.vio_tag.specs.declared.cause.Cause.{Cause}
-use Rattle.channel_model.specs.Seeing.{Seen}
-use Rattle.cookie_copy.specs.Reach.{Reach}
 use Rattle.channel_model.specs.WireAt.{DeclinesAt, IsUp, MayCarry, MayReset}
 use Rattle.channel_model.specs.WireEvent.{ByStep, Declined, Giver, PokeRefused, WireEvent, giver}
 use Rattle.channel_model.specs.WireLog.{WireLog}
@@ -21,8 +19,7 @@ use Rattle.channel_laws.specs.EndCore.{EndMove, Fails, Stays}
 use Rattle.channel_laws.specs.EndStep.{EndBegins, EndStays, EndStep}
 use Rattle.channel_laws.proofs.EndsAtRest.{none_waits}
 use Rattle.channel_laws.specs.LaneCore.{AnswerStands, CoreStands, CoreStep, move_of, reset_move, wire_after}
-use Rattle.port_model.specs.NetEndPutting.{net_holds}
-use Rattle.port_model.specs.NetEndRule.{Announces, Fetches, Idles, Joins, NetRule, Publishes, Puts, Replies, Says, Takes, Tells, port_rule}
+use Rattle.port_model.specs.NetEndRule.{Fetches, Idles, Joins, NetRule, Publishes, Takes, port_rule}
 use Rattle.port_model.specs.NetEndState.{NetEndState, NetSession, joined_net_end, with_frame}
 use Rattle.port_model.specs.NetEndStep.{Already, BadLength, Blocked, Frame, Full, Given, GroupsFull, Idle, Joined, Joining, Member, NetAnswer, NetEndStep, NetFails, NetGives, NetJoins, NetLeft, Published, Queued, Reset, Sent, Took, untold}
 use Rattle.port_model.specs.NetEvent.{Asked, Declines, Gives, Injects, Joins as JoinsGroup, Loses, NetEvent, Pokes, Steps, Ticked, on_wire}
@@ -34,7 +31,8 @@ use Rattle.port_laws.specs.NetCore.{core_event, core_events, event_core, fresh_n
 use Rattle.port_laws.specs.NetFits.{NetFits}
 use Rattle.port_laws.proofs.EndMoves.{move_by, stays_with, step_core}
 use Rattle.port_laws.proofs.Fitting.{BothFit, event_fits}
-use Rattle.port_model.proofs.Refuting.{false_true, none_some, true_false}
+use Rattle.port_model.proofs.Refuting.{false_true, true_false}
+use Rattle.port_laws.proofs.HeldMessages.{held_now, held_up}
 
 -- THE WIRE
 pub wire_same : (l : WireLog) (event : Option WireEvent) → moved_on l event ≡ wire_after l (event_core event)
@@ -46,18 +44,9 @@ up_of : (state : ChannelState) → is_up state ≡ true → state ≡ Up
 up_of Up is = refl
 up_of _ is = false_true is
 
-not_up : (state : ChannelState) → is_up state ≡ false → state ≢ Up
+pub not_up : (state : ChannelState) → is_up state ≡ false → state ≢ Up
 not_up Up is = true_false is
 not_up _ is = λ up. false_true (ap is_up up)
-
-pub holds_up : (role : Role) (s : NetEndState) (at : Seen) (reach : Reach) (rule : NetRule) (held : NetEndState) → port_rule role s at ≡ rule → net_holds rule s reach ≡ Some held → is_up at.state ≡ true
-holds_up role s at reach Puts held is same = (says_of role s at Puts is).0
-holds_up role s at reach (Says message) held is same = (says_of role s at (Says message) is).0
-holds_up role s at reach (Replies p reply) held is same = (says_of role s at (Replies p reply) is).0.free.up
-holds_up role s at reach (Fetches p activity) held is same = (says_of role s at (Fetches p activity) is).0.free.up
-holds_up role s at reach (Tells p) held is same = (says_of role s at (Tells p) is).0.in_session.free.up
-holds_up role s at reach (Announces p) held is same = (says_of role s at (Announces p) is).0.in_session.free.up
-holds_up role s at reach _ held is same = none_some held same
 
 carries_none : (e : End) (w : Wire) (packet : Option (List ℕ)) → packet ≡ None → MayCarry packet e w
 carries_none e w packet is = subst (λ (x : Option (List ℕ)). MayCarry x e w) (sym is) tt
@@ -84,12 +73,12 @@ answer_stands e s (Took packet opens) left step =
     (up_of (state_of e s.wire.wire) says.0.up, says.1)
 answer_stands e s (Sent packet opens) left step =
     let room = step.room in (
-      up_of (state_of e s.wire.wire) (holds_up (role_at e) (net_end e s) (seen_at e s) (reach_of e s) (port_rule (role_at e) (net_end e s) (seen_at e s)) step.held refl step.holds),
+      up_of (state_of e s.wire.wire) (held_up (role_at e) (net_end e s) (seen_at e s) step.held (held_now (role_at e) (net_end e s) (seen_at e s) (reach_of e s) step.held step.holds)),
       grind (arith, nat_tests, room),
     )
 answer_stands e s Blocked left step =
     let room = step.1 in (
-      up_of (state_of e s.wire.wire) (holds_up (role_at e) (net_end e s) (seen_at e s) (reach_of e s) (port_rule (role_at e) (net_end e s) (seen_at e s)) left.end refl step.0),
+      up_of (state_of e s.wire.wire) (held_up (role_at e) (net_end e s) (seen_at e s) left.end (held_now (role_at e) (net_end e s) (seen_at e s) (reach_of e s) left.end step.0)),
       grind (arith, nat_tests, room),
     )
 answer_stands e s Idle left step =

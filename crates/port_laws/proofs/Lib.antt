@@ -1,5 +1,6 @@
 mod ShortMessages
 mod Taking
+mod HeldMessages
 mod EndMoves
 mod Fitting
 pub mod LaneMoves

@@ -24,6 +24,7 @@ use Rattle.port_model.specs.EndLog.{list_after}
 use Rattle.port_model.specs.Groups.{groups_after}
 use Rattle.port_model.specs.NetEndState.{GroupsReply, NetEndState, NetSession, with_session}
 use Rattle.port_model.specs.NetEndTaking.{GoesOn, NetTake, Resets, acknowledged, active, by_handshake, ends_outside, first_undone, freed, hears_message, in_session, refused, replying, sid_first, takes_ack, takes_done, takes_groups, takes_info, takes_range, told}
+use Rattle.channel_laws.proofs.EndStanding.{opened_phase}
 
 -- an INFO that is the next
 pub record IsNext (p : NetSession) (seq start : ℕ) : Type 0 where
@@ -134,10 +135,6 @@ open_row : (role : Role) (h : Handshake) (subtype : Subtype) (sid : ℕ) (b : Ms
 open_row Initiator h subtype sid (DringReg ident slots slot_size options count cookies) = refl
 open_row _ h subtype sid _ = refl
 
-pub is_open_phase : (ph : Phase) → is_open_in ph ≡ true → ph ≡ Open
-is_open_phase Open is = refl
-is_open_phase _ is = false_true is
-
 abbrev Declining : Subtype → MsgBody → HandshakeTake → Type 0
 Declining subtype b (Goes h) = is_declined subtype b ≡ true
 Declining subtype b (GoesOpen h) = ⊥
@@ -154,7 +151,7 @@ declining_or subtype b (Some cause) rest declines = tt
 open_declines : (h : Handshake) (message : Message) → is_open_in h.phase ≡ true → Declining message.subtype message.body (handshake_take h message)
 open_declines h message is =
     let none : row h.role h.phase h message.subtype message.sid message.body ≡ Faults the_cause.Order =
-    ap (λ (ph : Phase). row h.role ph h message.subtype message.sid message.body) (is_open_phase h.phase is) ∙ open_row h.role h message.subtype message.sid message.body in
+    ap (λ (ph : Phase). row h.role ph h message.subtype message.sid message.body) (opened_phase h.phase is) ∙ open_row h.role h message.subtype message.sid message.body in
     declining_or message.subtype message.body (sid_fault h.sid message.sid) (handshake_hear h message.subtype message.sid message.body)
     (declining_if message.subtype message.body (is_declined message.subtype message.body) (record h { owed = Some (nack message.sid message.body) })
     (row h.role h.phase h message.subtype message.sid message.body) refl (subst (Declining message.subtype message.body) (sym none) tt))

@@ -11,7 +11,7 @@ use Rattle.ldc_queue.specs.declared.end.End.TheVariants.{A, B}
 use Rattle.ldc_queue.specs.OneStream.{IsFront}
 use Rattle.ldc_queue.specs.Transcript.{Heard}
 use Rattle.ldc_queue.specs.Wire.{peer_of, state_of}
-use Rattle.runs.specs.Lawful.{Lawful, log_of}
+use Rattle.runs.specs.Lawful.{log_of}
 use Rattle.runs.specs.Run.{Run}
 use Rattle.vio_tag.specs.declared.cause.Cause.{Cause}
 use Rattle.vio_tag.specs.Spelling.{envelope_at, subtype_at}
@@ -57,7 +57,7 @@ use Rattle.port_laws.proofs.LaneMoves.{event_core_step}
 use Rattle.port_laws.proofs.Outbox.{MessageFits, outbox}
 use Rattle.port_laws.proofs.PeerOpens.{PeerIn, Talks, least_heard, peer_open}
 use Rattle.port_laws.proofs.PortCounts.{PortCounts, queue_of}
-use Rattle.port_laws.proofs.PortRuns.{before_core, before_fits, fresh_port_core, lawful_along, port_fits_behind, spoken_behind}
+use Rattle.port_laws.proofs.PortRuns.{before_core, before_fits, fresh_port_core, port_fits_behind, spoken_behind}
 use Rattle.port_laws.proofs.PortTalks.{answers_of, asks_of, open_turns}
 use Rattle.port_laws.proofs.Refusing.{Expects, ack_comes, info_comes, ring_done, taken_in_session}
 use Rattle.port_laws.proofs.RingActs.{Finds, core_open, open_both, ring_of_end}
@@ -396,11 +396,7 @@ unforged_event : (shape : NetShape) (s t : PortState) (l : PortLog) (event : Net
 unforged_event shape s t l (Steps e (Reset cause packet lost)) is had step = by_giver (giver cause) l.wire cause (λ clean. step_resets shape s t l e cause packet lost is had clean step)
 unforged_event shape s t l _ is had step = tt
 
-pub port_unforged_wire : (shape : NetShape) (events : List PortEvent) (s : PortState) → IsNetShape shape → Run PortStep (fresh_port shape) events s
-    → Lawful (λ (l : PortLog) (event : PortEvent). OfWire (WireUnforgedAt l.wire) event) after (no_events shape) events
-port_unforged_wire shape events s is run = lawful_along shape (λ (l : PortLog) (event : PortEvent). OfWire (WireUnforgedAt l.wire) event) here events s run
-  where
-    here : (events : List PortEvent) (s : PortState) (event : PortEvent) (t : PortState) → Run PortStep (fresh_port shape) events s → PortStep s event t
-        → OfWire (WireUnforgedAt (log_of after (no_events shape) events).wire) event
-    here events s (OnLane event) t run step = unforged_event shape s t (log_of after (no_events shape) events) event is (port_talk shape events s is run) step.1
-    here events s (Receives frame) t run step = tt
+pub unforged_wire_at : (shape : NetShape) → IsNetShape shape → (events : List PortEvent) (s : PortState) (event : PortEvent) (t : PortState) → Run PortStep (fresh_port shape) events s → PortStep s event t
+    → OfWire (WireUnforgedAt (log_of after (no_events shape) events).wire) event
+unforged_wire_at shape is events s (OnLane event) t run step = unforged_event shape s t (log_of after (no_events shape) events) event is (port_talk shape events s is run) step.1
+unforged_wire_at shape is events s (Receives frame) t run step = tt

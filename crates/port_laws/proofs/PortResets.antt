@@ -2,7 +2,7 @@
 use Rattle.std.proofs.Common.{◌≡◌, ℕ, zero, suc, Bool, true, false, Option, Some, None, List, refl, sym, subst, ap, ◌∙◌, inl, inr}
 use Rattle.std.specs.Prelude.{◌+◌, ◌%◌, ◌&&◌, ◌==◌, is_some, nat_le, nat_lt, if◌then◌else◌}
 use Rattle.cookie_copy.specs.Reach.{Reach}
-use Rattle.runs.specs.Lawful.{Lawful, log_of}
+use Rattle.runs.specs.Lawful.{log_of}
 use Rattle.runs.specs.Run.{Run}
 use Rattle.ldc_link.specs.declared.phase.Role.{Role}
 use Rattle.ldc_link.specs.declared.phase.Role.TheVariants.{Initiator, Responder}
@@ -42,7 +42,7 @@ use Rattle.port_model.specs.NetEvent.{CalmTick, Gives, Joins, NetEvent, Steps, o
 use Rattle.port_model.specs.NetLaneState.{IsNetShape, NetLaneState, NetShape, memory_of, net_end, reach_of, role_at, seen_at}
 use Rattle.port_model.specs.NetLaneStep.{NetLaneStep}
 use Rattle.port_model.specs.Offers.{port_offer}
-use Rattle.port_model.specs.PortLog.{PortLog, after, no_events}
+use Rattle.port_model.specs.PortLog.{after, no_events}
 use Rattle.port_model.specs.PortMay.{IfOnWire, OfWire}
 use Rattle.port_model.specs.PortState.{OnLane, PortEvent, PortState, PortStep, Receives, before, fresh_port}
 use Rattle.port_laws.specs.NetCore.{fresh_net_core, lane_core}
@@ -52,7 +52,7 @@ use Rattle.port_laws.proofs.CoreLaws.{sizes_fit}
 use Rattle.port_laws.proofs.Fitting.{BothFit}
 use Rattle.port_laws.proofs.LaneMoves.{event_core_step}
 use Rattle.port_laws.proofs.PortCauses.{fails_with}
-use Rattle.port_laws.proofs.PortRuns.{before_core, before_fits, fresh_port_core, lawful_along, port_fits_behind, spoken_behind}
+use Rattle.port_laws.proofs.PortRuns.{before_core, before_fits, fresh_port_core, port_fits_behind, spoken_behind}
 use Rattle.port_laws.proofs.SlotsFound.{Fits, fetched_fits}
 
 -- THE CAUSES of a session, by its messages
@@ -191,7 +191,7 @@ event_says shape is events s (Gives e given) t run step = tt
 event_says shape is events s (Joins joining) t run step = tt
 event_says shape is events s _ t run step = (tt, tt)
 
-says_at : (shape : NetShape) (is : IsNetShape shape) (events : List PortEvent) (s : PortState) (event : PortEvent) (t : PortState) → Run PortStep (fresh_port shape) events s → PortStep s event t
+pub says_at : (shape : NetShape) (is : IsNetShape shape) (events : List PortEvent) (s : PortState) (event : PortEvent) (t : PortState) → Run PortStep (fresh_port shape) events s → PortStep s event t
     → OfWire (BothSay (log_of after (no_events shape) events).transcript) event
 says_at shape is events s (OnLane event) t run step =
     subst (λ (l : TranscriptLog). OfWire (BothSay l) (OnLane event)) (spoken_behind shape events) (event_says shape is events s event t run step.1)
@@ -206,22 +206,10 @@ if_second P Q None both = tt
 if_second P Q (Some event) both = both.1
 
 -- ALONG EVERY RUN
-resets_if : (l : TranscriptLog) (event : PortEvent) → OfWire (BothSay l) event → OfWire (WireResetAt l) event
+pub resets_if : (l : TranscriptLog) (event : PortEvent) → OfWire (BothSay l) event → OfWire (WireResetAt l) event
 resets_if l (OnLane event) both = if_first (WireResetAt l) (WireGapAt l) (on_wire event) both
 resets_if l (Receives frame) both = tt
 
-gaps_if : (l : TranscriptLog) (event : PortEvent) → OfWire (BothSay l) event → OfWire (WireGapAt l) event
+pub gaps_if : (l : TranscriptLog) (event : PortEvent) → OfWire (BothSay l) event → OfWire (WireGapAt l) event
 gaps_if l (OnLane event) both = if_second (WireResetAt l) (WireGapAt l) (on_wire event) both
 gaps_if l (Receives frame) both = tt
-
-pub port_resets_say : (shape : NetShape) (events : List PortEvent) (s : PortState) → IsNetShape shape → Run PortStep (fresh_port shape) events s
-    → Lawful (λ (l : PortLog) (event : PortEvent). OfWire (WireResetAt l.transcript) event) after (no_events shape) events
-port_resets_say shape events s is run =
-    lawful_along shape (λ (l : PortLog) (event : PortEvent). OfWire (WireResetAt l.transcript) event)
-    (λ before_events x event y run_x step. resets_if (log_of after (no_events shape) before_events).transcript event (says_at shape is before_events x event y run_x step)) events s run
-
-pub port_gaps_say : (shape : NetShape) (events : List PortEvent) (s : PortState) → IsNetShape shape → Run PortStep (fresh_port shape) events s
-    → Lawful (λ (l : PortLog) (event : PortEvent). OfWire (WireGapAt l.transcript) event) after (no_events shape) events
-port_gaps_say shape events s is run =
-    lawful_along shape (λ (l : PortLog) (event : PortEvent). OfWire (WireGapAt l.transcript) event)
-    (λ before_events x event y run_x step. gaps_if (log_of after (no_events shape) before_events).transcript event (says_at shape is before_events x event y run_x step)) events s run

@@ -22,13 +22,11 @@ use Rattle.channel_laws.proofs.PacketsLeft.{held_packets, loud_none, owing_none,
 use Rattle.channel_laws.specs.EndStep.{EndSays, Holding, Holds}
 use Rattle.channel_laws.specs.PacketsLeft.{own_in, packets_left}
 use Rattle.channel_laws.specs.Standing.{EndStands, is_open_in}
-use Rattle.port_model.proofs.Refuting.{false_true, none_some, of_some}
+use Rattle.port_model.proofs.Refuting.{false_true}
 use Rattle.port_model.proofs.Ruling.{says_of}
 use Rattle.port_model.specs.EndLog.{EndLog}
-use Rattle.port_model.specs.Fetching.{Fetched, NotReady, fetched}
-use Rattle.port_model.specs.NetEndPutting.{announcement, answer, answers, cleared_by_put, groups_answer, holding, holding_own, net_holds, net_kind, net_opens, net_put, opened_by_put}
-use Rattle.port_model.specs.Groups.{membership}
-use Rattle.port_model.specs.NetEndRule.{Announces, Fetches, NetRule, Publishes, Puts, Replies, Says, Tells, port_rule}
+use Rattle.port_model.specs.NetEndPutting.{cleared_by_put, holding, holding_own, net_holds, net_kind, net_opens, net_put, opened_by_put}
+use Rattle.port_model.specs.NetEndRule.{Publishes, port_rule}
 use Rattle.port_model.specs.NetEndState.{Activity, GroupsReply, NetEndState, NetSession, unseen_in}
 use Rattle.port_model.specs.NetEndStep.{NetLeft, NetPublishes, NetSends, leaves, published, published_memory}
 use Rattle.port_laws.specs.NetCore.{net_core, one_if}
@@ -37,6 +35,7 @@ use Rattle.port_laws.proofs.EndMoves.{HeldCore, held_core, puts_behind, says_cor
 use Rattle.port_laws.proofs.RemainingReady.{cleared_none, published_more}
 use Rattle.port_laws.proofs.StepCounts.{Acting, counts_stand}
 use Rattle.port_laws.proofs.PutCounts.{not_some}
+use Rattle.port_laws.proofs.HeldMessages.{HeldBy, HeldOn, HeldOwed, HeldOwn, OwnAnswer, OwnGroups, OwnInfo, OwnMessage, OwnReply, held_now, held_rest}
 
 -- AN END THAT IS UP, with so many frames more: what remains falls by so much, and it holds no more frames
 abbrev pub up_left : Role → ℕ → List ℕ → NetEndState → ℕ
@@ -74,72 +73,33 @@ pub groups_same : (role : Role) (p q : NetSession) → q.untold ≡ p.untold →
 groups_same Initiator p q same = ap (λ (b : Bool). 4 * one_if b) same
 groups_same Responder p q same = refl
 
-replies_less : (role : Role) (more : ℕ) (memory : List ℕ) (s : NetEndState) (p : NetSession) (reply : GroupsReply) (what : Holding) → p.reply ≡ Some reply
-    → session_left role s.slots (length s.frames + more) memory (Some (record p { reply = None })) + put_weight role * own_in what
-    ≤ session_left role s.slots (length s.frames + more) memory (Some p)
-replies_less role more memory s p reply what is =
+session_less : (role : Role) (more : ℕ) (memory : List ℕ) (s : NetEndState) (message : Message) (p q : NetSession) (what : Holding) → OwnMessage role s p message q
+    → session_left role s.slots (length s.frames + more) memory (Some q) + put_weight role * own_in what ≤ session_left role s.slots (length s.frames + more) memory (Some p)
+session_less role more memory s _ p _ what (OwnReply reply is) =
     let less = answers_less role (frames_left role s.slots (length s.frames + more) memory (Some p)) (one_if (took_some p.active) + 0)
     (one_if (took_some p.active) + one_if (is_some p.reply)) (groups_left role (Some p)) (own_in what)
     (omega (arith, own_most what, ap (λ (x : Option GroupsReply). one_if (is_some x)) is)) in
     omega (arith, less, groups_same role p (record p { reply = None }) refl)
-
-answer_less : (role : Role) (more : ℕ) (memory : List ℕ) (s : NetEndState) (p : NetSession) (activity : Activity) (last : ℕ) (what : Holding)
-    → p.active ≡ Some activity → activity.last ≡ Some last
-    → session_left role s.slots (length s.frames + more) memory (Some (record p { active = None })) + put_weight role * own_in what
-    ≤ session_left role s.slots (length s.frames + more) memory (Some p)
-answer_less role more memory s p activity last what is some =
+session_less role more memory s _ p _ what (OwnAnswer activity last is some) =
     let less = answers_less role (frames_left role s.slots (length s.frames + more) memory (Some p)) (0 + one_if (is_some p.reply))
     (one_if (took_some p.active) + one_if (is_some p.reply)) (groups_left role (Some p)) (own_in what)
     (omega (arith, own_most what, ap (λ (x : Option Activity). one_if (took_some x)) is, ap (λ (x : Option ℕ). one_if (is_some x)) some)) in
     omega (arith, less, groups_same role p (record p { active = None }) refl)
-
-tells_less : (role : Role) (more : ℕ) (memory : List ℕ) (s : NetEndState) (p : NetSession) (what : Holding) → role ≡ Initiator → p.untold ≡ true
-    → session_left role s.slots (length s.frames + more) memory (Some (record p { untold = false; telling = true })) + put_weight role * own_in what
-    ≤ session_left role s.slots (length s.frames + more) memory (Some p)
-tells_less Initiator more memory s p what is untold = omega (arith, own_most what, ap one_if untold)
-tells_less Responder more memory s p what is untold = absurd (cc is)
-
-announces_less : (role : Role) (more : ℕ) (memory : List ℕ) (s : NetEndState) (p : NetSession) (what : Holding) → p.seen < p.published → p.asking ≡ false
-    → session_left role s.slots (length s.frames + more) memory (Some (record p { infos = p.infos + 1; asking = true })) + put_weight role * own_in what
-    ≤ session_left role s.slots (length s.frames + more) memory (Some p)
-announces_less role more memory s p what some quiet =
+session_less Initiator more memory s _ p _ what (OwnGroups guest untold telling) = omega (arith, own_most what, ap one_if untold)
+session_less Responder more memory s _ p _ what (OwnGroups guest untold telling) = absurd (cc guest)
+session_less role more memory s _ p _ what (OwnInfo some quiet) =
     let asks = asks_less role (8 * (length s.frames + more - unseen_in p)) (unseen_in p - 1) (unseen_in p - one_if p.asking) (ready_weight role * ready_slots s.slots memory)
     (answers_left role (Some p) + groups_left role (Some p)) (own_in what) (omega (arith, some, own_most what, ap one_if quiet)) in
     omega (arith, asks, groups_same role p (record p { infos = p.infos + 1; asking = true }) refl)
 
-slot_less : (role : Role) (more : ℕ) (memory : List ℕ) (s : NetEndState) (p : NetSession) (activity : Activity) (last : Option ℕ) (found : Fetched) (held : NetEndState) (what : Holding)
-    → s.session ≡ Some p → p.active ≡ Some activity → activity.last ≡ last → answers s p activity last found ≡ Some held → OwnLess role more memory s what held
-slot_less role more memory s p activity (Some last) (NotReady state) held what is active some same =
-    of_some (OwnLess role more memory s what) (holding_own (answer s activity last) (record p { active = None }) s) held same
-    (in_session_less role more memory s (answer s activity last) p (record p { active = None }) what is (answer_less role more memory s p activity last what active some))
-slot_less role more memory s p activity _ _ held what is active some same = none_some held same
-
-own_less : (role : Role) (more : ℕ) (memory : List ℕ) (s : NetEndState) (at : Seen) (reach : Reach) (rule : NetRule) (held : NetEndState) (what : Holding)
-    → port_rule role s at ≡ rule → net_holds rule s reach ≡ Some held → Holds (net_core role s) what (net_core role held) → OwnLess role more memory s what held
-own_less role more memory s at reach Puts held what is same holds =
-    let none = loud_none (net_core role s) (net_core role held) what (says_of role s at Puts is).1 holds in
-    of_some (OwnLess role more memory s what) s held same (no_less role (own_left role more memory s) (own_in what) none)
-own_less role more memory s at reach (Says message) held what is same holds =
-    let none = owing_none (net_core role s) (net_core role held) message what (says_of role s at (Says message) is).2 holds in
-    of_some (OwnLess role more memory s what) (holding message s) held same (no_less role (own_left role more memory s) (own_in what) none)
-own_less role more memory s at reach (Replies p reply) held what is same holds =
-    let says = says_of role s at (Replies p reply) is in
-    of_some (OwnLess role more memory s what) (holding_own (groups_answer s reply) (record p { reply = None }) s) held same
-    (in_session_less role more memory s (groups_answer s reply) p (record p { reply = None }) what says.0.session (replies_less role more memory s p reply what says.1))
-own_less role more memory s at reach (Fetches p activity) held what is same holds =
-    let says = says_of role s at (Fetches p activity) is in
-    slot_less role more memory s p activity activity.last (fetched s reach p.place) held what says.0.session says.1 refl same
-own_less role more memory s at reach (Tells p) held what is same holds =
-    let says = says_of role s at (Tells p) is in
-    let q : NetSession = record p { untold = false; telling = true } in
-    of_some (OwnLess role more memory s what) (holding_own (membership s.handshake.draft.sid s.groups) q s) held same
-    (in_session_less role more memory s (membership s.handshake.draft.sid s.groups) p q what says.0.in_session.session (tells_less role more memory s p what says.1 says.2))
-own_less role more memory s at reach (Announces p) held what is same holds =
-    let says = says_of role s at (Announces p) is in
-    let q : NetSession = record p { infos = p.infos + 1; asking = true } in
-    of_some (OwnLess role more memory s what) (holding_own (announcement s p) q s) held same
-    (in_session_less role more memory s (announcement s p) p q what says.0.in_session.session (announces_less role more memory s p what says.1 says.2))
-own_less role more memory s at reach _ held what is same holds = none_some held same
+own_less : (role : Role) (more : ℕ) (memory : List ℕ) (s : NetEndState) (at : Seen) (held : NetEndState) (what : Holding) → HeldBy role s at held
+    → Holds (net_core role s) what (net_core role held) → OwnLess role more memory s what held
+own_less role more memory s at _ what (HeldOn up owing) holds =
+    no_less role (own_left role more memory s) (own_in what) (loud_none (net_core role s) (net_core role s) what owing holds)
+own_less role more memory s at _ what (HeldOwed message up quiet owed) holds =
+    no_less role (own_left role more memory s) (own_in what) (owing_none (net_core role s) (net_core role (holding message s)) message what owed holds)
+own_less role more memory s at _ what (HeldOwn message p q free own) holds =
+    in_session_less role more memory s message p q what free.session (session_less role more memory s message p q what own)
 
 sum_less : (role : Role) (few many own left less : ℕ) → few ≤ many + own → left + put_weight role * own ≤ less → put_weight role * few + left ≤ put_weight role * many + less
 sum_less Initiator few many own left less packets rest = omega (arith, packets, rest)
@@ -150,24 +110,7 @@ pub blocked_left : (role : Role) (more : ℕ) (memory : List ℕ) (s : NetEndSta
 blocked_left role more memory s at reach held turns ends core same =
     sum_less role (packets_left (net_core role held)) (packets_left (net_core role s)) (own_in core.what) (own_left role more memory held) (own_left role more memory s)
     (held_packets role (net_core role s) (net_core role held) turns core.what ends core.holds)
-    (own_less role more memory s at reach (port_rule role s at) held core.what refl same core.holds)
-
--- what its link holds doesn't change its ring
-slots_some : (s held one : NetEndState) → Some one ≡ Some held → one.slots ≡ s.slots → held.slots ≡ s.slots
-slots_some s held one same is = of_some (λ (x : NetEndState). x.slots ≡ s.slots) one held same is
-
-pub held_slots : (s : NetEndState) (reach : Reach) (rule : NetRule) (held : NetEndState) → net_holds rule s reach ≡ Some held → held.slots ≡ s.slots
-held_slots s reach (Fetches p activity) held same = slot_slots activity.last (fetched s reach p.place) same
-  where
-    slot_slots : (last : Option ℕ) (found : Fetched) → answers s p activity last found ≡ Some held → held.slots ≡ s.slots
-    slot_slots (Some last) (NotReady state) is = slots_some s held (holding_own (answer s activity last) (record p { active = None }) s) is refl
-    slot_slots _ _ is = none_some held is
-held_slots s reach Puts held same = slots_some s held s same refl
-held_slots s reach (Says message) held same = slots_some s held (holding message s) same refl
-held_slots s reach (Replies p reply) held same = slots_some s held (holding_own (groups_answer s reply) (record p { reply = None }) s) same refl
-held_slots s reach (Tells p) held same = slots_some s held (holding_own (membership s.handshake.draft.sid s.groups) (record p { untold = false; telling = true }) s) same refl
-held_slots s reach (Announces p) held same = slots_some s held (holding_own (announcement s p) (record p { infos = p.infos + 1; asking = true }) s) same refl
-held_slots s reach _ held same = none_some held same
+    (own_less role more memory s at held core.what (held_now role s at reach held same) core.holds)
 
 -- IT PUTS. A guest's session opens by a packet that it puts only where none was open, and clears its ring.
 last_shut : (role : Role) (at : Phase) → opens_by_put role at ≡ true → is_open_in at ≡ false
@@ -201,11 +144,11 @@ put_left role more memory s at reach held packet turns ends core same puts =
     let held_so = held_stands role (net_core role s) (net_core role held) turns core.what ends core.holds in
     let shut : net_opens held ≡ true → held.session ≡ None =
     λ opens. not_some held.session (held_so.opened ∙ kind_shut (net_kind held) held.handshake opens) in
-    let slots : held.slots ≡ s.slots = held_slots s reach (port_rule role s at) held same in
+    let slots : held.slots ≡ s.slots = ap (λ (x : NetEndState). x.slots) (held_rest role s at held (held_now role s at reach held same)) in
     let opened = opened_left role (net_opens held) more memory now shut in
     let cleared : own_left role more (cleared_by_put role (net_opens held) s.slots memory) (net_put role held) ≤ own_left role more memory held =
     subst (λ (n : ℕ). own_left role more (cleared_by_put role (net_opens held) n memory) (net_put role held) ≤ own_left role more memory held) slots opened in
-    let own = own_less role more memory s at reach (port_rule role s at) held core.what refl same core.holds in
+    let own = own_less role more memory s at held core.what (held_now role s at reach held same) core.holds in
     sum_puts role (packets_left (net_core role (net_put role held))) (packets_left (net_core role s)) (own_in core.what)
     (own_left role more (cleared_by_put role (net_opens held) s.slots memory) (net_put role held)) (own_left role more memory s)
     (says_packets role (net_core role s) (net_core role (net_put role held)) turns packet (net_opens held) ends says) (omega (arith, cleared, own))
@@ -218,7 +161,7 @@ pub sends_lower : (role : Role) (slots : ℕ) (queue : List (List ℕ)) (s : Net
     (t : NetLeft) → Acting role slots queue s l turns → NetSends role s at memory reach packet opens t → Lowers role (put_weight role) memory s t
 sends_lower role slots queue s l turns at memory reach packet opens t acting step =
     let held : NetEndState = step.held in
-    let core : HeldCore role s held = held_core role s at reach (port_rule role s at) held acting.fits refl step.holds in
+    let core : HeldCore role s held = held_core role s at held acting.fits (held_now role s at reach held step.holds) in
     let puts : PutsPacket held.link packet (behind_put held.link) =
     subst (PutsPacket held.link packet) (puts_behind held.link packet t.end.link step.packet) step.packet in
     subst (Lowers role (put_weight role) memory s) (sym step.is) (λ more. put_left role more memory s at reach held packet turns acting.ends core step.holds puts)
@@ -226,7 +169,7 @@ sends_lower role slots queue s l turns at memory reach packet opens t acting ste
 pub blocks_lower : (role : Role) (slots : ℕ) (queue : List (List ℕ)) (s : NetEndState) (l : EndLog) (turns : List Turn) (at : Seen) (memory : List ℕ) (reach : Reach) (t : NetLeft)
     → Acting role slots queue s l turns → net_holds (port_rule role s at) s reach ≡ Some t.end → t ≡ leaves t.end memory reach → Lowers role 0 memory s t
 blocks_lower role slots queue s l turns at memory reach t acting same is =
-    let core : HeldCore role s t.end = held_core role s at reach (port_rule role s at) t.end acting.fits refl same in
+    let core : HeldCore role s t.end = held_core role s at t.end acting.fits (held_now role s at reach t.end same) in
     subst (Lowers role 0 memory s) (sym is) (λ more. let less = blocked_left role more memory s at reach t.end turns acting.ends core same in omega (arith, less))
 
 -- IT PUBLISHES a frame

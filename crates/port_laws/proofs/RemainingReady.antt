@@ -1,18 +1,16 @@
 -- How many slots of an end's own ring are READY: a cleared ring has none, and a frame that is published makes it one more at most.
-use Rattle.std.proofs.Common.{◌≡◌, ◌≢◌, ℕ, zero, suc, ◌+◌, ◌*◌, ◌%◌, ◌<◌, ◌≤◌, ◌⊎◌, inl, inr, List, [], ◌∷◌, length, refl, sym, ap, ◌∙◌, arith, length-append}
+use Rattle.std.proofs.Common.{◌≡◌, ◌≢◌, ℕ, zero, suc, ◌+◌, ◌*◌, ◌%◌, ◌<◌, ◌≤◌, ◌⊎◌, inl, inr, List, [], ◌∷◌, length, refl, sym, ap, ◌∙◌, arith}
 use Rattle.std.specs.Prelude.{◌==◌, slice_index}
 use Rattle.std.proofs.lemmas.Bool.{cases_order}
 use Rattle.std.proofs.lemmas.Nat.{mod_below}
 use Rattle.dring.proofs.Turning.{one_slot_front, slot_cleared, slot_front}
 use Rattle.dring.specs.Slots.{OneSlot, free_state, ready_state, slot_bytes}
-use Rattle.map_table.proofs.Putting.{length-cookies_bytes}
 use Rattle.vio_bytes.proofs.Putting.{take-put_at}
 use Rattle.vio_bytes.proofs.Ranges.{range_at-take}
 use Rattle.vio_bytes.specs.Place.{put_at}
 use Rattle.vio_bytes.specs.Range.{range_at}
-use Rattle.vnet_msg.specs.Descriptor.{canonical, head_bytes}
-use Rattle.vnet_msg.specs.Frames.{buffer_place, frame_buffer, frame_cookies, frame_desc}
-use Rattle.map_table.specs.Cookies.{cookies_bytes}
+use Rattle.vnet_msg.specs.Descriptor.{canonical}
+use Rattle.vnet_msg.specs.Frames.{buffer_place, frame_buffer, frame_desc}
 use Rattle.port_model.specs.NetEndPutting.{cleared_ring}
 use Rattle.port_model.specs.NetEndStep.{published_memory}
 use Rattle.port_model.specs.NetEndTaking.{freed, slot_state}
@@ -20,7 +18,7 @@ use Rattle.port_laws.specs.NetCore.{one_if}
 use Rattle.port_laws.specs.Remaining.{ready_slots}
 use Rattle.port_laws.proofs.MemoryRoom.{put_longer}
 use Rattle.port_laws.proofs.EndMoves.{one_most}
-use Rattle.port_laws.proofs.RingMoves.{free_byte}
+use Rattle.port_laws.proofs.RingMoves.{desc_long, free_byte}
 
 -- A CLEARED RING
 cleared_some : (slots n : ℕ) (memory : List ℕ) → n ≤ slots → ready_slots n (cleared_ring slots memory) ≡ 0
@@ -108,11 +106,6 @@ buffer_same at (suc n) piece memory before room =
     let state : slot_state n (put_at at piece memory) ≡ slot_state n memory =
     ap (λ (bytes : List ℕ). slice_index bytes 0) (buffer_slot at n piece memory (omega (arith, before)) room) in
     omega (arith, buffer_same at n piece memory (omega (arith, before)) room, ap (λ (state : ℕ). one_if (state == ready_state)) state)
-
--- A FRAME IS PUBLISHED
-desc_long : (slot size : ℕ) → length (canonical (frame_desc slot size)) ≡ 64
-desc_long slot size =
-    omega (arith, length-append (head_bytes (frame_desc slot size)) (cookies_bytes (frame_cookies slot size)), length-cookies_bytes (frame_cookies slot size))
 
 pub published_more : (slots slot : ℕ) (frame memory : List ℕ) → slot < slots → slots ≤ 64 → 8192 + 2048 * slots ≤ length memory
     → ready_slots slots (published_memory slot frame memory) ≤ ready_slots slots memory + 1

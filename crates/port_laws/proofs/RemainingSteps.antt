@@ -22,10 +22,9 @@ use Rattle.channel_model.specs.WireLog.{lossy_behind, wire_moved}
 use Rattle.channel_laws.specs.PacketsLeft.{all_of, left_in, messages_in, packets_left}
 use Rattle.channel_laws.specs.Standing.{EndStands}
 use Rattle.port_model.proofs.FramesKept.{held_in}
-use Rattle.port_model.proofs.Refuting.{false_true, true_false}
 use Rattle.port_model.proofs.Ruling.{says_of}
 use Rattle.port_model.specs.FramesStand.{FramesStand}
-use Rattle.port_model.specs.NetEndRule.{Joins, Publishes, port_rule}
+use Rattle.port_model.specs.NetEndRule.{Joins, Publishes}
 use Rattle.port_model.specs.NetEndState.{NetEndState, joined_net_end, unseen, with_frame}
 use Rattle.port_model.specs.NetEndStep.{Blocked, Idle, Joined, NetAnswer, NetLeft, Published, Sent, leaves}
 use Rattle.port_model.specs.NetEvent.{NetEvent, Steps}
@@ -41,9 +40,10 @@ use Rattle.port_laws.proofs.MemoryRoom.{MemoryHasRoom, before_room}
 use Rattle.port_laws.proofs.PortCounts.{Ready, port_counts, queue_of, ready_before}
 use Rattle.port_laws.proofs.RemainingEnds.{Lowers, blocks_lower, publishes_lower, sends_lower, up_left}
 use Rattle.port_laws.proofs.RuleFrames.{end_acts}
-use Rattle.port_laws.proofs.LaneMoves.{holds_up}
 use Rattle.port_laws.proofs.RingEvents.{up_is}
 use Rattle.port_laws.proofs.RuleUnforged.{reach_memory}
+use Rattle.port_laws.proofs.HeldMessages.{held_now, held_up}
+use Rattle.port_laws.proofs.LaneMoves.{not_up}
 
 -- THE FRAME THAT MOVES from the queue counts as before
 moved_end : (x : ChannelState) (memory : List ℕ) (s : NetEndState) (frame : List ℕ) (more queued : ℕ) → length (s.frames ++ frame ∷ []) + more ≡ length s.frames + queued
@@ -171,11 +171,6 @@ pub away_falls : (e : End) (shape : NetShape) (u : PortState) (l : PortLog) → 
 away_falls A shape u l ready away = joins_a u.lane.wire.wire.end_a (joined_net_end Initiator u.lane.guest) u.lane (length u.queue) away (begun_left A shape u l ready)
 away_falls B shape u l ready away = joins_b u.lane.wire.wire.end_b (joined_net_end Responder u.lane.hub) u.lane (length u.queue) away (begun_left B shape u l ready)
 
--- A STEP, by its answer
-not_up : (x : ChannelState) → is_up x ≡ false → x ≢ Up
-not_up Up is = true_false is
-not_up _ is = λ up. false_true (ap is_up up)
-
 pub room_at : (e : End) (slots : ℕ) (u : NetLaneState) → MemoryHasRoom slots u → 8192 + 2048 * slots ≤ length (memory_of e u)
 room_at A slots u room = room.guest
 room_at B slots u room = room.hub
@@ -202,7 +197,7 @@ lane_falls shape u l e (Joined lost) t ready room step takes =
 lane_falls shape u l e (Sent packet opens) t ready room step takes =
     let s : NetEndState = net_end e u.lane in
     let at : Seen = seen_at e u.lane in
-    let up = holds_up (role_at e) s at (reach_of e u.lane) (port_rule (role_at e) s at) step.step.held refl step.step.holds in
+    let up = held_up (role_at e) s at step.step.held (held_now (role_at e) s at (reach_of e u.lane) step.step.held step.step.holds) in
     let lower = sends_lower (role_at e) shape.slots (queue_of e u) s (log_of_end e l) (transcript_of e l.transcript) at (memory_of e u.lane) (reach_of e u.lane) packet opens step.left
     (end_acts shape e u l ready up) step.step in
     let less = goes e u.lane (length u.queue) (put_weight (role_at e)) step.left (seen_up e u.lane up) (ap (λ (x : NetLeft). x.peer) step.step.is ∙ reach_memory e u.lane) lower in
@@ -225,7 +220,7 @@ lane_calm : (shape : NetShape) (u : PortState) (l : PortLog) (e : End) (answer :
 lane_calm shape u l e Blocked t ready step calm =
     let s : NetEndState = net_end e u.lane in
     let at : Seen = seen_at e u.lane in
-    let up = holds_up (role_at e) s at (reach_of e u.lane) (port_rule (role_at e) s at) step.left.end refl step.step.0 in
+    let up = held_up (role_at e) s at step.left.end (held_now (role_at e) s at (reach_of e u.lane) step.left.end step.step.0) in
     let lower = blocks_lower (role_at e) shape.slots (queue_of e u) s (log_of_end e l) (transcript_of e l.transcript) at (memory_of e u.lane) (reach_of e u.lane) step.left
     (end_acts shape e u l ready up) step.step.0 step.step.2 in
     let less = goes e u.lane (length u.queue) 0 step.left (seen_up e u.lane up) (ap (λ (x : NetLeft). x.peer) step.step.2 ∙ reach_memory e u.lane) lower in

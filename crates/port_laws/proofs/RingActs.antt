@@ -34,7 +34,7 @@ use Rattle.port_model.specs.EndLog.{EndLog, SessionLog, said_in}
 use Rattle.port_model.specs.Fetching.{slots_cookies}
 use Rattle.port_model.specs.FrameLaws.{InSession, IsActive}
 use Rattle.port_model.specs.NetEndPutting.{net_kind}
-use Rattle.port_model.specs.NetEndRule.{Fetches, port_rule}
+use Rattle.port_model.specs.NetEndRule.{Fetches}
 use Rattle.port_model.specs.NetEndState.{NetEndState, NetSession}
 use Rattle.port_model.specs.NetEndStep.{Frame, Joined, NetAnswer, NetEndStep, NetLeft, Reset, Sent, Took}
 use Rattle.port_model.specs.NetEvent.{Steps}
@@ -64,6 +64,7 @@ use Rattle.port_laws.proofs.SessionsHeard.{Spoke, SpokeIn, spoke_some}
 use Rattle.port_laws.proofs.StepCounts.{Acting, took_here}
 use Rattle.port_laws.proofs.TookCounts.{free_empty}
 use Rattle.port_laws.proofs.PutCounts.{not_some}
+use Rattle.port_laws.proofs.HeldMessages.{held_now}
 
 -- THE RINGS, and what the logs say
 pub record Rings (s : NetLaneState) (l : PortLog) : Type 0 where
@@ -165,7 +166,7 @@ step_shut role slots queue s l turns at memory reach (Took packet opens) left ac
         true_false (sym opened ∙ (took_here role slots queue s l turns at memory reach packet opens left 0 acting step).shut p is)
 step_shut role slots queue s l turns at memory reach (Sent packet opens) left acting step opened =
     let held : NetEndState = step.held in
-    let core : HeldCore role s held = held_core role s at reach (port_rule role s at) held acting.fits refl step.holds in
+    let core : HeldCore role s held = held_core role s at held acting.fits (held_now role s at reach held step.holds) in
     let shut : is_open_in held.handshake.phase ≡ false = kind_shut (net_kind held) held.handshake (sym step.opens_is ∙ opened) in
     not_some s.session
     (acting.ends.opened ∙ sym (ap (λ (h : Handshake). is_open_in h.phase) (held_handshake (net_core role s) (net_core role held) core.what core.holds)) ∙ shut)
@@ -385,6 +386,10 @@ acts_up_at shape e u t l answer left acts goes =
     acts_up (role_at e) (net_end e u.lane) (seen_at e u.lane) (memory_of e u.lane) (reach_of e u.lane) answer left acts.step (state_of e u.lane.wire.wire) (seen_state e u.lane)
     (goes_same answer (state_of e u.lane.wire.wire) goes)
 
+pub core_up : (e : End) (s : NetLaneState) → state_of e s.wire.wire ≡ Up → IsUp e (lane_core s).wire.wire
+core_up A s up = up
+core_up B s up = up
+
 -- WHAT ITS LOG SAYS
 pub turned_at : (shape : NetShape) (e : End) (u t : PortState) (l : PortLog) (answer : NetAnswer) (left : NetLeft) → Acts shape e u t l answer left → Goes answer
     → Turned (role_at e) (transcript_of e l.transcript) (turns_now answer (transcript_of e l.transcript)) (log_of_end e l).session
@@ -404,10 +409,6 @@ turned_at shape e u t l answer left acts goes =
           (open_turns shape (lane_core t.lane) then_ e acts.talks (core_up e t.lane up_now)
           (core_open e t.lane true (behind.opened (λ none. some (ap (λ (x : EndLog). x.session) (sym (log_now e l answer).mine) ∙ none))))).row_long;
     }
-  where
-    core_up : (e : End) (s : NetLaneState) → state_of e s.wire.wire ≡ Up → IsUp e (lane_core s).wire.wire
-    core_up A s up = up
-    core_up B s up = up
 
 acts_spoke : (shape : NetShape) (e : End) (u t : PortState) (l : PortLog) (answer : NetAnswer) (left : NetLeft) → Acts shape e u t l answer left
     → SpokeIn (role_at e) (transcript_of e (after l (OnLane (Steps e answer))).transcript) (log_of_end e (after l (OnLane (Steps e answer)))).session

@@ -17,7 +17,7 @@ use Rattle.channel_model.specs.TranscriptLog.{TranscriptLog, transcript_of}
 use Rattle.port_model.proofs.Refuting.{false_true}
 use Rattle.port_model.proofs.Ruling.{says_of}
 use Rattle.port_model.specs.EndLog.{EndLog, SessionLog, change, heard_in, heard_kind, hears_log, more_published, more_taken as one_taken, opens_log, said_in, said_kind, says_log}
-use Rattle.port_model.specs.NetEndRule.{Fetches, Idles, Publishes, Takes, port_rule}
+use Rattle.port_model.specs.NetEndRule.{Fetches, Idles, Publishes, Takes}
 use Rattle.port_model.specs.NetEndState.{NetEndState, NetSession}
 use Rattle.port_model.specs.NetEndStep.{Blocked, Frame, Idle, Joined, NetAnswer, NetEndStep, NetLeft, Published, Reset, Sent, Took}
 use Rattle.port_model.specs.NetEvent.{Steps, on_wire}
@@ -29,7 +29,7 @@ use Rattle.port_laws.specs.RingStands.{RingIn, taken_by, taken_in}
 use Rattle.port_laws.proofs.PeerOpens.{row}
 use Rattle.port_laws.proofs.RingSteps.{Owns, TakesOf, more_taken, opens_by, own_ring, peer_ring}
 use Rattle.port_laws.proofs.SessionsHeard.{Spoke, SpokeIn, frame_spoke, published_spoke, sent_opens, sent_spoke, took_opens, took_spoke}
-use Rattle.port_laws.proofs.LaneMoves.{holds_up}
+use Rattle.port_laws.proofs.HeldMessages.{held_now, held_up}
 
 -- BOTH CHANNEL ENDS and what was said, after an answer
 abbrev pub mine_now : NetAnswer → ChannelState → ChannelState
@@ -77,8 +77,8 @@ up_is _ is = false_true is
 pub acts_up : (role : Role) (s : NetEndState) (at : Seen) (memory : List ℕ) (reach : Reach) (answer : NetAnswer) (left : NetLeft) → NetEndStep role s at memory reach answer left
     → (x : ChannelState) → at.state ≡ x → mine_now answer x ≡ x → x ≡ Up
 acts_up role s at memory reach (Took packet opens) left step x is now = up_is x (sym (ap is_up is) ∙ (says_of role s at (Takes packet) step.0).0.up)
-acts_up role s at memory reach (Sent packet opens) left step x is now = up_is x (sym (ap is_up is) ∙ holds_up role s at reach (port_rule role s at) step.held refl step.holds)
-acts_up role s at memory reach Blocked left step x is now = up_is x (sym (ap is_up is) ∙ holds_up role s at reach (port_rule role s at) left.end refl step.0)
+acts_up role s at memory reach (Sent packet opens) left step x is now = up_is x (sym (ap is_up is) ∙ held_up role s at step.held (held_now role s at reach step.held step.holds))
+acts_up role s at memory reach Blocked left step x is now = up_is x (sym (ap is_up is) ∙ held_up role s at left.end (held_now role s at reach left.end step.0))
 acts_up role s at memory reach Idle left step x is now = up_is x (sym (ap is_up is) ∙ (says_of role s at Idles step.0).0.up)
 acts_up role s at memory reach (Published id) left step x is now =
     up_is x (sym (ap is_up is) ∙ (says_of role s at (Publishes step.session step.frame) step.rule).0.in_session.free.up)

@@ -13,7 +13,7 @@ use Rattle.channel_model.specs.WireLog.{WireLog}
 use Rattle.channel_laws.specs.LaneCore.{LaneCore}
 use Rattle.port_model.proofs.Moving.{before_keeps}
 use Rattle.port_model.proofs.Refuting.{true_false}
-use Rattle.port_model.specs.EndLog.{SessionLog}
+use Rattle.port_model.specs.EndLog.{EndLog, SessionLog}
 use Rattle.port_model.specs.NetEndState.{NetEndState, NetSession}
 use Rattle.port_model.specs.NetEndStep.{Already, BadLength, Full, Given, GroupsFull, Joined, Joining, Member, NetGives, NetJoins, Queued, untold}
 use Rattle.port_model.specs.NetEvent.{Asked, Gives, Injects, Joins, Loses, NetEvent, Pokes, Steps, Ticked, on_wire}
@@ -93,6 +93,16 @@ joined_ring slots taken memory s (GroupsFull address) t joins ring = subst (λ (
 joined_ring slots taken memory s (Member address) t joins ring =
     subst (λ (x : NetEndState). RingIn slots taken x.session x.frames memory) (sym joins.3) (untold_ring slots taken s.session s.frames memory ring)
 
+-- a frame that is given touches no session of the log
+pub record SameLog (l m : EndLog) : Type 0 where
+  pub session : m.session ≡ l.session
+  pub gone : m.gone ≡ l.gone
+  pub published : m.published ≡ l.published
+
+pub given_same : (given : Given) (l : EndLog) → SameLog l (after_given given l)
+given_same (Queued id frame) l = record { session = refl; gone = refl; published = refl }
+given_same _ l = record { session = refl; gone = refl; published = refl }
+
 -- AN EVENT, where nobody forged
 lane_rings : (shape : NetShape) (u t : PortState) (l : PortLog) (event : NetEvent) → OfQueue u event → Finds shape u l → NetLaneStep u.lane event t.lane → (moved_on l.wire (on_wire event)).forged ≡ false
     → PortCounts shape t (after l (OnLane event)) → PortTalks shape (lane_core t.lane) (after l (OnLane event)) → Rings t.lane (after l (OnLane event))
@@ -102,20 +112,13 @@ lane_rings shape u t l (Ticked queued lost) of_queue finds step clean counts tal
 lane_rings shape u t l (Gives A given) of_queue finds step clean counts talks =
     subst (λ (x : NetLaneState). Rings x (after l (OnLane (Gives A given)))) (sym step.1)
     (record {
-      guest_spoke = given_spoke given;
+      guest_spoke = subst (SpokeIn Initiator l.transcript.client) (sym (given_same given l.guest).session) finds.rings.guest_spoke;
       hub_spoke = finds.rings.hub_spoke;
       guest_ring = λ up. given_ring l.shape.slots (taken_by u.lane.wire.wire.end_b l.hub.session) u.lane.guest_memory u.lane.guest given t.lane.guest step.0 (finds.rings.guest_ring up);
-      hub_ring = λ up. given_other given up;
+      hub_ring = λ up.
+          subst (λ (o : Option SessionLog). RingIn l.shape.slots (taken_by u.lane.wire.wire.end_a o) u.lane.hub.session u.lane.hub.frames u.lane.hub_memory) (sym (given_same given l.guest).session)
+          (finds.rings.hub_ring up);
     })
-  where
-    given_spoke : (given : Given) → SpokeIn Initiator l.transcript.client (after_given given l.guest).session
-    given_spoke (Queued id frame) = finds.rings.guest_spoke
-    given_spoke _ = finds.rings.guest_spoke
-
-    given_other : (given : Given) → u.lane.wire.wire.end_b ≡ Up
-        → RingIn l.shape.slots (taken_by u.lane.wire.wire.end_a (after_given given l.guest).session) u.lane.hub.session u.lane.hub.frames u.lane.hub_memory
-    given_other (Queued id frame) up = finds.rings.hub_ring up
-    given_other _ up = finds.rings.hub_ring up
 lane_rings shape u t l (Gives B given) of_queue finds step clean counts talks = absurd of_queue
 lane_rings shape u t l (Joins joining) of_queue finds step clean counts talks =
     subst (λ (x : NetLaneState). Rings x (after l (OnLane (Joins joining)))) (sym step.1)

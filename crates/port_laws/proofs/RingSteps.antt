@@ -15,25 +15,23 @@ use Rattle.dring.specs.Slots.{range_length}
 use Rattle.channel_model.specs.Seeing.{Seen}
 use Rattle.cookie_copy.specs.Reach.{Reach}
 use Rattle.channel_laws.specs.Standing.{EndStands}
-use Rattle.port_model.proofs.Refuting.{none_some, of_some}
 use Rattle.port_model.proofs.Ruling.{says_of}
-use Rattle.port_model.specs.Fetching.{Fetched, IsFrame as IsFetched, NotReady, fetched}
+use Rattle.port_model.specs.Fetching.{IsFrame as IsFetched, fetched}
 use Rattle.port_model.specs.FramesStand.{CountsStand, FramesStand}
-use Rattle.port_model.specs.Groups.{membership}
-use Rattle.port_model.specs.NetEndPutting.{announcement, answer, answers, cleared_by_put, cleared_ring, groups_answer, holding, holding_own, net_holds, net_kind, net_opens, net_put, opened_by_put}
-use Rattle.port_model.specs.NetEndRule.{Announces, Fetches, NetRule, Publishes, Puts, Replies, Says, Tells, port_rule}
-use Rattle.port_model.specs.NetEndState.{Activity, NetEndState, NetSession, unseen_in}
+use Rattle.port_model.specs.NetEndPutting.{answer, cleared_by_put, cleared_ring, net_kind, net_opens, net_put, opened_by_put}
+use Rattle.port_model.specs.NetEndRule.{Fetches, Publishes, port_rule}
+use Rattle.port_model.specs.NetEndState.{NetEndState, NetSession, unseen_in}
 use Rattle.port_model.specs.NetEndStep.{Blocked, Frame, Idle, NetAnswer, NetEndStep, NetLeft, NetSends, Published, Reset, Sent, Took, published, published_memory, taken}
 use Rattle.port_model.specs.NetEndTaking.{GoesOn, NetTake, NetTakes, Resets, freed}
 use Rattle.port_laws.specs.NetCore.{net_core}
 use Rattle.port_laws.specs.RingHolds.{RingHolds}
 use Rattle.port_laws.specs.RingStands.{RingIn}
 use Rattle.port_laws.proofs.MessageDoes.{Acks, Asks, Declines, MessageDoes, Names, Told}
-use Rattle.port_laws.proofs.RemainingEnds.{held_slots}
 use Rattle.port_laws.proofs.RingFetches.{Reaches, ring_fetched}
 use Rattle.port_laws.proofs.RingMoves.{Fits, ring_acked, ring_cleared, ring_published}
 use Rattle.port_laws.proofs.TookWhat.{Fails, Opens, Reads, Stays, TookWhat, took_what}
 use Rattle.port_laws.proofs.StepCounts.{counts_stand}
+use Rattle.port_laws.proofs.HeldMessages.{HeldBy, HeldOn, HeldOwed, HeldOwn, OwnMessage, OwnReply, held_now, held_rest}
 
 -- the ring of an open session
 ring_of : (slots taken : ℕ) (session : Option NetSession) (p : NetSession) (frames : List (List ℕ)) (memory : List ℕ) → session ≡ Some p → RingIn slots taken session frames memory
@@ -44,32 +42,18 @@ ring_of slots taken session p frames memory is ring = subst (λ (x : Option NetS
 abbrev Same : ℕ → ℕ → List ℕ → NetEndState → NetEndState → Type 0
 Same slots taken memory s held = RingIn slots taken s.session s.frames memory → RingIn slots taken held.session held.frames memory
 
-held_own : (slots taken : ℕ) (memory : List ℕ) (s held : NetEndState) (message : Message) (p q : NetSession) → s.session ≡ Some p → q.seen ≡ p.seen → q.published ≡ p.published
-    → Some (holding_own message q s) ≡ Some held → Same slots taken memory s held
-held_own slots taken memory s held message p q is seen published same =
-    of_some (Same slots taken memory s) (holding_own message q s) held same
-    (λ ring. let here = ring_of slots taken s.session p s.frames memory is ring in
-    subst (λ (n : ℕ). RingHolds slots n taken q.published s.frames memory) (sym seen) (subst (λ (n : ℕ). RingHolds slots p.seen taken n s.frames memory) (sym published) here))
+own_same : (role : Role) (s : NetEndState) (message : Message) (p q : NetSession) → OwnMessage role s p message q → (q.seen ≡ p.seen) × (q.published ≡ p.published)
+own_same role s _ p _ (OwnReply reply is) = (refl, refl)
+own_same role s _ p _ _ = (refl, refl)
 
-slot_held : (slots taken : ℕ) (memory : List ℕ) (s held : NetEndState) (p : NetSession) (activity : Activity) (last : Option ℕ) (found : Fetched) → s.session ≡ Some p
-    → answers s p activity last found ≡ Some held → Same slots taken memory s held
-slot_held slots taken memory s held p activity (Some last) (NotReady state) is same =
-    held_own slots taken memory s held (answer s activity last) p (record p { active = None }) is refl refl same
-slot_held slots taken memory s held p activity _ _ is same = none_some held same
-
-pub held_ring : (role : Role) (slots taken : ℕ) (memory : List ℕ) (s : NetEndState) (at : Seen) (reach : Reach) (rule : NetRule) (held : NetEndState) → port_rule role s at ≡ rule
-    → net_holds rule s reach ≡ Some held → Same slots taken memory s held
-held_ring role slots taken memory s at reach Puts held is same = of_some (Same slots taken memory s) s held same (λ ring. ring)
-held_ring role slots taken memory s at reach (Says message) held is same = of_some (Same slots taken memory s) (holding message s) held same (λ ring. ring)
-held_ring role slots taken memory s at reach (Replies p reply) held is same =
-    held_own slots taken memory s held (groups_answer s reply) p (record p { reply = None }) (says_of role s at (Replies p reply) is).0.session refl refl same
-held_ring role slots taken memory s at reach (Fetches p activity) held is same =
-    slot_held slots taken memory s held p activity activity.last (fetched s reach p.place) (says_of role s at (Fetches p activity) is).0.session same
-held_ring role slots taken memory s at reach (Tells p) held is same =
-    held_own slots taken memory s held (membership s.handshake.draft.sid s.groups) p (record p { untold = false; telling = true }) (says_of role s at (Tells p) is).0.in_session.session refl refl same
-held_ring role slots taken memory s at reach (Announces p) held is same =
-    held_own slots taken memory s held (announcement s p) p (record p { infos = p.infos + 1; asking = true }) (says_of role s at (Announces p) is).0.in_session.session refl refl same
-held_ring role slots taken memory s at reach _ held is same = none_some held same
+held_ring : (role : Role) (slots taken : ℕ) (memory : List ℕ) (s : NetEndState) (at : Seen) (held : NetEndState) → HeldBy role s at held → Same slots taken memory s held
+held_ring role slots taken memory s at _ (HeldOn up owing) = λ ring. ring
+held_ring role slots taken memory s at _ (HeldOwed message up quiet owed) = λ ring. ring
+held_ring role slots taken memory s at _ (HeldOwn message p q free own) =
+    λ ring.
+    let here = ring_of slots taken s.session p s.frames memory free.session ring in
+    let same = own_same role s message p q own in
+    subst (λ (n : ℕ). RingHolds slots n taken q.published s.frames memory) (sym same.0) (subst (λ (n : ℕ). RingHolds slots p.seen taken n s.frames memory) (sym same.1) here)
 
 -- A SESSION OPENS with a ring that is cleared
 opened_ring : (slots taken : ℕ) (frames : List (List ℕ)) (memory : List ℕ) → taken ≡ 0 → RingHolds slots 0 taken 0 frames (cleared_ring slots memory)
@@ -134,9 +118,9 @@ sent_ring : (role : Role) (taken : ℕ) (s : NetEndState) (at : Seen) (memory : 
     → NetSends role s at memory reach packet opens left → RingIn s.slots taken s.session s.frames memory → RingIn s.slots taken left.end.session left.end.frames left.own
 sent_ring role taken s at memory reach packet opens left none step ring =
     let held : NetEndState = step.held in
-    let slots : held.slots ≡ s.slots = held_slots s reach (port_rule role s at) held step.holds in
+    let slots : held.slots ≡ s.slots = ap (λ (x : NetEndState). x.slots) (held_rest role s at held (held_now role s at reach held step.holds)) in
     let here : RingIn held.slots taken held.session held.frames memory =
-    subst (λ (n : ℕ). RingIn n taken held.session held.frames memory) (sym slots) (held_ring role s.slots taken memory s at reach (port_rule role s at) held refl step.holds ring) in
+    subst (λ (n : ℕ). RingIn n taken held.session held.frames memory) (sym slots) (held_ring role s.slots taken memory s at held (held_now role s at reach held step.holds) ring) in
     let there = put_ring role (net_opens held) taken memory (record held { link = behind_put held.link; handshake = handshake_behind (net_kind held) held.handshake })
     (λ is. none (step.opens_is ∙ is)) here in
     subst (λ (x : NetLeft). RingIn s.slots taken x.end.session x.end.frames x.own) (sym step.is)
@@ -162,7 +146,7 @@ own_ring role taken s turns at memory reach (Took packet opens) left owns none s
     took_ring role taken memory packet s left.end turns opens left.own owns.ends owns.fits step.1 none ring
 own_ring role taken s turns at memory reach (Sent packet opens) left owns none step ring = sent_ring role taken s at memory reach packet opens left none step ring
 own_ring role taken s turns at memory reach Blocked left owns none step ring =
-    subst (λ (x : NetLeft). RingIn s.slots taken x.end.session x.end.frames x.own) (sym step.2) (held_ring role s.slots taken memory s at reach (port_rule role s at) left.end refl step.0 ring)
+    subst (λ (x : NetLeft). RingIn s.slots taken x.end.session x.end.frames x.own) (sym step.2) (held_ring role s.slots taken memory s at left.end (held_now role s at reach left.end step.0) ring)
 own_ring role taken s turns at memory reach Idle left owns none step ring = subst (λ (x : NetLeft). RingIn s.slots taken x.end.session x.end.frames x.own) (sym step.1) ring
 own_ring role taken s turns at memory reach (Published id) left owns none step ring =
     subst (λ (x : NetLeft). RingIn s.slots taken x.end.session x.end.frames x.own) (sym step.is) (published_ring role taken s turns at memory step.session step.frame owns step.rule ring)

@@ -15,7 +15,7 @@ use Rattle.ldc_queue.specs.Fragments.{fragment_at, is_part}
 use Rattle.ldc_queue.specs.Numbered.{is_numbered}
 use Rattle.ldc_queue.specs.Transcript.{Turn}
 use Rattle.dring.specs.Slots.{range_length}
-use Rattle.runs.specs.Lawful.{Lawful, log_of}
+use Rattle.runs.specs.Lawful.{log_of}
 use Rattle.runs.specs.Run.{Run}
 use Rattle.vio_bytes.specs.Place.{number_at}
 use Rattle.vio_tag.proofs.Deciding.{some_result}
@@ -69,7 +69,7 @@ use Rattle.port_laws.proofs.LaneMoves.{event_core_step}
 use Rattle.port_laws.proofs.PortCauses.{fails_with, take_cause}
 use Rattle.port_laws.proofs.PortResets.{opened_is}
 use Rattle.port_laws.proofs.PortCounts.{Ready, port_counts, queue_of, ready_before}
-use Rattle.port_laws.proofs.PortRuns.{before_core, before_fits, fresh_port_core, lawful_along, port_fits_behind, spoken_behind}
+use Rattle.port_laws.proofs.PortRuns.{before_core, before_fits, fresh_port_core, port_fits_behind, spoken_behind}
 use Rattle.port_laws.proofs.RuleFrames.{both_open, end_acts, end_counted, if_range, if_session}
 use Rattle.port_laws.proofs.RuleRest.{own_reset_event}
 use Rattle.port_laws.proofs.StepCounts.{peer_slots_known}
@@ -350,12 +350,9 @@ asks_event shape is events s (Steps e (Took packet opens)) t run step =
     (listens shape e w v_l packet both.p v known step.step.0 both.is log) none ended kind)))
 asks_event shape is events s _ t run step = tt
 
-pub port_asks : (shape : NetShape) (events : List PortEvent) (s : PortState) → IsNetShape shape → Run PortStep (fresh_port shape) events s → Lawful AsksAt after (no_events shape) events
-port_asks shape events s is run = lawful_along shape AsksAt here events s run
-  where
-    here : (events : List PortEvent) (s : PortState) (event : PortEvent) (t : PortState) → Run PortStep (fresh_port shape) events s → PortStep s event t → AsksAt (log_of after (no_events shape) events) event
-    here events s (OnLane event) t run step = asks_event shape is events s event t.lane run step.1
-    here events s (Receives frame) t run step = tt
+pub asks_at : (shape : NetShape) → IsNetShape shape → (events : List PortEvent) (s : PortState) (event : PortEvent) (t : PortState) → Run PortStep (fresh_port shape) events s → PortStep s event t → AsksAt (log_of after (no_events shape) events) event
+asks_at shape is events s (OnLane event) t run step = asks_event shape is events s event t.lane run step.1
+asks_at shape is events s (Receives frame) t run step = tt
 
 -- a reset for a slot that isn't DONE
 in_never : {X : Type 0} (log : Option SessionLog) (P : SessionLog → Type 0) → InSession log (λ (v : SessionLog). ⊥ × P v) → X
@@ -407,9 +404,6 @@ undone_event : (shape : NetShape) (is : IsNetShape shape) (events : List PortEve
 undone_event shape is events s (Steps e (Reset (the_cause.NotDone slot state) packet lost)) t run step = undone_by shape is events s t run e slot state lost packet step
 undone_event shape is events s _ t run step = tt
 
-pub port_undone : (shape : NetShape) (events : List PortEvent) (s : PortState) → IsNetShape shape → Run PortStep (fresh_port shape) events s → Lawful UndoneAt after (no_events shape) events
-port_undone shape events s is run = lawful_along shape UndoneAt here events s run
-  where
-    here : (events : List PortEvent) (s : PortState) (event : PortEvent) (t : PortState) → Run PortStep (fresh_port shape) events s → PortStep s event t → UndoneAt (log_of after (no_events shape) events) event
-    here events s (OnLane event) t run step = undone_event shape is events s event t.lane run step.1
-    here events s (Receives frame) t run step = tt
+pub undone_at : (shape : NetShape) → IsNetShape shape → (events : List PortEvent) (s : PortState) (event : PortEvent) (t : PortState) → Run PortStep (fresh_port shape) events s → PortStep s event t → UndoneAt (log_of after (no_events shape) events) event
+undone_at shape is events s (OnLane event) t run step = undone_event shape is events s event t.lane run step.1
+undone_at shape is events s (Receives frame) t run step = tt

@@ -22,7 +22,7 @@ use Rattle.port_model.proofs.Ruling.{says_of}
 use Rattle.port_model.specs.EndLog.{EndLog, SessionLog, change, held, heard_in, heard_kind, hears_log, lost_in, opens_log, range_of}
 use Rattle.port_model.specs.FrameLaws.{AcknowledgesAt, Acknowledges, Admits, AdmissionAt, Announces, AnnouncesAt, IfMessage, IfSession, InSession, IsActive, LostAt, MayPublish, PublishedAt, SeesAt, SeesPublished, TakingAt}
 use Rattle.port_model.specs.FramesStand.{CountsStand, FramesStand}
-use Rattle.port_model.specs.NetEndRule.{Fetches, Publishes, Takes, port_rule}
+use Rattle.port_model.specs.NetEndRule.{Fetches, Publishes, Takes}
 use Rattle.port_model.specs.NetEndState.{Activity, NetEndState, NetSession, unseen, unseen_in}
 use Rattle.port_model.specs.NetEndStep.{BadLength, Frame, Full, Given, Joined, NetGives, Published, Queued, Reset, Sent, Took}
 use Rattle.port_model.specs.NetEvent.{Asked, Gives, NetEvent, Steps, Ticked}
@@ -39,8 +39,8 @@ use Rattle.port_laws.proofs.PortRuns.{lawful_along}
 use Rattle.port_laws.proofs.PutCounts.{SaidRight}
 use Rattle.port_laws.proofs.StepCounts.{Acting, sent_right, took_here}
 use Rattle.port_laws.proofs.TookCounts.{TookCounts, free_empty}
-use Rattle.port_laws.proofs.LaneMoves.{holds_up}
 use Rattle.port_laws.proofs.SlotsFound.{Fits, fetched_fits}
+use Rattle.port_laws.proofs.HeldMessages.{held_now, held_up}
 
 -- EITHER END
 pub end_counted : (shape : NetShape) (e : End) (u : PortState) (l : PortLog) → Ready shape u l → EndCounts (role_at e) shape.slots (queue_of e u) (net_end e u.lane) (log_of_end e l)
@@ -91,7 +91,7 @@ lost_log role slots queue s l counts = by_session s.session refl
 end_lost : (shape : NetShape) (e : End) (u : PortState) (l : PortLog) (lost : ℕ) → Ready shape u l → lost ≡ unseen (net_end e u.lane).session → lost ≡ lost_in (log_of_end e l).session
 end_lost shape e u l lost ready is = is ∙ lost_log (role_at e) shape.slots (queue_of e u) (net_end e u.lane) (log_of_end e l) (end_counted shape e u l ready)
 
-lost_event : (shape : NetShape) (u : PortState) (l : PortLog) (event : NetEvent) (t : NetLaneState) → Ready shape u l → NetLaneStep u.lane event t → LostAt l (OnLane event)
+pub lost_event : (shape : NetShape) (u : PortState) (l : PortLog) (event : NetEvent) (t : NetLaneState) → Ready shape u l → NetLaneStep u.lane event t → LostAt l (OnLane event)
 lost_event shape u l (Steps e (Joined lost)) t ready step = end_lost shape e u l lost ready step.step.1
 lost_event shape u l (Steps e (Reset cause packet lost)) t ready step = end_lost shape e u l lost ready step.step.1
 lost_event shape u l (Asked e lost) t ready step = end_lost shape e u l lost ready step.0
@@ -112,7 +112,7 @@ may_publish role slots queue s l p frame id counts stands is next id_is =
       given = omega (arith, id_is, within, stood.seen, long, counts.gone, here.counts.ring.left, length-append s.frames queue, length-drop l.gone l.given);
     }
 
-published_event : (shape : NetShape) (u : PortState) (l : PortLog) (event : NetEvent) (t : NetLaneState) → Ready shape u l → NetLaneStep u.lane event t → PublishedAt l (OnLane event)
+pub published_event : (shape : NetShape) (u : PortState) (l : PortLog) (event : NetEvent) (t : NetLaneState) → Ready shape u l → NetLaneStep u.lane event t → PublishedAt l (OnLane event)
 published_event shape u l (Steps e (Published id)) t ready step =
     let says = says_of (role_at e) (net_end e u.lane) (seen_at e u.lane) (Publishes step.step.session step.step.frame) step.step.rule in
     may_publish (role_at e) shape.slots (queue_of e u) (net_end e u.lane) (log_of_end e l) step.step.session step.step.frame id (end_counted shape e u l ready) (end_stood shape e u l ready)
@@ -141,12 +141,12 @@ pub sent_said : (shape : NetShape) (e : End) (u : PortState) (l : PortLog) (pack
     → SaidRight shape.slots step.step.held.groups (log_of_end e l) (ended_by (half_said (transcript_of e l.transcript)) packet)
 sent_said shape e u l packet opens t ready step =
     let up : is_up (seen_at e u.lane).state ≡ true =
-    holds_up (role_at e) (net_end e u.lane) (seen_at e u.lane) (reach_of e u.lane) (port_rule (role_at e) (net_end e u.lane) (seen_at e u.lane)) step.step.held refl step.step.holds in
+    held_up (role_at e) (net_end e u.lane) (seen_at e u.lane) step.step.held (held_now (role_at e) (net_end e u.lane) (seen_at e u.lane) (reach_of e u.lane) step.step.held step.step.holds) in
     sent_right (role_at e) shape.slots (queue_of e u) (net_end e u.lane) (log_of_end e l) (transcript_of e l.transcript) (seen_at e u.lane) (memory_of e u.lane) (reach_of e u.lane) packet opens step.left
     (end_acts shape e u l ready up) step.step
 
 -- 4. AN INFO, and 5. an ACK
-announces_event : (shape : NetShape) (u : PortState) (l : PortLog) (event : NetEvent) (t : NetLaneState) → Ready shape u l → NetLaneStep u.lane event t → AnnouncesAt l (OnLane event)
+pub announces_event : (shape : NetShape) (u : PortState) (l : PortLog) (event : NetEvent) (t : NetLaneState) → Ready shape u l → NetLaneStep u.lane event t → AnnouncesAt l (OnLane event)
 announces_event shape u l (Steps e (Sent packet opens)) t ready step =
     if_session (log_of_end e l).session _ (λ v log.
     if_range 1 (ended_by (half_said (transcript_of e l.transcript)) packet) (Announces l.shape.slots v) (λ message ended kind.
@@ -154,7 +154,7 @@ announces_event shape u l (Steps e (Sent packet opens)) t ready step =
     (subst (SaysRightly shape.slots step.step.held.groups v message) kind (sent_said shape e u l packet opens t ready step message v ended log))))
 announces_event shape u l _ t ready step = tt
 
-acknowledges_event : (shape : NetShape) (u : PortState) (l : PortLog) (event : NetEvent) (t : NetLaneState) → Ready shape u l → NetLaneStep u.lane event t → AcknowledgesAt l (OnLane event)
+pub acknowledges_event : (shape : NetShape) (u : PortState) (l : PortLog) (event : NetEvent) (t : NetLaneState) → Ready shape u l → NetLaneStep u.lane event t → AcknowledgesAt l (OnLane event)
 acknowledges_event shape u l (Steps e (Sent packet opens)) t ready step =
     if_session (log_of_end e l).session _ (λ v log.
     if_range 2 (ended_by (half_said (transcript_of e l.transcript)) packet) (Acknowledges l.shape.slots v) (λ message ended kind.
@@ -186,7 +186,7 @@ sees_here role slots queue s t l turns packet opens v message counts stands took
     ∙ ap (λ (x : Option (List ℕ)). Some (heard_in slots x v)) ended ∙ ap (λ (k : Spoken). Some (heard_kind slots k message v)) kind in
     seen_within role slots queue t (hears_log slots (ended_by (half_heard turns) packet) l) now after stands session
 
-sees_event : (shape : NetShape) (u : PortState) (l : PortLog) (event : NetEvent) (t : NetLaneState) → Ready shape u l → NetLaneStep u.lane event t → SeesAt l (OnLane event)
+pub sees_event : (shape : NetShape) (u : PortState) (l : PortLog) (event : NetEvent) (t : NetLaneState) → Ready shape u l → NetLaneStep u.lane event t → SeesAt l (OnLane event)
 sees_event shape u l (Steps e (Took packet opens)) t ready step =
     let says = says_of (role_at e) (net_end e u.lane) (seen_at e u.lane) (Takes packet) step.step.0 in
     let took = took_here (role_at e) shape.slots (queue_of e u) (net_end e u.lane) (log_of_end e l) (transcript_of e l.transcript) (seen_at e u.lane) (memory_of e u.lane) (reach_of e u.lane) packet opens
@@ -240,43 +240,23 @@ admits shape u l (Queued id frame) t ready gives =
     (gives.0, omega (arith, held_is, slots, gives.1), omega (arith, ids, gives.3))
 
 -- ALONG EVERY RUN
-pub along : (shape : NetShape) (May : PortLog → PortEvent → Type 0) → IsNetShape shape
+pub lane_at : (shape : NetShape) (May : PortLog → PortEvent → Type 0) → IsNetShape shape
     → ((s : PortState) (l : PortLog) (event : NetEvent) (t : PortState) → PortCounts shape s l → Ready shape (before event s) l → PortStep s (OnLane event) t → May l (OnLane event))
-    → ((l : PortLog) (frame : List ℕ) → May l (Receives frame)) → (events : List PortEvent) (s : PortState) → Run PortStep (fresh_port shape) events s → Lawful May after (no_events shape) events
-along shape May is law received events s run = lawful_along shape May here events s run
-  where
-    here : (events : List PortEvent) (s : PortState) (event : PortEvent) (t : PortState) → Run PortStep (fresh_port shape) events s → PortStep s event t → May (log_of after (no_events shape) events) event
-    here events s (OnLane event) t run step =
-        let counts = port_counts shape events s is run in
-        law s (log_of after (no_events shape) events) event t counts (ready_before shape s (log_of after (no_events shape) events) event is counts) step
-    here events s (Receives frame) t run step = received (log_of after (no_events shape) events) frame
-
-pub port_lost : (shape : NetShape) (events : List PortEvent) (s : PortState) → IsNetShape shape → Run PortStep (fresh_port shape) events s → Lawful LostAt after (no_events shape) events
-port_lost shape events s is run = along shape LostAt is (λ x l event t counts ready step. lost_event shape (before event x) l event t.lane ready step.1) (λ l frame. tt) events s run
-
-pub port_published : (shape : NetShape) (events : List PortEvent) (s : PortState) → IsNetShape shape → Run PortStep (fresh_port shape) events s → Lawful PublishedAt after (no_events shape) events
-port_published shape events s is run = along shape PublishedAt is (λ x l event t counts ready step. published_event shape (before event x) l event t.lane ready step.1) (λ l frame. tt) events s run
-
-pub port_announces : (shape : NetShape) (events : List PortEvent) (s : PortState) → IsNetShape shape → Run PortStep (fresh_port shape) events s → Lawful AnnouncesAt after (no_events shape) events
-port_announces shape events s is run = along shape AnnouncesAt is (λ x l event t counts ready step. announces_event shape (before event x) l event t.lane ready step.1) (λ l frame. tt) events s run
-
-pub port_acknowledges : (shape : NetShape) (events : List PortEvent) (s : PortState) → IsNetShape shape → Run PortStep (fresh_port shape) events s → Lawful AcknowledgesAt after (no_events shape) events
-port_acknowledges shape events s is run =
-    along shape AcknowledgesAt is (λ x l event t counts ready step. acknowledges_event shape (before event x) l event t.lane ready step.1) (λ l frame. tt) events s run
-
-pub port_sees : (shape : NetShape) (events : List PortEvent) (s : PortState) → IsNetShape shape → Run PortStep (fresh_port shape) events s → Lawful SeesAt after (no_events shape) events
-port_sees shape events s is run = along shape SeesAt is (λ x l event t counts ready step. sees_event shape (before event x) l event t.lane ready step.1) (λ l frame. tt) events s run
+    → ((l : PortLog) (frame : List ℕ) → May l (Receives frame)) → (events : List PortEvent) (s : PortState) (event : PortEvent) (t : PortState) → Run PortStep (fresh_port shape) events s
+    → PortStep s event t → May (log_of after (no_events shape) events) event
+lane_at shape May is law received events s (OnLane event) t run step =
+    let counts = port_counts shape events s is run in
+    law s (log_of after (no_events shape) events) event t counts (ready_before shape s (log_of after (no_events shape) events) event is counts) step
+lane_at shape May is law received events s (Receives frame) t run step = received (log_of after (no_events shape) events) frame
 
 pub port_takes : (shape : NetShape) (events : List PortEvent) (s : PortState) → IsNetShape shape → Run PortStep (fresh_port shape) events s → Lawful TakingAt after (no_events shape) events
-port_takes shape events s is run = along shape TakingAt is (λ x l event t counts ready step. taking_event shape (before event x) l event t.lane ready step.1) (λ l frame. tt) events s run
+port_takes shape events s is run =
+    lawful_along shape TakingAt (lane_at shape TakingAt is (λ x l event t counts ready step. taking_event shape (before event x) l event t.lane ready step.1) (λ l frame. tt)) events s run
 
-admission_event : (shape : NetShape) (s u : PortState) (l : PortLog) (event : NetEvent) (t : PortState) → Ready shape u l → OfQueue s event → NetLaneStep u.lane event t.lane → AdmissionAt l (OnLane event)
+pub admission_event : (shape : NetShape) (s u : PortState) (l : PortLog) (event : NetEvent) (t : PortState) → Ready shape u l → OfQueue s event → NetLaneStep u.lane event t.lane → AdmissionAt l (OnLane event)
 admission_event shape s u l (Gives A given) t ready of_queue step = admits shape u l given t.lane.guest ready step.0
 admission_event shape s u l (Gives B given) t ready of_queue step = of_queue
 admission_event shape s u l _ t ready of_queue step = tt
-
-pub port_admits : (shape : NetShape) (events : List PortEvent) (s : PortState) → IsNetShape shape → Run PortStep (fresh_port shape) events s → Lawful AdmissionAt after (no_events shape) events
-port_admits shape events s is run = along shape AdmissionAt is (λ x l event t counts ready step. admission_event shape x (before event x) l event t ready step.0 step.1) (λ l frame. tt) events s run
 
 -- WHAT EACH HOLDS
 pub guest_holds : (shape : NetShape) (events : List PortEvent) (s : PortState) → IsNetShape shape → Run PortStep (fresh_port shape) events s

@@ -1,7 +1,7 @@
 -- The switch's end has the list of groups that its session told it; what an end says of groups stands by what it joined and took.
 use Rattle.std.proofs.Common.{◌≡◌, ℕ, Option, Some, None, List, refl, sym, ap, ◌∙◌}
 use Rattle.ldc_link.specs.declared.phase.Role.TheVariants.{Responder}
-use Rattle.runs.specs.Lawful.{Lawful, log_of}
+use Rattle.runs.specs.Lawful.{log_of}
 use Rattle.runs.specs.Run.{Run}
 use Rattle.channel_model.specs.Messages.{ended_by}
 use Rattle.channel_model.specs.Sayings.{half_said}
@@ -14,13 +14,13 @@ use Rattle.port_model.specs.NetEvent.{NetEvent, Steps}
 use Rattle.port_model.specs.NetLaneState.{IsNetShape, NetLaneState, NetShape}
 use Rattle.port_model.specs.NetLaneStep.{NetLaneStep}
 use Rattle.port_model.specs.PortLog.{PortLog, after, log_of_end, no_events}
-use Rattle.port_model.specs.PortState.{OnLane, PortEvent, PortState, PortStep, before, fresh_port}
+use Rattle.port_model.specs.PortState.{OnLane, PortEvent, PortState, PortStep, fresh_port}
 use Rattle.port_model.specs.Spoken.{GroupsAck, GroupsInfo, GroupsNack, Spoken, spoken}
 use Rattle.port_laws.specs.Counted.{EndCounts, SaysRightly, unsaid}
 use Rattle.port_laws.specs.GroupsTold.{told_in}
 use Rattle.port_laws.proofs.EndCounting.{left_groups, open_counts, shut_counts}
 use Rattle.port_laws.proofs.PortCounts.{Ready, port_counts}
-use Rattle.port_laws.proofs.RuleFrames.{along, if_session, sent_said}
+use Rattle.port_laws.proofs.RuleFrames.{if_session, sent_said}
 
 -- WHAT THE SWITCH'S END KNOWS
 pub hub_told : (slots : ℕ) (queue : List (List ℕ)) (s : NetEndState) (l : EndLog) → EndCounts Responder slots queue s l → s.groups ≡ told_in l.session
@@ -46,13 +46,9 @@ if_message : (ended : Option (List ℕ)) (P : List ℕ → Type 0) → ((message
 if_message None P holds = tt
 if_message (Some message) P holds = holds message refl
 
-groups_event : (shape : NetShape) (u : PortState) (l : PortLog) (event : NetEvent) (t : NetLaneState) → Ready shape u l → NetLaneStep u.lane event t → GroupsSaidAt l (OnLane event)
+pub groups_event : (shape : NetShape) (u : PortState) (l : PortLog) (event : NetEvent) (t : NetLaneState) → Ready shape u l → NetLaneStep u.lane event t → GroupsSaidAt l (OnLane event)
 groups_event shape u l (Steps e (Sent packet opens)) t ready step =
     if_session (log_of_end e l).session _ (λ v log.
     if_message (ended_by (half_said (transcript_of e l.transcript)) packet) _ (λ message ended.
     of_groups (spoken message) shape.slots step.step.held.groups v message (sent_said shape e u l packet opens t ready step message v ended log)))
 groups_event shape u l _ t ready step = tt
-
-pub port_groups_said : (shape : NetShape) (events : List PortEvent) (s : PortState) → IsNetShape shape → Run PortStep (fresh_port shape) events s → Lawful GroupsSaidAt after (no_events shape) events
-port_groups_said shape events s is run =
-    along shape GroupsSaidAt is (λ x l event t counts ready step. groups_event shape (before event x) l event t.lane ready step.1) (λ l frame. tt) events s run

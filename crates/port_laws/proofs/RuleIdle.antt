@@ -10,8 +10,6 @@ use Rattle.ldc_link.specs.Putting.{owes}
 use Rattle.ldc_queue.specs.declared.end.End.{End}
 use Rattle.ldc_queue.specs.declared.end.End.TheVariants.{A, B}
 use Rattle.ldc_queue.specs.Wire.{waiting_for}
-use Rattle.runs.specs.Lawful.{Lawful}
-use Rattle.runs.specs.Run.{Run}
 use Rattle.vio_tag.specs.declared.message.Message.{Message}
 use Rattle.channel_model.specs.Seeing.{Seen}
 use Rattle.channel_model.specs.WireLog.{WireLog}
@@ -26,17 +24,17 @@ use Rattle.port_model.specs.NetEndRule as rule
 use Rattle.port_model.specs.NetEndState.{Activity, GroupsReply, NetEndState, NetSession, unseen_in}
 use Rattle.port_model.specs.NetEndStep.{Idle}
 use Rattle.port_model.specs.NetEvent.{NetEvent, Steps}
-use Rattle.port_model.specs.NetLaneState.{IsNetShape, NetShape, net_end, role_at, seen_at}
+use Rattle.port_model.specs.NetLaneState.{NetShape, net_end, role_at, seen_at}
 use Rattle.port_model.specs.NetLaneStep.{NetLaneStep}
-use Rattle.port_model.specs.PortLog.{PortLog, after, no_events}
-use Rattle.port_model.specs.PortState.{OnLane, PortEvent, PortState, PortStep, before, fresh_port, moved, moves_first, takes_more}
+use Rattle.port_model.specs.PortLog.{PortLog}
+use Rattle.port_model.specs.PortState.{OnLane, PortState, before, moved, moves_first, takes_more}
 use Rattle.port_model.specs.RestLaws.{AllPublished, IdleAt, IsIdle, IsTold}
 use Rattle.port_model.specs.RuleFacts.{IfOpen, IsFree, MayListen}
 use Rattle.channel_laws.proofs.EndsAtRest.{none_waits}
 use Rattle.port_laws.specs.Counted.{ActiveCounts, AnswersRightly, EndCounts, GroupCounts}
 use Rattle.port_laws.proofs.EndCounting.{OpenCounts, empty_unsaid, open_counts, open_empty}
 use Rattle.port_laws.proofs.PortCounts.{PortCounts, Ready}
-use Rattle.port_laws.proofs.RuleFrames.{along, both_open, end_acts, if_session}
+use Rattle.port_laws.proofs.RuleFrames.{both_open, end_acts, if_session}
 use Rattle.port_laws.proofs.TookCounts.{free_empty}
 
 -- WHERE NO RULE APPLIES in session
@@ -211,11 +209,8 @@ idle_waits shape e u l ready idles =
     let says = says_of (role_at e) (net_end e u.lane) (seen_at e u.lane) Idles idles in
     subst (λ (w : WireLog). waiting_for e w.wire ≡ []) ready.wire (none_waits (waiting_for e u.lane.wire.wire) says.1)
 
-idle_event : (shape : NetShape) (s : PortState) (l : PortLog) (event : NetEvent) (t : PortState) → PortCounts shape s l → Ready shape (before event s) l → NetLaneStep (before event s).lane event t.lane
+pub idle_event : (shape : NetShape) (s : PortState) (l : PortLog) (event : NetEvent) (t : PortState) → PortCounts shape s l → Ready shape (before event s) l → NetLaneStep (before event s).lane event t.lane
     → IdleAt l (OnLane event)
 idle_event shape s l (Steps A Idle) t kept ready step = (idle_waits shape A s l ready step.step.0, guest_idle shape s l ready step.step.0)
 idle_event shape s l (Steps B Idle) t kept ready step = (idle_waits shape B (moved s) l ready step.step.0, hub_idle shape s l kept ready step.step.0)
 idle_event shape s l _ t kept ready step = tt
-
-pub port_idle : (shape : NetShape) (events : List PortEvent) (s : PortState) → IsNetShape shape → Run PortStep (fresh_port shape) events s → Lawful IdleAt after (no_events shape) events
-port_idle shape events s is run = along shape IdleAt is (λ x l event t counts ready step. idle_event shape x l event t counts ready step.1) (λ l frame. tt) events s run

@@ -1,6 +1,5 @@
 -- Where an end of a port is idle directly after the other, where nobody forged and nothing was lost, no frame is left.
 use Rattle.std.proofs.Common.{◌≡◌, ◌≢◌, ℕ, ◌-◌, ◌<◌, ◌≤◌, true, false, Option, Some, None, List, [], ◌∷◌, ◌++◌, length, inl, inr, refl, sym, subst, ap, ◌∙◌, arith}
-use Rattle.std.specs.Prelude.{slice_get}
 use Rattle.std.proofs.lemmas.Bool.{cases_lt}
 use Rattle.std.proofs.lemmas.List.{append-nil, append_cancel_left}
 use Rattle.ldc_link.specs.declared.phase.Role.TheVariants.{Initiator, Responder}
@@ -50,15 +49,12 @@ use Rattle.port_laws.proofs.RuleRest.{up_state}
 use Rattle.port_laws.proofs.RuleTwoIdle.{IdlesKept, idles_kept, two_idle_event}
 use Rattle.port_laws.proofs.TookCounts.{free_empty}
 use Rattle.port_laws.proofs.WayRuns.{KeptWays, port_ways, ways_before}
+use Rattle.channel_laws.proofs.EndsAtRest.{none_waits}
 
 -- WHAT WAS SAID WAS HEARD where nothing was lost and nothing waits
 no_packets : (packets : List (List ℕ)) → length packets ≤ 0 → packets ≡ []
 no_packets [] few = refl
 no_packets (packet ∷ packets) few = absurd (omega (arith, few))
-
-pub no_first : (packets : List (List ℕ)) → slice_get packets 0 ≡ None → packets ≡ []
-no_first [] is = refl
-no_first (packet ∷ packets) is = absurd (cc is)
 
 live_up : (state : ChannelState) (packets : List (List ℕ)) → state ≡ Up → live state packets ≡ packets
 live_up state packets is = ap (λ (x : ChannelState). live x packets) is
@@ -141,7 +137,7 @@ both_left shape u l finds ways guest_idles hub_idles lossless opened =
     let other : u.lane.wire.wire.end_b ≡ Up = up_state u.lane.wire.wire.end_b hub_says.0.up in
     let whole : u.lane.wire.lossy ≡ false = ap (λ (w : WireLog). w.lossy) finds.ready.wire ∙ lossless in
     let talks = finds.talks.talks A in
-    let all = heard_all (sides_of (lane_core u.lane) l.transcript) talks.meets.converse whole up other (no_first u.lane.wire.wire.to_a guest_says.1) (no_first u.lane.wire.wire.to_b hub_says.1) in
+    let all = heard_all (sides_of (lane_core u.lane) l.transcript) talks.meets.converse whole up other (none_waits u.lane.wire.wire.to_a guest_says.1) (none_waits u.lane.wire.wire.to_b hub_says.1) in
     let between = ways up other opened.0 in
     let going : between.going ≡ [] = nothing_goes (said l.transcript.client) (heard l.transcript.server) between.going between.goes all.mine in
     let coming : between.coming ≡ [] = nothing_goes (said l.transcript.server) (heard l.transcript.client) between.coming between.comes all.theirs in

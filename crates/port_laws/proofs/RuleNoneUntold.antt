@@ -37,7 +37,8 @@ use Rattle.port_laws.proofs.RingActs.{Finds}
 use Rattle.port_laws.proofs.RingRuns.{finds_before}
 use Rattle.port_laws.proofs.RuleFrames.{both_open, end_acts}
 use Rattle.port_laws.proofs.RuleIdle.{rule_left}
-use Rattle.port_laws.proofs.RuleNoneLeft.{heard_all, moved_guest, before_entries, no_first, some_log}
+use Rattle.port_laws.proofs.RuleNoneLeft.{heard_all, moved_guest, before_entries, some_log}
+use Rattle.channel_laws.proofs.EndsAtRest.{none_waits as no_first}
 use Rattle.port_laws.proofs.RuleRest.{up_state}
 use Rattle.port_laws.proofs.RuleTwoIdle.{IdlesKept, idles_kept, two_idle_event}
 use Rattle.port_laws.proofs.RuleGroups.{hub_told}

@@ -31,9 +31,10 @@ use Rattle.port_model.specs.Spoken.{GroupsInfo, Spoken, spoken}
 use Rattle.port_laws.specs.Counted.{EndCounts, GroupCounts, IsBehind, LastCounts, SaysRightly, UnsaidRight, unsaid}
 use Rattle.port_laws.proofs.EndCounting.{open_counts}
 use Rattle.port_laws.proofs.PortCounts.{Ready, queue_of}
-use Rattle.port_laws.proofs.RuleFrames.{active_here, along, both_open, end_acts, held_frames, none_more}
+use Rattle.port_laws.proofs.RuleFrames.{active_here, both_open, end_acts, held_frames, lane_at, none_more}
 use Rattle.port_laws.proofs.SlotsFound.{fails_fit, fetched_fits}
 use Rattle.port_laws.proofs.TookCounts.{free_empty}
+use Rattle.port_laws.proofs.PortRuns.{lawful_along}
 
 -- ONLY AN END THAT IS UP publishes a frame or takes one
 pub up_state : (c : ChannelState) → is_up c ≡ true → c ≡ Up
@@ -43,15 +44,12 @@ up_state _ is = false_true is
 end_up : (shape : NetShape) (e : End) (u : PortState) (l : PortLog) → Ready shape u l → is_up (seen_at e u.lane).state ≡ true → IsUp e l.wire.wire
 end_up shape e u l ready up = subst (λ (w : WireLog). IsUp e w.wire) ready.wire (up_state (state_of e u.lane.wire.wire) up)
 
-works_event : (shape : NetShape) (u : PortState) (l : PortLog) (event : NetEvent) (t : NetLaneState) → Ready shape u l → NetLaneStep u.lane event t → WorksAt l (OnLane event)
+pub works_event : (shape : NetShape) (u : PortState) (l : PortLog) (event : NetEvent) (t : NetLaneState) → Ready shape u l → NetLaneStep u.lane event t → WorksAt l (OnLane event)
 works_event shape u l (Steps e (Published id)) t ready step =
     end_up shape e u l ready (says_of (role_at e) (net_end e u.lane) (seen_at e u.lane) (Publishes step.step.session step.step.frame) step.step.rule).0.in_session.free.up
 works_event shape u l (Steps e (Frame frame)) t ready step =
     end_up shape e u l ready (says_of (role_at e) (net_end e u.lane) (seen_at e u.lane) (Fetches step.step.session step.step.activity) step.step.rule).0.free.up
 works_event shape u l _ t ready step = tt
-
-pub port_works : (shape : NetShape) (events : List PortEvent) (s : PortState) → IsNetShape shape → Run PortStep (fresh_port shape) events s → Lawful WorksAt after (no_events shape) events
-port_works shape events s is run = along shape WorksAt is (λ x l event t counts ready step. works_event shape (before event x) l event t.lane ready step.1) (λ l frame. tt) events s run
 
 -- 5. WHY A SLOT REFUSES
 own_reset : (shape : NetShape) (e : End) (u : PortState) (l : PortLog) (cause : Cause) (packet : Option (List ℕ)) (r : NetRule) → Ready shape u l → port_rule (role_at e) (net_end e u.lane) (seen_at e u.lane) ≡ r
@@ -75,9 +73,6 @@ pub own_reset_event : (shape : NetShape) (u : PortState) (l : PortLog) (event : 
 own_reset_event shape u l (Steps e (Reset cause packet lost)) t ready step =
     own_reset shape e u l cause packet (port_rule (role_at e) (net_end e u.lane) (seen_at e u.lane)) ready refl step.step.0
 own_reset_event shape u l _ t ready step = tt
-
-pub port_resets : (shape : NetShape) (events : List PortEvent) (s : PortState) → IsNetShape shape → Run PortStep (fresh_port shape) events s → Lawful OwnResetAt after (no_events shape) events
-port_resets shape events s is run = along shape OwnResetAt is (λ x l event t counts ready step. own_reset_event shape (before event x) l event t.lane ready step.1) (λ l frame. tt) events s run
 
 -- 1. FINISHED: what was told, by what is held of it
 record Told (groups : List (List ℕ)) (v : SessionLog) : Type 0 where
@@ -213,4 +208,4 @@ tick_queue s _ is = is
 
 pub port_ticks : (shape : NetShape) (events : List PortEvent) (s : PortState) → IsNetShape shape → Run PortStep (fresh_port shape) events s → Lawful TickAt after (no_events shape) events
 port_ticks shape events s is run =
-    along shape TickAt is (λ x l event t counts ready step. tick_event shape (before event x) l event t.lane ready (tick_queue x event step.0) step.1) (λ l frame. tt) events s run
+    lawful_along shape TickAt (lane_at shape TickAt is (λ x l event t counts ready step. tick_event shape (before event x) l event t.lane ready (tick_queue x event step.0) step.1) (λ l frame. tt)) events s run

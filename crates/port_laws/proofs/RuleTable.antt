@@ -4,7 +4,7 @@ use Rattle.ldc_link.specs.declared.phase.Role.TheVariants.{Initiator, Responder}
 use Rattle.ldc_queue.specs.declared.end.End.{End}
 use Rattle.ldc_queue.specs.declared.end.End.TheVariants.{A, B}
 use Rattle.ldc_queue.specs.Wire.{Wire, peer_of, waiting_for}
-use Rattle.runs.specs.Lawful.{Lawful, log_of}
+use Rattle.runs.specs.Lawful.{log_of}
 use Rattle.runs.specs.Run.{Run}
 use Rattle.vnet_msg.specs.Frames.{memory_pages}
 use Rattle.channel_model.specs.WireAt.{DeclinesAt, IsUp, Sizes, WireAnswersAt, WireTableAt}
@@ -28,7 +28,7 @@ use Rattle.port_laws.specs.PortCore.{port_core, port_events}
 use Rattle.port_laws.proofs.CoreLaws.{sizes_fit}
 use Rattle.port_laws.proofs.MemoryLong.{KeptLong, port_long}
 use Rattle.port_laws.proofs.PortCounts.{before_wire}
-use Rattle.port_laws.proofs.PortRuns.{fresh_port_core, lawful_along, logs_same, port_fits_behind, port_step_core}
+use Rattle.port_laws.proofs.PortRuns.{fresh_port_core, logs_same, port_fits_behind, port_step_core}
 use Rattle.port_laws.proofs.RuleRest.{up_state}
 use Rattle.port_laws.proofs.RuleSlots.{seen_up}
 
@@ -101,20 +101,16 @@ table_event s l (Injects e packet) t same stands step = stands
 table_event s l (Pokes e at bytes) t same stands step = on_log e s.lane l same (λ n w. at + length bytes ≤ n.memory) step.0
 table_event s l _ t same stands step = tt
 
-pub port_table : (shape : NetShape) (events : List PortEvent) (s : PortState) → IsNetShape shape → Run PortStep (fresh_port shape) events s
-    → Lawful (λ (l : PortLog) (event : PortEvent). OfWire (WireTableAt (sizes_in l) l.wire) event) after (no_events shape) events
-port_table shape events s is run = lawful_along shape (λ (l : PortLog) (event : PortEvent). OfWire (WireTableAt (sizes_in l) l.wire) event) here events s run
-  where
-    here : (events : List PortEvent) (s : PortState) (event : PortEvent) (t : PortState) → Run PortStep (fresh_port shape) events s → PortStep s event t
-        → OfWire (WireTableAt (sizes_in (log_of after (no_events shape) events)) (log_of after (no_events shape) events).wire) event
-    here events s (OnLane event) t run step =
-        let l : PortLog = log_of after (no_events shape) events in
-        let same = same_sizes shape events s is run in
-        let stands = (port_step_core s (OnLane event) t (port_fits_behind shape events s run) step).stands in
-        let there : CoreStands l.shape.entries l.wire (core_event event) =
-        subst (λ (n : ℕ). CoreStands n l.wire (core_event event)) same.entries (subst (λ (w : WireLog). CoreStands s.lane.shape.entries w (core_event event)) same.wire stands) in
-        table_event s l event t.lane same there step.1
-    here events s (Receives frame) t run step = tt
+pub table_at : (shape : NetShape) → IsNetShape shape → (events : List PortEvent) (s : PortState) (event : PortEvent) (t : PortState) → Run PortStep (fresh_port shape) events s → PortStep s event t
+    → OfWire (WireTableAt (sizes_in (log_of after (no_events shape) events)) (log_of after (no_events shape) events).wire) event
+table_at shape is events s (OnLane event) t run step =
+    let l : PortLog = log_of after (no_events shape) events in
+    let same = same_sizes shape events s is run in
+    let stands = (port_step_core s (OnLane event) t (port_fits_behind shape events s run) step).stands in
+    let there : CoreStands l.shape.entries l.wire (core_event event) =
+    subst (λ (n : ℕ). CoreStands n l.wire (core_event event)) same.entries (subst (λ (w : WireLog). CoreStands s.lane.shape.entries w (core_event event)) same.wire stands) in
+    table_event s l event t.lane same there step.1
+table_at shape is events s (Receives frame) t run step = tt
 
 -- THE ANSWERS
 answers_event : (s : PortState) (l : PortLog) (event : NetEvent) (t : NetLaneState) → SameSizes s.lane l → NetLaneStep (before event s).lane event t
@@ -124,11 +120,7 @@ answers_event s l (Declines d) t same step =
 answers_event s l (Steps e (Joined lost)) t same step = tt
 answers_event s l _ t same step = tt
 
-pub port_answers : (shape : NetShape) (events : List PortEvent) (s : PortState) → IsNetShape shape → Run PortStep (fresh_port shape) events s
-    → Lawful (λ (l : PortLog) (event : PortEvent). OfWire (WireAnswersAt (sizes_in l) l.wire) event) after (no_events shape) events
-port_answers shape events s is run = lawful_along shape (λ (l : PortLog) (event : PortEvent). OfWire (WireAnswersAt (sizes_in l) l.wire) event) here events s run
-  where
-    here : (events : List PortEvent) (s : PortState) (event : PortEvent) (t : PortState) → Run PortStep (fresh_port shape) events s → PortStep s event t
-        → OfWire (WireAnswersAt (sizes_in (log_of after (no_events shape) events)) (log_of after (no_events shape) events).wire) event
-    here events s (OnLane event) t run step = answers_event s (log_of after (no_events shape) events) event t.lane (same_sizes shape events s is run) step.1
-    here events s (Receives frame) t run step = tt
+pub answers_at : (shape : NetShape) → IsNetShape shape → (events : List PortEvent) (s : PortState) (event : PortEvent) (t : PortState) → Run PortStep (fresh_port shape) events s → PortStep s event t
+    → OfWire (WireAnswersAt (sizes_in (log_of after (no_events shape) events)) (log_of after (no_events shape) events).wire) event
+answers_at shape is events s (OnLane event) t run step = answers_event s (log_of after (no_events shape) events) event t.lane (same_sizes shape events s is run) step.1
+answers_at shape is events s (Receives frame) t run step = tt

@@ -1,10 +1,10 @@
 -- Where an end of a port is idle directly after the other, where nobody forged and nothing was lost, both sessions are open.
-use Rattle.std.proofs.Common.{◌≡◌, ◌≢◌, true, false, Option, Some, None, List, [], refl, sym, subst, ap, ◌∙◌}
-use Rattle.std.specs.Prelude.{is_some, ⊤}
+use Rattle.std.proofs.Common.{◌≡◌, ◌≢◌, false, Some, None, List, [], sym, subst, ap, ◌∙◌}
+use Rattle.std.specs.Prelude.{⊤}
 use Rattle.ldc_link.specs.declared.phase.Role.TheVariants.{Initiator, Responder}
 use Rattle.ldc_queue.specs.declared.end.End.{End}
 use Rattle.ldc_queue.specs.declared.end.End.TheVariants.{A, B}
-use Rattle.runs.specs.Lawful.{Lawful, log_of, run_lawful}
+use Rattle.runs.specs.Lawful.{log_of, run_lawful}
 use Rattle.runs.specs.Run.{Run}
 use Rattle.channel_model.specs.WireLog.{WireLog}
 use Rattle.channel_laws.proofs.EndsAtRest.{none_waits, two_at_rest_open}
@@ -12,10 +12,9 @@ use Rattle.channel_laws.specs.EndsAtRest.{IsAtRest}
 use Rattle.port_model.proofs.Refuting.{none_some}
 use Rattle.port_model.proofs.Ruling.{says_of}
 use Rattle.port_model.specs.NetEndRule.{Idles, port_rule}
-use Rattle.port_model.specs.NetEndState.{NetSession}
 use Rattle.port_model.specs.NetEndStep.{Idle, NetLeft}
-use Rattle.port_model.specs.NetEvent.{CalmTick, NetEvent, Steps}
-use Rattle.port_model.specs.NetLaneState.{IsNetShape, NetLaneState, NetShape, net_end, role_at, seen_at, with_left}
+use Rattle.port_model.specs.NetEvent.{NetEvent, Steps}
+use Rattle.port_model.specs.NetLaneState.{NetLaneState, NetShape, net_end, role_at, seen_at, with_left}
 use Rattle.port_model.specs.NetLaneStep.{EndSteps, NetLaneStep, net_wire}
 use Rattle.port_model.specs.Offers.{port_offer}
 use Rattle.port_model.specs.PortLog.{PortLog, after, idle_in, no_events}
@@ -25,10 +24,10 @@ use Rattle.port_laws.specs.NetCore.{lane_core}
 use Rattle.port_laws.specs.PortCore.{port_core, port_events}
 use Rattle.port_laws.proofs.CoreLaws.{offers_match, sizes_fit}
 use Rattle.port_laws.proofs.EndCounting.{open_counts}
-use Rattle.port_laws.proofs.PortCounts.{PortCounts, Ready, ready_before}
+use Rattle.port_laws.proofs.PortCounts.{PortCounts, Ready}
 use Rattle.port_laws.proofs.PortRuns.{before_core, fresh_port_core}
-use Rattle.port_laws.proofs.RuleFrames.{along}
 use Rattle.port_laws.proofs.RuleRest.{up_state}
+use Rattle.port_laws.proofs.PutCounts.{some_of}
 
 -- AN END AT REST, as its channel sees it
 idle_rests : (e : End) (u : NetLaneState) → port_rule (role_at e) (net_end e u) (seen_at e u) ≡ Idles → IsAtRest e (lane_core u)
@@ -67,10 +66,6 @@ idles_kept shape events s run =
     (fresh_port shape) s (no_events shape) events (record { idles = λ e is. none_some e is }) run).1
 
 -- BOTH AT REST
-pub some_session : (session : Option NetSession) → is_some session ≡ true → (p : NetSession) × (session ≡ Some p)
-some_session (Some p) is = (p, refl)
-some_session None is = absurd (cc is)
-
 two_idle : (shape : NetShape) (s : PortState) (l : PortLog) → PortCounts shape s l → Ready shape s l → IsAtRest A (lane_core s.lane) → IsAtRest B (lane_core s.lane) → l.wire.forged ≡ false → l.wire.lossy ≡ false
     → (l.guest.session ≢ None) × (l.hub.session ≢ None)
 two_idle shape s l counts ready one other clean whole =
@@ -78,8 +73,8 @@ two_idle shape s l counts ready one other clean whole =
     let lossless : s.lane.wire.lossy ≡ false = ap (λ (w : WireLog). w.lossy) counts.wire ∙ whole in
     let opened = two_at_rest_open shape.entries (port_offer Initiator shape.address shape.slots) (port_offer Responder shape.address shape.slots) (port_events counts.events) (port_core s)
     (sizes_fit shape ready.sound) (offers_match shape ready.sound) (fresh_port_core shape counts.events s counts.run) unforged lossless one other in
-    let guest = some_session s.lane.guest.session opened.0 in
-    let hub = some_session s.lane.hub.session opened.1 in
+    let guest = some_of s.lane.guest.session opened.0 in
+    let hub = some_of s.lane.hub.session opened.1 in
     let guest_log = open_counts Initiator shape.slots [] s.lane.guest l.guest guest.0 counts.guest guest.1 in
     let hub_log = open_counts Responder shape.slots s.queue s.lane.hub l.hub hub.0 counts.hub hub.1 in
     (λ none. none_some guest_log.of_log (sym none ∙ guest_log.is), λ none. none_some hub_log.of_log (sym none ∙ hub_log.is))
@@ -93,7 +88,3 @@ two_idle_event shape s l (Steps B Idle) t counts ready step = λ last clean whol
     two_idle shape s l counts ready (idle_rests A s.lane (kept.idles A last))
     (subst (IsAtRest B) (before_core (Steps B Idle) s) (idle_rests B (before (Steps B Idle) s).lane step.step.0)) clean whole
 two_idle_event shape s l _ t counts ready step = tt
-
-pub port_two_idle : (shape : NetShape) (events : List PortEvent) (s : PortState) → IsNetShape shape → Run PortStep (fresh_port shape) events s → Lawful TwoIdleAt after (no_events shape) events
-port_two_idle shape events s is run =
-    along shape TwoIdleAt is (λ x l event t counts ready step. two_idle_event shape x l event t counts (ready_before shape x l (CalmTick 0) is counts) step.1) (λ l frame. tt) events s run

@@ -8,7 +8,7 @@ use Rattle.ldc_queue.specs.declared.end.ChannelState.TheVariants.{Up}
 use Rattle.ldc_queue.specs.declared.end.End.{End}
 use Rattle.ldc_queue.specs.declared.end.End.TheVariants.{A, B}
 use Rattle.ldc_queue.specs.Wire.{peer_of, state_of}
-use Rattle.runs.specs.Lawful.{Lawful, log_of}
+use Rattle.runs.specs.Lawful.{log_of}
 use Rattle.runs.specs.Run.{Run}
 use Rattle.channel_model.specs.TranscriptLog.{transcript_of}
 use Rattle.channel_model.specs.WireAt.{IsUp}
@@ -34,16 +34,15 @@ use Rattle.port_laws.specs.RingStands.{RingIn, taken_by, taken_in}
 use Rattle.port_laws.proofs.EndCounting.{left_published, open_counts}
 use Rattle.port_laws.proofs.LogsStand.{EndLogStands, HeadIn, held_given}
 use Rattle.port_laws.proofs.PortCounts.{queue_of}
-use Rattle.port_laws.proofs.PortRuns.{lawful_along}
 use Rattle.port_laws.proofs.PortTalks.{PeerOpen, many_open}
-use Rattle.port_laws.proofs.RingActs.{Finds, end_reaches, peer_ring_of, place_is, seen_state, spoke_of}
+use Rattle.port_laws.proofs.RingActs.{Finds, core_up, end_reaches, peer_ring_of, place_is, seen_state, spoke_of}
 use Rattle.port_laws.proofs.RingEvents.{acts_up}
 use Rattle.port_laws.proofs.RingFetches.{Fetches as FetchesFrame, ring_fetched}
 use Rattle.port_laws.proofs.RingRuns.{Kept, finds_before, port_kept}
 use Rattle.port_laws.proofs.RuleFrames.{active_here, end_acts, end_counted}
 use Rattle.port_laws.proofs.SessionsHeard.{same_sid, spoke_some}
 use Rattle.port_laws.proofs.TookCounts.{free_empty}
-use Rattle.port_laws.proofs.RuleTwoIdle.{some_session}
+use Rattle.port_laws.proofs.PutCounts.{some_of as some_session}
 
 -- IN THE LOG of the end that published it
 last_is : (one : OpenedLog) (rest : List OpenedLog) (sid : ℕ) → one.sid ≡ sid → last_of sid (one ∷ rest) ≡ Some one
@@ -106,7 +105,7 @@ pub record TakesPublished (shape : NetShape) (e : End) (u : PortState) (l : Port
   pub ring : RingHolds shape.slots p.seen v.taken p.published (net_end (peer_of e) u.lane).frames (memory_of (peer_of e) u.lane)
   pub found : FetchesFrame shape.slots p.seen v.taken p.published (net_end (peer_of e) u.lane).frames frame (memory_of (peer_of e) u.lane) new
 
-in_some : (log : Option SessionLog) (P : SessionLog → Type 0) → InSession log P → (v : SessionLog) × (log ≡ Some v) × P v
+pub in_some : (log : Option SessionLog) (P : SessionLog → Type 0) → InSession log P → (v : SessionLog) × (log ≡ Some v) × P v
 in_some None P holds = absurd holds
 in_some (Some v) P holds = (v, refl, holds)
 
@@ -117,10 +116,6 @@ core_peer B u there = there.opened
 peer_is_up : (e : End) (u : NetLaneState) → PeerOpen e (lane_core u) → state_of (peer_of e) u.wire.wire ≡ Up
 peer_is_up A u there = there.up
 peer_is_up B u there = there.up
-
-core_up : (e : End) (u : NetLaneState) → state_of e u.wire.wire ≡ Up → IsUp e (lane_core u).wire.wire
-core_up A u up = up
-core_up B u up = up
 
 pub reach_memory : (e : End) (u : NetLaneState) → (reach_of e u).memory ≡ memory_of (peer_of e) u
 reach_memory A u = refl
@@ -194,10 +189,7 @@ unforged_event : (shape : NetShape) (s : PortState) (l : PortLog) (event : NetEv
 unforged_event shape s l (Steps e (Frame frame)) t is kept step = λ clean. frame_published shape e (before (Steps e (Frame frame)) s) l frame t.lane (finds_before shape s l (Steps e (Frame frame)) is kept clean) step
 unforged_event shape s l _ t is kept step = tt
 
-pub port_unforged : (shape : NetShape) (events : List PortEvent) (s : PortState) → IsNetShape shape → Run PortStep (fresh_port shape) events s → Lawful UnforgedAt after (no_events shape) events
-port_unforged shape events s is run = lawful_along shape UnforgedAt here events s run
-  where
-    here : (events : List PortEvent) (s : PortState) (event : PortEvent) (t : PortState) → Run PortStep (fresh_port shape) events s → PortStep s event t
-        → UnforgedAt (log_of after (no_events shape) events) event
-    here events s (OnLane event) t run step = unforged_event shape s (log_of after (no_events shape) events) event t is (port_kept shape events s is run) step.1
-    here events s (Receives frame) t run step = tt
+pub unforged_at : (shape : NetShape) → IsNetShape shape → (events : List PortEvent) (s : PortState) (event : PortEvent) (t : PortState) → Run PortStep (fresh_port shape) events s → PortStep s event t
+    → UnforgedAt (log_of after (no_events shape) events) event
+unforged_at shape is events s (OnLane event) t run step = unforged_event shape s (log_of after (no_events shape) events) event t is (port_kept shape events s is run) step.1
+unforged_at shape is events s (Receives frame) t run step = tt

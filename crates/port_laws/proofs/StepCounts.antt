@@ -26,7 +26,7 @@ use Rattle.port_model.proofs.Ruling.{says_of}
 use Rattle.port_model.specs.EndLog.{EndLog, SessionLog, change, ends_log, more_published, more_taken, publishes_log, takes_log}
 use Rattle.port_model.specs.FramesStand.{CountsStand, FramesStand}
 use Rattle.port_model.specs.NetEndPutting.{net_opens, net_put}
-use Rattle.port_model.specs.NetEndRule.{Fetches, Publishes, Takes, port_rule}
+use Rattle.port_model.specs.NetEndRule.{Fetches, Publishes, Takes}
 use Rattle.port_model.specs.NetEndState.{Activity, NetEndState, NetSession, joined_net_end, kept_groups, unseen}
 use Rattle.port_model.specs.NetEndStep.{Blocked, Frame, Idle, Joined, NetAnswer, NetEndStep, NetLeft, NetSends, Published, Reset, Sent, Took, published, taken}
 use Rattle.port_model.specs.PortLog.{after_answer}
@@ -43,7 +43,7 @@ use Rattle.port_laws.proofs.HeldCounts.{SlotsFit, held_counts}
 use Rattle.port_laws.proofs.OwedSays.{OwesNoGroups}
 use Rattle.port_laws.proofs.PutCounts.{PutCounts, SaidRight, put_counts}
 use Rattle.port_laws.proofs.TookCounts.{TookCounts, free_empty, session_open, took_counts}
-use Rattle.port_laws.proofs.LaneMoves.{holds_up}
+use Rattle.port_laws.proofs.HeldMessages.{held_now, held_up}
 
 -- WHAT IS KNOWN of an end that makes a step
 pub record Acting (role : Role) (slots : ℕ) (queue : List (List ℕ)) (s : NetEndState) (l : EndLog) (turns : List Turn) : Type 0 where
@@ -96,14 +96,13 @@ sent_counts : (role : Role) (slots : ℕ) (queue : List (List ℕ)) (s : NetEndS
     (t : NetLeft) (sid : ℕ) → Acting role slots queue s l turns → (step : NetSends role s at memory reach packet opens t) → PutCounts role slots queue step.held t.end l turns packet opens sid
 sent_counts role slots queue s l turns at memory reach packet opens t sid acting step =
     let held : NetEndState = step.held in
-    let core : HeldCore role s held = held_core role s at reach (port_rule role s at) held acting.fits refl step.holds in
+    let core : HeldCore role s held = held_core role s at held acting.fits (held_now role s at reach held step.holds) in
     let puts : PutsPacket held.link packet (behind_put held.link) =
     subst (PutsPacket held.link packet) (puts_behind held.link packet t.end.link step.packet) step.packet in
     let held_stands : EndStands role (net_core role held) turns =
     stands_step role (net_core role s) Waits (net_core role held) turns acting.ends (waits_core role s held core) in
     let counts : EndCounts role slots queue held l =
-    held_counts role slots queue s l at reach (port_rule role s at) held
-    (record { counts = acting.counts; fits = acting.fits; slots_fit = acting.slots_fit; empty = λ quiet. free_empty role s turns acting.ends quiet }) refl step.holds in
+    held_counts role slots queue s l at held (record { counts = acting.counts; fits = acting.fits; slots_fit = acting.slots_fit; empty = λ quiet. free_empty role s turns acting.ends quiet }) (held_now role s at reach held step.holds) in
     let same = held_handshake (net_core role s) (net_core role held) core.what core.holds in
     let keeps = same_fits role (port_offer role s.address s.slots) s.handshake held.handshake acting.keeps same in
     let none : OwesNoGroups held.handshake.owed = subst (λ (h : Handshake). OwesNoGroups h.owed) (sym same) acting.owes in
@@ -229,11 +228,10 @@ step_counts role slots queue s l turns at memory reach (Took packet opens) t cou
     (took_here role slots queue s l turns at memory reach packet opens t (opening_sid (half_heard turns) packet) (acts (says_of role s at (Takes packet) step.0).0.up) step).counts
 step_counts role slots queue s l turns at memory reach (Sent packet opens) t counts stands acts step =
     (sent_counts role slots queue s l turns at memory reach packet opens t (opening_sid (half_said turns) packet)
-    (acts (holds_up role s at reach (port_rule role s at) step.held refl step.holds)) step).counts
+    (acts (held_up role s at step.held (held_now role s at reach step.held step.holds))) step).counts
 step_counts role slots queue s l turns at memory reach Blocked t counts stands acts step =
-    let acting : Acting role slots queue s l turns = acts (holds_up role s at reach (port_rule role s at) t.end refl step.0) in
-    held_counts role slots queue s l at reach (port_rule role s at) t.end
-    (record { counts = acting.counts; fits = acting.fits; slots_fit = acting.slots_fit; empty = λ quiet. free_empty role s turns acting.ends quiet }) refl step.0
+    let acting : Acting role slots queue s l turns = acts (held_up role s at t.end (held_now role s at reach t.end step.0)) in
+    held_counts role slots queue s l at t.end (record { counts = acting.counts; fits = acting.fits; slots_fit = acting.slots_fit; empty = λ quiet. free_empty role s turns acting.ends quiet }) (held_now role s at reach t.end step.0)
 step_counts role slots queue s l turns at memory reach Idle t counts stands acts step = subst (LeftCounts role slots queue l) (sym step.1) counts
 step_counts role slots queue s l turns at memory reach (Published id) t counts stands acts step =
     let says = says_of role s at (Publishes step.session step.frame) step.rule in

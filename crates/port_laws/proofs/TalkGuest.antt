@@ -44,6 +44,7 @@ use Rattle.port_laws.proofs.TookCounts.{free_empty, session_open, session_up}
 use Rattle.port_laws.proofs.WayMoves.{EachLow, Plain}
 use Rattle.port_laws.proofs.WayPlain.{closed_plain, open_said}
 use Rattle.port_laws.proofs.WayRuns.{guest_goes, hub_none, opening_sent, peer_was_up}
+use Rattle.port_laws.proofs.HeldMessages.{held_now}
 
 -- BOTH ENDS, and what they said and heard
 abbrev pub Between : NetEndState → NetEndState → List Turn → List Turn → NetSession → Type 0
@@ -149,14 +150,11 @@ module _ (shape : NetShape) (u t : PortState) (l : PortLog) (left : NetLeft) (p 
   abbrev Now : List Turn → Type 0
   Now turns = Between left.end u.lane.hub turns l.transcript.server q
 
-  some_same : {X : Type 0} (o : Option X) (x y : X) → o ≡ Some x → o ≡ Some y → x ≡ y
-  some_same {X} o x y one two = let both : Some x ≡ Some y = sym one ∙ two in cc both
-
   -- with the same link, handshake and groups
   quiet_now : (now_is : NetSession) → left.end.session ≡ Some now_is → left.end.groups ≡ s.groups → left.end.handshake ≡ s.handshake → left.end.link.to_send ≡ s.link.to_send → now_is.telling ≡ p.telling
       → now_is.reply ≡ p.reply → now_is.untold ≡ p.untold → Now l.transcript.client
   quiet_now now_is is groups handshake sends telling reply untold =
-      let same : now_is ≡ q = some_same left.end.session now_is q is now in
+      let same : now_is ≡ q = one_session left.end.session now_is q is now in
       guest_as s left.end q (outbox s l.transcript.client l.transcript.server) (outbox left.end l.transcript.client l.transcript.server) (outbox u.lane.hub l.transcript.server l.transcript.client)
       u.lane.hub.session u.lane.hub.groups groups handshake (same_outbox s left.end l.transcript.client l.transcript.server handshake sends)
       (same_talk s.handshake.draft.sid s.groups p q (outbox s l.transcript.client l.transcript.server) (outbox u.lane.hub l.transcript.server l.transcript.client) u.lane.hub.session u.lane.hub.session
@@ -170,7 +168,7 @@ module _ (shape : NetShape) (u t : PortState) (l : PortLog) (left : NetLeft) (p 
   forms_now held acting sid holds =
       guest_forms s held p s.handshake.draft.sid l.transcript.client l.transcript.server (outbox u.lane.hub l.transcript.server l.transcript.client) u.lane.hub.session u.lane.hub.groups session
       acting.counts.groups sid.small refl
-      (formed_by Initiator s.handshake.draft.sid s (seen_at A u.lane) (reach_of A u.lane) (port_rule Initiator s (seen_at A u.lane)) held p (may_form sid acting) refl holds) was
+      (formed_by Initiator s.handshake.draft.sid s (seen_at A u.lane) held p (may_form sid acting) (held_now Initiator s (seen_at A u.lane) (reach_of A u.lane) held holds)) was
 
   -- it takes a packet
   took_now : (packet : List ℕ) (opens : Bool) → Acting Initiator shape.slots [] s l.guest l.transcript.client → PortTalks shape (lane_core u.lane) l → IsUp A u.lane.wire.wire
@@ -208,7 +206,7 @@ module _ (shape : NetShape) (u t : PortState) (l : PortLog) (left : NetLeft) (p 
           (message_does Initiator (record s { link = one.link }) p u.lane.guest_memory own.message (session_open Initiator s l.transcript.client p acting.ends session)) in
           let noted = guest_notes (record s { link = one.link }) left.end p u.lane.guest_memory left.own one.bytes own.message own.of own.spells does.does in
           let notes : GuestNotes (record s { link = one.link }) left.end p noted.0 one.bytes = noted.1 in
-          let same : noted.0 ≡ q = some_same left.end.session noted.0 q notes.session now in
+          let same : noted.0 ≡ q = one_session left.end.session noted.0 q notes.session now in
           guest_as s left.end q (outbox s l.transcript.client l.transcript.server) (outbox left.end (Heard packet ∷ l.transcript.client) l.transcript.server)
           (outbox u.lane.hub l.transcript.server (Heard packet ∷ l.transcript.client)) u.lane.hub.session u.lane.hub.groups notes.groups notes.handshake
           (same_outbox s left.end l.transcript.client l.transcript.server notes.handshake (notes.sends ∙ one.sends))

@@ -1,19 +1,15 @@
 -- A step of the switch's end keeps what is known of all that is on the way between it and a guest in session.
 use Rattle.std.proofs.Common.{◌≡◌, ◌≢◌, ℕ, ◌<◌, ◌⊎◌, Bool, true, false, Option, Some, None, List, [], ◌∷◌, ◌++◌, inl, inr, refl, sym, subst, ap, ◌∙◌, arith}
-use Rattle.std.specs.Prelude.{is_some, Result, Ok, Err, ⊤}
+use Rattle.std.specs.Prelude.{is_some, ⊤}
 use Rattle.std.proofs.lemmas.Bool.{eqb-true}
 use Rattle.cookie_copy.specs.Reach.{Reach}
 use Rattle.ldc_link.specs.declared.phase.Role.TheVariants.{Initiator, Responder}
-use Rattle.ldc_link.specs.LinkState.{cleared}
-use Rattle.ldc_link.specs.Taking.{Heard as HeardBy, LinkTake, TakesBytes, Unheard}
+use Rattle.ldc_link.specs.LinkState.{LinkState}
 use Rattle.ldc_queue.specs.declared.end.ChannelState.{ChannelState}
 use Rattle.ldc_queue.specs.declared.end.ChannelState.TheVariants.{Up}
 use Rattle.ldc_queue.specs.declared.end.End.TheVariants.{A, B}
 use Rattle.ldc_queue.specs.OneStream.{IsFront}
 use Rattle.ldc_queue.specs.Transcript.{Heard, Said, Turn}
-use Rattle.vio_handshake.specs.Rules.{Faults, Goes as GoesTake, GoesOpen, HandshakeTake, handshake_take}
-use Rattle.vio_tag.specs.declared.message.Message.{Message}
-use Rattle.vio_tag.specs.declared.message.TagFault.{TagFault}
 use Rattle.vio_tag.specs.Spelling.{envelope_at}
 use Rattle.channel_model.specs.Messages.{ended_by}
 use Rattle.channel_model.specs.Sayings.{half_heard, heard, said}
@@ -25,11 +21,11 @@ use Rattle.channel_laws.specs.Sides.{sides_of, swapped}
 use Rattle.channel_laws.specs.Standing.{EndStands}
 use Rattle.port_model.proofs.Refuting.{none_some, true_false}
 use Rattle.port_model.proofs.Ruling.{says_of}
-use Rattle.port_model.specs.NetEndPutting.{holding, net_holds}
-use Rattle.port_model.specs.NetEndRule.{Announces, Fetches, NetRule, Publishes, Puts, Replies, Says, Takes, Tells, port_rule}
+use Rattle.port_model.specs.NetEndPutting.{net_holds}
+use Rattle.port_model.specs.NetEndRule.{Fetches, Publishes, Takes, port_rule}
 use Rattle.port_model.specs.NetEndState.{GroupsReply, NetEndState, NetSession, opened_net_end}
 use Rattle.port_model.specs.NetEndStep.{Blocked, Frame, Idle, Joined, NetAnswer, NetEndStep, NetLeft, Published, Reset, Sent, Took, published, taken}
-use Rattle.port_model.specs.NetEndTaking.{GoesOn, HearsLink, HearsWhole, NetTakes, Resets, by_handshake, hears_message, reads, risen}
+use Rattle.port_model.specs.NetEndTaking.{GoesOn, NetTakes, Resets}
 use Rattle.port_model.specs.NetEvent.{Steps}
 use Rattle.port_model.specs.NetLaneState.{NetShape, reach_of, seen_at}
 use Rattle.port_model.specs.PortLog.{PortLog, after}
@@ -58,6 +54,9 @@ use Rattle.port_laws.proofs.WayActs.{ClosedFits}
 use Rattle.port_laws.proofs.WayMoves.{EachLow, low_rest}
 use Rattle.port_laws.proofs.WayPlain.{closed_plain}
 use Rattle.port_laws.proofs.WayRuns.{guest_open_up, hub_goes, hub_plain, peer_was_up}
+use Rattle.port_laws.proofs.HeldMessages.{HeldBy, HeldOn, HeldOwed, HeldOwn, held_now}
+use Rattle.port_laws.proofs.EndMoves.{packet_goes}
+use Rattle.port_laws.proofs.TookWhat.{Fails, Opens, Reads, Stays, TookWhat, took_what}
 
 named_in : (m : List ℕ) → is_groups m ≡ true → envelope_at m ≡ 0x0101
 named_in m is = eqb-true (envelope_at m) 0x0101 is
@@ -87,7 +86,7 @@ module _ (shape : NetShape) (u t : PortState) (l : PortLog) (left : NetLeft) (p 
       → HubForms held u.lane.hub sid u.lane.guest.groups p (outbox u.lane.guest l.transcript.client l.transcript.server) l.transcript.client l.transcript.server
   forms_now held acting may holds =
       hub_forms u.lane.hub held q sid u.lane.guest.groups p (outbox u.lane.guest l.transcript.client l.transcript.server) l.transcript.client l.transcript.server session
-      (formed_by Responder sid u.lane.hub (seen_at B u.lane) (reach_of B u.lane) (port_rule Responder u.lane.hub (seen_at B u.lane)) held q may refl holds) was
+      (formed_by Responder sid u.lane.hub (seen_at B u.lane) held q may (held_now Responder u.lane.hub (seen_at B u.lane) (reach_of B u.lane) held holds)) was
 
   took_now : (packet : List ℕ) (opens : Bool) → Acting Responder shape.slots u.queue u.lane.hub l.hub l.transcript.server → PortTalks shape (lane_core u.lane) l → IsUp A u.lane.wire.wire → IsUp B u.lane.wire.wire
       → q.reply ≡ None → IsFront (heard (Heard packet ∷ l.transcript.server)) (said l.transcript.client) → NetTakes Responder u.lane.hub u.lane.hub_memory packet (GoesOn left.end opens left.own)
@@ -213,52 +212,25 @@ pub record ShutLeft (s t : NetEndState) : Type 0 where
   pub groups : t.groups ≡ s.groups
   pub reply : reply_in t.session ≡ None
 
-record ShutTook (s t : NetEndState) : Type 0 where
-  groups : t.groups ≡ s.groups
-  reply : reply_in t.session ≡ None
-  sends : t.link.to_send ≡ s.link.to_send
-
-shut_took : (s t : NetEndState) (memory packet new : List ℕ) (opens : Bool) → s.session ≡ None → NetTakes Responder s memory packet (GoesOn t opens new) → ShutTook s t
-shut_took s t memory packet new opens none takes = by_link takes.link takes.takes takes.hears
+shut_took : (s t : NetEndState) (turns : List Turn) (memory packet new : List ℕ) (opens : Bool) → EndStands Responder (net_core Responder s) turns → s.session ≡ None
+    → NetTakes Responder s memory packet (GoesOn t opens new) → ShutLeft s t
+shut_took s t turns memory packet new opens stands none takes = by_what (took_what Responder s turns memory packet (GoesOn t opens new) stands takes)
   where
-    by_take : (r : NetEndState) → r.session ≡ None → r.groups ≡ s.groups → r.link.to_send ≡ s.link.to_send → (x : HandshakeTake) → GoesOn t opens new ≡ by_handshake Responder r memory x → ShutTook s t
-    by_take r shut groups sends (GoesTake h) is =
-        let same : t ≡ record r { handshake = h } = cc is in
-        record { groups = ap (λ (x : NetEndState). x.groups) same ∙ groups; reply = ap (λ (x : NetEndState). reply_in x.session) same ∙ ap reply_in shut; sends = ap (λ (x : NetEndState). x.link.to_send) same ∙ sends }
-    by_take r shut groups sends (GoesOpen h) is =
-        let same : t ≡ opened_net_end (record r { handshake = h }) = cc is in
-        record { groups = ap (λ (x : NetEndState). x.groups) same ∙ groups; reply = ap (λ (x : NetEndState). reply_in x.session) same; sends = ap (λ (x : NetEndState). x.link.to_send) same ∙ sends }
-    by_take r shut groups sends (Faults cause) is = absurd (cc is)
-
-    by_decoded : (r : NetEndState) → r.session ≡ None → r.groups ≡ s.groups → r.link.to_send ≡ s.link.to_send → (d : Result Message TagFault) → GoesOn t opens new ≡ reads Responder r memory d → ShutTook s t
-    by_decoded r shut groups sends (Ok m) is =
-        by_take r shut groups sends (handshake_take r.handshake m) (is ∙ ap (λ (o : Option NetSession). hears_message Responder r memory o m) shut)
-    by_decoded r shut groups sends (Err fault) is = absurd (cc is)
-
-    by_whole : (r : NetEndState) → r.session ≡ None → r.groups ≡ s.groups → r.link.to_send ≡ s.link.to_send → (whole : Option (List ℕ)) → HearsWhole Responder r memory whole (GoesOn t opens new) → ShutTook s t
-    by_whole r shut groups sends None is =
-        let took : GoesOn t opens new ≡ GoesOn r false memory = is in
-        let same : t ≡ r = cc took in
-        record { groups = ap (λ (x : NetEndState). x.groups) same ∙ groups; reply = ap (λ (x : NetEndState). reply_in x.session) same ∙ ap reply_in shut; sends = ap (λ (x : NetEndState). x.link.to_send) same ∙ sends }
-    by_whole r shut groups sends (Some bytes) hears = by_decoded (record r { link = cleared r.link }) shut groups sends hears.0 hears.2
-
-    by_link : (link : LinkTake) → TakesBytes s.link packet link → HearsLink Responder s memory link (GoesOn t opens new) → ShutTook s t
-    by_link (HeardBy k) took hears =
-        by_whole (record s { link = k; handshake = risen Responder s.link k s.handshake }) none refl (heard_send s.link k packet (link_heard s.link k packet took)) k.whole hears
-    by_link (Unheard cause) took is = absurd (cc is)
+    by_what : TookWhat Responder s memory (GoesOn t opens new) → ShutLeft s t
+    by_what (Stays k h is) =
+        let same : t ≡ record s { link = k; handshake = h } = cc is in
+        record { groups = ap (λ (x : NetEndState). x.groups) same; reply = ap (λ (x : NetEndState). reply_in x.session) same ∙ ap reply_in none }
+    by_what (Opens k h role shut is) =
+        let same : t ≡ opened_net_end (record s { link = k; handshake = h }) = cc is in
+        record { groups = ap (λ (x : NetEndState). x.groups) same; reply = ap (λ (x : NetEndState). reply_in x.session) same }
+    by_what (Fails cause is) = absurd (cc is)
+    by_what (Reads k h p m session does) = none_some p (sym none ∙ session)
 
 -- what it holds then
-shut_held : (s : NetEndState) (at : Seen) (reach : Reach) (rule : NetRule) (held : NetEndState) → s.session ≡ None → port_rule Responder s at ≡ rule → net_holds rule s reach ≡ Some held
-    → (held.session ≡ None) × (held.groups ≡ s.groups)
-shut_held s at reach Puts held none is same =
-    let kept : s ≡ held = cc same in (ap (λ (x : NetEndState). x.session) (sym kept) ∙ none, ap (λ (x : NetEndState). x.groups) (sym kept))
-shut_held s at reach (Says message) held none is same =
-    let kept : holding message s ≡ held = cc same in (ap (λ (x : NetEndState). x.session) (sym kept) ∙ none, ap (λ (x : NetEndState). x.groups) (sym kept))
-shut_held s at reach (Replies p reply) held none is same = none_some p (sym none ∙ (says_of Responder s at (Replies p reply) is).0.session)
-shut_held s at reach (Fetches p activity) held none is same = none_some p (sym none ∙ (says_of Responder s at (Fetches p activity) is).0.session)
-shut_held s at reach (Tells p) held none is same = none_some p (sym none ∙ (says_of Responder s at (Tells p) is).0.in_session.session)
-shut_held s at reach (Announces p) held none is same = none_some p (sym none ∙ (says_of Responder s at (Announces p) is).0.in_session.session)
-shut_held s at reach _ held none is same = none_some held same
+shut_held : (s : NetEndState) (at : Seen) (held : NetEndState) → s.session ≡ None → HeldBy Responder s at held → (held.session ≡ None) × (held.groups ≡ s.groups)
+shut_held s at _ none (HeldOn up owing) = (none, refl)
+shut_held s at _ none (HeldOwed message up quiet owed) = (none, refl)
+shut_held s at _ none (HeldOwn message p q free own) = none_some p (sym none ∙ free.session)
 
 -- a session that isn't open stays so, but by what it takes
 abbrev pub ShutStays : NetAnswer → NetEndState → Type 0
@@ -269,26 +241,26 @@ pub record ShutAfter (answer : NetAnswer) (s t : NetEndState) : Type 0 where
   pub left : ShutLeft s t
   pub stays : ShutStays answer t
 
-pub shut_after : (s : NetEndState) (at : Seen) (memory : List ℕ) (reach : Reach) (answer : NetAnswer) (left : NetLeft) → s.session ≡ None → Goes answer → NetEndStep Responder s at memory reach answer left
-    → ShutAfter answer s left.end
-shut_after s at memory reach Idle left none goes step =
+shut_after : (s : NetEndState) (turns : List Turn) (at : Seen) (memory : List ℕ) (reach : Reach) (answer : NetAnswer) (left : NetLeft) → EndStands Responder (net_core Responder s) turns → s.session ≡ None
+    → Goes answer → NetEndStep Responder s at memory reach answer left → ShutAfter answer s left.end
+shut_after s turns at memory reach Idle left stands none goes step =
     let same : left.end ≡ s = ap (λ (x : NetLeft). x.end) step.1 in
     record {
       left = record { groups = ap (λ (x : NetEndState). x.groups) same; reply = ap (λ (x : NetEndState). reply_in x.session) same ∙ ap reply_in none };
       stays = ap (λ (x : NetEndState). x.session) same ∙ none;
     }
-shut_after s at memory reach (Published id) left none goes step =
+shut_after s turns at memory reach (Published id) left stands none goes step =
     none_some step.session (sym none ∙ (says_of Responder s at (Publishes step.session step.frame) step.rule).0.in_session.session)
-shut_after s at memory reach (Frame frame) left none goes step = none_some step.session (sym none ∙ (says_of Responder s at (Fetches step.session step.activity) step.rule).0.session)
-shut_after s at memory reach Blocked left none goes step =
-    let held = shut_held s at reach (port_rule Responder s at) left.end none refl step.0 in record { left = record { groups = held.1; reply = ap reply_in held.0 }; stays = held.0 }
-shut_after s at memory reach (Sent packet opens) left none goes step =
-    let held = shut_held s at reach (port_rule Responder s at) step.held none refl step.holds in
+shut_after s turns at memory reach (Frame frame) left stands none goes step = none_some step.session (sym none ∙ (says_of Responder s at (Fetches step.session step.activity) step.rule).0.session)
+shut_after s turns at memory reach Blocked left stands none goes step =
+    let held = shut_held s at left.end none (held_now Responder s at reach left.end step.0) in record { left = record { groups = held.1; reply = ap reply_in held.0 }; stays = held.0 }
+shut_after s turns at memory reach (Sent packet opens) left stands none goes step =
+    let held = shut_held s at step.held none (held_now Responder s at reach step.held step.holds) in
     let session : left.end.session ≡ step.held.session = ap (λ (x : NetLeft). x.end.session) step.is in
     record { left = record { groups = ap (λ (x : NetLeft). x.end.groups) step.is ∙ held.1; reply = ap reply_in (session ∙ held.0) }; stays = session ∙ held.0 }
-shut_after s at memory reach (Took packet opens) left none goes step =
-    let took = shut_took s left.end memory packet left.own opens none step.1 in record { left = record { groups = took.groups; reply = took.reply }; stays = tt }
-shut_after s at memory reach _ left none goes step = absurd goes
+shut_after s turns at memory reach (Took packet opens) left stands none goes step =
+    record { left = shut_took s left.end turns memory packet left.own opens stands none step.1; stays = tt }
+shut_after s turns at memory reach _ left stands none goes step = absurd goes
 
 -- WHAT IS ON THE WAY then
 not_low : (m : List ℕ) → envelope_at m < 0x0042 → is_groups m ≡ false
@@ -395,8 +367,10 @@ hub_talk shape u t l answer left acts fresh talk p up other some = as_now (by_se
     none_left none (Took packet opens) is stays =
         let step = subst (λ (given : NetAnswer). Acts shape B u t l given left) is acts in
         let says = says_of Responder u.lane.hub (seen_at B u.lane) (Takes packet) step.step.0 in
-        let took = shut_took u.lane.hub left.end u.lane.hub_memory packet left.own opens none step.step.1 in
-        empty_unsaid left.end (took.sends ∙ free_empty Responder u.lane.hub l.transcript.server (acting_at shape B u l acts.finds up_before).ends says.0.quiet)
+        let goes_on = packet_goes Responder u.lane.hub u.lane.hub_memory packet (GoesOn left.end opens left.own) (acting_at shape B u l acts.finds up_before).fits step.step.1 in
+        let sends : left.end.link.to_send ≡ u.lane.hub.link.to_send =
+        ap (λ (k : LinkState). k.to_send) goes_on.link ∙ heard_send u.lane.hub.link goes_on.heard packet (link_heard u.lane.hub.link goes_on.heard packet goes_on.takes) in
+        empty_unsaid left.end (sends ∙ free_empty Responder u.lane.hub l.transcript.server (acting_at shape B u l acts.finds up_before).ends says.0.quiet)
     none_left none _ is stays = shut_now stays
 
     by_session : (session : Option NetSession) → u.lane.hub.session ≡ session → Between u.lane.guest left.end l.transcript.client (turns_now answer l.transcript.server) p
@@ -408,7 +382,7 @@ hub_talk shape u t l answer left acts fresh talk p up other some = as_now (by_se
         let plain = closed_plain (asks_of shape) (answers_of shape) Responder (swapped (sides_of (lane_core u.lane) l.transcript)) (acts.finds.talks.talks B) up_before (before.shut none) in
         let low = low_outbox u.lane.hub l.transcript.server l.transcript.client plain.said_plain.low
         (shut_unsaid Responder u.lane.hub l.transcript.server (acting_at shape B u l acts.finds up_before).ends is) in
-        let here = shut_after u.lane.hub (seen_at B u.lane) u.lane.hub_memory (reach_of B u.lane) answer left is goes acts.step in
+        let here = shut_after u.lane.hub l.transcript.server (seen_at B u.lane) u.lane.hub_memory (reach_of B u.lane) answer left (acting_at shape B u l acts.finds up_before).ends is goes acts.step in
         let low_now = low_outbox left.end (turns_now answer l.transcript.server) l.transcript.client fits.said_plain.low (none_left is answer refl here.stays) in
         subst (λ (xs : List (List ℕ)). TalkIn u.lane.guest.handshake.draft.sid u.lane.guest.groups p (outbox u.lane.guest l.transcript.client (turns_now answer l.transcript.server))
         (outbox left.end (turns_now answer l.transcript.server) l.transcript.client) left.end.session xs) (sym here.left.groups)

@@ -20,11 +20,11 @@ use Rattle.channel_laws.specs.Sides.{sides_of, swapped}
 use Rattle.port_model.proofs.Refuting.{none_some, true_false}
 use Rattle.port_model.specs.EndLog.{EndLog, SessionLog, change, opened_log}
 use Rattle.port_model.specs.NetEndState.{NetSession}
-use Rattle.port_model.specs.NetEndStep.{Frame, Given, Joined, NetAnswer, NetLeft, Queued, Reset, Sent, Took}
+use Rattle.port_model.specs.NetEndStep.{Frame, Joined, NetAnswer, NetLeft, Reset, Sent, Took}
 use Rattle.port_model.specs.NetEvent.{Asked, Gives, Injects, Loses, NetEvent, Pokes, Steps, Ticked, on_wire}
 use Rattle.port_model.specs.NetLaneState.{IsNetShape, NetLaneState, NetShape, memory_of, net_end, reach_of, role_at, seen_at}
 use Rattle.port_model.specs.NetLaneStep.{EndSteps, NetLaneStep, moved_on}
-use Rattle.port_model.specs.PortLog.{PortLog, after, after_answer, after_given, log_of_end, no_events}
+use Rattle.port_model.specs.PortLog.{PortLog, after, after_answer, log_of_end, no_events}
 use Rattle.port_model.specs.PortState.{OfQueue, OnLane, PortEvent, PortState, PortStep, Receives, before, fresh_port}
 use Rattle.port_laws.specs.Counted.{unsaid}
 use Rattle.port_laws.specs.NetCore.{lane_core}
@@ -37,7 +37,7 @@ use Rattle.port_laws.proofs.PortTalks.{PortTalks, answers_of, asks_of, port_talk
 use Rattle.port_laws.proofs.PutCounts.{SaidRight}
 use Rattle.port_laws.proofs.RingActs.{Acts, Finds, OpenBoth, acting_at, acts_shut, acts_up_at, open_both, ring_of_end, step_busy, step_now, turned_at}
 use Rattle.port_laws.proofs.RingEvents.{Active, Goes, peer_up, theirs_now, turns_at, turns_now, wire_now}
-use Rattle.port_laws.proofs.RingRuns.{Kept, finds_before, kept_step, fresh_kept, was_clean}
+use Rattle.port_laws.proofs.RingRuns.{Kept, finds_before, fresh_kept, given_same, kept_step, was_clean}
 use Rattle.port_laws.proofs.RingSteps.{opens_by}
 use Rattle.port_laws.proofs.RuleFrames.{both_open, end_acts, end_counted}
 use Rattle.port_laws.proofs.SessionsHeard.{grown_most, heard_grown, said_grown}
@@ -354,10 +354,6 @@ pub never_alone : (shape : NetShape) (u : PortState) (l : PortLog) (X : Type 0) 
 never_alone shape u l X finds some up =
     let both = peer_up u.lane.wire.wire.end_b u.lane.wire.wire.end_a up in absurd (both.0 (guest_open_up shape u l finds both.1 some))
 
-given_same : (given : Given) (l : EndLog) → (after_given given l).session ≡ l.session
-given_same (Queued id frame) l = refl
-given_same _ l = refl
-
 pub acts_of : (shape : NetShape) (e : End) (u t : PortState) (l : PortLog) (answer : NetAnswer) → Finds shape u l → (step : EndSteps e u.lane answer t.lane)
     → PortCounts shape t (after l (OnLane (Steps e answer))) → PortTalks shape (lane_core t.lane) (after l (OnLane (Steps e answer))) → Acts shape e u t l answer step.left
 acts_of shape e u t l answer finds step counts talks = record { finds = finds; step = step.step; now = step_now e u.lane t.lane answer step; counts = counts; talks = talks }
@@ -373,8 +369,8 @@ lane_ways shape u t l (Ticked queued lost) of_queue finds step clean counts talk
 lane_ways shape u t l (Gives A given) of_queue finds step clean counts talks ways =
     λ up other some.
     subst (λ (o : Option SessionLog). Ways l.shape.slots (said l.transcript.client) (heard l.transcript.client) (said l.transcript.server) (heard l.transcript.server) (or_new o) (or_new l.hub.session))
-    (sym (given_same given l.guest))
-    (ways (sym (ap (λ (x : NetLaneState). x.wire.wire.end_a) step.1) ∙ up) (sym (ap (λ (x : NetLaneState). x.wire.wire.end_b) step.1) ∙ other) (λ none. some (given_same given l.guest ∙ none)))
+    (sym (given_same given l.guest).session)
+    (ways (sym (ap (λ (x : NetLaneState). x.wire.wire.end_a) step.1) ∙ up) (sym (ap (λ (x : NetLaneState). x.wire.wire.end_b) step.1) ∙ other) (λ none. some ((given_same given l.guest).session ∙ none)))
 lane_ways shape u t l (Gives B given) of_queue finds step clean counts talks ways = absurd of_queue
 lane_ways shape u t l (Loses A packet) of_queue finds step clean counts talks ways =
     λ up other some. ways (sym (ap (λ (x : NetLaneState). x.wire.wire.end_a) step.1) ∙ up) (sym (ap (λ (x : NetLaneState). x.wire.wire.end_b) step.1) ∙ other) some

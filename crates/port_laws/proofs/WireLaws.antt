@@ -25,7 +25,7 @@ use Rattle.port_model.specs.PortState.{OnLane, PortEvent, PortState, PortStep, R
 use Rattle.port_laws.specs.NetCore.{event_core}
 use Rattle.port_laws.specs.PortCore.{port_core, port_event, port_events}
 use Rattle.port_laws.proofs.CoreLaws.{order_of, role_same, sizes_fit}
-use Rattle.port_laws.proofs.PortRuns.{SameLog, fresh_port_core, lawful_along, lawful_here, port_fits_behind, port_step_core, spoken_behind}
+use Rattle.port_laws.proofs.PortRuns.{SameLog, fresh_port_core, lawful_here, port_fits_behind, port_step_core, spoken_behind}
 
 -- of the channel's event
 of_event : (Holds : WireEvent → Type 0) (event : Option WireEvent) → core.OfChannel Holds (event_core event) → IfOnWire Holds event
@@ -101,12 +101,8 @@ hears_order shape events s e packet true t is run step =
     (sizes_fit shape is) (fresh_port_core shape events s run)
     (port_step_core s (OnLane (Steps e (Took packet true))) t (port_fits_behind shape events s run) step)))
 
-opens_at : (shape : NetShape) (is : IsNetShape shape) (events : List PortEvent) (s : PortState) (event : PortEvent) (t : PortState) → Run PortStep (fresh_port shape) events s → PortStep s event t
+pub opens_at : (shape : NetShape) (is : IsNetShape shape) (events : List PortEvent) (s : PortState) (event : PortEvent) (t : PortState) → Run PortStep (fresh_port shape) events s → PortStep s event t
     → OpeningsAt (log_of after (no_events shape) events) event
 opens_at shape is events s (OnLane (Steps e (Sent packet opens))) t run step = says_order shape events s e packet opens t is run step
 opens_at shape is events s (OnLane (Steps e (Took packet opens))) t run step = hears_order shape events s e packet opens t is run step
 opens_at shape is events s _ t run step = tt
-
-pub port_opens : (shape : NetShape) (events : List PortEvent) (s : PortState) → IsNetShape shape → Run PortStep (fresh_port shape) events s
-    → Lawful OpeningsAt after (no_events shape) events
-port_opens shape events s is run = lawful_along shape OpeningsAt (opens_at shape is) events s run

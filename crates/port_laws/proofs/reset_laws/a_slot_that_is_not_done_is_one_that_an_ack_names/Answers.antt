@@ -1,5 +1,5 @@
-use Rattle.port_laws.proofs.RuleAsks.{port_undone}
+use Rattle.port_laws.proofs.EveryRun.{lawful_by}
 use Rattle.port_laws.proofs.reset_laws.a_slot_that_is_not_done_is_one_that_an_ack_names.Goals as goal
 
 pub returns : goal.returns
-returns c = port_undone
+returns c = lawful_by (λ l event may. may.undone)

@@ -1,5 +1,5 @@
-use Rattle.port_laws.proofs.RuleFrames.{port_published}
+use Rattle.port_laws.proofs.EveryRun.{lawful_by}
 use Rattle.port_laws.proofs.rule_laws.frames_are_published_in_order.Goals as goal
 
 pub returns : goal.returns
-returns c = port_published
+returns c = lawful_by (λ l event may. may.published)

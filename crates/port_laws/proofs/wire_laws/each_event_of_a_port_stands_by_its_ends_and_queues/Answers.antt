@@ -1,5 +1,5 @@
-use Rattle.port_laws.proofs.RuleTable.{port_table}
+use Rattle.port_laws.proofs.EveryRun.{lawful_by}
 use Rattle.port_laws.proofs.wire_laws.each_event_of_a_port_stands_by_its_ends_and_queues.Goals as goal
 
 pub returns : goal.returns
-returns c = port_table
+returns c = lawful_by (λ l event may. may.table)
