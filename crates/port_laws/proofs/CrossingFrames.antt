@@ -73,14 +73,14 @@ in_session : (memory : List ℕ) (s : NetEndState) (p : NetSession) (n : ℕ) �
 in_session memory s p n is less = subst (λ (x : Option NetSession). n ≤ (length s.frames - unseen x) + ready_in s.slots memory x) (sym is) less
 
 -- IT HOLDS a message
-own_kept : (memory : List ℕ) (s : NetEndState) (message : Message) (p q : NetSession) → s.session ≡ Some p → OwnMessage Initiator s p message q → Kept memory s memory (holding_own message q s)
-own_kept memory s _ p _ is (OwnReply reply replies) = in_session memory s p _ is (omega arith)
-own_kept memory s _ p _ is _ = in_session memory s p _ is (omega arith)
+own_kept : (memory : List ℕ) (s : NetEndState) (p : NetSession) (message : Message) (q : NetSession) → s.session ≡ Some p → OwnMessage Initiator s p message q → Kept memory s memory (holding_own message q s)
+own_kept memory s p _ _ is (OwnReply reply replies) = in_session memory s p _ is (omega arith)
+own_kept memory s p _ _ is _ = in_session memory s p _ is (omega arith)
 
 held_kept : (memory : List ℕ) (s : NetEndState) (at : Seen) (held : NetEndState) → HeldBy Initiator s at held → Kept memory s memory held
 held_kept memory s at _ (HeldOn up owing) = omega arith
 held_kept memory s at _ (HeldOwed message up quiet owed) = omega arith
-held_kept memory s at _ (HeldOwn message p q free own) = own_kept memory s message p q free.session own
+held_kept memory s at _ (HeldOwn message p q free own) = own_kept memory s p message q free.session own
 
 -- IT PUTS what it holds; a session that opens by that has a cleared ring
 opened_kept : (opens : Bool) (memory : List ℕ) (s : NetEndState) → (opens ≡ true → s.session ≡ None)

@@ -81,19 +81,19 @@ pub record HeldCore (role : Role) (s held : NetEndState) : Type 0 where
 pub reply_of : (s : NetEndState) (p : NetSession) (reply : GroupsReply) → SessionFits s.session → s.session ≡ Some p → p.reply ≡ Some reply → ReplyFits reply
 reply_of s p reply fits session is = subst SomeFits is (subst SessionFits session fits)
 
-own_core : (role : Role) (s : NetEndState) (at : Seen) (message : Message) (p q : NetSession) → NetFits role s → IsFreeIn s at p → OwnMessage role s p message q
+own_core : (role : Role) (s : NetEndState) (at : Seen) (p : NetSession) (message : Message) (q : NetSession) → NetFits role s → IsFreeIn s at p → OwnMessage role s p message q
     → Holds (net_core role s) (HoldsOwn message) (net_core role (holding_own message q s))
-own_core role s at _ p _ fits free (OwnReply reply is) =
+own_core role s at p _ _ fits free (OwnReply reply is) =
     let one : one_if (is_some p.reply) ≡ 1 = ap (λ (x : Option GroupsReply). one_if (is_some x)) is in
     own_held role s at (groups_answer s reply) p (record p { reply = None }) free tt refl (reply_short s reply (reply_of s p reply fits.session free.session is)) (omega (arith, one))
-own_core role s at _ p _ fits free (OwnAnswer activity last is some) =
+own_core role s at p _ _ fits free (OwnAnswer activity last is some) =
     let one : one_if (is_some p.active) ≡ 1 = ap (λ (x : Option Activity). one_if (is_some x)) is in
     own_held role s at (answer s activity last) p (record p { active = None }) free tt refl (answer_short s activity last) (omega (arith, one))
-own_core role s at _ p _ fits free (OwnGroups guest untold telling) =
+own_core role s at p _ _ fits free (OwnGroups guest untold telling) =
     let one : one_if (not p.telling) ≡ 1 = ap (λ (b : Bool). one_if (not b)) telling in
     let short : AreShort s.groups = subst (λ (x : Role). GroupsFit x s.groups) guest fits.groups in
     own_held role s at (membership s.handshake.draft.sid s.groups) p (record p { untold = false; telling = true }) free tt refl (membership_short s.handshake.draft.sid s.groups short) (omega (arith, one))
-own_core role s at _ p _ fits free (OwnInfo some asking) =
+own_core role s at p _ _ fits free (OwnInfo some asking) =
     let one : one_if (not p.asking) ≡ 1 = ap (λ (b : Bool). one_if (not b)) asking in
     own_held role s at (announcement s p) p (record p { infos = p.infos + 1; asking = true }) free tt refl (announcement_short s p) (omega (arith, one))
 
@@ -112,7 +112,7 @@ held_core role s at _ fits (HeldOwed message up quiet owed) = record {
     more = omega arith;
   };
 }
-held_core role s at _ fits (HeldOwn message p q free own) = record { what = HoldsOwn message; holds = own_core role s at message p q fits free own }
+held_core role s at _ fits (HeldOwn message p q free own) = record { what = HoldsOwn message; holds = own_core role s at p message q fits free own }
 
 -- IT PUTS. The handshake changes where its message ends, and then the link holds nothing.
 empty_of : (xs : List ℕ) → length xs ≡ 0 → is_empty xs ≡ true

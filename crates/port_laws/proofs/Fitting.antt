@@ -21,6 +21,7 @@ use Rattle.port_model.proofs.Ruling.{says_of}
 use Rattle.port_laws.specs.NetFits.{AreShort, GroupsFit, NetFits, SessionFits, SomeFits}
 use Rattle.port_laws.proofs.EndMoves.{packet_goes}
 use Rattle.port_laws.proofs.HeldMessages.{HeldBy, HeldOn, HeldOwed, HeldOwn, OwnAnswer, OwnGroups, OwnInfo, OwnMessage, OwnReply, held_now}
+use Rattle.vio_tag.specs.declared.message.Message.{Message}
 
 -- the end with another session whose answer to groups is the same
 session_fits : (role : Role) (s t : NetEndState) (p q : NetSession) → NetFits role s → s.session ≡ Some p → t.groups ≡ s.groups → t.session ≡ Some q → q.reply ≡ p.reply → NetFits role t
@@ -39,16 +40,16 @@ joined_fits : (role : Role) (s : NetEndState) → NetFits role s → NetFits rol
 joined_fits Initiator s fits = record { groups = fits.groups; session = tt }
 joined_fits Responder s fits = record { groups = tt; session = tt }
 
-own_fits : (role : Role) (s : NetEndState) (message : Message) (p q : NetSession) → NetFits role s → s.session ≡ Some p → OwnMessage role s p message q → NetFits role (holding_own message q s)
-own_fits role s _ p _ fits is (OwnReply reply replies) = record { groups = fits.groups; session = tt }
-own_fits role s _ p _ fits is (OwnAnswer activity last active some) = session_fits role s _ p (record p { active = None }) fits is refl refl refl
-own_fits role s _ p _ fits is (OwnGroups guest untold telling) = session_fits role s _ p (record p { untold = false; telling = true }) fits is refl refl refl
-own_fits role s _ p _ fits is (OwnInfo some asking) = session_fits role s _ p (record p { infos = p.infos + 1; asking = true }) fits is refl refl refl
+own_fits : (role : Role) (s : NetEndState) (p : NetSession) (message : Message) (q : NetSession) → NetFits role s → s.session ≡ Some p → OwnMessage role s p message q → NetFits role (holding_own message q s)
+own_fits role s p _ _ fits is (OwnReply reply replies) = record { groups = fits.groups; session = tt }
+own_fits role s p _ _ fits is (OwnAnswer activity last active some) = session_fits role s _ p (record p { active = None }) fits is refl refl refl
+own_fits role s p _ _ fits is (OwnGroups guest untold telling) = session_fits role s _ p (record p { untold = false; telling = true }) fits is refl refl refl
+own_fits role s p _ _ fits is (OwnInfo some asking) = session_fits role s _ p (record p { infos = p.infos + 1; asking = true }) fits is refl refl refl
 
 held_fits : (role : Role) (s : NetEndState) (at : Seen) (held : NetEndState) → NetFits role s → HeldBy role s at held → NetFits role held
 held_fits role s at _ fits (HeldOn up owing) = fits
 held_fits role s at _ fits (HeldOwed message up quiet owed) = same_fits role s (holding message s) fits refl refl
-held_fits role s at _ fits (HeldOwn message p q free own) = own_fits role s message p q fits free.session own
+held_fits role s at _ fits (HeldOwn message p q free own) = own_fits role s p message q fits free.session own
 
 opened_fits : (role : Role) (opens : Bool) (s : NetEndState) → NetFits role s → NetFits role (opened_by_put role opens s)
 opened_fits Initiator true s fits = record { groups = fits.groups; session = tt }

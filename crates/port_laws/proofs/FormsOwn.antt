@@ -75,17 +75,17 @@ forms_it s at p q message free empty = record {
 same_session : {X : Type 0} (o : Option X) (p q : X) → o ≡ Some p → o ≡ Some q → q ≡ p
 same_session {X} o p q one two = let both : Some q ≡ Some p = sym two ∙ one in cc both
 
-own_formed : (role : Role) (sid : ℕ) (s : NetEndState) (at : Seen) (message : Message) (p q : NetSession) → MayForm role sid s p → IsFreeIn s at p → OwnMessage role s p message q
+own_formed : (role : Role) (sid : ℕ) (s : NetEndState) (at : Seen) (p : NetSession) (message : Message) (q : NetSession) → MayForm role sid s p → IsFreeIn s at p → OwnMessage role s p message q
     → Formed role sid s p (holding_own message q s)
-own_formed role sid s at _ p _ may free (OwnReply reply is) =
+own_formed role sid s at p _ _ may free (OwnReply reply is) =
     Replied (canonical (groups_answer s reply)) (record p { reply = None }) reply (forms_it s at p (record p { reply = None }) (groups_answer s reply) free may.empty) is refl refl refl
-own_formed role sid s at _ p _ may free (OwnAnswer activity last active is) =
+own_formed role sid s at p _ _ may free (OwnAnswer activity last active is) =
     Ranged (canonical (answer s activity last)) (record p { active = None }) (forms_it s at p (record p { active = None }) (answer s activity last) free may.empty)
     (says_range role sid Ack s.handshake.draft.sid activity.seq s.handshake.draft.ident_peer activity.start last 2 (inr refl) may.agreed.peer may.small) refl refl refl
-own_formed role sid s at _ p _ may free (OwnGroups guest untold telling) =
+own_formed role sid s at p _ _ may free (OwnGroups guest untold telling) =
     Told (canonical (membership s.handshake.draft.sid s.groups)) (record p { untold = false; telling = true })
     (forms_it s at p (record p { untold = false; telling = true }) (membership s.handshake.draft.sid s.groups) free may.empty) guest refl telling refl refl
-own_formed role sid s at _ p _ may free (OwnInfo some asking) =
+own_formed role sid s at p _ _ may free (OwnInfo some asking) =
     Ranged (canonical (announcement s p)) (record p { infos = p.infos + 1; asking = true }) (forms_it s at p (record p { infos = p.infos + 1; asking = true }) (announcement s p) free may.empty)
     (says_range role sid Info s.handshake.draft.sid (wrapped (p.infos + 1)) s.handshake.draft.ident_own (p.seen % s.slots) 0xffffffff 1 (inl refl) may.agreed.own may.small) refl refl refl
 
@@ -95,7 +95,7 @@ formed_by role sid s at _ p may (HeldOwed message up quiet owed) = none_some mes
 formed_by role sid s at _ p may (HeldOwn message r q free own) =
     let same : r ≡ p = same_session s.session p r may.session free.session in
     subst (λ (x : NetSession). Formed role sid s x (holding_own message q s)) same
-    (own_formed role sid s at message r q (subst (MayForm role sid s) (sym same) may) free own)
+    (own_formed role sid s at r message q (subst (MayForm role sid s) (sym same) may) free own)
 
 -- IT PUTS the message that it holds, whole in one packet
 pub record PutsIt (held t : NetEndState) (turns : List Turn) (packet : List ℕ) : Type 0 where

@@ -218,24 +218,24 @@ opened_here : (role : Role) (slots : ℕ) (queue : List (List ℕ)) (s : NetEndS
     → OpenCounts role slots s.groups l.published l.gone None s.link.begun p l.session
 opened_here role slots queue s l at p holding free = open_empty role slots queue s l p holding.counts free.session (holding.empty free.free.quiet)
 
-own_counts : (role : Role) (slots : ℕ) (queue : List (List ℕ)) (s : NetEndState) (l : EndLog) (at : Seen) (message : Message) (p q : NetSession) → Holding role slots queue s l → IsFreeIn s at p
+own_counts : (role : Role) (slots : ℕ) (queue : List (List ℕ)) (s : NetEndState) (l : EndLog) (at : Seen) (p : NetSession) (message : Message) (q : NetSession) → Holding role slots queue s l → IsFreeIn s at p
     → OwnMessage role s p message q → EndCounts role slots queue (holding_own message q s) l
-own_counts role slots queue s l at _ p _ holding free (OwnReply reply is) =
+own_counts role slots queue s l at p _ _ holding free (OwnReply reply is) =
     let here = opened_here role slots queue s l at p holding free in
     formed role slots queue s l p (record p { reply = None }) here.of_log (groups_answer s reply) (groups_spoken (subtype_code reply.subtype)) holding.counts here.is
     (replies_forms role slots s p here.of_log l.published l.gone reply s.link.begun free.free.owed (reply_of s p reply holding.fits.session free.session is)
     (subst (λ (o : Option GroupsReply). AnswersRightly o here.of_log.owed) is here.counts.reply) here.counts)
-own_counts role slots queue s l at _ p _ holding free (OwnAnswer activity last active is) =
+own_counts role slots queue s l at p _ _ holding free (OwnAnswer activity last active is) =
     let here = opened_here role slots queue s l at p holding free in
     formed role slots queue s l p (record p { active = None }) here.of_log (answer s activity last) RangeAck holding.counts here.is
     (answers_forms role slots s p here.of_log l.published l.gone activity last s.link.begun free.free.owed holding.counts.slots_is holding.slots_fit
     (subst (ActiveCounts slots here.of_log) active here.counts.peer.active) is here.counts)
-own_counts Initiator slots queue s l at _ p _ holding free (OwnGroups guest untold telling) =
+own_counts Initiator slots queue s l at p _ _ holding free (OwnGroups guest untold telling) =
     let here = opened_here Initiator slots queue s l at p holding free in
     formed Initiator slots queue s l p (record p { untold = false; telling = true }) here.of_log (membership s.handshake.draft.sid s.groups) GroupsInfo holding.counts here.is
     (tells_forms slots s p here.of_log l.published l.gone s.link.begun free.free.owed holding.fits.groups holding.counts.groups untold here.counts)
-own_counts Responder slots queue s l at _ p _ holding free (OwnGroups guest untold telling) = absurd (cc guest)
-own_counts role slots queue s l at _ p _ holding free (OwnInfo some asking) =
+own_counts Responder slots queue s l at p _ _ holding free (OwnGroups guest untold telling) = absurd (cc guest)
+own_counts role slots queue s l at p _ _ holding free (OwnInfo some asking) =
     let here = opened_here role slots queue s l at p holding free in
     formed role slots queue s l p (record p { infos = p.infos + 1; asking = true }) here.of_log (announcement s p) RangeInfo holding.counts here.is
     (announces_forms role slots s p here.of_log l.published l.gone s.link.begun free.free.owed holding.counts.slots_is holding.slots_fit some asking here.counts)
@@ -245,4 +245,4 @@ pub held_counts : (role : Role) (slots : ℕ) (queue : List (List ℕ)) (s : Net
 held_counts role slots queue s l at _ holding (HeldOn up owing) = holding.counts
 held_counts role slots queue s l at _ holding (HeldOwed message up quiet owed) =
     linked_counts role slots queue s (holding_shake message s) l holding.counts (owed_unsaid s message owed) (owed_unsaid (holding_shake message s) message owed) refl refl refl refl refl
-held_counts role slots queue s l at _ holding (HeldOwn message p q free own) = own_counts role slots queue s l at message p q holding free own
+held_counts role slots queue s l at _ holding (HeldOwn message p q free own) = own_counts role slots queue s l at p message q holding free own

@@ -73,21 +73,21 @@ pub groups_same : (role : Role) (p q : NetSession) → q.untold ≡ p.untold →
 groups_same Initiator p q same = ap (λ (b : Bool). 4 * one_if b) same
 groups_same Responder p q same = refl
 
-session_less : (role : Role) (more : ℕ) (memory : List ℕ) (s : NetEndState) (message : Message) (p q : NetSession) (what : Holding) → OwnMessage role s p message q
+session_less : (role : Role) (more : ℕ) (memory : List ℕ) (s : NetEndState) (p : NetSession) (message : Message) (q : NetSession) (what : Holding) → OwnMessage role s p message q
     → session_left role s.slots (length s.frames + more) memory (Some q) + put_weight role * own_in what ≤ session_left role s.slots (length s.frames + more) memory (Some p)
-session_less role more memory s _ p _ what (OwnReply reply is) =
+session_less role more memory s p _ _ what (OwnReply reply is) =
     let less = answers_less role (frames_left role s.slots (length s.frames + more) memory (Some p)) (one_if (took_some p.active) + 0)
     (one_if (took_some p.active) + one_if (is_some p.reply)) (groups_left role (Some p)) (own_in what)
     (omega (arith, own_most what, ap (λ (x : Option GroupsReply). one_if (is_some x)) is)) in
     omega (arith, less, groups_same role p (record p { reply = None }) refl)
-session_less role more memory s _ p _ what (OwnAnswer activity last is some) =
+session_less role more memory s p _ _ what (OwnAnswer activity last is some) =
     let less = answers_less role (frames_left role s.slots (length s.frames + more) memory (Some p)) (0 + one_if (is_some p.reply))
     (one_if (took_some p.active) + one_if (is_some p.reply)) (groups_left role (Some p)) (own_in what)
     (omega (arith, own_most what, ap (λ (x : Option Activity). one_if (took_some x)) is, ap (λ (x : Option ℕ). one_if (is_some x)) some)) in
     omega (arith, less, groups_same role p (record p { active = None }) refl)
-session_less Initiator more memory s _ p _ what (OwnGroups guest untold telling) = omega (arith, own_most what, ap one_if untold)
-session_less Responder more memory s _ p _ what (OwnGroups guest untold telling) = absurd (cc guest)
-session_less role more memory s _ p _ what (OwnInfo some quiet) =
+session_less Initiator more memory s p _ _ what (OwnGroups guest untold telling) = omega (arith, own_most what, ap one_if untold)
+session_less Responder more memory s p _ _ what (OwnGroups guest untold telling) = absurd (cc guest)
+session_less role more memory s p _ _ what (OwnInfo some quiet) =
     let asks = asks_less role (8 * (length s.frames + more - unseen_in p)) (unseen_in p - 1) (unseen_in p - one_if p.asking) (ready_weight role * ready_slots s.slots memory)
     (answers_left role (Some p) + groups_left role (Some p)) (own_in what) (omega (arith, some, own_most what, ap one_if quiet)) in
     omega (arith, asks, groups_same role p (record p { infos = p.infos + 1; asking = true }) refl)
@@ -99,7 +99,7 @@ own_less role more memory s at _ what (HeldOn up owing) holds =
 own_less role more memory s at _ what (HeldOwed message up quiet owed) holds =
     no_less role (own_left role more memory s) (own_in what) (owing_none (net_core role s) (net_core role (holding message s)) message what owed holds)
 own_less role more memory s at _ what (HeldOwn message p q free own) holds =
-    in_session_less role more memory s message p q what free.session (session_less role more memory s message p q what own)
+    in_session_less role more memory s message p q what free.session (session_less role more memory s p message q what own)
 
 sum_less : (role : Role) (few many own left less : ℕ) → few ≤ many + own → left + put_weight role * own ≤ less → put_weight role * few + left ≤ put_weight role * many + less
 sum_less Initiator few many own left less packets rest = omega (arith, packets, rest)

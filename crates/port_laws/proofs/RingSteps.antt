@@ -42,9 +42,9 @@ ring_of slots taken session p frames memory is ring = subst (λ (x : Option NetS
 abbrev Same : ℕ → ℕ → List ℕ → NetEndState → NetEndState → Type 0
 Same slots taken memory s held = RingIn slots taken s.session s.frames memory → RingIn slots taken held.session held.frames memory
 
-own_same : (role : Role) (s : NetEndState) (message : Message) (p q : NetSession) → OwnMessage role s p message q → (q.seen ≡ p.seen) × (q.published ≡ p.published)
-own_same role s _ p _ (OwnReply reply is) = (refl, refl)
-own_same role s _ p _ _ = (refl, refl)
+own_same : (role : Role) (s : NetEndState) (p : NetSession) (message : Message) (q : NetSession) → OwnMessage role s p message q → (q.seen ≡ p.seen) × (q.published ≡ p.published)
+own_same role s p _ _ (OwnReply reply is) = (refl, refl)
+own_same role s p _ _ _ = (refl, refl)
 
 held_ring : (role : Role) (slots taken : ℕ) (memory : List ℕ) (s : NetEndState) (at : Seen) (held : NetEndState) → HeldBy role s at held → Same slots taken memory s held
 held_ring role slots taken memory s at _ (HeldOn up owing) = λ ring. ring
@@ -52,7 +52,7 @@ held_ring role slots taken memory s at _ (HeldOwed message up quiet owed) = λ r
 held_ring role slots taken memory s at _ (HeldOwn message p q free own) =
     λ ring.
     let here = ring_of slots taken s.session p s.frames memory free.session ring in
-    let same = own_same role s message p q own in
+    let same = own_same role s p message q own in
     subst (λ (n : ℕ). RingHolds slots n taken q.published s.frames memory) (sym same.0) (subst (λ (n : ℕ). RingHolds slots p.seen taken n s.frames memory) (sym same.1) here)
 
 -- A SESSION OPENS with a ring that is cleared
