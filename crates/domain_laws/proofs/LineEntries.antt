@@ -31,7 +31,7 @@ use Rattle.world_laws.specs.Settle.{OfLane, OfPort, SettleEntry, Settled, Unsett
 use Rattle.domain_laws.proofs.Running.{port_reads}
 use Rattle.domain_laws.specs.Along.{port_said}
 use Rattle.domain_laws.specs.Domain.{Lanes, lanes, port_entries, switch}
-use Rattle.domain_laws.specs.Lines.{AnswersCall, AnswersFrame, AnswersGroup, AnswersOn, AnswersPortCall, AnswersRequest, AreSteps, Asked, BeginsPart, Call, Calls, DiskLane, EndTurn, IsStepOf, Joins, LaneName, Line, Nothing, OneEntry, OnePortEntry, PartOf, PortLane, Rounds, Sends, Steps, fronts, turn, turns_of}
+use Rattle.domain_laws.specs.Lines.{AnswersCall, AnswersFrame, AnswersGroup, AnswersOn, AnswersPortCall, AnswersRequest, AreSteps, Asked, BeginsPart, Call, Calls, ConsoleLane, DiskLane, EndTurn, IsStepOf, Joins, LaneName, Line, Nothing, OneEntry, OnePortEntry, PartOf, PortLane, Rounds, Sends, Steps, fronts, turn, turns_of}
 use Rattle.domain_laws.specs.Lines as script
 
 abbrev pub EachEntry : (SettleEntry → Type 0) → List SettleEntry → Type 0
@@ -49,6 +49,7 @@ pub by_answer : (Holds : List SettleEntry → Type 0) (lane : LaneName) (call : 
     → ((k : ℕ) (event : SwitchEvent) → lane ≡ PortLane k → AnswersPortCall call event → Holds (OfPort k event ∷ [])) → AnswersOn lane call part → Holds part
 by_answer Holds (DiskLane k) call part disk port one = subst Holds (sym one.is) (disk k one.event refl one.answers)
 by_answer Holds (PortLane k) call part disk port one = subst Holds (sym one.is) (port k one.event refl one.answers)
+by_answer Holds (ConsoleLane k) call part disk port one = absurd one
 
 -- EACH STEP of an end has it, and each tick
 pub record StepsHave (P : SettleEntry → Type 0) : Type 0 where

@@ -27,12 +27,13 @@ use Rattle.domain_laws.specs.Along.{IsOfDisk, IsOfPort, OnlyDisk, port_happened,
 use Rattle.domain_laws.specs.Domain.{DomainState, DomainStep, Lanes, PortsStep, fresh_domain, lanes_in}
 use Rattle.domain_laws.specs.Frames.{frames_put, put_in}
 use Rattle.domain_laws.specs.Isolation.{IsFor, OnlyPortPart}
-use Rattle.domain_laws.specs.Lines.{AnswersFrame, AnswersGroup, AnswersRequest, AreFirstSteps, AreSteps, Asked, BeginsPart, Calls, DiskLane, EndTurn, IsStepOf, Joins, LaneName, Line, LineBegins, LineMoves, LineStep, Nothing, PartOf, PortLane, Rounds, Sends, Settles, Steps, entries_of_lines, turn}
+use Rattle.domain_laws.specs.Lines.{AnswersFrame, AnswersGroup, AnswersRequest, AreFirstSteps, AreSteps, Asked, BeginsPart, Calls, ConsoleLane, DiskLane, EndTurn, IsStepOf, Joins, LaneName, Line, LineBegins, LineMoves, LineStep, Nothing, PartOf, PortLane, Rounds, Sends, Settles, Steps, entries_of_lines, turn}
 
 -- AN ENTRY of the lane
 abbrev pub IsOf : LaneName → SettleEntry → Type 0
 IsOf (DiskLane k) = IsOfDisk k
 IsOf (PortLane k) = IsOfPort k
+IsOf (ConsoleLane k) = λ entry. ⊥
 
 own_event : (lane : LaneName) (k : ℕ) (event : DiskEvent) → DiskLane k ≡ lane → IsOf lane (OfLane k event)
 own_event lane k event same = subst (λ (x : LaneName). IsOf x (OfLane k event)) same refl

@@ -30,6 +30,7 @@ use Rattle.domain_laws.specs.Domain.{DomainState, DomainStep, Lanes, lanes, lane
 pub data LaneName : Type 0 where
   DiskLane : (number : ℕ) → LaneName
   PortLane : (number : ℕ) → LaneName
+  ConsoleLane : (number : ℕ) → LaneName
 
 -- what a script may do to a lane, beside asking and stepping it
 pub data Call : Type 0 where
@@ -130,6 +131,7 @@ pub record OnePortEntry (k : ℕ) (Answers : SwitchEvent → Type 0) (part : Lis
 abbrev pub AnswersOn : LaneName → Call → List SettleEntry → Type 0
 AnswersOn (DiskLane k) call part = OneEntry k (AnswersCall call) part
 AnswersOn (PortLane k) call part = OnePortEntry k (AnswersPortCall call) part
+AnswersOn (ConsoleLane k) call part = ⊥
 
 -- STEPS, by whose turn it is: a lane and its end
 pub record EndTurn : Type 0 where

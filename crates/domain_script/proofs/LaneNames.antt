@@ -18,6 +18,7 @@ use Rattle.domain_script.proofs.Firsts.{is_first, is_none, no_place, not_there, 
 pub as_many_names : (names : NamesState) (kind : LaneKind) → length (names_of kind names) ≡ count_of kind names
 as_many_names names lanes.Disk = length-map names.disks _
 as_many_names names lanes.Port = length-map names.ports _
+as_many_names names lanes.Console = refl
 
 -- a name is of at most one lane
 one_of_kinds : (names : NamesState) (name : Name) (kind other : LaneKind) (j k : ℕ) → IsNamed names name (lane_at kind j) → IsNamed names name (lane_at other k)
@@ -26,6 +27,8 @@ one_of_kinds names name lanes.Disk lanes.Disk j k first second = ap (λ (n : ℕ
 one_of_kinds names name lanes.Disk lanes.Port j k first second = absurd (no_place (names_of lanes.Disk names) name j second.0 first.1)
 one_of_kinds names name lanes.Port lanes.Disk j k first second = absurd (no_place (names_of lanes.Disk names) name k first.0 second.1)
 one_of_kinds names name lanes.Port lanes.Port j k first second = ap (λ (n : ℕ). lane_at lanes.Port n) (one_place (names_of lanes.Port names) name j k first.1 second.1)
+one_of_kinds names name lanes.Console other j k first second = absurd first.1
+one_of_kinds names name kind lanes.Console j k first second = absurd second.1
 
 pub one_named : (names : NamesState) (name : Name) (a b : Lane) → IsNamed names name a → IsNamed names name b → a ≡ b
 one_named names name a b first second = one_of_kinds names name a.kind b.kind a.number b.number first second
@@ -34,6 +37,7 @@ one_named names name a b first second = one_of_kinds names name a.kind b.kind a.
 free_among : (names : NamesState) (name : Name) (kind : LaneKind) → IsFree names name → IsNoneOf name (names_of kind names)
 free_among names name lanes.Disk free = free.0
 free_among names name lanes.Port free = free.1
+free_among names name lanes.Console free = tt
 
 pub none_named : (names : NamesState) (name : Name) (lane : Lane) → IsFree names name → IsNamed names name lane → ⊥
 none_named names name lane free named = no_place (names_of lane.kind names) name lane.number (free_among names name lane.kind free) named.1
@@ -72,6 +76,7 @@ pub record Adds (names more : NamesState) (kind : LaneKind) (name : Name) : Type
 same_or_not : (other kind : LaneKind) → (other ≡ kind) ⊎ (other ≢ kind)
 same_or_not lanes.Disk lanes.Disk = inl refl
 same_or_not lanes.Port lanes.Port = inl refl
+same_or_not lanes.Console lanes.Console = inl refl
 same_or_not other kind = inr (λ is. cc is)
 
 abbrev pub IsNew : NamesState → LaneKind → Name → Lane → Name → Type 0
@@ -112,10 +117,12 @@ differ_more names more kind name adds differ free a b found first second =
 same_ports : (names more : NamesState) (other : LaneKind) → more.ports ≡ names.ports → other ≢ lanes.Disk → names_of other more ≡ names_of other names
 same_ports names more lanes.Disk ports differs = absurd (differs refl)
 same_ports names more lanes.Port ports differs = ap (λ (l : List PortDecl). map (λ (port : PortDecl). port.name) l) ports
+same_ports names more lanes.Console ports differs = refl
 
 same_disks : (names more : NamesState) (other : LaneKind) → more.disks ≡ names.disks → other ≢ lanes.Port → names_of other more ≡ names_of other names
 same_disks names more lanes.Disk disks differs = ap (λ (l : List DiskDecl). map (λ (disk : DiskDecl). disk.name) l) disks
 same_disks names more lanes.Port disks differs = absurd (differs refl)
+same_disks names more lanes.Console disks differs = refl
 
 adds_disk : (names more : NamesState) (disk : DiskDecl) → more.disks ≡ names.disks ++ disk ∷ [] → more.ports ≡ names.ports → Adds names more lanes.Disk disk.name
 adds_disk names more disk disks ports = record {
@@ -154,6 +161,7 @@ name_of_port names lane found kind is =
 same_names : (names other : NamesState) (kind : LaneKind) → names.disks ≡ other.disks → names.ports ≡ other.ports → names_of kind names ≡ names_of kind other
 same_names names other lanes.Disk disks ports = ap (λ (l : List DiskDecl). map (λ (disk : DiskDecl). disk.name) l) disks
 same_names names other lanes.Port disks ports = ap (λ (l : List PortDecl). map (λ (port : PortDecl). port.name) l) ports
+same_names names other lanes.Console disks ports = refl
 
 pub still_differ : (names other : NamesState) → names.disks ≡ other.disks → names.ports ≡ other.ports → NamesDiffer names → NamesDiffer other
 still_differ names other disks ports differ a b name first second =

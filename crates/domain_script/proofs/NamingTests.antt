@@ -102,6 +102,7 @@ first_of_kind names name lanes.Disk k named =
 first_of_kind names name lanes.Port k named =
     ap (λ (o : Option ℕ). option_or (option_map (lane_at lanes.Disk) o) (among names name lanes.Port)) (none_number name (names_of lanes.Disk names) named.0)
     ∙ ap (λ (o : Option ℕ). option_map (lane_at lanes.Port) o) (number_is name (names_of lanes.Port names) k named.1)
+first_of_kind names name lanes.Console k named = absurd named.1
 
 -- of a free name there is none, and a name that none has is free
 pub free_first : (names : NamesState) (name : Name) → IsFree names name → first_named names name ≡ None
@@ -140,11 +141,13 @@ lane_is names word lane named =
 number_of_lane : (kind other : LaneKind) (k : ℕ) (P : Lane → Type 0) → P (lane_at other k) → IfSome (number_if kind (lane_at other k)) (λ n. P (lane_at kind n))
 number_of_lane lanes.Disk lanes.Disk k P is = is
 number_of_lane lanes.Port lanes.Port k P is = is
+number_of_lane lanes.Console lanes.Console k P is = is
 number_of_lane _ _ k P is = tt
 
 number_of_own : (kind : LaneKind) (k : ℕ) → number_if kind (lane_at kind k) ≡ Some k
 number_of_own lanes.Disk k = refl
 number_of_own lanes.Port k = refl
+number_of_own lanes.Console k = refl
 
 pub kind_found : (names : NamesState) (word : List ℕ) (kind : LaneKind) → IfSome (kind_named kind names word) (λ k. NamesLane names word (lane_at kind k))
 kind_found names word kind =

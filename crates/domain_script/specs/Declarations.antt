@@ -57,11 +57,13 @@ pub record Declared : Type 0 where
 abbrev pub number_of_kind : LaneKind → Declared → ℕ
 number_of_kind lanes.Disk all = length all.disks
 number_of_kind lanes.Port all = length all.ports
+number_of_kind lanes.Console all = 0
 
 -- and their names
 abbrev pub names_of_kind : LaneKind → Declared → List Name
 names_of_kind lanes.Disk all = map (λ (disk : DiskDecl). disk.name) all.disks
 names_of_kind lanes.Port all = map (λ (port : PortDecl). port.name) all.ports
+names_of_kind lanes.Console all = []
 
 -- at most eight of each kind, all within the limits, and no two ports with one address
 pub record AreDeclared (all : Declared) : Type 0 where

@@ -4,6 +4,7 @@ use Rattle.std.specs.Prelude.{ℕ, Option, Some, None}
 use Rattle.domain_script.specs.declared.event.Lane.{Lane}
 use Rattle.domain_script.specs.declared.fields.LaneKind.{LaneKind}
 use Rattle.domain_script.specs.declared.fields.LaneKind.TheVariants as lanes
+use Rattle.domain_script.specs.Consoles.{console_of}
 
 abbrev pub lane_at : LaneKind → ℕ → Lane
 lane_at kind k = record { kind = kind; number = k }
@@ -33,3 +34,4 @@ port_of lane = if_port lane.kind lane.number
 abbrev pub number_if : LaneKind → Lane → Option ℕ
 number_if lanes.Disk lane = disk_of lane
 number_if lanes.Port lane = port_of lane
+number_if lanes.Console lane = console_of lane

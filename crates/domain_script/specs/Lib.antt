@@ -1,6 +1,7 @@
 pub mod Firsts
 pub mod Declarations
 pub mod LaneKinds
+pub mod Consoles
 pub mod NamesState
 pub mod ScriptLines
 pub mod Rows

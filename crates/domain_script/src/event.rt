@@ -60,6 +60,7 @@ impl Lane {
         match kind {
             LaneKind::Disk => self.disk(),
             LaneKind::Port => self.port(),
+            LaneKind::Console => self.console(),
         }
     }
 }

@@ -4,6 +4,7 @@
 #![tactic(auto)]
 
 mod addresses;
+mod consoles;
 mod declaring;
 mod disk_rows;
 mod end_rows;

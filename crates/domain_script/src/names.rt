@@ -108,6 +108,7 @@ impl Names {
         match lane.kind {
             LaneKind::Disk => Some(self.disk(lane.number)?.name),
             LaneKind::Port => Some(self.port(lane.number)?.name),
+            LaneKind::Console => None,
         }
     }
 
@@ -140,6 +141,7 @@ impl Names {
         match kind {
             LaneKind::Disk => self.disk_count,
             LaneKind::Port => self.port_count,
+            LaneKind::Console => 0,
         }
     }
 
@@ -150,6 +152,7 @@ impl Names {
         match kind {
             LaneKind::Disk => self.count(kind) < MOST_DISKS as u32,
             LaneKind::Port => self.count(kind) < MOST_PORTS as u32,
+            LaneKind::Console => true,
         }
     }
 

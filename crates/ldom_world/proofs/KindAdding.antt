@@ -16,6 +16,7 @@ use Rattle.ldc_queue.specs.declared.end.End.{End}
 use Rattle.ldc_queue.specs.declared.end.End.TheVariants.{A, B}
 use Rattle.ldom_entries.specs.declared.entry.Entry.{Entry}
 use Rattle.recorded_lanes.proofs.Adding.{both_add}
+use Rattle.ldom_world.proofs.ConsolesAdding.{no_console_runs}
 use Rattle.ldom_world.proofs.Growing.{also_grew, both_grew, none_grew}
 use Rattle.ldom_world.specs.SettleParts.{Grew, LaneNamesAdd, LaneTicksAdd, LaneTicksAddFront, LaneTicksBegun, LanesAdd, LanesAddFront, LanesBegun, LanesMade, LanesNamed, LanesTicked, MakesQuiet, NamesGoOn, OneTicked, RoundBreaks, RoundGoesOn, TicksGoOn}
 use Rattle.ldom_world.specs.WorldKinds.{in_world, left_by}
@@ -32,11 +33,13 @@ record KindLaws (kind : LaneKind) : Type 0 where
 laws : (kind : LaneKind) → KindLaws kind
 laws kinds.Disk = record { runs = disk_runs; turn = disk_turn; begins = disk_begins }
 laws kinds.Port = record { runs = port_runs; turn = port_turn; begins = port_begins }
+laws kinds.Console = record { runs = no_console_runs; turn = λ one two first second. first; begins = λ one first. absurd first }
 
 -- how many there are
 pub many_of : (kind : LaneKind) (w : DomainState) → number_of_kind kind w ≡ length ((in_world kind).lanes w)
 many_of kinds.Disk w = refl
 many_of kinds.Port w = refl
+many_of kinds.Console w = refl
 
 module _ (kind : LaneKind) where
   abbrev Lane : Type 0

@@ -111,6 +111,7 @@ tick_of_calm kinds.Disk k s (OfEnd name) is = cc is
 tick_of_calm kinds.Port k s (OfWhole lane) is =
     never_so (is_lane k (port_of lane)) (of_net k (CalmPortTick 0)) (of_net k (Ticked 0 (unseen s.lane.guest.session))) (λ same. cc same) is
 tick_of_calm kinds.Port k s (OfEnd name) is = cc is
+tick_of_calm kinds.Console k s who is = s
 
 tick_meant : (kind : LaneKind) (k : ℕ) (s : (in_world kind).Lane) (x : Meaning)
     → meant (Calls (of_kind kind k) Ticks) x ≡ Some (told_of ((in_world kind).entries.of_lane k ((in_world kind).kind.tick s)))
@@ -148,6 +149,7 @@ ticked_by kinds.Port k had w v s entries there gets answers run =
     let one : OnePortEntry k (AnswersPortCall Ticks) entries = answers in
     subst (λ (l : List SettleEntry). OneTicked kinds.Port k had true w v l) (sym one.is)
     (port_gets k had w one.event v s there gets one.answers (run_of_one w v (OfPort k one.event) entries one.is run))
+ticked_by kinds.Console k had w v s entries there gets answers run = absurd answers
 
 tick_grew : (kind : LaneKind) (k : ℕ) (w v : DomainState) (old new : List Entry) (s : (in_world kind).Lane) (had : Bool)
     → slice_get ((in_world kind).lanes w) k ≡ Some s → gets_tick (in_world kind).kind s had ≡ true
@@ -234,13 +236,15 @@ not_by : (b : Bool) → (if b then false else true) ≡ not b
 not_by true = refl
 not_by false = refl
 
-left_is : (kind : LaneKind) (k : ℕ) → left_over (lane_at kind k) ≡ Some ((in_world kind).entries.left_over k)
-left_is kinds.Disk k = refl
-left_is kinds.Port k = refl
+left_is : (kind : LaneKind) (k : ℕ) (s : (in_world kind).Lane) → left_over (lane_at kind k) ≡ Some ((in_world kind).entries.left_over k)
+left_is kinds.Disk k s = refl
+left_is kinds.Port k s = refl
+left_is kinds.Console k s = absurd s
 
 told_left : (kind : LaneKind) (k : ℕ) → told_of ((in_world kind).entries.left_over k) ≡ (in_world kind).entries.left_over k
 told_left kinds.Disk k = refl
 told_left kinds.Port k = refl
+told_left kinds.Console k = refl
 
 name_by : (kind : LaneKind) (k : ℕ) (calm rests : Bool) (s : (in_world kind).Lane) → rests ≡ (calm && not ((in_world kind).kind.waits_on s))
     → name_of (in_world kind).kind (in_world kind).entries k calm s ≡ (if rests then [] else (in_world kind).entries.left_over k ∷ [])
@@ -256,7 +260,7 @@ named_goes_on kind k w calm rests s old new there is left grew =
     (subst (λ (l : List SettleEntry). Adds Settles old new l)
     (sym (name_by kind k calm rests s is ∙ ap (λ (b : Bool). if b then [] else (in_world kind).entries.left_over k ∷ []) left))
     (one_adds Settles old new (entry.Unsettled (OfWhole (lane_at kind k))) ((in_world kind).entries.left_over k) grew
-    (left_is kind k ∙ ap (λ (x : SettleEntry). Some x) (sym (told_left kind k)))))
+    (left_is kind k s ∙ ap (λ (x : SettleEntry). Some x) (sym (told_left kind k)))))
 
 pub unnamed_goes_on : (kind : LaneKind) (k : ℕ) (w : DomainState) (calm rests : Bool) (s : (in_world kind).Lane) (old : List Entry)
     → slice_get ((in_world kind).lanes w) k ≡ Some s → rests ≡ (calm && not ((in_world kind).kind.waits_on s)) → rests ≡ true

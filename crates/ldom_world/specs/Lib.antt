@@ -1,3 +1,4 @@
+pub mod Consoles
 pub mod WorldKinds
 pub mod TurnsMade
 pub mod SettleParts

@@ -1,5 +1,6 @@
 -- THE KINDS OF LANES in a world of disks and ports, as a settle sees each of them: its lanes, what is beside them, and their steps.
 use Rattle.std.specs.Prelude.{ℕ, if◌then◌else◌, List, [], ◌∷◌}
+use Rattle.ldom_world.specs.Consoles.{console_entries, no_consoles}
 use Rattle.recorded_lanes.specs.world_parts.disk_model.DiskEvent.{DiskEvent}
 use Rattle.recorded_lanes.specs.world_parts.disk_model.LaneState.{LaneState}
 use Rattle.recorded_lanes.specs.world_parts.domain_laws.Domain.{DomainState, DomainStep, port_entries}
@@ -49,6 +50,16 @@ in_world kinds.Port = record {
   lanes = ports_in;
   beside = world_in;
   IsStep = IsStepOf;
+}
+in_world kinds.Console = record {
+  Lane = ⊥;
+  Event = ⊥;
+  Beside = DomainState;
+  kind = no_consoles;
+  entries = console_entries;
+  lanes = λ w. [];
+  beside = λ w. w;
+  IsStep = λ e event. ⊥;
 }
 
 -- what a step leaves in the journal of a settle

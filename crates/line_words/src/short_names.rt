@@ -1,5 +1,5 @@
 // The names of lanes and ends as lines put them.
-ghost use Rattle.std.specs.Prelude.{◌≡◌, ◌≤◌, length, slice_get, take};
+ghost use Rattle.std.specs.Prelude.{◌≡◌, ◌<◌, ◌≤◌, length, slice_get, take};
 ghost use Rattle.domain_script.specs.Declarations.{names_of_kind, number_of_kind};
 ghost use Rattle.domain_script.specs.LaneKinds.{lane_at};
 ghost use Rattle.domain_script.specs.NamesState.{declared_by};
@@ -27,6 +27,7 @@ fn name_of(names: &Names, kind: LaneKind, number: u32) -> Option<Name>
     match kind {
         LaneKind::Disk => Some(names.disk(number)?.name),
         LaneKind::Port => Some(names.port(number)?.name),
+        LaneKind::Console => None,
     }
 }
 
@@ -103,12 +104,14 @@ impl<'a> LineNames<'a> {
 
     /// The names of the lanes of a kind.
     fn of_kind(&self, kind: LaneKind) -> &'a [LaneNames]
+        requires some { 0 < number_of_kind kind self.now }
         ensures lanes { result.now ≡ lane_names kind self.now }
         ensures few { number_of_kind kind self.now ≤ 8 }
     {
         match kind {
             LaneKind::Disk => self.disks,
             LaneKind::Port => self.ports,
+            LaneKind::Console => unreachable!(),
         }
     }
 

@@ -28,7 +28,7 @@ use Rattle.ldom_entries.specs.declared.entry.Why.TheVariants.{Groups, Length, Ra
 use Rattle.domain_script.specs.declared.event.EndName.{EndName}
 use Rattle.ldc_queue.specs.declared.end.End.{End}
 use Rattle.ldc_queue.specs.declared.end.End.TheVariants.{A}
-use Rattle.world_parts.specs.domain_laws.Lines.{Asked, Call, Calls, DiskLane, Injects, Joins, LaneName, Line, Pokes, PortLane, Sends}
+use Rattle.world_parts.specs.domain_laws.Lines.{Asked, Call, Calls, ConsoleLane, DiskLane, Injects, Joins, LaneName, Line, Pokes, PortLane, Sends}
 use Rattle.ldom_report.specs.DiskEvents.{Defective, NoRoom, NotTaken, Nothing, OfDisk, Refusal, defect_of, not_taken_for, not_taken_on, refused, request_asked, said}
 use Rattle.ldom_report.specs.LaneEvents.{AtLane, AtPort, AtServer, AtWire, ChangesNothing, LeavesNothing, LeavesOver, Meaning, NoRoomFor, Publishes, Refuses, Switches, TakesFrame, meaning}
 use Rattle.world_parts.specs.WorldEvents.{at_disk, at_port, declined_at, full_call, full_event, if_so, is_end, is_lane, of_net, refused_asked, refused_call, refused_event, wire_on, world_event}
@@ -155,6 +155,7 @@ full_on j request lane (Some k) m at is = record {
 wire_silent : (name : LaneName) (d : Declined) → SaysNothing (wire_on name (Declines d))
 wire_silent (DiskLane j) d = (refl, refl)
 wire_silent (PortLane j) d = tt
+wire_silent (ConsoleLane j) d = tt
 
 declined_silent : (name : LaneName) (e : End) (at : EndName) (d : Declined) (m : SettleEntry) → declined_at name e at d ≡ Some m
     → SaysNothing m

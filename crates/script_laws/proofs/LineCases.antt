@@ -127,6 +127,7 @@ module _ (names : NamesState) (w : DomainState) (disks : length w.first.lanes �
   same_number : (kind : LaneKind) → number_of_kind kind w ≡ count_of kind names
   same_number kinds.Disk = disks
   same_number kinds.Port = ports
+  same_number kinds.Console = refl
 
   within : (kind : LaneKind) (k : ℕ) → k < count_of kind names → k < number_of_kind kind w
   within kind k less = omega (arith, less, same_number kind)

@@ -1,6 +1,7 @@
 pub mod DiskKind
 pub mod Rounds
 pub mod Ticks
+pub mod Consoles
 pub mod Settle
 pub mod Sums
 pub mod Ended

@@ -8,6 +8,7 @@ use Rattle.lane_kinds.specs.Settles as settle
 use Rattle.disk_model.specs.DiskEvent.{DiskEvent}
 use Rattle.disk_model.specs.LaneState.{LaneState}
 use Rattle.switch_laws.specs.Events.{SwitchEvent}
+use Rattle.world_laws.specs.Consoles.{ConsoleEvent}
 use Rattle.world_laws.specs.DiskKind.{disk_kind, is_silent}
 use Rattle.world_laws.specs.Rounds.{LaneRound}
 
@@ -15,9 +16,11 @@ use Rattle.world_laws.specs.Rounds.{LaneRound}
 pub data SettleEntry : Type 0 where
   OfLane : (lane : ℕ) (event : DiskEvent) → SettleEntry
   OfPort : (port : ℕ) (event : SwitchEvent) → SettleEntry
+  OfConsole : (console : ℕ) (event : ConsoleEvent) → SettleEntry
   Settled : SettleEntry
   Unsettled : (lane : ℕ) → SettleEntry
   UnsettledPort : (port : ℕ) → SettleEntry
+  UnsettledConsole : (console : ℕ) → SettleEntry
 
 abbrev pub disk_entries : Entries DiskEvent SettleEntry
 disk_entries = record { of_lane = OfLane; left_over = Unsettled; settled = Settled }

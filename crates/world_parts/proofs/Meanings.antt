@@ -16,7 +16,7 @@ use Rattle.domain_laws.specs.switch_laws.Events.{OnPort, SwitchEvent, Switched}
 use Rattle.ldc_queue.specs.declared.end.End.{End}
 use Rattle.ldc_queue.specs.declared.end.End.TheVariants.{A, B}
 use Rattle.domain_laws.specs.world_laws.Settle.{OfLane, OfPort, SettleEntry, Settled, Unsettled, UnsettledPort}
-use Rattle.domain_laws.specs.Lines.{Asked, Call, Calls, DiskLane, Injects, LaneName, Line, Loses, Pokes, PortLane, Resets, Restarts, Sends, Starts, Stops, Ticks}
+use Rattle.domain_laws.specs.Lines.{Asked, Call, Calls, ConsoleLane, DiskLane, Injects, LaneName, Line, Loses, Pokes, PortLane, Resets, Restarts, Sends, Starts, Stops, Ticks}
 use Rattle.domain_laws.specs.Lines as line
 use Rattle.domain_script.specs.declared.event.EndName.{EndName}
 use Rattle.domain_script.specs.declared.event.Lane.{Lane}
@@ -173,6 +173,7 @@ called_has P name (Loses e) (OfEnd at) holds = declined_has P name e at (Nothing
 called_has P name (Injects e packet) (OfEnd at) holds = declined_has P name e at (NotInjected e packet) holds.declined
 called_has P (DiskLane j) call who holds = disk_called_has P j call who holds
 called_has P (PortLane j) call who holds = port_called_has P j call who holds
+called_has P (ConsoleLane j) call who holds = tt
 
 meant_has : (P : SettleEntry → Type 0) (asked : Line) (x : Meaning) → Holds P x → Has P (meant asked x)
 meant_has P asked (AtWire e event) holds = holds

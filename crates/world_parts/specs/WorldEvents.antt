@@ -17,9 +17,9 @@ use Rattle.domain_laws.specs.port_model.NetEndStep.{Already, BadLength, Frame, G
 use Rattle.domain_laws.specs.port_model.NetEndStep as port
 use Rattle.domain_laws.specs.port_model.PortState.{OnLane}
 use Rattle.domain_laws.specs.switch_laws.Events.{OnPort, SwitchEvent, Switched}
-use Rattle.domain_laws.specs.world_laws.Settle.{OfLane, OfPort, SettleEntry}
+use Rattle.domain_laws.specs.world_laws.Settle.{OfLane, OfPort, SettleEntry, UnsettledConsole}
 use Rattle.domain_laws.specs.world_laws.Settle as settle
-use Rattle.domain_laws.specs.Lines.{Asked, Call, Calls, DiskLane, Injects, LaneName, Line, Loses, Pokes, PortLane, Resets, Restarts, Sends, Starts, Stops, Ticks}
+use Rattle.domain_laws.specs.Lines.{Asked, Call, Calls, ConsoleLane, DiskLane, Injects, LaneName, Line, Loses, Pokes, PortLane, Resets, Restarts, Sends, Starts, Stops, Ticks}
 use Rattle.domain_laws.specs.Lines as line
 use Rattle.domain_script.specs.declared.event.EndName.{EndName}
 use Rattle.domain_script.specs.declared.event.Lane.{Lane}
@@ -119,10 +119,12 @@ switched_by Client lane event = None
 abbrev pub number_of : LaneName → ℕ
 number_of (DiskLane k) = k
 number_of (PortLane k) = k
+number_of (ConsoleLane k) = k
 
 abbrev pub number_in : LaneName → Lane → Option ℕ
 number_in (DiskLane k) lane = disk_of lane
 number_in (PortLane k) lane = port_of lane
+number_in (ConsoleLane k) lane = None
 
 abbrev pub is_end : LaneName → End → EndName → Bool
 is_end name e at = is_lane (number_of name) (number_in name at.lane) && is_same e (end_of at.side)
@@ -130,6 +132,7 @@ is_end name e at = is_lane (number_of name) (number_in name at.lane) && is_same 
 abbrev pub wire_on : LaneName → WireEvent → SettleEntry
 wire_on (DiskLane k) event = OfLane k (OnWire event)
 wire_on (PortLane k) event = of_net k (on_channel event)
+wire_on (ConsoleLane k) event = UnsettledConsole k
 
 abbrev pub declined_at : LaneName → End → EndName → Declined → Option SettleEntry
 declined_at name e at d = if_so (is_end name e at) (wire_on name (Declines d))
@@ -179,6 +182,7 @@ lane_called name (Loses e) (OfEnd at) = declined_at name e at (NothingLost e)
 lane_called name (Injects e packet) (OfEnd at) = declined_at name e at (NotInjected e packet)
 lane_called (DiskLane j) call who = disk_called j call who
 lane_called (PortLane j) call who = port_called j call who
+lane_called (ConsoleLane j) call who = None
 
 abbrev pub calm_event : Line → Who → Option SettleEntry
 calm_event (Calls name call) who = lane_called name call who
