@@ -1,6 +1,18 @@
-import pathlib, subprocess, sys, time
-TOP=pathlib.Path('/tmp/h/lines41/clone/crates/domain_laws')
-P=[
+#!/usr/bin/env python3
+"""domain_laws_plants.py [NUMBER..]: tries wrong definitions of domain_laws, each a changed line, by `rt check` of that
+crate on a copy of the repository (with what checks kept of the crates below, their out/). Each must be refused, but for
+the one whose name says that script_laws refuses it. Prints what came of each, with the first lines that weren't
+proved. `rt must-fail` isn't for these: it changes bodies, and a changed definition breaks lemmas first."""
+import pathlib
+import shutil
+import subprocess
+import sys
+import tempfile
+
+TOP = pathlib.Path(__file__).resolve().parent.parent
+
+# name, file, what stands there once, what takes its place
+PLANTS = [
  ('put_in has full for out','specs/Frames.antt','put_in k (Switched frame out full) = if bit_at out k == 1','put_in k (Switched frame out full) = if bit_at full k == 1'),
  ('Receives is an own entry','specs/Domain.antt','IsOwn (OnPort (Receives frame)) = ⊥','IsOwn (OnPort (Receives frame)) = ⊤'),
  ('ports turn before disks (turns_over: domain_laws proves it, script_laws refuses it)','specs/Lines.antt','turns_over n m = both_ends (lanes_from DiskLane 0 n) ++ both_ends (lanes_from PortLane 0 m)','turns_over n m = both_ends (lanes_from PortLane 0 m) ++ both_ends (lanes_from DiskLane 0 n)'),
@@ -15,20 +27,34 @@ P=[
  ('a stop leaves all running','specs/Running.antt','LeavesRunning (Calls lane Stops) = ⊥','LeavesRunning (Calls lane Stops) = ⊤'),
  ('arrived at the switch','specs/Frames.antt','arrived_in (OnPort (OnLane (Steps A (Frame frame)))) = frame ∷ []','arrived_in (OnPort (OnLane (Steps e (Frame frame)))) = frame ∷ []'),
 ]
-only=[int(x) for x in sys.argv[1:]] or range(len(P))
-for i in only:
-    name,f,old,new=P[i]
-    p=TOP/f; s=p.read_text()
-    assert s.count(old)==1,(name,s.count(old))
-    t=s.replace(old,new)
-    if name.startswith('rounds are for'): t=t.replace('PortLane, Sends, Steps}','PortLane, Rounds, Sends, Steps}').replace('List, ◌++◌, length, Some, slice_get}','List, ◌++◌, length, Some, slice_get, ⊤}')
-    p.write_text(t)
-    try:
-        r=subprocess.run(['/tmp/h/hrt','check'],cwd=TOP,capture_output=True,text=True,timeout=900)
-        out=r.stdout+r.stderr
-        bad=[l for l in out.splitlines() if 'not proved' in l or ': error' in l or 'not-proved' in l]
-        print(time.strftime('%H:%M:%S'),i,name,'->', 'PROVED' if 'logic=proved functions=1' in out.splitlines()[-1] or (r.returncode==0) else 'refused'); 
-        for l in bad[:14]: print('    ',l[:230])
-        sys.stdout.flush()
-    finally:
-        p.write_text(s)
+
+
+def planted(name, text, old, new):
+    """The file's text with the plant; one of them wants two more imports."""
+    assert text.count(old) == 1, (name, text.count(old))
+    text = text.replace(old, new)
+    if name.startswith("rounds are for"):
+        text = text.replace("PortLane, Sends, Steps}", "PortLane, Rounds, Sends, Steps}")
+        text = text.replace("List, ◌++◌, length, Some, slice_get}", "List, ◌++◌, length, Some, slice_get, ⊤}")
+    return text
+
+
+def main(numbers):
+    with tempfile.TemporaryDirectory(prefix="plants-") as made:
+        room = pathlib.Path(made)
+        shutil.copy2(TOP / "crates.txt", room)
+        subprocess.run(["cp", "-a", "--reflink=auto", TOP / "crates", room], check=True)
+        crate = room / "crates" / "domain_laws"
+        for i in numbers or range(len(PLANTS)):
+            name, file, old, new = PLANTS[i]
+            text = (crate / file).read_text()
+            (crate / file).write_text(planted(name, text, old, new))
+            ran = subprocess.run(["rt", "check"], cwd=crate, capture_output=True, text=True)
+            (crate / file).write_text(text)
+            print(i, name, "->", "proved" if ran.returncode == 0 else "refused", flush=True)
+            wrong = [line for line in (ran.stdout + ran.stderr).splitlines() if "not proved" in line or ": error" in line]
+            print("".join(f"    {line[:115]}\n" for line in wrong[:14]), end="", flush=True)
+
+
+if __name__ == "__main__":
+    main([int(word) for word in sys.argv[1:]])
