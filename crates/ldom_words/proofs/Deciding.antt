@@ -14,7 +14,7 @@ use Rattle.clap.specs.Words.{subcommand_of, takes}
 use Rattle.script_words.specs.Words.{SpellsNumber, is_number, number_of}
 use Rattle.script_words.proofs.WordTests.{is_number_from, number_is, number_spelled}
 use Rattle.ldom_words.specs.Asking.{DumpOf, RunOver, SampleOf, TraceOver, Wanted, program_app, sample_number, wanted, wanted_in, wanted_with}
-use Rattle.ldom_words.specs.Words.{AsksRun, AsksSample, AsksTrace, all_plain, is_plain_word, sample_count}
+use Rattle.ldom_words.specs.Words.{AsksRun, AsksSample, AsksTrace, is_plain_word, sample_count}
 use Rattle.ldom_words.proofs.Accepting.{OfWord, Runs, Samples, Traces, asks_for, name_of, reads_dump, reads_word, takes_dump, takes_word}
 
 -- before a plain word the command decides
@@ -28,13 +28,6 @@ with_others command word is also too =
     ap (λ (b : Bool). if b then Some (RunOver word) else (if bytes_eq command (codes "trace") then Some (TraceOver word) else (if bytes_eq command (codes "sample") then option_map SampleOf (sample_number word) else None))) is
     ∙ ap (λ (b : Bool). if b then Some (TraceOver word) else (if bytes_eq command (codes "sample") then option_map SampleOf (sample_number word) else None)) also
     ∙ ap (λ (b : Bool). if b then option_map SampleOf (sample_number word) else None) too
-
--- the words of such a command are plain where its own is
-word_plain : (command : OfWord) (word : List ℕ) → is_plain_word word ≡ true
-    → all_plain (name_of command ∷ word ∷ []) ≡ true
-word_plain Runs word plain = ap (λ (b : Bool). b && true) plain
-word_plain Traces word plain = ap (λ (b : Bool). b && true) plain
-word_plain Samples word plain = ap (λ (b : Bool). b && true) plain
 
 -- THE NUMBER of a sample is what its word spells
 pub sample_spelled : (word : List ℕ) (n : ℕ) → SpellsNumber word n → n < sample_count → sample_number word ≡ Some n
@@ -59,13 +52,6 @@ sample_too_large word n spells large = no_sample (is_number word && nat_lt (numb
   where
     no_sample : (b : Bool) → (is_number word && nat_lt (number_of word) sample_count) ≡ b → (if b then Some (number_of word) else None) ≡ None
     no_sample true tests = absurd (omega (arith, large, number_is word n spells, ltb-true (number_of word) sample_count (and_parts _ _ tests).1))
-    no_sample false tests = refl
-
-pub sample_unspelled : (word : List ℕ) → ((n : ℕ) → SpellsNumber word n → ⊥) → sample_number word ≡ None
-sample_unspelled word none = no_sample (is_number word && nat_lt (number_of word) sample_count) refl
-  where
-    no_sample : (b : Bool) → (is_number word && nat_lt (number_of word) sample_count) ≡ b → (if b then Some (number_of word) else None) ≡ None
-    no_sample true tests = absurd (none (number_of word) (number_spelled word (and_parts _ _ tests).0))
     no_sample false tests = refl
 
 -- a number's word is plain
@@ -116,12 +102,6 @@ word_is Runs word plain = with_plain (codes "run") word plain
 word_is Traces word plain = with_plain (codes "trace") word plain
 word_is Samples word plain = with_plain (codes "sample") word plain
 
--- words that aren't plain ask for nothing
-pub unless_plain : (words : List (List ℕ)) → all_plain words ≡ false → wanted words ≡ None
-unless_plain words =
-    by_words (λ (ws : List (List ℕ)). all_plain ws ≡ false → wanted ws ≡ None) (λ ws none _. none)
-    (λ command word plain off. absurd (cc (word_plain command word plain, off))) (λ off. absurd (cc off)) words
-
 -- so what was read and is the same by the definition is what the words ask for
 pub as_confirmed : (words : List (List ℕ)) (asked defined result : Option Wanted)
     → asked ≡ wanted_in (subcommand_of program_app words) → defined ≡ wanted words
@@ -157,12 +137,3 @@ asks_sample words number asks =
 pub plain_as : {X : Type 0} (text : X → List ℕ) (xs : List X) (plain : Bool)
     → plain ≡ list_all (λ x. is_plain_word (text x)) xs → plain ≡ list_all is_plain_word (map text xs)
 plain_as text xs plain is = is ∙ sym (list_all-map is_plain_word text xs)
-
--- words that ask for this run, or this trace, ask for no other
-pub one_run : (words : List (List ℕ)) (word name : List ℕ) → Some (RunOver word) ≡ wanted words → AsksRun words name
-    → name ≡ word
-one_run words word name is asks = cc (is, asks_run words name asks)
-
-pub one_trace : (words : List (List ℕ)) (word name : List ℕ) → Some (TraceOver word) ≡ wanted words
-    → AsksTrace words name → name ≡ word
-one_trace words word name is asks = cc (is, asks_trace words name asks)
