@@ -1,4 +1,5 @@
 ghost use Rattle.std.specs.Prelude.{◌≡◌, [], Some, IfOk};
+ghost use Rattle.vio_io.specs.Causes.{last_count};
 
 use std::alloc::Global;
 use std::marker::Model;
@@ -35,6 +36,9 @@ impl Source for InfallibleSource {
     ghost left = { λ s. Some s };
 
     ghost faults = { λ _. 0 };
+
+    // It doesn't count: the count stands at its last value.
+    ghost ends = { λ _. last_count };
 
     fn read(&mut self, buf: &mut [u8]) -> Result<usize, Failed> {
         match self.list.read(buf) {

@@ -19,7 +19,7 @@ use Rattle.gathered_text.proofs.GatheredText.{appends_last, gathers_all, gathers
 use Rattle.ldom_dump.specs.Decoded.{AreOfLines, Decoded, IsOfLine, decoded_lines, decoded_text, is_fault, is_ok, is_packet}
 use Rattle.ldom_dump.specs.DumpReport.{Dumps, Written, dump_text, end_line}
 use Rattle.ldom_dump.specs.Going.{DumpsLines, Finishes, GathersUnlessSinkFault, PutsPacket, TellsCarried, TellsMessage}
-use Rattle.ldom_report.specs.Stops.{IsReaders}
+use Rattle.ldom_report.specs.Stops.{EndsTold, IsReaders}
 use Rattle.ldom_dump.specs.Reading.{ReadsBytes, DumpStopsAt}
 
 -- the message that a packet carries was told
@@ -191,8 +191,9 @@ written the_status.NoMemory status old mid new gathered last all is g f = ends t
 -- the lines were read and the dump ended
 pub dumps : (start now old mid new : Option (List ℕ)) (why status : Status) (gathered : List ℕ) (lines packets faults : ℕ)
     → DumpsLines start now why old mid gathered lines packets faults → Finishes why status mid new gathered (end_line lines packets faults why)
-    → (before after : ℕ) → Fails (why ≡ the_status.SourceFault) before after → Dumps start now status old new before after
-dumps start now old mid new why status gathered lines packets faults read finishes before after told =
+    → (before after : ℕ) → Fails (why ≡ the_status.SourceFault) before after → (ends_old ends_new : ℕ) → EndsTold why ends_old ends_new
+    → Dumps start now status old new before after ends_old ends_new
+dumps start now old mid new why status gathered lines packets faults read finishes before after told ends_old ends_new said =
     let last : why ≢ the_status.SinkFault → dump_text read.all why ≡ decoded_lines read.all ++ end_line lines packets faults why =
     λ other. ap (λ (l : List ℕ). decoded_lines read.all ++ l)
     (ap (λ (n : ℕ). end_line n (count_by is_packet read.all) (count_by is_fault read.all) why) (sym (read.lines_are other))
@@ -206,6 +207,7 @@ dumps start now old mid new why status gathered lines packets faults read finish
       held = read.held;
       why = why;
       told = told;
+      ends = said;
       stop = read.stop;
       feeds = read.feeds;
       written = written why status old mid new gathered (end_line lines packets faults why) read.all last read.gathers finishes;

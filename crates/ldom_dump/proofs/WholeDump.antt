@@ -75,7 +75,7 @@ ended the_status.HostFault status old new rest now held all bytes taken stop wri
 ended the_status.StoreFault status old new rest now held all bytes taken stop written whole source sink = absurd stop
 ended (the_status.ImageSize need have) status old new rest now held all bytes taken stop written whole source sink = absurd stop
 
-pub completes : (start now : Option (List ℕ)) (status : Status) (old new : Option (List ℕ)) (bytes : List ℕ) (before after : ℕ) → Dumps start now status old new before after → start ≡ Some bytes → IsWhole bytes
+pub completes : (start now : Option (List ℕ)) (status : Status) (old new : Option (List ℕ)) (bytes : List ℕ) (before after ends_old ends_new : ℕ) → Dumps start now status old new before after ends_old ends_new → start ≡ Some bytes → IsWhole bytes
     → status ≢ the_status.SourceFault → status ≢ the_status.SinkFault → (status ≡ the_status.Done) ⊎ (status ≡ the_status.NoMemory)
-completes start now status old new bytes before after dumps is whole source sink =
+completes start now status old new bytes before after ends_old ends_new dumps is whole source sink =
     ended dumps.why status old new dumps.left now dumps.held dumps.all bytes (subst (λ (s : Option (List ℕ)). TakesLines s dumps.left (map (λ (d : Decoded). d.line) dumps.all)) is dumps.taken.taken) dumps.stop dumps.written whole source sink

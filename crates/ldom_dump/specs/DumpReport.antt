@@ -9,6 +9,7 @@ use Rattle.script_reader.specs.LinesState.{AllFed}
 use Rattle.gathered_text.specs.Gathered.{WroteFront}
 use Rattle.vio_io.specs.Causes.{Fails}
 use Rattle.ldom_report.specs.LinesEnd.{counted_lines}
+use Rattle.ldom_report.specs.Stops.{EndsTold}
 use Rattle.ldom_report.specs.Report.{cause_text}
 use Rattle.ldom_report.specs.Status.{status_number}
 use Rattle.ldom_dump.specs.Decoded.{AreOfLines, Decoded, decoded_lines, is_fault, is_packet}
@@ -34,9 +35,9 @@ Written SinkFault status old new all = (status ≡ SinkFault) × WroteFront old 
 Written why status old new all = ((status ≡ why) × Appends old new (dump_text all why)) ⊎ ((status ≡ SinkFault) × WroteFront old new (dump_text all why))
 
 -- These lines were read and decoded from the front of what a source had, and then no further one. It has `now` left, and had
--- failed so often before and after. Where it failed, each line that was taken up had its line feed: so a source that was
--- at its end behind a last line isn't asked again.
-pub record Dumps (start now : Option (List ℕ)) (status : Status) (old new : Option (List ℕ)) (before after : ℕ) : Type 0 where
+-- failed and said that it is at its end so often before and after. Where it failed, each line that was taken up had its line
+-- feed: so a source that was at its end behind a last line isn't asked again.
+pub record Dumps (start now : Option (List ℕ)) (status : Status) (old new : Option (List ℕ)) (before after ends_old ends_new : ℕ) : Type 0 where
   pub all : List Decoded
   -- what was to come after these lines
   pub left : Option (List ℕ)
@@ -47,6 +48,7 @@ pub record Dumps (start now : Option (List ℕ)) (status : Status) (old new : Op
   -- why reading ended: for a fault of the source exactly where that failed
   pub why : Status
   pub told : Fails (why ≡ SourceFault) before after
+  pub ends : EndsTold why ends_old ends_new
   pub stop : DumpStopsAt why left held now (length all)
   pub feeds : why ≡ SourceFault → AllFed start left (map (λ decoded. decoded.line) all)
   pub written : Written why status old new all

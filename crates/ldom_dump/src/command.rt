@@ -19,9 +19,9 @@ use vio_io::{Sink, Source};
 /// long or one too many; `SourceFault` and `SinkFault` where one of them failed; `NoMemory`.
 pub fn dump<S: Source, K: Sink>(alloc: Global, script: &mut S, out: &mut K) -> Status
     // The text is that of the lines up to where the reading ended, and an end line that says why. Of it all was written,
-    // or a front where the sink failed.
+    // or a front where the sink failed. A source says at most once that it is at its end, and never where it failed.
     ensures dumps { Dumps (S.left script.old) (S.left script.new) result (K.written out.old) (K.written out.new)
-        (S.faults script.old) (S.faults script.new) }
+        (S.faults script.old) (S.faults script.new) (S.ends script.old) (S.ends script.new) }
 
     // A script of packets alone is dumped to its end, unless something failed.
     ensures complete { (bytes : List ℕ) → S.left script.old ≡ Some bytes → IsWhole bytes

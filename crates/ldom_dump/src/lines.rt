@@ -1,6 +1,7 @@
 // The lines of a dump, one after another.
-ghost use Rattle.std.specs.Prelude.{◌≡◌, ◌+◌, ◌≤◌, [], length, IfOk, OnErr, IsErr};
-ghost use Rattle.script_reader.specs.LinesState.{GoesOn, to_come};
+ghost use Rattle.std.specs.Prelude.{◌≡◌, ℕ, ◌+◌, ◌≤◌, [], length, IfOk, OnErr, IsErr};
+ghost use Rattle.script_reader.specs.LinesState.{GoesOn, ends_after, to_come};
+ghost use Rattle.ldom_report.specs.Stops.{EndsTold};
 ghost use Rattle.vio_io.specs.Causes.{Fails};
 ghost use Rattle.gathered_text.specs.Gathered.{Gathers, WroteFront};
 ghost use Rattle.ldc_packet.specs.Form.{IsWellFormed};
@@ -95,6 +96,7 @@ pub fn dump_all<S: Source, K: Sink>(
     ensures dumps { DumpsLines (S.left source.old) (S.left source.new) result.why (K.written out.old)
         (K.written out.new) text.new result.lines result.packets result.faults }
     ensures source { Fails (result.why ≡ Status.SourceFault) (S.faults source.old) (S.faults source.new) }
+    ensures ends { EndsTold result.why (S.ends source.old) (S.ends source.new) }
     ensures sink { Fails (result.why ≡ Status.SinkFault) (K.faults out.old) (K.faults out.new) }
 {
     match Lines::new(alloc) {
@@ -121,6 +123,8 @@ fn dump_lines<S: Source, K: Sink>(
     ensures dumps { DumpsLines (to_come lines.old (S.left source.old)) (S.left source.new) result.why
         (K.written out.old) (K.written out.new) text.new result.lines result.packets result.faults }
     ensures source { Fails (result.why ≡ Status.SourceFault) (S.faults source.old) (S.faults source.new) }
+    ensures ends { (base : ℕ) → S.ends source.old ≡ ends_after lines.old.stop base
+        → EndsTold result.why base (S.ends source.new) }
     ensures sink { Fails (result.why ≡ Status.SinkFault) (K.faults out.old) (K.faults out.new) }
 {
     let mut packets: u32 = 0;

@@ -7,7 +7,10 @@ use Rattle.domain_script.specs.declared.event.DiskDecl.{DiskDecl}
 use Rattle.domain_script.specs.declared.event.PortDecl.{PortDecl}
 use Rattle.ldom_world.specs.world_parts.domain_laws.Domain.{DomainState, Lanes, lanes_in}
 use Rattle.ldom_world.specs.world_parts.port_model.PortState.{PortState, fresh_port}
-use Rattle.script_laws.specs.Replayed.{start_of}
+use Rattle.script_laws.specs.Replayed.{attach_status, start_of}
+use Rattle.vio_io.specs.declared.host.AttachFault.{AttachFault}
+use Rattle.vio_io.specs.declared.host.AttachFault.TheVariants.{Failed, Memory}
+use Rattle.ldom_report.specs.Stops.{AtMostOnce, EndsTold}
 use Rattle.ldom_world.specs.world_parts.disk_model.LaneState.{LaneState, fresh}
 use Rattle.ldom_world.specs.world_parts.world_laws.World.{WorldState}
 use Rattle.ldom_world.specs.world_parts.Declared.{nets_of, shapes_of}
@@ -82,3 +85,8 @@ same_lanes left w disks ports = ap (λ (l : List LaneState). both l left.second)
   where
     both : List LaneState → List PortState → Lanes
     both disks ports = record { first = disks; second = ports }
+
+-- where a host gave no image, the end of the script may have been told
+pub attach_told : (fault : AttachFault) (before now : ℕ) → AtMostOnce before now → EndsTold (attach_status fault) before now
+attach_told Failed before now told = told
+attach_told Memory before now told = told

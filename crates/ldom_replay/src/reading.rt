@@ -1,11 +1,11 @@
 // What a run has read of its script.
 ghost use Rattle.std.specs.Prelude.{◌≡◌, ◌≢◌, ◌+◌, ◌<◌, ◌≤◌, [], length, IfErr, IfOk, OnOk};
 ghost use Rattle.script_reader.specs.declared.lines.LinesStop.TheVariants.{Going};
-ghost use Rattle.script_reader.specs.LinesState.{GoesOn, to_come};
+ghost use Rattle.script_reader.specs.LinesState.{GoesOn, KeepsEnds, to_come};
 ghost use Rattle.domain_script.specs.ScriptEvents.{no_names};
 ghost use Rattle.domain_script.specs.Spells.{IsDeclared};
 ghost use Rattle.ldom_report.specs.LinesEnd.{counted_lines, most_entries};
-ghost use Rattle.ldom_report.specs.Stops.{stop_lines, stop_status};
+ghost use Rattle.ldom_report.specs.Stops.{StandsAt, stop_lines, stop_status};
 ghost use Rattle.vio_io.specs.Causes.{Fails};
 ghost use Rattle.script_laws.specs.Reading.{ReadsEvent, StopsAt};
 ghost use Rattle.domain_script.specs.Limits.{most_lines};
@@ -59,6 +59,8 @@ impl Reader {
 
         // Behind a last line without a line feed the source isn't asked.
         ensures going { result ≢ Err Stop.End → self.old.lines.stop ≡ Going }
+        ensures stands { IfErr result (λ stop. StandsAt stop self.new.lines.stop) }
+        ensures ends { KeepsEnds self.old.lines.stop self.new.lines.stop (S.ends source.old) (S.ends source.new) }
         ensures stop { IfErr result (λ stop. StopsAt (stop_status stop self.new.lines.number)
             (to_come self.old.lines (S.left source.old)) self.new.lines.held (S.left source.new) self.old.names
             self.old.lines.number (length self.old.journal.entries)) }

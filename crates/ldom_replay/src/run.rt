@@ -1,15 +1,15 @@
 // A script's run: its declarations, the image, and its other lines.
 ghost use Rattle.std.specs.Prelude.{◌≡◌, ◌≢◌, ℕ, ◌*◌, ◌≤◌, ◌↔◌, List, [], ◌∷◌, true, length, map, Option, None, IfErr};
-ghost use Rattle.std.specs.Prelude.{IfOk, IfSome, IsSome, IsTrue, OnOk};
+ghost use Rattle.std.specs.Prelude.{IfOk, IfSome, IsNone, IsSome, IsTrue, OnOk};
 ghost use Rattle.vio_io.specs.Given.{Gave};
 ghost use Rattle.ldom_world.specs.world_parts.port_model.PortState.{fresh_port};
 ghost use Rattle.domain_script.specs.Declarations.{AreDeclared};
 ghost use Rattle.domain_script.specs.NamesState.{declared_by};
-ghost use Rattle.script_reader.specs.declared.lines.LinesStop.TheVariants.{Going};
-ghost use Rattle.script_reader.specs.LinesState.{GoesOn, to_come};
+ghost use Rattle.script_reader.specs.declared.lines.LinesStop.TheVariants.{Ended, Going};
+ghost use Rattle.script_reader.specs.LinesState.{GoesOn, KeepsEnds, ends_after, to_come};
 ghost use Rattle.domain_script.specs.Spells.{IsDeclared};
 ghost use Rattle.ldom_replay.specs.NamesLanes.{HasLanes};
-ghost use Rattle.ldom_report.specs.Stops.{stop_lines, stop_status};
+ghost use Rattle.ldom_report.specs.Stops.{EndsTold, StandsAt, stop_lines, stop_status};
 ghost use Rattle.vio_io.specs.Causes.{Fails};
 ghost use Rattle.script_laws.specs.Going.{RunsAll, RunsLines};
 ghost use Rattle.script_laws.specs.Attached.{AreOpening};
@@ -54,6 +54,8 @@ fn read_opening<S: Source>(reader: &mut Reader, source: &mut S) -> Result<Event,
         (S.left source.new) (stop_status stop reader.new.lines.number) reader.new.names
         (stop_lines stop reader.new.lines.number)) }
     ensures source { Fails (result ≡ Err Stop.Source) (S.faults source.old) (S.faults source.new) }
+    ensures stands { IfErr result (λ stop. StandsAt stop reader.new.lines.stop) }
+    ensures ends { KeepsEnds reader.old.lines.stop reader.new.lines.stop (S.ends source.old) (S.ends source.new) }
 {
     let mut event = Event::Blank;
     loop {
@@ -90,6 +92,8 @@ fn run_lines<S: Source, D: Store>(reader: &mut Reader, source: &mut S, world: &m
     ensures going { result ≡ Stop.Source → reader.old.lines.stop ≡ Going }
     ensures most { reader.new.lines.number ≤ most_lines }
     ensures source { Fails (result ≡ Stop.Source) (S.faults source.old) (S.faults source.new) }
+    ensures stands { StandsAt result reader.new.lines.stop }
+    ensures ends { KeepsEnds reader.old.lines.stop reader.new.lines.stop (S.ends source.old) (S.ends source.new) }
 {
     let mut event = Event::Blank;
     loop {
@@ -153,6 +157,7 @@ pub fn run_script<H: Host, S: Source>(
     ensures sized { SizeIs H.Disk.size result.status (bytes_needed result.names.disks)
         (H.gives host.old name.now (bytes_needed result.names.disks)) result.image }
     ensures source { Fails (result.status ≡ Status.SourceFault) (S.faults source.old) (S.faults source.new) }
+    ensures ends { EndsTold result.status (S.ends source.old) (S.ends source.new) }
     ensures host { Fails (result.status ≡ Status.HostFault) (H.faults host.old) (H.faults host.new) }
     ensures image { Gave (H.given host.old) (H.given host.new) result.image }
 {
@@ -185,6 +190,7 @@ fn attach<H: Host, S: Source>(
     first: Option<Event>,
 ) -> Run<H::Disk>
     requires goes { IsSome first → GoesOn reader.lines (S.left source.old) × (reader.names.ended ≡ true) }
+    requires ended { IsNone first → reader.lines.stop ≡ Ended }
     requires few { reader.lines.number ≤ most_lines }
     requires limits { AreDeclared (declared_by reader.names) }
     requires declared { IfSome first (IsDeclared reader.names) }
@@ -199,6 +205,8 @@ fn attach<H: Host, S: Source>(
         → SizeIs H.Disk.size result.status (bytes_needed result.names.disks)
         (H.gives host.old name.now (bytes_needed result.names.disks)) result.image }
     ensures source { Fails (result.status ≡ Status.SourceFault) (S.faults source.old) (S.faults source.new) }
+    ensures ends { (base : ℕ) → S.ends source.old ≡ ends_after reader.lines.stop base
+        → EndsTold result.status base (S.ends source.new) }
     ensures host { Fails (result.status ≡ Status.HostFault) (H.faults host.old) (H.faults host.new) }
     ensures image { Gave (H.given host.old) (H.given host.new) result.image }
 {
@@ -229,6 +237,7 @@ fn run_over<D: Store, S: Source>(
     first: Option<Event>,
 ) -> Run<D>
     requires goes { IsSome first → GoesOn reader.lines (S.left source.old) × (reader.names.ended ≡ true) }
+    requires ended { IsNone first → reader.lines.stop ≡ Ended }
     requires few { reader.lines.number ≤ most_lines }
     requires limits { AreDeclared (declared_by reader.names) }
     requires declared { IfSome first (IsDeclared reader.names) }
@@ -250,6 +259,8 @@ fn run_over<D: Store, S: Source>(
         → SizeIs D.size result.status (bytes_needed result.names.disks)
         (gives (bytes_needed result.names.disks)) result.image }
     ensures source { Fails (result.status ≡ Status.SourceFault) (S.faults source.old) (S.faults source.new) }
+    ensures ends { (base : ℕ) → S.ends source.old ≡ ends_after reader.lines.stop base
+        → EndsTold result.status base (S.ends source.new) }
     ensures host_fault { result.status ≢ Status.HostFault }
     ensures image { IsSome result.image }
 {
@@ -275,6 +286,7 @@ fn run_world<S: Source, D: Store>(
     first: Option<Event>,
 ) -> Run<D>
     requires goes { IsSome first → GoesOn reader.lines (S.left source.old) × (reader.names.ended ≡ true) }
+    requires ended { IsNone first → reader.lines.stop ≡ Ended }
     requires few { reader.lines.number ≤ most_lines }
     requires lanes { HasLanes reader.names world }
     requires declared { IfSome first (IsDeclared reader.names) }
@@ -293,6 +305,8 @@ fn run_world<S: Source, D: Store>(
         → SizeIs D.size result.status (bytes_needed result.names.disks)
         (gives (bytes_needed result.names.disks)) result.image }
     ensures source { Fails (result.status ≡ Status.SourceFault) (S.faults source.old) (S.faults source.new) }
+    ensures ends { (base : ℕ) → S.ends source.old ≡ ends_after reader.lines.stop base
+        → EndsTold result.status base (S.ends source.new) }
     ensures host_fault { result.status ≢ Status.HostFault }
     ensures image { IsSome result.image }
 {
@@ -321,6 +335,7 @@ fn run_first<S: Source, D: Store>(
     world: &mut World<D>,
 ) -> Stop
     requires goes { IsSome first → GoesOn reader.old.lines (S.left source.old) × (reader.old.names.ended ≡ true) }
+    requires ended { IsNone first → reader.old.lines.stop ≡ Ended }
     requires few { reader.old.lines.number ≤ most_lines }
     requires lanes { HasLanes reader.old.names world.old }
     requires declared { IfSome first (IsDeclared reader.old.names) }
@@ -332,6 +347,8 @@ fn run_first<S: Source, D: Store>(
         reader.new.names reader.new.journal.entries world.new (stop_lines result reader.new.lines.number) }
     ensures most { reader.new.lines.number ≤ most_lines }
     ensures source { Fails (result ≡ Stop.Source) (S.faults source.old) (S.faults source.new) }
+    ensures stands { StandsAt result reader.new.lines.stop }
+    ensures ends { KeepsEnds reader.old.lines.stop reader.new.lines.stop (S.ends source.old) (S.ends source.new) }
 {
     let event = match first {
         Some(event) => event,

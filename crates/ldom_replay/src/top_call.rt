@@ -11,6 +11,7 @@ ghost use Rattle.disk_law.specs.Issued.{CompletesOnceInOrder};
 ghost use Rattle.gathered_text.specs.Gathered.{WroteFront};
 ghost use Rattle.ldom_report.specs.HasWords.{HasWords};
 ghost use Rattle.ldom_report.specs.Report.{report, usage_line};
+ghost use Rattle.ldom_report.specs.Stops.{EndsTold};
 ghost use Rattle.ldom_dump.specs.DumpReport.{Dumps};
 ghost use Rattle.ldom_dump.specs.Whole.{IsWhole};
 ghost use Rattle.script_laws.specs.Counts.{FaultsTold, NoneFailed, counts};
@@ -144,7 +145,7 @@ pub fn replay<H: Host, S: Source, K: Sink>(
     // Packets are dumped up to where the lines end.
     ensures dumps { AsksDump (map string_bytes words.now)
         → Dumps (S.left script.old) (S.left script.new) result.status (K.written out.old) (K.written out.new)
-        (S.faults script.old) (S.faults script.new) }
+        (S.faults script.old) (S.faults script.new) (S.ends script.old) (S.ends script.new) }
 
     // A script of packets alone is dumped to its end, where no count rose and memory suffices.
     ensures dumps_whole { AsksDump (map string_bytes words.now)
@@ -169,6 +170,10 @@ pub fn replay<H: Host, S: Source, K: Sink>(
     ensures ran_dump { AsksDump (map string_bytes words.now) → result.ran ≡ result.status }
     ensures ran_usage { AsksNoRun (map string_bytes words.now) → (AsksDump (map string_bytes words.now) → ⊥)
         → result.ran ≡ Status.Usage }
+
+    // The source of a run says at most once that it is at its end: once where all was read, and never where it failed.
+    ensures ends { (mode : Mode) (image : List ℕ) → AsksFor mode (map string_bytes words.now) image
+        → EndsTold result.ran (S.ends script.old) (S.ends script.new) }
 
     // A fault of the source, the host or the sink is answered only where its count rose, and each other status where it
     // didn't, but that a fault of the sink comes last. At status 0 the image never failed either.
@@ -195,8 +200,8 @@ fn report_dump<D: Store, S: Source, K: Sink>(
     script: &mut S,
     out: &mut K,
 ) -> Outcome<D>
-    ensures dumps { Dumps (S.left script.old) (S.left script.new) result.status
-        (K.written out.old) (K.written out.new) (S.faults script.old) (S.faults script.new) }
+    ensures dumps { Dumps (S.left script.old) (S.left script.new) result.status (K.written out.old) (K.written out.new)
+        (S.faults script.old) (S.faults script.new) (S.ends script.old) (S.ends script.new) }
     ensures whole { (bytes : List ℕ) → S.left script.old ≡ Some bytes → IsWhole bytes
         → ¬ Rose (S.faults script.old) (S.faults script.new) → ¬ Rose (K.faults out.old) (K.faults out.new)
         → (result.status ≡ Status.Done) ⊎ (result.status ≡ Status.NoMemory) }

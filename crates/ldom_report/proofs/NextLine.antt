@@ -1,11 +1,13 @@
 -- What a reader's answer says to whoever takes up its lines.
-use Rattle.std.proofs.Common.{◌≡◌, ◌≢◌, ℕ, List, Option, Bool, Result, Ok, Err, false, refl}
+use Rattle.std.proofs.Common.{◌≡◌, ◌≢◌, ℕ, List, Option, Bool, Result, Ok, Err, false, refl, sym, ap, ◌∙◌, subst}
 use Rattle.script_reader.specs.declared.lines.LinesFault.{LinesFault}
 use Rattle.script_reader.specs.declared.lines.LinesFault.TheVariants.{Source, Long, Many}
 use Rattle.script_reader.specs.declared.lines.LinesStop.{LinesStop}
 use Rattle.script_reader.specs.declared.lines.LinesStop.TheVariants.{Going, Ended, TooLong, TooMany}
-use Rattle.script_reader.specs.LinesState.{AdvancesFrom, GoesFrom, LineEnds, LinesState, Reads}
-use Rattle.ldom_report.specs.Stops.{StopsReading, stop_of}
+use Rattle.vio_io.specs.Causes.{next_count}
+use Rattle.vio_io.specs.Ends.{SaysEnd}
+use Rattle.script_reader.specs.LinesState.{AdvancesFrom, Ends, GoesFrom, KeepsEnds, LineEnds, LinesState, Reads, ends_after}
+use Rattle.ldom_report.specs.Stops.{StandsAt, StopsReading, stop_of}
 use Rattle.ldom_report.specs.declared.stop.Stop.TheVariants.{End}
 
 -- a reader that gave a line may be asked further
@@ -39,3 +41,30 @@ going_before Going rest left before after result goes advances other = refl
 going_before Ended rest left before after result goes advances other = absurd (other advances.0)
 going_before TooLong rest left before after result goes advances other = absurd goes
 going_before TooMany rest left before after result goes advances other = absurd goes
+
+-- one that stopped stays as it stopped
+pub stays_stopped : (stop : LinesStop) (rest left : Option (List ℕ)) (before after : LinesState) (result : Result Bool LinesFault)
+    → before.stop ≡ stop → AdvancesFrom stop rest left before result after → stop ≢ Going → after.stop ≡ stop
+stays_stopped Going rest left before after result is advances stopped = absurd (stopped refl)
+stays_stopped Ended rest left before after result is advances stopped = ap (λ (s : LinesState). s.stop) advances.1 ∙ is
+stays_stopped TooLong rest left before after result is advances stopped = ap (λ (s : LinesState). s.stop) advances.1 ∙ is
+stays_stopped TooMany rest left before after result is advances stopped = ap (λ (s : LinesState). s.stop) advances.1 ∙ is
+
+-- so the source says at most once that it is at its end
+pub keeps_ends : (old new : LinesStop) (before now : ℕ) → (old ≢ Going → new ≡ old) → SaysEnd (Ends old new) before now → KeepsEnds old new before now
+keeps_ends Going Ended before now stays says base is = says.once ((λ e. cc e), refl) ∙ ap next_count is
+keeps_ends Going Going before now stays says base is = says.else_not (λ ends. cc ends.1) ∙ is
+keeps_ends Going TooLong before now stays says base is = says.else_not (λ ends. cc ends.1) ∙ is
+keeps_ends Going TooMany before now stays says base is = says.else_not (λ ends. cc ends.1) ∙ is
+keeps_ends Ended new before now stays says base is =
+    subst (λ (s : LinesStop). now ≡ ends_after s base) (sym (stays (λ e. cc e))) (says.else_not (λ ends. ends.0 refl) ∙ is)
+keeps_ends TooLong new before now stays says base is =
+    let same : new ≡ TooLong = stays (λ e. cc e) in subst (λ (s : LinesStop). now ≡ ends_after s base) (sym same) (says.else_not (λ ends. cc (sym same ∙ ends.1)) ∙ is)
+keeps_ends TooMany new before now stays says base is =
+    let same : new ≡ TooMany = stays (λ e. cc e) in subst (λ (s : LinesStop). now ≡ ends_after s base) (sym same) (says.else_not (λ ends. cc (sym same ∙ ends.1)) ∙ is)
+
+-- a reader that gave a fault didn't end
+pub stands_at : (fault : LinesFault) (rest left : Option (List ℕ)) (before after : LinesState) → Reads rest left before (Err fault) after → StandsAt (stop_of fault) after.stop
+stands_at Source rest left before after reads = λ ended. cc (reads.0.stop, ended)
+stands_at Long rest left before after reads = λ ended. cc (reads.0.stop, ended)
+stands_at Many rest left before after reads = λ ended. cc (reads.0.stop, ended)

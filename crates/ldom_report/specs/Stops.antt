@@ -1,8 +1,11 @@
 -- Why no further line of a source is taken up.
-use Rattle.std.specs.Prelude.{ℕ, ◌+◌, ◌-◌, List, Option, ⊤}
+use Rattle.std.specs.Prelude.{◌≡◌, ◌≢◌, ◌⊎◌, ℕ, ◌+◌, ◌-◌, List, Option, ⊤}
 use Rattle.std.specs.Io.KnownBytes.{IsAtEnd, Keeps}
+use Rattle.vio_io.specs.Causes.{next_count}
 use Rattle.script_reader.specs.declared.lines.LinesFault.{LinesFault}
 use Rattle.script_reader.specs.declared.lines.LinesFault.TheVariants as reader
+use Rattle.script_reader.specs.declared.lines.LinesStop.{LinesStop}
+use Rattle.script_reader.specs.declared.lines.LinesStop.TheVariants.{Ended}
 use Rattle.domain_script.specs.Pieces.{DecidesNothing}
 use Rattle.ldom_report.specs.declared.status.LimitKind.TheVariants as limit
 use Rattle.ldom_report.specs.declared.status.Status.{Status}
@@ -53,3 +56,27 @@ IsReaders status.SinkFault = ⊥
 IsReaders status.HostFault = ⊥
 IsReaders status.StoreFault = ⊥
 IsReaders (status.ImageSize need have) = ⊥
+
+-- Where a reader stands whose lines stop so: it ended at the end, and not where its source failed or a limit was passed. A
+-- line that is taken up and not run may have been the last.
+abbrev pub StandsAt : Stop → LinesStop → Type 0
+StandsAt End lines = lines ≡ Ended
+StandsAt Source lines = lines ≢ Ended
+StandsAt (Limit kind) lines = lines ≢ Ended
+StandsAt Memory lines = ⊤
+StandsAt (Faulty fault) lines = ⊤
+StandsAt Entries lines = ⊤
+
+-- the source said once that it is at its end, or not at all
+abbrev pub AtMostOnce : ℕ → ℕ → Type 0
+AtMostOnce before now = (now ≡ before) ⊎ (now ≡ next_count before)
+
+-- How often the source of a run or a dump that ended so said that it is at its end. It said so once where all was read. Not
+-- where it failed or a line was past a limit, and else at most once: a line without a line feed may have been the last.
+abbrev pub EndsTold : Status → ℕ → ℕ → Type 0
+EndsTold status.Done before now = now ≡ next_count before
+EndsTold status.StoreFault before now = now ≡ next_count before
+EndsTold status.SourceFault before now = now ≡ before
+EndsTold (status.Limit line limit.Lines) before now = now ≡ before
+EndsTold (status.Limit line limit.Bytes) before now = now ≡ before
+EndsTold other before now = AtMostOnce before now

@@ -1,9 +1,9 @@
 // The lines of a source, one after another, and why no further one is taken up.
 ghost use Rattle.std.specs.Prelude.{◌≡◌, ◌≢◌, ◌-◌, ◌^◌, ◌<◌, IfErr, OnOk};
 ghost use Rattle.script_reader.specs.declared.lines.LinesStop.TheVariants.{Ended, Going};
-ghost use Rattle.script_reader.specs.LinesState.{GivesLine, GoesOn, to_come};
+ghost use Rattle.script_reader.specs.LinesState.{GivesLine, GoesOn, KeepsEnds, to_come};
 ghost use Rattle.vio_io.specs.Causes.{Fails};
-ghost use Rattle.ldom_report.specs.Stops.{StopsReading, stop_lines, stop_of, stop_status};
+ghost use Rattle.ldom_report.specs.Stops.{StandsAt, StopsReading, stop_lines, stop_of, stop_status};
 
 use crate::status::{LimitKind, Status};
 use domain_script::LineFault;
@@ -93,6 +93,10 @@ pub fn next_line<S: Source>(lines: &mut Lines, source: &mut S) -> Result<(), Sto
     ensures source { Fails (result ≡ Err Stop.Source) (S.faults source.old) (S.faults source.new) }
     ensures ended { lines.old.stop ≡ Ended → source.new ≡ source.old }
     ensures going { result ≢ Err Stop.End → lines.old.stop ≡ Going }
+
+    // A source says once that it is at its end, where the reader ends, and never to one that stops otherwise.
+    ensures stands { IfErr result (λ stop. StandsAt stop lines.new.stop) }
+    ensures ends { KeepsEnds lines.old.stop lines.new.stop (S.ends source.old) (S.ends source.new) }
 {
     match lines.advance(source) {
         Ok(true) => Ok(()),

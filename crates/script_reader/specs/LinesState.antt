@@ -1,6 +1,7 @@
 -- A reader of lines, and what each of its answers says.
 use Rattle.std.specs.Prelude.{◌≡◌, ◌≢◌, ℕ, ◌+◌, ◌<◌, ◌≤◌, Bool, true, false, List, [], ◌∷◌, ◌++◌, length, Option, Some, None, IfSome, Result, Ok, Err, ⊤}
 use Rattle.std.specs.Io.KnownBytes.{Keeps, IsAtEnd, prepend_known}
+use Rattle.vio_io.specs.Causes.{next_count}
 use Rattle.script_reader.specs.declared.lines.LinesFault.{LinesFault}
 use Rattle.script_reader.specs.declared.lines.LinesFault.TheVariants.{Source, Long, Many}
 use Rattle.script_reader.specs.declared.lines.LinesStop.{LinesStop}
@@ -76,6 +77,21 @@ AdvancesFrom TooMany rest left before result after = (result ≡ Err Many) × (a
 
 abbrev pub Advances : Option (List ℕ) → Option (List ℕ) → LinesState → Result Bool LinesFault → LinesState → Type 0
 Advances rest left before result after = AdvancesFrom before.stop rest left before result after
+
+-- the reader ended in this call
+abbrev pub Ends : LinesStop → LinesStop → Type 0
+Ends before after = (before ≢ Ended) × (after ≡ Ended)
+
+-- how often a source said that it is at its end, which had said so that often when this reader was made
+abbrev pub ends_after : LinesStop → ℕ → ℕ
+ends_after Ended base = next_count base
+ends_after Going base = base
+ends_after TooLong base = base
+ends_after TooMany base = base
+
+-- Where the source had said so as often as the reader knew, it has now: so at most once, and never to a reader that goes on.
+abbrev pub KeepsEnds : LinesStop → LinesStop → ℕ → ℕ → Type 0
+KeepsEnds old new before now = (base : ℕ) → before ≡ ends_after old base → now ≡ ends_after new base
 
 -- A further line may be asked for: the reader goes on, or it ended and nothing is to come.
 abbrev pub GoesFrom : LinesStop → Option (List ℕ) → Type 0

@@ -1,5 +1,6 @@
 ghost use Rattle.std.specs.Prelude.{◌≡◌, ◌≢◌, ◌<◌, [], true, IfOk};
 ghost use Rattle.vio_io.specs.Causes.{Fails};
+ghost use Rattle.vio_io.specs.Ends.{SaysEnd};
 ghost use Rattle.domain_script.specs.Limits.{most_lines};
 
 use crate::piece::Piece;
@@ -80,7 +81,7 @@ impl Model for Lines {
 impl Lines {
     ghost use Rattle.std.specs.Prelude.{◌≡◌, ◌≢◌, ℕ, ◌<◌, ◌≤◌, [], true, length, IfOk};
     ghost use Rattle.vio_io.specs.Causes.{Rose};
-    ghost use Rattle.script_reader.specs.LinesState.{Advances, GoesOn, Reads, to_come};
+    ghost use Rattle.script_reader.specs.LinesState.{Advances, Ends, GoesOn, Reads, to_come};
 
     /// Nothing was read. No other call takes memory: the room of a line of the most bytes is taken here.
     pub fn new(alloc: Global) -> Result<Self, NoMemory>
@@ -106,6 +107,8 @@ impl Lines {
         // Once the source was at its end, and after each other stop, it isn't asked.
         ensures stays { self.old.stop ≢ LinesStop.Going → source.new ≡ source.old }
         ensures faults { Fails (result ≡ Err LinesFault.Source) (S.faults source.old) (S.faults source.new) }
+        // A source says that it is at its end at most once, in the call in which the reader ends.
+        ensures ends { SaysEnd (Ends self.old.stop self.new.stop) (S.ends source.old) (S.ends source.new) }
     {
         match self.stop {
             LinesStop::Going => self.go_on(source),
@@ -137,6 +140,7 @@ impl Lines {
         requires { self.old.stop ≡ LinesStop.Going }
         ensures reads { Reads (to_come self.old (S.left source.old)) (to_come self.new (S.left source.new)) self.old result self.new }
         ensures faults { Fails (result ≡ Err LinesFault.Source) (S.faults source.old) (S.faults source.new) }
+        ensures ends { SaysEnd (self.new.stop ≡ LinesStop.Ended) (S.ends source.old) (S.ends source.new) }
     {
         self.forget_line();
         if self.number < MOST_LINES {
@@ -163,6 +167,7 @@ impl Lines {
         requires few { self.old.number < most_lines }
         ensures reads { Reads (to_come self.old (S.left source.old)) (to_come self.new (S.left source.new)) self.old result self.new }
         ensures faults { Fails (result ≡ Err LinesFault.Source) (S.faults source.old) (S.faults source.new) }
+        ensures ends { SaysEnd (self.new.stop ≡ LinesStop.Ended) (S.ends source.old) (S.ends source.new) }
     {
         self.given = false;
         match read_line(&mut self.piece, &mut self.line, source) {
@@ -195,6 +200,7 @@ impl Lines {
         requires all { self.old.number ≡ most_lines }
         ensures reads { Reads (to_come self.old (S.left source.old)) (to_come self.new (S.left source.new)) self.old result self.new }
         ensures faults { Fails (result ≡ Err LinesFault.Source) (S.faults source.old) (S.faults source.new) }
+        ensures ends { SaysEnd (self.new.stop ≡ LinesStop.Ended) (S.ends source.old) (S.ends source.new) }
     {
         self.given = false;
         if self.piece.fill(source)? {

@@ -1,5 +1,6 @@
-ghost use Rattle.std.specs.Prelude.{◌≡◌, ◌≢◌, ◌↔◌, ℕ, ◌<◌, ◌≤◌, [], ◌++◌, length, drop, IfOk, IsTrue, OnErr, IsErr};
+ghost use Rattle.std.specs.Prelude.{◌≡◌, ◌≢◌, ◌↔◌, ℕ, ◌<◌, ◌≤◌, [], ◌++◌, length, drop, false, IfOk, IsTrue, OnErr, IsErr};
 ghost use Rattle.vio_io.specs.Causes.{Fails};
+ghost use Rattle.vio_io.specs.Ends.{SaysEnd};
 ghost use Rattle.std.specs.Io.KnownBytes.{IsAtEnd, Keeps, prepend_known};
 
 use std::alloc::Global;
@@ -77,6 +78,7 @@ impl Piece {
         ensures drained { OnErr result (self.old ≡ []) }
         ensures same { OnErr result (self.new ≡ []) }
         ensures faults { Fails (IsErr result) (S.faults source.old) (S.faults source.new) }
+        ensures ends { SaysEnd (result ≡ Ok false) (S.ends source.old) (S.ends source.new) }
     {
         if self.start < self.end {
             return Ok(true);
@@ -92,6 +94,7 @@ impl Piece {
         ensures end { IfOk result (λ more. self.new ≡ [] → IsAtEnd (S.left source.new)) }
         ensures same { OnErr result (self.new ≡ []) }
         ensures faults { Fails (IsErr result) (S.faults source.old) (S.faults source.new) }
+        ensures ends { SaysEnd (result ≡ Ok false) (S.ends source.old) (S.ends source.new) }
     {
         self.start = 0;
         self.end = 0;

@@ -1,5 +1,6 @@
-ghost use Rattle.std.specs.Prelude.{◌≡◌, ◌≢◌, ◌≤◌, ◌++◌, length, vec_capacity};
+ghost use Rattle.std.specs.Prelude.{◌≡◌, ◌≢◌, ◌≤◌, ◌++◌, length, false, vec_capacity};
 ghost use Rattle.vio_io.specs.Causes.{Fails};
+ghost use Rattle.vio_io.specs.Ends.{SaysEnd};
 ghost use Rattle.std.specs.Io.KnownBytes.{prepend_known};
 ghost use Rattle.domain_script.specs.Pieces.{HasNoFeed};
 ghost use Rattle.script_reader.specs.Parts.{Extends, MovesPart, ReadsLine};
@@ -66,6 +67,7 @@ pub fn read_line<S: Source>(
     ensures no_feed { HasNoFeed line.new.items }
     ensures room { most_line_bytes ≤ vec_capacity line.new }
     ensures faults { Fails (result ≡ Err LinesFault.Source) (S.faults source.old) (S.faults source.new) }
+    ensures ends { SaysEnd (result ≡ Ok false) (S.ends source.old) (S.ends source.new) }
 {
     while piece.fill(source)? {
         if take_part(piece, line)? {

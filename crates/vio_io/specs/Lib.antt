@@ -1,4 +1,5 @@
 pub mod Causes
+pub mod Ends
 pub mod FaultPlan
 pub mod Given
 pub mod Stores

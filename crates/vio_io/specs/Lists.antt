@@ -8,6 +8,8 @@ pub record ListSourceState : Type 0 where
   -- the most that one call gives
   pub piece : ℕ
   pub plan : Plan
+  -- how often a call said that nothing is left
+  pub ends : ℕ
 
 pub record ListSinkState : Type 0 where
   pub written : List ℕ

@@ -1,7 +1,9 @@
 ghost use Rattle.std.specs.Prelude.{◌≡◌, ◌<◌, ◌≤◌, length, IfOk, IsErr, is_err};
 ghost use Rattle.std.specs.Io.KnownBytes.{ReadConsumes, WriteAppends};
 ghost use Rattle.vio_io.specs.Causes.{Fails, FaultsAfter};
+ghost use Rattle.vio_io.specs.Ends.{SaysEnd};
 
+use crate::source::count_end;
 use crate::{Failed, Sink, Source};
 use std::io::{ErrorKind, Read, Write};
 
@@ -14,15 +16,21 @@ const MOST_TRIES: u32 = 10_000;
 pub struct StdSource<R: Read> {
     reader: R,
     faults: u64,
+    ends: u64,
 }
 
 impl<R: Read> StdSource<R> {
-    /// No fault is counted yet.
+    /// No fault and no end is counted yet.
     pub fn new(reader: R) -> Self
         ensures reader { result.reader ≡ reader }
         ensures fresh { result.faults ≡ 0 }
+        ensures unended { result.ends ≡ 0 }
     {
-        StdSource { reader, faults: 0 }
+        StdSource {
+            reader,
+            faults: 0,
+            ends: 0,
+        }
     }
 }
 
@@ -31,16 +39,22 @@ impl<R: Read> Source for StdSource<R> {
 
     ghost faults = { λ s. s.faults };
 
+    ghost ends = { λ s. s.ends };
+
     fn read(&mut self, buf: &mut [u8]) -> Result<usize, Failed>
         requires { 0 < length buf.old }
         ensures within { IfOk result (λ n. n ≤ length buf.old) }
         ensures told { ReadConsumes (R.remaining self.old.reader) (R.remaining self.new.reader) result buf.new }
         ensures faults { Fails (IsErr result) self.old.faults self.new.faults }
+        ensures ends { SaysEnd (result ≡ Ok 0) self.old.ends self.new.ends }
 
         ensures once { FaultsAfter (is_err result) self.old.faults self.new.faults }
     {
         match try_read(&mut self.reader, buf) {
-            Ok(taken) => Ok(taken),
+            Ok(taken) => {
+                self.ends = count_end(self.ends, taken);
+                Ok(taken)
+            }
             Err(Failed) => {
                 self.faults = self.faults.saturating_add(1);
                 Err(Failed)

@@ -9,6 +9,7 @@ returns-clause-dumps g c =
     c.dump_all-ended.result.why c.finish.result c.dump_all-ended.new.text c.dump_all-ended.result.lines c.dump_all-ended.result.packets c.dump_all-ended.result.faults
     c.dump_all-ended.ensures.dumps c.finish.ensures.finishes
     (g.S.Source.faults c.args.script.now) (g.S.Source.faults c.dump_all-ended.new.source) c.dump_all-ended.ensures.source
+    (g.S.Source.ends c.args.script.now) (g.S.Source.ends c.dump_all-ended.new.source) c.dump_all-ended.ensures.ends
 
 pub returns-clause-source_fault : goal.returns-clause-source_fault
 returns-clause-source_fault g c = search rules
@@ -18,5 +19,5 @@ returns-clause-sink_fault g c = search rules
 
 pub returns-clause-complete : goal.returns-clause-complete
 returns-clause-complete g c bytes is whole source sink =
-    completes (g.S.Source.left c.args.script.now) (g.S.Source.left c.dump_all-ended.new.source) c.finish.result (g.K.Sink.written c.args.out.now) (g.K.Sink.written c.finish.new.out) bytes _ _ (returns-clause-dumps g c) is whole
+    completes (g.S.Source.left c.args.script.now) (g.S.Source.left c.dump_all-ended.new.source) c.finish.result (g.K.Sink.written c.args.out.now) (g.K.Sink.written c.finish.new.out) bytes _ _ _ _ (returns-clause-dumps g c) is whole
     (λ was. source (returns-clause-source_fault g c was)) (λ was. sink (returns-clause-sink_fault g c was))

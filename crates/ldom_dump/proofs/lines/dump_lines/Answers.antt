@@ -1,5 +1,8 @@
-use Rattle.std.proofs.Common.{◌∙◌, arith}
+use Rattle.std.proofs.Common.{◌∙◌, ℕ, arith, subst, sym}
 use Rattle.script_reader.specs.LinesState.{to_come}
+use Rattle.ldom_report.specs.declared.status.Status.{Status}
+use Rattle.ldom_report.specs.Stops.{EndsTold}
+use Rattle.ldom_report.proofs.StopLemmas.{ends_told, told_once}
 use Rattle.ldom_dump.proofs.DumpLemmas.{so_far_fault, so_far_packet}
 use Rattle.ldom_dump.proofs.lines.dump_lines.Goals as goal
 
@@ -15,6 +18,7 @@ loop-bytes-preserved-in-Ok-true g c =
       so_far = so_far_packet c.loop-bytes.lines.stop c.read_bytes.new.lines.stop start rest left (g.K.Sink.written c.args.out.now) (g.K.Sink.written c.loop-bytes.out) (g.K.Sink.written c.put_packet.new.out)
           c.in-Ok.bytes c.loop-bytes.text c.put_packet.new.text _ c.loop-bytes.lines.number c.read_bytes.new.lines.number c.loop-bytes.packets c.loop-bytes.faults
           c.loop-bytes.invariant.so_far c.in-Ok.ensures.bytes c.in-Ok.ensures.next.0 c.in-Ok.ensures.next.1 c.in-Ok-true.ensures.told c.in-Ok-true.field-0-test;
+      ends = λ base is. c.in-Ok.ensures.ends base (c.loop-bytes.invariant.ends base is);
       source = c.in-Ok.ensures.source.unfailed (λ is. cc) ∙ c.loop-bytes.invariant.source;
       sink = c.in-Ok-true.ensures.faults.unfailed (λ is. cc) ∙ c.loop-bytes.invariant.sink;
     }
@@ -31,6 +35,17 @@ loop-bytes-preserved g c =
       so_far = so_far_fault c.loop-bytes.lines.stop c.read_bytes.new.lines.stop start rest left (g.K.Sink.written c.args.out.now) (g.K.Sink.written c.loop-bytes.out) (g.K.Sink.written c.put_packet.new.out)
           c.in-Ok.bytes c.loop-bytes.text c.put_packet.new.text _ c.loop-bytes.lines.number c.read_bytes.new.lines.number c.loop-bytes.packets c.loop-bytes.faults
           c.loop-bytes.invariant.so_far c.in-Ok.ensures.bytes c.in-Ok.ensures.next.0 c.in-Ok.ensures.next.1 c.in-Ok-false.ensures.told c.in-Ok-false.field-0-test;
+      ends = λ base is. c.in-Ok.ensures.ends base (c.loop-bytes.invariant.ends base is);
       source = c.in-Ok.ensures.source.unfailed (λ is. cc) ∙ c.loop-bytes.invariant.source;
       sink = c.in-Ok-false.ensures.faults.unfailed (λ is. cc) ∙ c.loop-bytes.invariant.sink;
     }
+
+pub returns-in-Err-clause-ends : goal.returns-in-Err-clause-ends
+returns-in-Err-clause-ends g c base is =
+    let now : ℕ = g.S.Source.ends c.read_bytes.new.source in
+    subst (λ (w : Status). EndsTold w base now) (sym c.status.ensures)
+    (ends_told c.in-Err.stop _ c.read_bytes.new.lines.stop base now c.in-Err.ensures.stands (c.in-Err.ensures.ends base (c.loop-bytes.invariant.ends base is)))
+
+pub returns-in-Err-put_packet-clause-ends : goal.returns-in-Err-put_packet-clause-ends
+returns-in-Err-put_packet-clause-ends g c base is =
+    told_once c.read_bytes.new.lines.stop base (g.S.Source.ends c.read_bytes.new.source) (c.in-Ok.ensures.ends base (c.loop-bytes.invariant.ends base is))

@@ -1,4 +1,4 @@
-use Rattle.std.proofs.Common.{◌≡◌, ◌*◌, ◌∙◌, [], ℕ, None, refl, ap, subst}
+use Rattle.std.proofs.Common.{◌≡◌, ◌*◌, ◌∙◌, [], ℕ, None, refl, ap, subst, sym}
 use Rattle.ldom_entries.specs.JournalState.{JournalState}
 use Rattle.script_laws.specs.Replayed.{attach_status}
 use Rattle.vio_io.specs.declared.host.AttachFault.TheVariants.{Memory}
@@ -6,8 +6,11 @@ use Rattle.disk_law.specs.ListState.{as_image}
 use Rattle.ldom_world.specs.world_parts.Declared.{blocks_of}
 use Rattle.script_laws.proofs.Assembly.{replayed_as, replayed_refused}
 use Rattle.script_laws.proofs.Sizes.{sized_as, sized_refused}
-use Rattle.ldom_replay.proofs.Beginning.{just_attached}
+use Rattle.ldom_replay.proofs.Beginning.{attach_told, just_attached}
 use Rattle.ldom_replay.proofs.Holding.{gave_as, gave_one}
+use Rattle.ldom_report.specs.Stops.{EndsTold}
+use Rattle.ldom_report.specs.declared.status.Status.{Status}
+use Rattle.ldom_report.proofs.StopLemmas.{told_once}
 use Rattle.ldom_replay.proofs.run.attach.Goals as goal
 
 -- no memory for the lanes
@@ -75,3 +78,15 @@ returns-in-Err-attach-clause-sized g c start opened =
 
 pub returns-in-Err-attach-clause-image : goal.returns-in-Err-attach-clause-image
 returns-in-Err-attach-clause-image g c = gave_as _ _ None c.into_run-in-Err-attach.result.image c.into_run-in-Err-attach.ensures.image c.in-Err-attach.ensures.none
+
+-- the source wasn't asked
+pub returns-in-Err-clause-ends : goal.returns-in-Err-clause-ends
+returns-in-Err-clause-ends g c base is =
+    let now : ℕ = g.S.Source.ends c.args.source.now in
+    subst (λ (w : Status). EndsTold w base now) (sym c.into_run.ensures.status) (told_once c.args.reader.lines.stop base now is)
+
+pub returns-in-Err-attach-clause-ends : goal.returns-in-Err-attach-clause-ends
+returns-in-Err-attach-clause-ends g c base is =
+    let now : ℕ = g.S.Source.ends c.args.source.now in
+    subst (λ (w : Status). EndsTold w base now) (sym (c.into_run-in-Err-attach.ensures.status ∙ c.status_of.ensures))
+    (attach_told c.in-Err-attach.fault base now (told_once c.args.reader.lines.stop base now is))

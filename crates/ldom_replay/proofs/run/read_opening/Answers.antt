@@ -17,6 +17,7 @@ loop-event-init g c = record {
   few = omega (arith, c.requires.first);
   so_far = opens_none c.args.reader.now.lines.stop (to_come c.args.reader.now.lines (g.S.Source.left c.args.source.now)) c.args.reader.now.names c.args.reader.now.lines.number c.requires.names c.requires.first;
   journal = refl;
+  ends = λ base is. is;
   unfailed = refl;
 }
 
@@ -31,6 +32,7 @@ loop-event-preserved g c =
       so_far = opens_more c.loop-event.reader.lines.stop c.read_event.new.self.lines.stop start rest left c.read_event.new.event c.loop-event.reader.names c.read_event.new.self.names c.loop-event.reader.lines.number c.read_event.new.self.lines.number
           c.loop-event.invariant.so_far c.in_ok-read_event.ensures.event c.in_ok-read_event.ensures.next.0 c.in_ok-read_event.ensures.next.1 (c.if-not-is_opening.ensures.0 refl);
       journal = c.in_ok-read_event.ensures.journal ∙ c.loop-event.invariant.journal;
+      ends = λ base is. c.in_ok-read_event.ensures.ends base (c.loop-event.invariant.ends base is);
       unfailed = c.in_ok-read_event.ensures.source.unfailed (λ is. cc) ∙ c.loop-event.invariant.unfailed;
     }
 

@@ -1,4 +1,4 @@
-use Rattle.std.proofs.Common.{◌∙◌, List, Option, IfSome, IsSome, refl, subst, sym}
+use Rattle.std.proofs.Common.{◌∙◌, List, Option, IfSome, IsNone, IsSome, refl, subst, sym}
 use Rattle.script_reader.specs.LinesState.{to_come}
 use Rattle.domain_script.specs.declared.event.Event.{Event}
 use Rattle.ldom_entries.specs.declared.entry.Entry.{Entry}
@@ -52,3 +52,6 @@ apply-requires-clause-event g c =
     let names = c.args.reader.now.names in
     let declared : IsDeclared names c.in-Some.event = subst (λ (first : Option Event). IfSome first (IsDeclared names)) c.in-Some.is c.requires.declared in
     for_declared names c.args.world.now c.requires.lanes.disks c.requires.lanes.ports c.in-Some.event declared
+
+pub returns-in-None-clause-stands : goal.returns-in-None-clause-stands
+returns-in-None-clause-stands g c = c.requires.ended (subst (λ (first : Option Event). IsNone first) (sym c.in-None.is) refl)

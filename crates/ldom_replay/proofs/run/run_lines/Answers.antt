@@ -25,6 +25,7 @@ loop-stop-init g c =
       agrees = c.requires.agrees;
       going = λ going. going;
       so_far = runs_none c.args.reader.now.lines.stop start c.args.reader.now.names c.args.reader.now.journal.entries c.args.world.now c.args.reader.now.lines.number c.requires.few;
+      ends = λ base is. is;
       unfailed = refl;
     }
 
@@ -49,6 +50,7 @@ loop-stop-preserved g c =
           c.args.world.now c.loop-stop.world c.apply.new.self c.args.reader.now.lines.number c.loop-stop.reader.lines.number c.read_event.new.self.lines.number c.read_event.new.event
           c.loop-stop.invariant.so_far c.in-Ok.ensures.event c.in-Ok.ensures.next.0 c.in-Ok.ensures.next.1 c.in-Ok.ensures.below
           (subst (λ (j : JournalState). Fits c.loop-stop.world (line_of c.read_event.new.event) j.entries c.apply.new.journal.entries c.apply.new.self) c.in-Ok.ensures.journal c.in-Ok-apply.ensures.fits);
+      ends = λ base is. c.in-Ok.ensures.ends base (c.loop-stop.invariant.ends base is);
       unfailed = c.in-Ok.ensures.source.unfailed (λ is. cc) ∙ c.loop-stop.invariant.unfailed;
     }
 

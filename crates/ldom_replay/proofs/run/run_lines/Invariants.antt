@@ -1,6 +1,6 @@
 use Rattle.std.proofs.Common.{◌≡◌, ◌-◌, ◌≤◌, true}
 use Rattle.script_reader.specs.declared.lines.LinesStop.TheVariants.{Going}
-use Rattle.script_reader.specs.LinesState.{GoesOn, to_come}
+use Rattle.script_reader.specs.LinesState.{GoesOn, KeepsEnds, to_come}
 use Rattle.ldom_replay.specs.NamesLanes.{HasLanes}
 use Rattle.ldom_world.specs.Steps.{Counted}
 use Rattle.script_laws.proofs.RunLemmas.{RunsSoFar}
@@ -16,6 +16,7 @@ invariant-loop-stop g l = record {
   going : l.reader.lines.stop ≡ Going → l.fn.reader.lines.stop ≡ Going;
   so_far : RunsSoFar l.reader.lines.stop (to_come l.fn.reader.lines (g.S.Source.left l.fn.source)) l.fn.reader.names l.fn.reader.journal.entries l.fn.world l.fn.reader.lines.number
       (to_come l.reader.lines (g.S.Source.left l.source)) l.reader.names l.reader.journal.entries l.world l.reader.lines.number;
+  ends : KeepsEnds l.fn.reader.lines.stop l.reader.lines.stop (g.S.Source.ends l.fn.source) (g.S.Source.ends l.source);
   unfailed : g.S.Source.faults l.source ≡ g.S.Source.faults l.fn.source;
 }
 

@@ -1,4 +1,4 @@
-use Rattle.std.proofs.Common.{◌≡◌, ◌*◌, ◌≤◌, [], ℕ, List, length, None, Some, Option, IfSome, rules, arith, subst, ap, ◌∙◌}
+use Rattle.std.proofs.Common.{◌≡◌, ◌*◌, ◌≤◌, [], ℕ, List, length, None, Some, Option, IfSome, rules, arith, subst, ap, ◌∙◌, sym}
 use Rattle.disk_law.specs.ListState.{ImageState}
 use Rattle.ldom_entries.specs.JournalState.{JournalState}
 use Rattle.ldom_report.specs.declared.status.Status.TheVariants as status
@@ -9,6 +9,9 @@ use Rattle.ldom_replay.proofs.Beginning.{begins_counted, has_all, same_world}
 use Rattle.ldom_world.proofs.Declaring.{all_within}
 use Rattle.script_laws.proofs.Assembly.{replayed_as, replayed_short}
 use Rattle.script_laws.proofs.Sizes.{long_told, sized_as, sized_short}
+use Rattle.ldom_report.specs.Stops.{EndsTold}
+use Rattle.ldom_report.specs.declared.status.Status.{Status}
+use Rattle.ldom_report.proofs.StopLemmas.{told_once}
 use Rattle.ldom_replay.proofs.run.run_over.Goals as goal
 
 pub returns-then-have-need-clause-replayed : goal.returns-then-have-need-clause-replayed
@@ -60,3 +63,8 @@ run_world-requires-clause-lanes g c =
 pub run_world-requires-clause-agrees : goal.run_world-requires-clause-agrees
 run_world-requires-clause-agrees g c =
     begins_counted c.args.reader.names c.over.result c.args.lanes c.over.ensures.lanes c.over.ensures.ports c.requires.lanes
+
+pub returns-then-have-need-clause-ends : goal.returns-then-have-need-clause-ends
+returns-then-have-need-clause-ends g c base is =
+    let now : ℕ = g.S.Source.ends c.args.source.now in
+    subst (λ (w : Status). EndsTold w base now) (sym c.into_run.ensures.status) (told_once c.args.reader.lines.stop base now is)

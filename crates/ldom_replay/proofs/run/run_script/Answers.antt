@@ -1,12 +1,12 @@
-use Rattle.std.proofs.Common.{List, [], ℕ, ◌*◌, ◌∙◌, Option, None, arith, refl, ap, rules, subst, sym}
+use Rattle.std.proofs.Common.{◌≡◌, inl, List, [], ℕ, ◌*◌, ◌∙◌, Option, None, arith, refl, ap, rules, subst, sym}
 use Rattle.domain_script.specs.ScriptEvents.{no_names}
-use Rattle.script_reader.specs.LinesState.{GoesOn, LinesState, to_come}
+use Rattle.script_reader.specs.LinesState.{GoesOn, LinesState, ends_after, to_come}
 use Rattle.ldom_entries.specs.JournalState.{JournalState}
 use Rattle.ldom_report.specs.declared.status.Status.{Status}
 use Rattle.ldom_report.specs.declared.status.Status.TheVariants as status
 use Rattle.ldom_report.specs.declared.stop.Stop.{Stop}
-use Rattle.ldom_report.specs.Stops.{stop_lines, stop_status}
-use Rattle.ldom_report.proofs.StopLemmas.{done_at_end, readers_of}
+use Rattle.ldom_report.specs.Stops.{EndsTold, StandsAt, stop_lines, stop_status}
+use Rattle.ldom_report.proofs.StopLemmas.{done_at_end, ends_told, readers_of}
 use Rattle.script_laws.specs.Opening.{Opens, OpensAndStops}
 use Rattle.script_laws.proofs.Assembly.{from_start, replayed_as, replayed_none, replayed_unattached}
 use Rattle.disk_law.specs.ListState.{as_image}
@@ -25,6 +25,12 @@ returns-in-Err-clause-replayed g c =
     c.without_memory.ensures.status c.without_memory.ensures.lines c.without_memory.ensures.names c.without_memory.ensures.journal c.without_memory.ensures.image c.without_memory.ensures.lanes
     (replayed_none seen left left gives no_names refl refl)
 
+-- the source wasn't asked
+pub returns-in-Err-clause-ends : goal.returns-in-Err-clause-ends
+returns-in-Err-clause-ends g c =
+    let base : ℕ = g.S.Source.ends c.args.source.now in
+    subst (λ (w : Status). EndsTold w base base) (sym c.without_memory.ensures.status) (inl refl)
+
 pub returns-in_default : goal.returns-in_default
 returns-in_default g c =
     let left = g.S.Source.left c.args.source.now in
@@ -32,6 +38,8 @@ returns-in_default g c =
     let read = c.read_opening.new.reader in
     let why : Status = stop_status c.in-Err-read_opening.stop read.lines.number in
     let lines : ℕ = stop_lines c.in-Err-read_opening.stop read.lines.number in
+    let base : ℕ = g.S.Source.ends c.args.source.now in
+    let begun : base ≡ ends_after c.in-Ok.reader.lines.stop base = sym (ap (λ (l : LinesState). ends_after l.stop base) c.in-Ok.ensures.lines) in
     record {
       replayed =
           replayed_as (as_image g.H.Disk.Store) left (g.S.Source.left c.read_opening.new.source) gives why c.into_run.result.status lines c.into_run.result.lines
@@ -47,6 +55,9 @@ returns-in_default g c =
       source = record { unfailed = search rules; count = search rules; cause = search rules };
       host = record { unfailed = search rules; count = omega arith; cause = search rules };
       image = gave_as _ _ None c.into_run.result.image c.into_run.ensures.image refl;
+      ends = subst (λ (w : Status). EndsTold w base (g.S.Source.ends c.read_opening.new.source)) (sym (c.into_run.ensures.status ∙ c.status-status.ensures))
+          (ends_told c.in-Err-read_opening.stop read.lines.number read.lines.stop base (g.S.Source.ends c.read_opening.new.source)
+          c.in-Err-read_opening.ensures.stands (c.read_opening.ensures.ends base begun));
     }
 
 pub returns-in-Ok-read_opening-clause-replayed : goal.returns-in-Ok-read_opening-clause-replayed
@@ -69,3 +80,19 @@ returns-in-End-clause-replayed g c =
 
 pub read_opening-requires-clause-goes : goal.read_opening-requires-clause-goes
 read_opening-requires-clause-goes g c = subst (λ (l : LinesState). GoesOn l (g.S.Source.left c.args.source.now)) (sym c.in-Ok.ensures.lines) tt
+
+pub returns-in-Ok-read_opening-clause-ends : goal.returns-in-Ok-read_opening-clause-ends
+returns-in-Ok-read_opening-clause-ends g c =
+    let base : ℕ = g.S.Source.ends c.args.source.now in
+    let begun : base ≡ ends_after c.in-Ok.reader.lines.stop base = sym (ap (λ (l : LinesState). ends_after l.stop base) c.in-Ok.ensures.lines) in
+    c.attach.ensures.ends base (c.read_opening.ensures.ends base begun)
+
+pub returns-in-End-clause-ends : goal.returns-in-End-clause-ends
+returns-in-End-clause-ends g c =
+    let base : ℕ = g.S.Source.ends c.args.source.now in
+    let begun : base ≡ ends_after c.in-Ok.reader.lines.stop base = sym (ap (λ (l : LinesState). ends_after l.stop base) c.in-Ok.ensures.lines) in
+    c.attach-in-End.ensures.ends base (c.read_opening.ensures.ends base begun)
+
+-- a script that has nothing but declarations was read to its end
+pub attach-requires-in-End-clause-ended : goal.attach-requires-in-End-clause-ended
+attach-requires-in-End-clause-ended g c none = subst (λ (stop : Stop). StandsAt stop c.read_opening.new.reader.lines.stop) c.in-End.is c.in-Err-read_opening.ensures.stands

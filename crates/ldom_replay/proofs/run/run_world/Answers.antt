@@ -1,10 +1,10 @@
-use Rattle.std.proofs.Common.{◌≡◌, ◌∙◌, Some, ap}
+use Rattle.std.proofs.Common.{◌≡◌, ◌∙◌, Some, ap, subst, sym}
 use Rattle.ldom_entries.specs.JournalState.{JournalState}
 use Rattle.ldom_report.specs.declared.status.Status.{Status}
-use Rattle.ldom_report.specs.Stops.{stop_lines, stop_status}
-use Rattle.ldom_report.proofs.StopLemmas.{readers_of}
+use Rattle.ldom_report.specs.Stops.{EndsTold, stop_lines, stop_status}
+use Rattle.ldom_report.proofs.StopLemmas.{ends_told, readers_of}
 use Rattle.script_laws.specs.Replayed.{ended_status}
-use Rattle.script_laws.proofs.Assembly.{replayed_as, replayed_of}
+use Rattle.script_laws.proofs.Assembly.{ended_as, replayed_as, replayed_of}
 use Rattle.script_laws.proofs.Sizes.{sized_as, sized_run}
 use Rattle.disk_law.specs.ListState.{as_image}
 use Rattle.ldom_replay.proofs.Beginning.{same_lanes}
@@ -43,3 +43,14 @@ returns-clause-sized g c start gives opened begins long =
     status_is c.into_run.ensures.names c.into_run.ensures.image
     (sized_run g.D.Store.size start now gives why c.faulty.result c.args.reader.names read.names c.args.world c.run_first-stop.new.world read.journal.entries (stop_lines c.run_first-stop.result read.lines.number)
     c.finish-image.result.0 (readers_of c.run_first-stop.result read.lines.number) (c.run_first-stop.ensures.runs start opened) begins c.finish-image.ensures.size long)
+
+pub returns-clause-ends : goal.returns-clause-ends
+returns-clause-ends g c base is =
+    let now = g.S.Source.ends c.run_first-stop.new.source in
+    let read = c.run_first-stop.new.reader in
+    let why : Status = stop_status c.run_first-stop.result read.lines.number in
+    let ended_is : c.ended-status.result ≡ ended_status why c.faulty.result = c.ended-status.ensures ∙ ap (λ (w : Status). ended_status w c.faulty.result) c.status.ensures in
+    let told : EndsTold why base now =
+    ends_told c.run_first-stop.result read.lines.number read.lines.stop base now c.run_first-stop.ensures.stands (c.run_first-stop.ensures.ends base is) in
+    subst (λ (w : Status). EndsTold w base now) (sym (c.into_run.ensures.status ∙ ended_is))
+    (ended_as (λ (w : Status). EndsTold w base now) why c.faulty.result (readers_of c.run_first-stop.result read.lines.number) (λ t. t) told)

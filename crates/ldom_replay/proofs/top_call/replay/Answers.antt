@@ -26,6 +26,7 @@ use Rattle.ldom_replay.proofs.Sampled.{not_read, sample_clean}
 use Rattle.ldom_replay.specs.Asking.{AsksFor, IsCommand}
 use Rattle.ldom_replay.specs.Sampled.{RunsSample}
 use Rattle.ldom_replay.specs.declared.command.Command.{Command}
+use Rattle.ldom_report.specs.Stops.{EndsTold}
 use Rattle.ldom_replay.proofs.top_call.replay.Goals as goal
 
 pub report_run-requires-clause-words : goal.report_run-requires-clause-words
@@ -281,3 +282,13 @@ returns-in-Some-Dump-clause-image g c = gave_none _ _ c.report_dump.result.image
 
 pub returns-in-None-clause-image : goal.returns-in-None-clause-image
 returns-in-None-clause-image g c = gave_none _ _ c.report_usage.result.image c.report_usage.ensures.none.0 refl
+
+pub returns-in-Some-Script-clause-ends : goal.returns-in-Some-Script-clause-ends
+returns-in-Some-Script-clause-ends g c shown image asks =
+    subst (λ (ran : Status). EndsTold ran (g.S.Source.ends c.args.script.now) (g.S.Source.ends c.run_script.new.source)) (sym c.report_run.ensures.ran) c.run_script.ensures.ends
+
+pub returns-in-Some-Sample-clause-ends : goal.returns-in-Some-Sample-clause-ends
+returns-in-Some-Sample-clause-ends g c shown image asks =
+    let words : List (List ℕ) = map string_bytes c.args.words.now in
+    let own : AsksSample words c.in-Some-Sample.number = subst (λ (x : Command). IsCommand words (Some x)) c.in-Some-Sample.field-0-is c.in-Some-Sample.ensures in
+    absurd (no_sample_too words shown image c.in-Some-Sample.number asks own)

@@ -10,6 +10,7 @@ invariant-loop-piece g l = record {
   no_feed : HasNoFeed l.line.items;
   room : 3100 ≤ vec_capacity l.line;
   unfailed : g.S.Source.faults l.source ≡ g.S.Source.faults l.fn.source;
+  unended : g.S.Source.ends l.source ≡ g.S.Source.ends l.fn.source;
 }
 
 abbrev pub decreases-loop-piece : goal.decreases-loop-piece
