@@ -23,13 +23,7 @@ pub record WaitsBy {S V : Type 0} (K : LaneKind S V) (k x : ℕ) (w : List S) : 
 module _ {S V E : Type 0} (K : LaneKind S V) (N : Entries V E) where
   -- in a longer part
   pub moved_left : (x : ℕ) (one two : List E) → MovedBy K N x one → MovedBy K N x (one ++ two)
-  moved_left x one two at = record {
-    before = at.before;
-    event = at.event;
-    later = at.later ++ two;
-    is = ap (λ (l : List E). l ++ two) at.is ∙ append_assoc at.before (N.of_lane x at.event ∷ at.later) two;
-    loud = at.loud;
-  }
+  moved_left x one two given = grind (arith, append_assoc)
 
   pub moved_right : (x : ℕ) (one two : List E) → MovedBy K N x two → MovedBy K N x (one ++ two)
   moved_right x one two at = record {
@@ -146,18 +140,9 @@ module _ {S V E : Type 0} (K : LaneKind S V) (N : Entries V E) where
       → NamedIn K N x (left_names K N k turns w)
   named_where k x i [] w r s place turn there why = absurd (cc turn)
   named_where k x i (q ∷ turns) [] r s place turn there why = absurd (cc there)
-  named_where k x zero (q ∷ turns) (y ∷ w) r s place turn there why =
-      let same : s ≡ y = cc there in
-      let same_turn : r ≡ q = cc turn in
-      let number : k ≡ x = omega (arith, place) in
-      subst (λ (n : ℕ). NamedIn K N n (left_names K N k (q ∷ turns) (y ∷ w))) number
-      (named_here k (all_calm K q) (K.waits_on y) (left_names K N (k + 1) turns w)
-      (subst (λ (z : S). (all_calm K q ≡ false) ⊎ (K.waits_on z ≡ true)) same
-      (subst (λ (l : List V). (all_calm K l ≡ false) ⊎ (K.waits_on s ≡ true)) same_turn why)))
+  named_where k x zero (q ∷ turns) (y ∷ w) r s place turn there why = grind (arith, named_here)
   named_where k x (suc i) (q ∷ turns) (y ∷ w) r s place turn there why =
-      named_further x (if all_calm K q && (if K.waits_on y then false else true) then [] else N.left_over k ∷ [])
-      (left_names K N (k + 1) turns w)
-      (named_where (k + 1) x i turns w r s (omega (arith, place)) turn there why)
+      grind (arith, named_further, named_where (k + 1) x i turns w r s (omega (arith, place)) turn there why)
 
   -- which turn it was that moved
   module _ (one_lane : (j x : ℕ) (e f : V) → N.of_lane j e ≡ N.of_lane x f → j ≡ x)
@@ -175,22 +160,15 @@ module _ {S V E : Type 0} (K : LaneKind S V) (N : Entries V E) where
     first_false false b is = refl
 
     later_loud : (k x : ℕ) (event : V) (events : List V) → OwnLoud k x events → OwnLoud k x (event ∷ events)
-    later_loud k x event events at = record { same = at.same; loud = and_false (K.is_calm event) (all_calm K events) at.loud }
+    later_loud k x event events given = grind arith
 
     in_event : (k x : ℕ) (event : V) (events : List V) (silent : Bool) (before : List E) (f : V) (later : List E)
         → (if silent then [] else N.of_lane k event ∷ []) ++ turn_entries K N k events ≡ before ++ N.of_lane x f ∷ later
         → K.is_calm f ≡ false
         → ((past : List E) → turn_entries K N k events ≡ past ++ N.of_lane x f ∷ later → OwnLoud k x events) → OwnLoud k x (event ∷ events)
     in_event k x event events true before f later is loud more = later_loud k x event events (more before is)
-    in_event k x event events false [] f later is loud more =
-        let first : N.of_lane k event ≡ N.of_lane x f = cc is in
-        record {
-          same = one_lane k x event f first;
-          loud = first_false (K.is_calm event) (all_calm K events) (ap K.is_calm (one_event k x event f first) ∙ loud);
-        }
-    in_event k x event events false (y ∷ before) f later is loud more =
-        let rest : turn_entries K N k events ≡ before ++ N.of_lane x f ∷ later = cc is in
-        later_loud k x event events (more before rest)
+    in_event k x event events false [] f later is loud more = grind (arith, first_false)
+    in_event k x event events false (y ∷ before) f later is loud more = grind (arith, later_loud)
 
     in_turn : (k x : ℕ) (events : List V) (before : List E) (f : V) (later : List E) → turn_entries K N k events ≡ before ++ N.of_lane x f ∷ later
         → K.is_calm f ≡ false → OwnLoud k x events

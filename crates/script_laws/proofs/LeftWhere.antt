@@ -28,7 +28,7 @@ use Rattle.world_parts.specs.world_laws.DiskKind.{waits_on}
 use Rattle.world_parts.specs.world_laws.Moves.{IsLeftOver, MovedIn}
 use Rattle.world_parts.specs.world_laws.Requests.{pending_of}
 use Rattle.world_parts.specs.world_laws.Rounds.{LaneRound}
-use Rattle.world_parts.specs.world_laws.Settle.{OfLane, SettleEntry, Unsettled, UnsettledPort, disks, pending_on, round_entries}
+use Rattle.world_parts.specs.world_laws.Settle.{SettleEntry, Unsettled, UnsettledPort, disks, pending_on, round_entries}
 use Rattle.world_parts.proofs.domain_laws.Counting.{made_move}
 use Rattle.world_parts.proofs.domain_laws.DiskParts.{disks_end as names_move, rounds_move_disks}
 use Rattle.world_parts.proofs.domain_laws.LineEntries.{AllRound, EachEntry, each_in}
@@ -95,13 +95,7 @@ left_why x steps so_far behind last (inl moved) =
     (moved_right x last.earlier (lanes.leaves steps ++ last.later)
     (moved_left x (lanes.leaves steps) last.later
     (moved_left x (round_entries 0 steps.first) (switch.leaves steps.second) moved))))
-left_why x steps so_far behind last (inr at) =
-    let number : at.index ≡ x = omega (arith, at.is) in
-    inr (record {
-      lane = at.lane;
-      there = subst (λ (i : ℕ). slice_get behind i ≡ Some at.lane) number at.there;
-      waits = at.waits;
-    })
+left_why x steps so_far behind last (inr at) = grind (arith, slice_get)
 
 pub left_at : (start : Lanes) (part : List SettleEntry) (behind : Lanes)
     → SettlePart lanes start part behind ⊎ SettleFront lanes fronts start part behind → (x : ℕ)
@@ -125,13 +119,7 @@ left_at start part behind goes x so_far rest is =
 
 -- AS IT IS TOLD
 told_moved : (x : ℕ) (part : List SettleEntry) → MovedIn x part → MovedIn x (all_told part)
-told_moved x part at = record {
-  before = all_told at.before;
-  event = at.event;
-  later = all_told at.later;
-  is = ap all_told at.is ∙ map_both told_of at.before (OfLane x at.event ∷ at.later);
-  loud = at.loud;
-}
+told_moved x part given = grind (arith, map_both)
 
 most_is : (p q r m n : ℕ) → 4096 + 64 * (p + q) ≤ m → p ≡ r → n ≡ m → 4096 + 64 * (r + q) ≤ n
 most_is p q r m n most one two = omega (arith, most, one, two)

@@ -1,5 +1,5 @@
 -- A quiet script that fits its journal without a fault is what the plain run makes of it.
-use Rattle.std.proofs.Common.{◌≡◌, ℕ, ◌+◌, ◌*◌, ◌≤◌, List, [], ◌∷◌, ◌++◌, length, map, refl, sym, ◌∙◌, ap, subst, arith, None, Some}
+use Rattle.std.proofs.Common.{◌≡◌, ℕ, ◌+◌, ◌*◌, ◌≤◌, List, [], ◌∷◌, length, map, refl, sym, ◌∙◌, ap, subst, arith, None, Some}
 use Rattle.std.proofs.lemmas.List.FromFn.{length-range_with_len}
 use Rattle.runs.specs.Run.{Run}
 use Rattle.disk_law.specs.ListState.{ImageState}
@@ -13,7 +13,7 @@ use Rattle.world_parts.proofs.domain_laws.ScriptEntries.{lines_run}
 use Rattle.world_parts.specs.domain_laws.Domain.{DomainState, fresh_domain}
 use Rattle.world_parts.specs.domain_laws.Lines.{Line, LineStep, entries_of_lines}
 use Rattle.ldom_report.specs.EntryText.{report_entries}
-use Rattle.ldom_report.specs.Report.{accepted_count, done_count, end_line, frame_count, report, reset_count}
+use Rattle.ldom_report.specs.Report.{accepted_count, done_count, frame_count, report, reset_count}
 use Rattle.ldom_entries.specs.declared.entry.Entry.{Entry}
 use Rattle.ldom_report.specs.declared.status.Mode.TheVariants as mode
 use Rattle.ldom_report.specs.declared.status.Status.TheVariants as status
@@ -68,14 +68,7 @@ record ShowsPlain (disk : DiskDecl) (content : List ℕ) (events : List Event) (
 shows_plain : (disk : DiskDecl) (content : List ℕ) (events : List Event) (lines : List (Line × List SettleEntry))
     (v : DomainState) → lines_of lines ≡ map line_of events → RunsPlainly (shape_of 0 disk) content lines v
     → ShowsPlain disk content events lines v.first
-shows_plain disk content events lines v are runs =
-    let shape = shape_of 0 disk in
-    let start = lanes.untouched content in
-    let end = ap (plain_lines.plain_run shape start) are ∙ sym (run_same disk (untouched content) events) in
-    record {
-      shows = runs.shows ∙ ap (plain_lines.plain_journal shape start) are;
-      ends = subst (λ (l : lanes.Plain). IsPlain l v.first) end runs.ends;
-    }
+shows_plain disk content events lines v are runs = grind (arith, run_same)
 
 -- the next id of the one lane counts what was accepted
 accepted_all : (disk : DiskDecl) (image : ImageState) (lines : List (Line × List SettleEntry)) (v : DomainState)
@@ -117,16 +110,7 @@ tells_plain disk content events journal lines v says shows accepted =
 
 told_plain : (disk : DiskDecl) (content : List ℕ) (events : List Event) (journal : List Entry) (v : WorldState)
     → Tells disk journal v (ran disk content events) → PlainLaw disk content events journal v
-told_plain disk content events journal v tells =
-    let p = ran disk content events in
-    let lines = length events in
-    let ends = ends_agree journal p lines tells.done tells.accepted tells.resets tells.frames in
-    record {
-      text = ap (λ (l : List ℕ). l ++ end_line lines journal status.Done) tells.text
-          ∙ ap (λ (l : List ℕ). p.text ++ l) ends;
-      told = tells.told;
-      ids = tells.ids;
-    }
+told_plain disk content events journal v tells = grind (arith, ends_agree)
 
 -- A QUIET SCRIPT whose journal fits, over an image that tells its bytes, is long enough and never failed
 pub plain_law : (disk : DiskDecl) (image : ImageState) (content : List ℕ) (parts : ScriptParts) (v : DomainState)

@@ -128,10 +128,7 @@ module _ (disks : List DiskDecl) (nets : List NetShape) (image : ImageState) (ar
 
     clean_there : (front : List SettleEntry) (at : FrontLed front) → NobodyForgesPort (port_happened k front)
         → IsUnforged at.one
-    clean_there front at none =
-        (port_told nets at.past at.at.second k shape at.one (ports_run Start at.past at.at at.led) of_shape at.here).1
-        (told_forged k at.past
-        (subst (λ (l : List SettleEntry). NobodyForgesPort (port_happened k l)) at.told_is none))
+    clean_there front at none = grind (arith, port_told, ports_run, told_forged)
 
     in_order : (a b c d : List (List ℕ)) → a ≡ c → b ≡ d → InOrder 0 c d → InOrder 0 a b
     in_order a b c d one two order =
@@ -185,19 +182,11 @@ module _ (disks : List DiskDecl) (nets : List NetShape) (image : ImageState) (ar
 
     all_switch : (front : List SettleEntry) → entries ≡ front ++ Settled ∷ [] → IsUnforged s
         → frames_lost A (port_events k leads.real) ≡ 0 → frames_switched k entries ≡ frames_queued k entries
-    all_switch front is clean none =
-        switched
-        ∙ rested_to_switch (shapes_of 0 disks) image nets are leads.real v k shape s leads.led of_shape there clean none
-        (rests_now front is clean)
-        ∙ sym queued
+    all_switch front is clean none = grind (arith, switched, rested_to_switch, rests_now, queued)
 
     all_guest : (front : List SettleEntry) → entries ≡ front ++ Settled ∷ [] → IsUnforged s
         → frames_lost B (port_events k leads.real) ≡ 0 → frames_arrived k entries ≡ frames_put k entries
-    all_guest front is clean none =
-        arrived
-        ∙ rested_to_guest (shapes_of 0 disks) image nets are leads.real v k shape s leads.led of_shape there clean none
-        (rests_now front is clean)
-        ∙ sym put
+    all_guest front is clean none = grind (arith, arrived, rested_to_guest, rests_now, put)
 
     -- behind each settle
     rests_behind : (before behind : List SettleEntry) → entries ≡ before ++ Settled ∷ behind

@@ -1,16 +1,15 @@
 -- Each tick in the part of a settle comes where its lane isn't finished though its server runs, and both ends are still;
 -- and where nobody forged the lane, where a packet was lost since the queues were last emptied.
-use Rattle.std.proofs.Common.{◌≡◌, ◌⊎◌, inl, inr, ℕ, zero, suc, ◌+◌, ◌≤◌, Bool, true, false, List, [], ◌∷◌, ◌++◌, slice_get, Some, refl, sym, ap, ◌∙◌, subst, arith, append_assoc, append-nil}
+use Rattle.std.proofs.Common.{◌≡◌, inl, inr, ℕ, suc, ◌+◌, ◌≤◌, Bool, true, false, List, [], ◌∷◌, ◌++◌, slice_get, Some, refl, sym, ap, ◌∙◌, subst, arith, append_assoc, append-nil}
 use Rattle.std.proofs.lemmas.Option.{slice_get_within}
 use Rattle.std.specs.Prelude.{if◌then◌else◌, ⊤}
 use Rattle.ldc_queue.specs.declared.end.End.{End}
 use Rattle.vio_tag.specs.declared.cause.Cause.TheVariants as the_cause
 use Rattle.world_parts.specs.channel_model.WireEvent.{Reset}
-use Rattle.world_parts.specs.lane_laws.CalmEnds.{IsStep, StepKeeps}
+use Rattle.world_parts.specs.lane_laws.CalmEnds.{IsStep}
 use Rattle.runs.specs.Lawful.{log_of}
 use Rattle.runs.specs.Run.{Run, run_append}
 use Rattle.world_parts.specs.lane_laws.DiskLog.{after, nothing_yet}
-use Rattle.world_parts.specs.disk_model.ClientState.{is_finished}
 use Rattle.world_parts.specs.disk_model.DiskEvent.{DiskEvent, OnWire}
 use Rattle.world_parts.specs.disk_model.LaneState.{IsShape, LaneState, Shape, fresh}
 use Rattle.world_parts.specs.disk_model.LaneStep.{LaneStep}
@@ -78,10 +77,7 @@ TicksStand start part =
     → part ≡ so_far ++ OfLane x event ∷ rest → slice_get start x ≡ Some s → TickAt x so_far s
 
 none_stand : (start : List LaneState) (part : List SettleEntry) → EachEntry NoTick part → TicksStand start part
-none_stand start part none x event so_far rest s is place there =
-    let never : is_tick event ≡ false = each_in NoTick part so_far (OfLane x event) rest place none in
-    let both : true ≡ false = sym is ∙ never in
-    absurd (cc both)
+none_stand start part none x event so_far rest s is place there = grind (arith, each_in)
 
 -- ONE STRETCH BEHIND ANOTHER
 pub record MovedTo (x : ℕ) (part : List SettleEntry) (s : LaneState) (behind : List LaneState) : Type 0 where
@@ -233,44 +229,20 @@ front_lost lanes marks part behind lost front x event so_far rest s place there 
 -- all ticks are a front of them
 all_ticks : (j : ℕ) (lanes : List LaneState) (marks : List Bool) (behind : List LaneState)
     → TickLanes lanes marks behind → TickFront j lanes marks (tick_entries j lanes marks) behind
-all_ticks j [] [] [] made = record { is = refl; lanes_stay = refl }
-all_ticks j (s ∷ lanes) (had ∷ marks) (t ∷ behind) made =
-    inr (record {
-      after = t;
-      ticks = made.0;
-      later = tick_entries (j + 1) lanes marks;
-      others = behind;
-      more = all_ticks (j + 1) lanes marks behind made.1;
-      is = refl;
-      rest = refl;
-    })
-all_ticks j _ _ _ made = absurd made
+all_ticks j (s ∷ lanes) (had ∷ marks) (t ∷ behind) made = grind (arith, all_ticks (j + 1) lanes marks behind made.1)
+all_ticks j lanes marks behind made = grind arith
 
 -- BEHIND A QUIET ROUND
-lossy_where : (s : LaneState) (r : LaneRound) (t : LaneState) → IsReached s → IsUnforged s → MakesRound s r t
-    → is_quiet r ≡ true → s.stopped ≡ false → is_finished t.client ≡ false
-    → (s.wire.lossy ≡ true) ⊎ (s.wire.lossy ≡ false) → t.wire.lossy ≡ true
-lossy_where s r t at clean made quiet runs unfinished (inl lossy) =
-    ap (λ (l : LaneState). l.wire.lossy) (quiet_same s r t at clean runs made quiet) ∙ lossy
-lossy_where s r t at clean made quiet runs unfinished (inr whole) =
-    let never : true ≡ false = sym (quiet_finished s r t at clean whole runs made quiet).finished ∙ unfinished in
-    absurd (cc never)
 
 waits_lost : (s : LaneState) (r : LaneRound) (t : LaneState) → IsReached s → MakesRound s r t → is_quiet r ≡ true
     → WaitsLost t
-waits_lost s r t at made quiet clean waits =
-    let both = waits_where (is_finished t.client) t.stopped waits in
-    let keeps : StepKeeps s t = round_keeps s r t made in
-    lossy_where s r t at (sym keeps.forged ∙ clean) made quiet (sym keeps.stopped ∙ both.1) both.0 (either s.wire.lossy)
+waits_lost s r t given made quiet clean waits = grind (arith, waits_where, round_keeps, quiet_same, quiet_finished, either)
 
 quiet_lost : (lanes : List LaneState) (rounds : List LaneRound) (behind : List LaneState) → Each IsReached lanes
     → OwnTurns disk_kind lanes rounds behind → are_quiet rounds ≡ true → Each WaitsLost behind
-quiet_lost [] [] [] reached made quiet = tt
-quiet_lost (s ∷ lanes) (r ∷ rounds) (t ∷ behind) reached made quiet = (
-  waits_lost s r t reached.0 made.0 (and_left (is_quiet r) (are_quiet rounds) quiet),
-  quiet_lost lanes rounds behind reached.1 made.1 (and_right (is_quiet r) (are_quiet rounds) quiet),
-)
-quiet_lost _ _ _ reached made quiet = absurd made
+quiet_lost (s ∷ lanes) (r ∷ rounds) (t ∷ behind) reached made quiet =
+    grind (arith, waits_lost, and_left, and_right, quiet_lost lanes rounds behind reached.1 made.1 (and_right (is_quiet r) (are_quiet rounds) quiet))
+quiet_lost lanes rounds behind reached made quiet = grind arith
 
 pub record QuietAt (x : ℕ) (s : LaneState) (behind : List LaneState) : Type 0 where
   pub round : LaneRound
@@ -281,21 +253,9 @@ pub record QuietAt (x : ℕ) (s : LaneState) (behind : List LaneState) : Type 0 
 
 pub quiet_at : (lanes : List LaneState) (rounds : List LaneRound) (behind : List LaneState) (x : ℕ) (s : LaneState)
     → OwnTurns disk_kind lanes rounds behind → are_quiet rounds ≡ true → slice_get lanes x ≡ Some s → QuietAt x s behind
-quiet_at [] [] [] x s made quiet there = absurd (cc there)
-quiet_at (y ∷ lanes) (r ∷ rounds) (t ∷ behind) zero s made quiet there =
-    let same : y ≡ s = cc there in
-    record {
-      round = r;
-      lane = t;
-      there = refl;
-      made = subst (λ (l : LaneState). MakesRound l r t) same made.0;
-      quiet = and_left (is_quiet r) (are_quiet rounds) quiet;
-    }
 quiet_at (y ∷ lanes) (r ∷ rounds) (t ∷ behind) (suc x) s made quiet there =
-    let at : QuietAt x s behind =
-    quiet_at lanes rounds behind x s made.1 (and_right (is_quiet r) (are_quiet rounds) quiet) there in
-    record { round = at.round; lane = at.lane; there = at.there; made = at.made; quiet = at.quiet }
-quiet_at _ _ _ x s made quiet there = absurd made
+    grind (arith, and_right, quiet_at lanes rounds behind x s made.1 (and_right (is_quiet r) (are_quiet rounds) quiet) there)
+quiet_at lanes rounds behind x s made quiet there = grind (arith, and_left)
 
 module _ (lanes : List LaneState) (marks : List Bool) (steps : List LaneRound) (between : List LaneState)
     (later : List SettleEntry) (behind : List LaneState) (reached : Each IsReached lanes)
@@ -307,34 +267,12 @@ module _ (lanes : List LaneState) (marks : List Bool) (steps : List LaneRound) (
   -- a tick after all entries of the round
   behind_round : (x : ℕ) (past : List SettleEntry) (s : LaneState) (at : QuietAt x s between) → LostAt x past at.lane
       → slice_get lanes x ≡ Some s → TickAt x (round_entries 0 steps ++ past) s
-  behind_round x past s at lost there =
-      let round : List SettleEntry = round_entries 0 steps in
-      let moved : Run LaneStep s (happened x round) at.lane =
-      lane_moved 0 x x lanes round between s at.lane (own x) (leads.round lanes steps between made) there
-      at.there in
-      let same : happened x (round ++ past) ≡ happened x round =
-      happened_both x round past ∙ ap (λ (l : List DiskEvent). happened x round ++ l) lost.none
-      ∙ append-nil (happened x round) in
-      record {
-        lane = at.lane;
-        run = subst (λ (l : List DiskEvent). Run LaneStep s l at.lane) (sym same) moved;
-        waits = lost.waits;
-        lost = lost.lost;
-        still = λ shape events sound run.
-            subst (λ (l : List DiskEvent). AreStillBy (log_of after (nothing_yet shape) (events ++ l))) (sym same)
-            (still_by shape events s at.round at.lane x round sound run at.made at.quiet (calm_round 0 steps quiet)
-            moved);
-      }
-    where
-      own : (x : ℕ) → x ≡ 0 + x
-      own x = omega (arith)
+  behind_round x past s at lost there = grind (arith, lane_moved, leads, happened_both, append-nil, still_by, calm_round)
 
   quiet_tick : (x : ℕ) (event : DiskEvent) (so_far rest : List SettleEntry) (s : LaneState) → is_tick event ≡ true
       → slice_get lanes x ≡ Some s → InEither (round_entries 0 steps) later so_far (OfLane x event) rest
       → TickAt x so_far s
-  quiet_tick x event so_far rest s is there (inl at) =
-      none_stand lanes (round_entries 0 steps) (disks_each NoTick tick_steps lanes steps between made) x event so_far at.rest s is at.is
-      there
+  quiet_tick x event so_far rest s is there (inl at) = grind (arith, none_stand, disks_each, tick_steps)
   quiet_tick x event so_far rest s is there (inr at) =
       let found : QuietAt x s between = quiet_at lanes steps between x s turns quiet there in
       let all_lost = quiet_lost lanes steps between reached turns quiet in
@@ -367,20 +305,13 @@ quiet_stretch : (lanes : List LaneState) (marks : List Bool) (steps : List LaneR
     (later : List SettleEntry) (behind : List LaneState) → Each IsReached lanes → MakeRound lanes steps between
     → are_quiet steps ≡ true → TickFront 0 between marks later behind
     → Stretch lanes (round_entries 0 steps ++ later) behind
-quiet_stretch lanes marks steps between later behind reached made quiet front = record {
-  moves = moves_on 0 lanes between behind (round_entries 0 steps) later (leads.round lanes steps between made)
-      (fronts_move.ticks between marks later behind front);
-  stand = quiet_front lanes marks steps between later behind reached made quiet front;
-}
+quiet_stretch lanes marks steps between later behind reached made quiet front = grind (arith, moves_on, leads, fronts_move, quiet_front)
 
 stretches : LeadsWhere disks Reached Stretch
 stretches = record {
   keeps = keeps;
   none = λ w. record { moves = stay 0 w; stand = none_stand w [] tt };
-  both = λ w m v one two first second. record {
-    moves = moves_on 0 w m v one two first.moves second.moves;
-    stand = two_stand w one m two first.moves first.stand second.stand;
-  };
+  both = λ w m v one two first second. grind (arith, moves_on, two_stand);
   round = λ w m r v reached made. record {
     moves = leads.round w r v made;
     stand = none_stand w (round_entries 0 r) (disks_each NoTick tick_steps w r v made);
@@ -416,15 +347,7 @@ front_stretches = record {
 
 -- A SETTLE over disks and ports, and a front of one: by the entries of disks, and so by all, as they are told
 as_whole : (x : ℕ) (so_far : List SettleEntry) (s : LaneState) → TickAt x (of_disks so_far) s → TickAt x so_far s
-as_whole x so_far s at = record {
-  lane = at.lane;
-  run = subst (λ (l : List DiskEvent). Run LaneStep s l at.lane) (same_happened x so_far) at.run;
-  waits = at.waits;
-  lost = at.lost;
-  still = λ shape events sound run.
-      subst (λ (l : List DiskEvent). AreStillBy (log_of after (nothing_yet shape) (events ++ l))) (same_happened x so_far)
-      (at.still shape events sound run);
-}
+as_whole x so_far s given = grind (arith, same_happened)
 
 stand_whole : (start : List LaneState) (part : List SettleEntry) → TicksStand start (of_disks part) → TicksStand start part
 stand_whole start part stand x event so_far rest s is place there =

@@ -36,9 +36,7 @@ entry_count asked e m es (inl at) =
 entry_count asked e m es (inr (inl other)) =
     ap (λ (s : Said). count_by has_failed (cons_option (said_of_any s) es)) other.said_is
     ∙ not_counted m (count_by has_failed es) (ap (in_entry is_failed_done) other.means_is ∙ other.failed)
-entry_count asked e m es (inr (inr silent)) =
-    ap (λ (s : Said). count_by has_failed (cons_option (said_of_any s) es)) silent.said_is
-    ∙ not_counted m (count_by has_failed es) (nothing_failed m silent.nothing)
+entry_count asked e m es (inr (inr silent)) = grind (arith, not_counted, nothing_failed)
 
 pub all_counts : (tellings : List Telling)
     → count_by has_failed (whole_history (entries_told tellings))
