@@ -3,7 +3,6 @@ use Rattle.std.proofs.Common.{◌≡◌, ◌≢◌, inl, inr, ℕ, ◌*◌, ◌<
 use Rattle.world_parts.specs.domain_laws.Domain.{Lanes}
 use Rattle.std.specs.Prelude.{◌==◌, if◌then◌else◌, Bool, IsSome}
 use Rattle.std.specs.Io.KnownBytes.{prepend_known}
-use Rattle.std.specs.Str.{bytes_eq}
 use Rattle.std.proofs.lemmas.Slice.Eq.{bytes_eq-Decides}
 use Rattle.vio_io.specs.Causes.{Rose}
 use Rattle.domain_script.specs.declared.event.Event.{Event}
@@ -64,7 +63,6 @@ no_limit : (bytes : List ℕ) (kind : LimitKind) (left : Option (List ℕ)) (tex
 no_limit bytes kind left texts count few short taken counts past = grind (arith, length-append, some_lines, short_behind)
 
 -- the clean script declares all disks that were read
-
 module _ {D : Type 0} (seen : D → ImageState) (script behind : Option (List ℕ)) (gives : ℕ → Option (List ℕ)) (ran : Status) (lines : ℕ) (names : NamesState) (journal : List Entry) (image : Option D) (lanes : Option Lanes) (run : Replayed seen script behind gives ran lines names journal image lanes)
     (why : Status) (old new : Option (List ℕ)) (text bytes : List ℕ) (reports : Reports ran why old new text) (known : script ≡ Some bytes) (clean : IsCleanScript bytes)
     (source : ran ≡ status.SourceFault → ⊥) (host : ran ≡ status.HostFault → ⊥) (sink : why ≡ status.SinkFault → ran ≢ status.SinkFault → ⊥) (store : IfSome image (λ disk. (seen disk).faults ≡ 0))

@@ -17,7 +17,6 @@ use Rattle.script_laws.proofs.EntryKinds.{Kind, SaysNothing, kept, kind_of}
 use Rattle.script_laws.proofs.Tellings.{Telling, entries_told, means_of, seen_at}
 
 -- ONE ENTRY, and one event of a lane
-
 nothing_at : (x : ℕ) (m : SettleEntry) → SaysNothing m → [] ≡ requests_of (event_at x m)
 nothing_at x m nothing = grind arith
 

@@ -11,8 +11,6 @@ use Rattle.ldc_queue.specs.declared.end.End.TheVariants.{A, B}
 use Rattle.vdisk_msg.specs.Requests.{BadCount, BadRange, Defect}
 use Rattle.world_parts.specs.channel_model.WireEvent.{Reset}
 use Rattle.disk_law.proofs.Counted.{completed-append}
-use Rattle.disk_law.specs.Issued.{completed}
-use Rattle.disk_law.specs.ListStep as plain
 use Rattle.world_parts.specs.disk_model.DiskEvent.{Asks, Done, Full, OnWire, Refused, Works}
 use Rattle.domain_script.specs.declared.event.DiskDecl.{DiskDecl}
 use Rattle.domain_script.specs.LaneKinds.{disk_lane}
@@ -135,11 +133,7 @@ lanes_joined : (disk : DiskDecl) (one two : List SettleEntry)
     → told_lanes disk (one ++ two) ≡ joined (told_lanes disk one) (told_lanes disk two)
 lanes_joined disk one two =
     let text = texts_append disk one two in
-    let ids = ids_in_append one two in
-    let done : length (ids_in (one ++ two)) ≡ length (ids_in one) + length (ids_in two) =
-    ap (λ (l : List ℕ). length l) ids ∙ length-append (ids_in one) (ids_in two) in
-    let resets = resets_append one two in
-    λ i. record { text = text i; ids = ids i; done = done i; resets = resets i; frames = 0 }
+    grind (arith, ids_in_append, length-append, resets_append)
 
 pub told_append : (disk : DiskDecl) (xs ys others more : List SettleEntry) → told_lanes disk xs ≡ told_lanes disk ys
     → told_lanes disk others ≡ told_lanes disk more → told_lanes disk (xs ++ others) ≡ told_lanes disk (ys ++ more)

@@ -11,7 +11,7 @@ use Rattle.world_parts.specs.world_laws.World.{WorldStep, fresh_world}
 use Rattle.world_parts.proofs.domain_laws.LineEntries.{each_in}
 use Rattle.world_parts.proofs.domain_laws.Running.{disks_run}
 use Rattle.world_parts.proofs.domain_laws.ScriptEntries.{lines_run}
-use Rattle.world_parts.specs.domain_laws.Domain.{DomainState, DomainStep, lanes_in}
+use Rattle.world_parts.specs.domain_laws.Domain.{DomainState, DomainStep}
 use Rattle.world_parts.specs.domain_laws.Lines as world
 use Rattle.ldom_entries.specs.declared.entry.Entry.{Entry}
 use Rattle.script_laws.proofs.Entries.{IsName, IsOfLane}
@@ -106,9 +106,7 @@ module _ (disks : List DiskDecl) (nets : List NetShape) (image : ImageState) whe
       cut_none entry name (inr at) none =
           let front : NobodyForgesAll (world.entries_of_lines lines) =
           any_front (world.entries_of_lines lines) at.later (subst NobodyForgesAll at.before_is none) in
-          let of_lanes = begins_lanes line (lanes_in w) part (lanes_in v) (reached_lines disks nets image are lines w run)
-          (unforged_lines disks nets image are lines w run front) begun.begins in
-          not_lane entry name (each_in IsOfLane part at.later entry behind at.is of_lanes)
+          grind (arith, begins_lanes, reached_lines, unforged_lines, not_lane, each_in)
 
       cut_finished : InEither (world.entries_of_lines lines) part before Settled behind → FinishedAt disks image before
       cut_finished given = grind (arith, finished_at, each_in, begins_unsettled)

@@ -32,7 +32,7 @@ use Rattle.world_parts.specs.world_laws.Settle.{SettleEntry, Unsettled, Unsettle
 use Rattle.world_parts.proofs.domain_laws.Counting.{made_move}
 use Rattle.world_parts.proofs.domain_laws.DiskParts.{disks_end as names_move, rounds_move_disks}
 use Rattle.world_parts.proofs.domain_laws.LineEntries.{AllRound, EachEntry, each_in}
-use Rattle.world_parts.specs.domain_laws.Counts.{moves, moves_in}
+use Rattle.world_parts.specs.domain_laws.Counts.{moves_in}
 use Rattle.world_parts.specs.domain_laws.Domain.{DomainState, Lanes, lanes, lanes_in, port_entries, switch}
 use Rattle.world_parts.specs.domain_laws.Lines.{fronts}
 use Rattle.ldom_entries.specs.declared.entry.Entry.{Entry}
@@ -80,11 +80,7 @@ pub name_at : (start : Lanes) (part : List SettleEntry) (behind : Lanes)
     → (so_far rest : List SettleEntry) → part ≡ so_far ++ entry ∷ rest → most_rounds lanes start ≤ moves_in so_far
 name_at start part behind goes entry name so_far rest is =
     let at : NamesAt start so_far entry behind = names_at start part behind goes entry name so_far rest is in
-    let rounds : List AllRound = at.rounds ++ at.last ∷ [] in
-    let all : List SettleEntry = entries_of_rounds rounds in
-    subst (λ (l : List SettleEntry). most_rounds lanes start ≤ moves_in l) (sym at.so_far_is)
-    (enough (most_rounds lanes start) (length rounds) (moves_in all) (moves_in (all ++ at.later)) (moves_in at.later) at.most
-    (made_move (begin lanes start) rounds at.now at.run) (sum_both moves all at.later))
+    grind (arith, enough, made_move, sum_both)
 
 -- and the disk moved in the last of them, or waits
 left_why : (x : ℕ) (steps : Two (List LaneRound) (List (List SwitchEvent))) (so_far : List SettleEntry) (behind : List LaneState)

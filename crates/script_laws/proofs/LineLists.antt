@@ -1,5 +1,5 @@
 -- Lists of lines with their parts, one after another, of which the last may be cut off; and how they end.
-use Rattle.std.proofs.Common.{◌≡◌, ℕ, ◌+◌, ◌<◌, List, [], ◌∷◌, ◌++◌, length, Option, Some, None, refl, ◌∙◌, ap, subst, append_assoc, length-append, arith}
+use Rattle.std.proofs.Common.{◌≡◌, ℕ, ◌+◌, ◌<◌, List, [], ◌∷◌, ◌++◌, length, Option, Some, None, refl, ◌∙◌, ap, append_assoc, length-append, arith}
 use Rattle.std.proofs.lemmas.List.{append-nil, map-append}
 use Rattle.std.proofs.lemmas.List.Concat.{flat_map-append}
 use Rattle.domain_script.specs.declared.event.Event.{Event}
@@ -60,13 +60,7 @@ ran_whole entries s parts t none given = grind arith
 -- lines that begin below the most, and then others
 pub below_both : (entries : ℕ) (lines more : List (Event × List Entry)) → BeginBelow entries lines
     → BeginBelow (entries + length (entries_in lines)) more → BeginBelow entries (lines ++ more)
-below_both entries (line ∷ lines) more first second =
-    let behind : List Entry = entries_in lines in
-    let same : entries + length (line.1 ++ behind) ≡ entries + length line.1 + length behind =
-    omega (arith, length-append line.1 behind) in (
-      first.0,
-      below_both (entries + length line.1) lines more first.1 (subst (λ (n : ℕ). BeginBelow n more) same second),
-    )
+below_both entries (line ∷ lines) more first second = grind (arith, length-append, below_both (entries + length line.1) lines more first.1)
 below_both entries lines more first second = grind arith
 
 pub below_push : (entries : ℕ) (lines : List (Event × List Entry)) (line : Event × List Entry)

@@ -50,7 +50,6 @@ use Rattle.world_parts.specs.Declared.{shapes_of, world_of}
 use Rattle.world_parts.specs.WorldEvents.{told_of}
 
 -- TICKS AND NAMES as they are told
-
 tick_told : (entry : SettleEntry) → IsTick entry → IsTick (told_of entry)
 tick_told entry is = grind arith
 
@@ -174,11 +173,7 @@ module _ (disks : List DiskDecl) (nets : List NetShape) (image : ImageState) (ar
     real_name at =
         let place : Untold of.real at.front (Unsettled x) at.later =
         untold of.real at.front (Unsettled x) at.later (sym of.told_is ∙ at.is) in
-        record {
-          front = place.past;
-          later = place.rest;
-          is = place.is ∙ ap (λ (e : SettleEntry). place.past ++ e ∷ place.rest) (real_unsettled x place.real place.real_is);
-        }
+        grind (arith, real_unsettled)
 
     disk_exact : (NamesDisk x part) ↔ (MovedIn x round ⊎ Waits)
     disk_exact = (

@@ -32,10 +32,7 @@ same_front : {X : Type 0} (p q j k : List X) → length p ≡ length q → p ++ 
 same_front {X} [] [] j k long is = refl
 same_front {X} [] (y ∷ q) j k long is = absurd (omega (arith, long))
 same_front {X} (x ∷ p) [] j k long is = absurd (omega (arith, long))
-same_front {X} (x ∷ p) (y ∷ q) j k long is =
-    let first : x ≡ y = cc is in
-    let others : p ++ j ≡ q ++ k = cc is in
-    ap (λ (z : X). z ∷ p) first ∙ ap (λ (l : List X). y ∷ l) (same_front p q j k (omega (arith, long)) others)
+same_front {X} (x ∷ p) (y ∷ q) j k long is = grind (arith, same_front p q j k (omega (arith, long)))
 
 -- THE PART OF A LINE has so many entries, by the number of lanes; that of a settle ends with its answer, or with names
 abbrev part_size : Line → Lanes → Option ℕ

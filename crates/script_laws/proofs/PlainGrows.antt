@@ -7,7 +7,6 @@ use Rattle.std.proofs.lemmas.Fmt.{decimal_digit}
 use Rattle.std.proofs.lemmas.List.{append-nil}
 use Rattle.vdisk_msg.specs.declared.request.Request.{Request}
 use Rattle.vdisk_msg.specs.Requests.{Defect, defect, operation_of}
-use Rattle.world_parts.specs.disk_model.DiskEvent.{Full, Refused}
 use Rattle.domain_script.specs.declared.event.DiskDecl.{DiskDecl}
 use Rattle.domain_script.specs.declared.event.Event.{Event}
 use Rattle.domain_script.specs.declared.event.Event.TheVariants as event
@@ -66,7 +65,6 @@ grows_line : (disk : DiskDecl) (p : Plain) (x : SettleEntry) (line : List ℕ) �
 grows_line disk p x line is none never = grind (arith, append-nil)
 
 -- LINES that their parts make, where nothing stands before the line feed
-
 refused_count : (disk : DiskDecl)
     → run_line disk (entry.Refused (OfWhole (disk_lane 0)) Count) ≡ codes "refused " ++ name_text disk ++ codes " count\n"
 refused_count disk = grind (arith, append-nil, append_assoc)
@@ -79,7 +77,6 @@ pub zero_text : decimal 0 ≡ codes "0"
 zero_text = decimal_digit 0 (omega arith)
 
 -- a completion's word and its status
-
 abbrev done_front : DiskDecl → ℕ → List ℕ
 done_front disk id = codes "done " ++ name_text disk ++ codes " " ++ decimal id
 

@@ -14,8 +14,8 @@ use Rattle.world_parts.specs.port_model.NetLaneState.{IsNetShape, NetShape, role
 use Rattle.world_parts.specs.port_model.NetLaneStep.{is_finished, net_wire}
 use Rattle.world_parts.specs.port_model.PortLog.{PortLog, after, no_events}
 use Rattle.world_parts.specs.port_model.PortMay.{PortMay}
-use Rattle.world_parts.specs.port_model.PortState.{OnLane, PortEvent, PortState, PortStep, Receives, fresh_port}
-use Rattle.world_parts.specs.switch_laws.Events.{OnPort, SwitchEvent, Switched, at_port}
+use Rattle.world_parts.specs.port_model.PortState.{OnLane, PortEvent, PortState, PortStep, fresh_port}
+use Rattle.world_parts.specs.switch_laws.Events.{OnPort, SwitchEvent, at_port}
 use Rattle.world_parts.specs.switch_laws.Ports.{is_calm}
 use Rattle.world_parts.specs.world_laws.Settle.{OfPort, SettleEntry}
 use Rattle.world_parts.specs.domain_laws.Frames.{port_events}
@@ -37,11 +37,9 @@ own_log c event xs ys same l = grind arith
 
 pub told_log : (k : ℕ) (part : List SettleEntry) (l : PortLog)
     → log_of after l (port_events k (all_told part)) ≡ log_of after l (port_events k part)
-told_log k [] l = refl
-told_log k (OfPort j (OnPort (OnLane event)) ∷ part) l = grind (arith, own_log, told_log k part)
-told_log k (OfPort j (OnPort (Receives frame)) ∷ part) l = grind (arith, behind_log, told_log k part)
-told_log k (OfPort j (Switched frame out full) ∷ part) l = grind (arith, behind_log, told_log k part)
+told_log k (OfPort j event ∷ part) l = grind (arith, own_log, behind_log, told_log k part)
 told_log k (entry ∷ part) l = told_log k part l
+told_log k part l = grind arith
 
 -- A RUN of a port, and its log: what is on the wire is the same
 step_wire : (s : PortState) (l : PortLog) (event : PortEvent) (t : PortState) → s.lane.wire ≡ l.wire → PortStep s event t

@@ -224,10 +224,7 @@ stretches : LeadsWhere lanes Any Stretch
 stretches = record {
   keeps = keeps;
   none = λ w. record { moves = ports_lead.none w; stand = none_stand w.second [] tt };
-  both = λ w m v one two first second. record {
-    moves = ports_lead.both w m v one two first.moves second.moves;
-    stand = two_stand w.second one m.second two first.moves first.stand second.stand;
-  };
+  both = λ w m v one two first second. grind (arith, ports_lead, two_stand);
   round = λ w m r v at made. record {
     moves = ports_lead.round w r v made;
     stand = none_stand w.second (lanes.leaves r) (round_none w r v made);
@@ -303,13 +300,8 @@ pub record AnswerAt (k : ℕ) (so_far : List SettleEntry) (s : PortState) : Type
 before_answer : (one two : List SettleEntry) → one ++ Settled ∷ [] ≡ two ++ Settled ∷ [] → two ≡ one
 before_answer [] [] same = refl
 before_answer [] (y ∷ two) same = grind (arith, no_place)
-before_answer (x ∷ one) [] same =
-    let none : one ++ Settled ∷ [] ≡ [] = cc same in
-    absurd (no_place one Settled [] (sym none))
-before_answer (x ∷ one) (y ∷ two) same =
-    let first : x ≡ y = cc same in
-    let rest : one ++ Settled ∷ [] ≡ two ++ Settled ∷ [] = cc same in
-    ap (λ (z : SettleEntry). z ∷ two) (sym first) ∙ ap (λ (l : List SettleEntry). x ∷ l) (before_answer one two rest)
+before_answer (x ∷ one) [] same = grind (arith, no_place)
+before_answer (x ∷ one) (y ∷ two) same = grind (arith, before_answer one two)
 
 pub answer_behind_quiet : (start : Lanes) (part : List SettleEntry) (behind : Lanes) → Settles lanes start part behind
     → (so_far : List SettleEntry) → part ≡ so_far ++ Settled ∷ [] → (k : ℕ) (s : PortState) → slice_get start.second k ≡ Some s

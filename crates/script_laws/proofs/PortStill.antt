@@ -53,7 +53,6 @@ calm_happened : (k : ℕ) (part : List SettleEntry) → EachEntry IsCalmOfPorts 
 calm_happened k part calm = said_each port_said IsCalmOfPorts IsCalm k (said_calm k) part calm
 
 -- a tick of another port says nothing of it
-
 tick_said : (k j : ℕ) (event : SwitchEvent) → is_port_tick event ≡ true → port_ticks k (OfPort j event) ≡ 0 → port_said k (OfPort j event) ≡ []
 tick_said k j event is none = grind (arith, eq-eqb, eqb-true)
 
@@ -84,12 +83,10 @@ pub record QuietAt (k : ℕ) (so_far : List SettleEntry) (s : PortState) : Type 
   pub are_ticks : EachEntry IsTickOfPorts ticks
 
 -- WHICH END WAS IDLE LAST is nothing to an end that is still
-
 still_as : (e : End) (o p : Option End) (l : PortLog) → IsPortStillBy e (idle_last o l) → IsPortStillBy e (idle_last p l)
 still_as e o p l given = grind arith
 
 -- AN END THAT MAKES A CALM STEP is still
-
 calm_still : (e : End) (l : PortLog) (answer : NetAnswer) → IsCalmAnswer answer → PortMay l (OnLane (Steps e answer)) → IsPortStillBy e l
 calm_still e l answer calm may = grind arith
 

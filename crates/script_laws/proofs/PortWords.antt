@@ -7,7 +7,6 @@ use Rattle.runs.specs.Run.{Run, run_push}
 use Rattle.ldc_queue.specs.Transcript.{Turn}
 use Rattle.ldc_queue.specs.declared.end.End.{End}
 use Rattle.vio_tag.specs.declared.cause.Cause.{Cause}
-use Rattle.vio_tag.specs.declared.cause.Cause.TheVariants as the_cause
 use Rattle.world_parts.specs.channel_model.ResetSays.{ResetSays}
 use Rattle.world_parts.specs.channel_model.TranscriptLog.{transcript_of}
 use Rattle.lane_kinds.proofs.Moving.{each_there}
@@ -44,7 +43,6 @@ IsPortTold many (UnsettledPort k) = k < many
 IsPortTold many _ = ⊤
 
 -- ONE EVENT of a port that is reached
-
 cause_named : (slots : ℕ) (l : EndLog) (turns : List Turn) (cause : Cause) (packet : Option (List ℕ)) → OwnReset slots l cause packet
     → ResetSays turns packet cause → NamesFault cause
 cause_named slots l turns cause packet own says = grind arith
@@ -112,7 +110,6 @@ ports_told disks many lanes (entry ∷ entries) behind long all run below =
     one_told _ step below = tt
 
 -- AND WHAT IS TOLD of them
-
 one_as_told : (many : ℕ) (entry : SettleEntry) → IsPortTold many entry → IsPortTold many (told_of entry)
 one_as_told many entry told = grind arith
 

@@ -1,5 +1,5 @@
 -- The entries of a round are the steps of all ends in order, less the silent ones; and as they are told they are the same.
-use Rattle.std.proofs.Common.{◌≡◌, ℕ, zero, suc, ◌+◌, List, [], ◌∷◌, ◌++◌, length, map, refl, sym, ap, ◌∙◌, arith, append_assoc}
+use Rattle.std.proofs.Common.{◌≡◌, ℕ, zero, suc, ◌+◌, List, [], ◌∷◌, ◌++◌, length, map, refl, ap, ◌∙◌, arith, append_assoc}
 use Rattle.ldc_queue.specs.declared.end.End.{End}
 use Rattle.lane_kinds.specs.Both.{Two}
 use Rattle.lane_kinds.specs.Lanes.{Entries, LaneKind, MakeTurns, round_entries, turn_entries}
@@ -9,9 +9,9 @@ use Rattle.world_parts.specs.switch_laws.Events.{SwitchEvent}
 use Rattle.world_parts.specs.switch_laws.Ports.{IsStepOf, ports}
 use Rattle.world_parts.specs.world_laws.DiskKind.{disk_kind}
 use Rattle.world_parts.specs.world_laws.Rounds.{LaneRound}
-use Rattle.world_parts.specs.world_laws.Settle.{OfLane, OfPort, SettleEntry, disk_entries}
+use Rattle.world_parts.specs.world_laws.Settle.{OfLane, OfPort, SettleEntry}
 use Rattle.world_parts.proofs.domain_laws.LineEntries.{EachEntry, StepsHave, disks_each, each_both, ports_each}
-use Rattle.world_parts.specs.domain_laws.Domain.{Lanes, lanes, port_entries, switch}
+use Rattle.world_parts.specs.domain_laws.Domain.{Lanes, lanes}
 use Rattle.world_parts.specs.domain_laws.Lines.{AreSteps, DiskLane, EndTurn, PortLane, both_ends, lanes_from}
 use Rattle.world_parts.specs.WorldEvents.{told_of}
 use Rattle.script_laws.proofs.Untold.{all_told}
@@ -66,13 +66,8 @@ is_round w r v n m made disks_are ports_are =
     let two : List SettleEntry = all_steps OfPort 0 r.second in
     record {
       steps = one ++ two;
-      are = both_steps (both_ends (lanes_from DiskLane 0 n)) (both_ends (lanes_from PortLane 0 m)) one two
-          (disk_steps 0 n w.first r.first v.first made.of_first.turns_made (made.of_first.many ∙ disks_are))
-          (port_steps 0 m w.second r.second v.second made.of_second.turns_made (made.of_second.many ∙ ports_are));
-      is = ap (λ (l : List SettleEntry). l ++ switch.leaves r.second)
-          (sym (turns_kept disk_kind disk_entries (λ k event. refl) 0 r.first))
-          ∙ ap (λ (l : List SettleEntry). kept_steps one ++ l) (sym (turns_kept ports port_entries (λ k event. refl) 0 r.second))
-          ∙ sym (kept_both one two);
+      are = grind (arith, all_steps, both_steps, disk_steps, port_steps, turns_kept, kept_both);
+      is = grind (arith, all_steps, both_steps, disk_steps, port_steps, turns_kept, kept_both);
     }
 
 -- AS THEY ARE TOLD

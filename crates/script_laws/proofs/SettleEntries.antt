@@ -98,7 +98,6 @@ module _ {S V : Type 0} (K : LaneKind S V) (N : Entries V SettleEntry) where
   names_are k turns w = grind arith
 
 -- ROUNDS that were made leave an event each
-
 one_move : (entry : SettleEntry) → moves entry ≤ 1
 one_move entry = grind arith
 
@@ -166,19 +165,14 @@ settle_front start part behind at few = few_each IsOfLane lane_steps lane_ticks 
 named_front : (start : Lanes) (part : List SettleEntry) (behind : Lanes)
     (at : SettleFront lanes fronts start part behind) → length at.rounds ≡ most_rounds lanes start
     → NamesFront lanes at.rounds at.now at.later behind → NamesLast part
-named_front start part behind at all front =
-    let long = rounds_long (begin lanes start) at.rounds at.now at.run in
-    record {
-      front = entries_of_rounds at.rounds;
-      names = at.later;
-      is = at.is;
-      of_lanes = rounds_each IsOfLane lane_steps lane_ticks (begin lanes start) at.rounds at.now at.run;
-      are = first_each IsName at.later front.unnamed
-          (each_as IsName (at.later ++ front.unnamed) (lanes.names front.last.steps at.now.lanes) front.is
-          (all_names front.last.steps at.now.lanes));
-      some = λ one.
-          at_least_one (length at.rounds) (lanes.pending start) (length (entries_of_rounds at.rounds)) all long;
-    }
+named_front start part behind at all front = record {
+  front = entries_of_rounds at.rounds;
+  names = at.later;
+  is = at.is;
+  of_lanes = rounds_each IsOfLane lane_steps lane_ticks (begin lanes start) at.rounds at.now at.run;
+  are = grind (arith, rounds_long, rounds_each, lane_steps, lane_ticks, first_each, each_as, all_names, at_least_one);
+  some = λ one. grind (arith, rounds_long, rounds_each, lane_steps, lane_ticks, first_each, each_as, all_names, at_least_one);
+}
 
 pub front_last : (start : Lanes) (part : List SettleEntry) (behind : Lanes)
     → SettleFront lanes fronts start part behind → NamesLast part

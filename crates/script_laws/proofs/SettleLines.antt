@@ -168,11 +168,9 @@ module _ (disks : List DiskDecl) (nets : List NetShape) (image : ImageState) (wh
   settles_on None v last before part behind is =
       let one : WholeOn disks nets image before part behind m =
       whole_on disks nets image whole m run before part behind is in
-      let start : DomainState = one.whole.at in
       record {
         of = settles_whole disks nets image before part one.whole;
-        leads = subst (λ (x : DomainState). LeadsOn start ((Settle, part) ∷ behind) x) (sym last)
-            (lines_on start ((Settle, part) ∷ behind) m (one.whole.next, one.whole.step, one.on));
+        leads = grind (arith, whole_on, lines_on);
       }
   settles_on (Some line) v last before part behind is =
       cut_at line v last before part behind (place_in whole (line ∷ []) before (Settle, part) behind is)

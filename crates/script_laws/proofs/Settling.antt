@@ -191,10 +191,7 @@ module _ (disks : List DiskDecl) (nets : List NetShape) (image : ImageState) (ar
       let clean : NobodyForgesAll (world.entries_of_lines of.place.front) =
       any_front (world.entries_of_lines of.place.front) of.place.so_far
       (subst NobodyForgesAll of.place.before_is none) in
-      no_name entry name
-      (each_in LeavesNone line.1 of.place.so_far entry place.rest place.is
-      (part_leaves line.0 (lanes_in of.at) line.1 (lanes_in of.next) (reached_lines of.place.front of.at of.run)
-      (unforged_lines of.place.front of.at of.run clean) of.moves.part_of))
+      grind (arith, no_name, each_in, part_leaves, reached_lines, unforged_lines)
 
   -- BEHIND THE ANSWER of a settle nothing more stands in its part, and all disks are finished
   settled_at : (lines : List (world.Line × List SettleEntry)) (before behind : List SettleEntry)

@@ -60,7 +60,6 @@ module _ {D : Type 0} (size : D → ℕ) where
   long_or_none why least told image sized = grind arith
 
   -- what was told is long enough where the run has lanes: there is an image then, and it isn't too short
-
   pub lanes_long : (why : Status) (least : ℕ) (told : Option (List ℕ)) (image : Option D) (lanes : Option Lanes) (t : DomainState)
       → SizeIs size why least told image → LanesStand why image lanes t → IfSome lanes (λ stand. IfSome told (λ bytes. least ≤ length bytes))
   lanes_long why least told image lanes t sized stand = grind arith

@@ -163,17 +163,14 @@ lane_tick : (j : ℕ) (s : LaneState) (had : Bool) (lanes : List LaneState) (lat
     → tick_entry j get ++ later ≡ so_far ++ OfLane x event ∷ rest → FirstTick j x (s ∷ lanes) so_far
 lane_tick j s had lanes later x event so_far rest false gets more is =
     later_tick j x s lanes so_far false (more so_far is)
-lane_tick j s had lanes later x event [] rest true gets more is =
-    let same : OfLane j tick ≡ OfLane x event = cc is in
-    let number : j ≡ x = cc same in
-    record {
-      index = 0;
-      is = omega (arith, number);
-      lane = s;
-      there = refl;
-      waits = (gets_where had (waits_on s) gets).1;
-      none = refl;
-    }
+lane_tick j s had lanes later x event [] rest true gets more is = record {
+  index = 0;
+  is = grind (arith, gets_where);
+  lane = s;
+  there = refl;
+  waits = (gets_where had (waits_on s) gets).1;
+  none = refl;
+}
 lane_tick j s had lanes later x event (entry ∷ past) rest true gets more is =
     let same : OfLane j tick ≡ entry = cc is in
     let others : later ≡ past ++ OfLane x event ∷ rest = cc is in
@@ -214,17 +211,7 @@ front_lost : (lanes : List LaneState) (marks : List Bool) (part : List SettleEnt
     → slice_get lanes x ≡ Some s → LostAt x so_far s
 front_lost lanes marks part behind lost front x event so_far rest s place there =
     let first : FirstTick 0 x lanes so_far = front_tick 0 lanes marks part behind front x event so_far rest place in
-    let number : first.index ≡ x = omega (arith, first.is) in
-    let found : slice_get lanes x ≡ Some first.lane =
-    subst (λ (i : ℕ). slice_get lanes i ≡ Some first.lane) number first.there in
-    let both : Some first.lane ≡ Some s = sym found ∙ there in
-    let same : first.lane ≡ s = cc both in
-    let waits : waits_on s ≡ true = subst (λ (l : LaneState). waits_on l ≡ true) same first.waits in
-    record {
-      none = first.none;
-      waits = waits;
-      lost = λ clean. each_there WaitsLost lanes x s lost there clean waits;
-    }
+    grind (arith, slice_get, each_there)
 
 -- all ticks are a front of them
 all_ticks : (j : ℕ) (lanes : List LaneState) (marks : List Bool) (behind : List LaneState)
@@ -233,7 +220,6 @@ all_ticks j (s ∷ lanes) (had ∷ marks) (t ∷ behind) made = grind (arith, al
 all_ticks j lanes marks behind made = grind arith
 
 -- BEHIND A QUIET ROUND
-
 waits_lost : (s : LaneState) (r : LaneRound) (t : LaneState) → IsReached s → MakesRound s r t → is_quiet r ≡ true
     → WaitsLost t
 waits_lost s r t given made quiet clean waits = grind (arith, waits_where, round_keeps, quiet_same, quiet_finished, either)
@@ -312,10 +298,7 @@ stretches = record {
   keeps = keeps;
   none = λ w. record { moves = stay 0 w; stand = none_stand w [] tt };
   both = λ w m v one two first second. grind (arith, moves_on, two_stand);
-  round = λ w m r v reached made. record {
-    moves = leads.round w r v made;
-    stand = none_stand w (round_entries 0 r) (disks_each NoTick tick_steps w r v made);
-  };
+  round = λ w m r v reached made. grind (arith, leads, none_stand, disks_each, tick_steps);
   ticks = λ w m r v u reached made quiet ticks.
       quiet_stretch w m r v (tick_entries 0 v m) u reached made quiet (all_ticks 0 v m u ticks);
 }

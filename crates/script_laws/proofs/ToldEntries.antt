@@ -31,11 +31,7 @@ lane_told : (many : ℕ) (w : WorldState) (k : ℕ) (event : DiskEvent) (v : Wor
     → Each IsReached w.lanes → OneMoves w k event v → IsTold many (OfLane k event)
 lane_told many w k event v long reached one =
     let at = each_there IsReached w.lanes k one.lane reached one.there in
-    let step = lane_step one.lane w.image event one.after v.image one.moves in
-    let within = slice_get_within w.lanes k one.lane one.there in (
-      omega (arith, within, long),
-      event_words at.shape at.events one.lane event one.after at.sound at.run step,
-    )
+    grind (arith, lane_step, slice_get_within, event_words)
 
 -- AND SO IS EACH ENTRY of a run
 pub run_told : (many ports : ℕ) (w : WorldState) (entries : List SettleEntry) (v : WorldState) → length w.lanes ≡ many
@@ -47,11 +43,7 @@ run_told many ports w (OfLane k event ∷ entries) v long reached run below =
       run_told many ports run.0 entries v (many_stay w (OfLane k event ∷ []) run.0 first ∙ long)
           (stay_reached w (OfLane k event ∷ []) run.0 reached first) run.2 below.1,
     )
-run_told many ports w (Unsettled k ∷ entries) v long reached run below = (
-  below.0,
-  run_told many ports run.0 entries v (ap (λ (x : WorldState). length x.lanes) run.1 ∙ long)
-      (subst (λ (x : WorldState). Each IsReached x.lanes) (sym run.1) reached) run.2 below.1,
-)
+run_told many ports w (Unsettled k ∷ entries) v long reached run below = grind (arith, run_told many ports run.0 entries v)
 run_told many ports w (entry ∷ entries) v long reached run below =
     grind (arith, run_told many ports run.0 entries v (ap (λ (x : WorldState). length x.lanes) run.1 ∙ long) (subst (λ (x : WorldState). Each IsReached x.lanes) (sym run.1) reached) run.2 below.1)
 

@@ -56,7 +56,6 @@ module _ {D : Type 0} (shown : Mode) (seen : D → ImageState) (script now : Opt
   stop = subst (λ (w : Status). StopsAt w run.stopped.left run.stopped.held now names run.stopped.count (length journal)) told.0 run.stopped.stop
 
   -- all lines were read, and in one way
-
   lines_are : lines ≡ length read_events
   lines_are =
       let read = run.stopped.read in
