@@ -4,7 +4,6 @@ use Rattle.std.proofs.lemmas.List.{length-append}
 use Rattle.runs.specs.Run.{Run, run_push}
 use Rattle.disk_law.specs.Issued.{issued}
 use Rattle.disk_law.specs.ListState.{ImageState}
-use Rattle.disk_law.specs.ListStep as plain
 use Rattle.disk_model.specs.DiskEvent.{DiskEvent}
 use Rattle.disk_model.specs.LaneState.{LaneState, Shape, fresh}
 use Rattle.disk_model.specs.LaneStep.{LaneStep}

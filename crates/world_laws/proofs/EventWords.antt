@@ -1,5 +1,5 @@
 -- An event of a lane that was run there can be told in words.
-use Rattle.std.proofs.Common.{◌≡◌, ℕ, ◌+◌, ◌*◌, ◌≤◌, ◌%◌, Bool, true, false, List, [], ◌∷◌, ◌++◌, length, Option, Some, None, refl, sym, ap, ◌∙◌, subst, arith}
+use Rattle.std.proofs.Common.{◌≡◌, ℕ, ◌*◌, ◌≤◌, ◌%◌, Bool, true, false, List, [], ◌∷◌, ◌++◌, length, Option, Some, None, refl, sym, ap, ◌∙◌, subst, arith}
 use Rattle.std.specs.Prelude.{◌==◌, ◌&&◌, if◌then◌else◌}
 use Rattle.runs.specs.Lawful.{lawful_split, log_of, run_lawful}
 use Rattle.runs.specs.Run.{Run, run_push}
@@ -10,7 +10,6 @@ use Rattle.vdisk_msg.specs.declared.request.Request.{Request}
 use Rattle.vdisk_msg.specs.declared.request.Request.TheVariants.{Flush, Read, Write}
 use Rattle.vdisk_msg.specs.Requests.{BadCount, Defect, defect, given_count, operation_of}
 use Rattle.vio_tag.specs.declared.cause.Cause.{Cause}
-use Rattle.vio_tag.specs.declared.cause.Cause.TheVariants as the_cause
 use Rattle.channel_model.specs.ResetSays.{ResetSays}
 use Rattle.channel_model.specs.WireEvent.{Joined, Reset}
 use Rattle.lane_laws.specs.DiskLog.{DiskLog, after, nothing_yet}

@@ -1,5 +1,5 @@
 -- Lanes by their numbers: one that is set, a condition on each, and what moves them all.
-use Rattle.std.proofs.Common.{◌≡◌, ℕ, zero, suc, ◌+◌, true, List, [], ◌∷◌, length, slice_get, slice_set, Some, refl, arith}
+use Rattle.std.proofs.Common.{◌≡◌, ℕ, zero, suc, ◌+◌, List, [], ◌∷◌, length, slice_get, slice_set, Some, refl, arith}
 use Rattle.std.proofs.lemmas.Bool.{eqb-true}
 use Rattle.runs.specs.Run.{Run}
 use Rattle.disk_model.specs.DiskEvent.{DiskEvent}

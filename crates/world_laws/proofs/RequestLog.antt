@@ -7,7 +7,7 @@ use Rattle.disk_law.specs.Issued.{completed, issued}
 use Rattle.disk_law.specs.ListStep as plain
 use Rattle.lane_laws.specs.DiskLog.{DiskLog, after, nothing_yet}
 use Rattle.lane_laws.specs.WorkLog.{WorkLog, after_work}
-use Rattle.disk_model.specs.DiskEvent.{Accepted, DiskEvent, Done, Full, Refused}
+use Rattle.disk_model.specs.DiskEvent.{DiskEvent}
 use Rattle.disk_model.specs.LaneState.{IsShape, LaneState, Shape, fresh}
 use Rattle.disk_model.specs.LaneStep.{LaneStep}
 use Rattle.channel_model.specs.TranscriptLog.{TranscriptLog}
