@@ -6,6 +6,7 @@ use Rattle.vio_io.specs.declared.host.AttachFault.{AttachFault}
 use Rattle.vio_io.specs.declared.host.AttachFault.TheVariants.{Failed, Memory}
 use Rattle.disk_law.specs.ListState.{ImageState}
 use Rattle.domain_script.specs.declared.event.Event.{Event}
+use Rattle.domain_script.specs.declared.event.Event.TheVariants as line
 use Rattle.script_reader.specs.declared.lines.LinesStop.{LinesStop}
 use Rattle.script_reader.specs.declared.lines.LinesStop.TheVariants.{Going}
 use Rattle.script_reader.specs.LinesState.{AllFed, LinesState, to_come}
@@ -230,13 +231,26 @@ module _ (stop : LinesStop) (start rest now : Option (List ℕ)) (event : Event)
 -- memory was wanted in the midst of that first event
 pub runs_first_cut : {stop : LinesStop} (start now : Option (List ℕ)) (held : List ℕ) (event : Event) (names : NamesState) (s t : DomainState) (journal : List Entry) (number : ℕ)
     → Opens stop start (prepend_known held now) event names number → FitsSoFar s (line_of event) [] journal t → RunsAll start now names s status.NoMemory names journal t number
-runs_first_cut start now held event names s t journal number opens fits = record {
-  parts = begun_parts opens.opening event fits.adds.part;
-  stopped = grind (arith, first_events, keeps_same, first_entries, opening_run, line_starts, first_below, not_opening, other_line);
-  journal_is = grind (arith, first_events, keeps_same, first_entries, opening_run, line_starts, first_below, not_opening, other_line);
-  declared = refl;
-  attached = λ _ opening. grind (arith, first_events, keeps_same, first_entries, opening_run, line_starts, first_below, not_opening, other_line);
-}
+runs_first_cut start now held event names s t journal number opens fits =
+    let are : events_of (begun_parts opens.opening event fits.adds.part) ≡ opens.opening ++ event ∷ [] =
+    first_events opens.opening event fits.adds.part in
+    record {
+      parts = begun_parts opens.opening event fits.adds.part;
+      stopped = stopped_behind start now held event names number status.NoMemory (λ failed. cc failed) opens
+          (events_of (begun_parts opens.opening event fits.adds.part)) are (length journal) (tt, keeps_same (prepend_known held now)) refl;
+      journal_is = record {
+        is = first_entries opens.opening event fits.adds.part ∙ sym fits.adds.grew;
+        fits = record {
+          middle = s;
+          run = opening_run s opens.opening opens.are;
+          last = line_starts s event [] journal t fits;
+          begin_below = first_below opens.opening event fits.adds.part;
+        };
+        ends = tt;
+      };
+      declared = refl;
+      attached = λ _ opening. not_opening opens.opening event (other_line event opens.other) (subst AreOpening are opening);
+    }
 
 -- nothing but declarations
 abbrev declared_stopped : (start now : Option (List ℕ)) (why ended : Status) (names : NamesState) (lines : ℕ)

@@ -1,8 +1,9 @@
 -- A clean script is run to its end, where memory suffices and no count rose.
-use Rattle.std.proofs.Common.{◌≡◌, ◌≢◌, inl, inr, ℕ, ◌*◌, ◌<◌, replicate, ◌≤◌, List, [], ◌∷◌, ◌++◌, length, refl, sym, subst, arith, length-append, Option, Some, None, IfSome}
+use Rattle.std.proofs.Common.{◌≡◌, ◌≢◌, inl, inr, ℕ, ◌*◌, ◌<◌, replicate, ◌≤◌, List, [], ◌∷◌, ◌++◌, length, refl, sym, ◌∙◌, ap, subst, arith, length-append, Option, Some, None, IfSome}
 use Rattle.world_parts.specs.domain_laws.Domain.{Lanes}
-use Rattle.std.specs.Prelude.{◌==◌, if◌then◌else◌, Bool, IsSome}
+use Rattle.std.specs.Prelude.{◌==◌, if◌then◌else◌, Bool, true, false, IsSome}
 use Rattle.std.specs.Io.KnownBytes.{prepend_known}
+use Rattle.std.specs.Str.{bytes_eq}
 use Rattle.std.proofs.lemmas.Slice.Eq.{bytes_eq-Decides}
 use Rattle.vio_io.specs.Causes.{Rose}
 use Rattle.domain_script.specs.declared.event.Event.{Event}
@@ -23,6 +24,7 @@ use Rattle.ldom_report.specs.LinesEnd.{IsPast}
 use Rattle.script_laws.specs.Reading.{IsFaulty}
 use Rattle.script_laws.specs.Replayed.{Replayed}
 use Rattle.domain_script.specs.ScriptEvents.{AllSpell, no_names}
+use Rattle.script_laws.specs.Script.{ReadSoFar}
 use Rattle.script_laws.specs.Sized.{SizeIs}
 use Rattle.world_parts.specs.Declared.{blocks_of}
 use Rattle.world_parts.specs.Script.{events_of}
@@ -44,7 +46,12 @@ all_zero faults none (Some x) = none x
 -- no line of a clean script has a fault
 no_fault : (bytes : List ℕ) (first names after : NamesState) (left rest : Option (List ℕ)) (texts : List (List ℕ)) (text : List ℕ) (events all : List Event) → AllSpell (script_lines bytes) first all after → TakesLines (Some bytes) left texts → TakesLine left rest text
     → AllSpell texts first events names → (fault : LineFault) → first_fault text names ≡ Some fault → ⊥
-no_fault bytes first names after left rest texts text events all spelled taken next read fault is = grind (arith, next_spells, no_first_fault)
+no_fault bytes first names after None rest texts text events all spelled taken next read fault is = taken
+no_fault bytes first names after (Some left) None texts text events all spelled taken next read fault is = next
+no_fault bytes first names after (Some left) (Some rest) texts text events all spelled taken next read fault is =
+    let lines : script_lines bytes ≡ texts ++ text ∷ script_lines rest = taken.0 ∙ ap (λ (l : List (List ℕ)). texts ++ l) next.0 in
+    let spells = next_spells texts (script_lines rest) text first names after events all read (subst (λ (l : List (List ℕ)). AllSpell l first all after) lines spelled) in
+    cc (no_first_fault text names spells.0 spells.1, is)
 
 -- a line after others is short as they are
 short_behind : (texts more : List (List ℕ)) (line : List ℕ) → AreShort (texts ++ line ∷ more) → length line ≤ 3100
@@ -63,6 +70,13 @@ no_limit : (bytes : List ℕ) (kind : LimitKind) (left : Option (List ℕ)) (tex
 no_limit bytes kind left texts count few short taken counts past = grind (arith, length-append, some_lines, short_behind)
 
 -- the clean script declares all disks that were read
+no_fewer : (bytes : List ℕ) (left : Option (List ℕ)) (texts : List (List ℕ)) (names after : NamesState) (events all : List Event) → TakesLines (Some bytes) left texts → AllSpell texts no_names events names → AllSpell (script_lines bytes) no_names all after
+    → blocks_of names.disks ≤ blocks_of after.disks
+no_fewer bytes None texts names after events all taken read spelled = absurd taken
+no_fewer bytes (Some rest) texts names after events all taken read spelled =
+    let behind = rest_spells texts (script_lines rest) no_names names after events all read (subst (λ (l : List (List ℕ)). AllSpell l no_names all after) taken.0 spelled) in
+    blocks_stay (script_lines rest) names after behind.0 behind.1
+
 module _ {D : Type 0} (seen : D → ImageState) (script behind : Option (List ℕ)) (gives : ℕ → Option (List ℕ)) (ran : Status) (lines : ℕ) (names : NamesState) (journal : List Entry) (image : Option D) (lanes : Option Lanes) (run : Replayed seen script behind gives ran lines names journal image lanes)
     (why : Status) (old new : Option (List ℕ)) (text bytes : List ℕ) (reports : Reports ran why old new text) (known : script ≡ Some bytes) (clean : IsCleanScript bytes)
     (source : ran ≡ status.SourceFault → ⊥) (host : ran ≡ status.HostFault → ⊥) (sink : why ≡ status.SinkFault → ran ≢ status.SinkFault → ⊥) (store : IfSome image (λ disk. (seen disk).faults ≡ 0))
@@ -70,7 +84,17 @@ module _ {D : Type 0} (seen : D → ImageState) (script behind : Option (List �
     (long : name ≢ 45 ∷ [] → IfSome image (λ disk. 512 * blocks_of clean.names.disks ≤ size disk)) where
   -- the image isn't too short
   never_short : (need have : ℕ) → ran ≡ status.ImageSize need have → ⊥
-  never_short need have is = grind (arith, rest_spells, blocks_stay, zeros_are_long, bytes_eq-Decides, long_enough)
+  never_short need have is = by_name (bytes_eq name (45 ∷ [])) refl
+    where
+      read : ReadSoFar (Some bytes) run.stopped.left (events_of run.parts) names run.stopped.count
+      read = subst (λ (s : Option (List ℕ)). ReadSoFar s run.stopped.left (events_of run.parts) names run.stopped.count) known run.stopped.read
+
+      as_needed : 512 * blocks_of names.disks ≤ 512 * blocks_of clean.names.disks
+      as_needed = omega (arith, no_fewer bytes run.stopped.left read.texts names clean.names (events_of run.parts) clean.events read.taken.taken read.spell clean.spelled)
+
+      by_name : (dash : Bool) → bytes_eq name (45 ∷ []) ≡ dash → ⊥
+      by_name true tests = zeros_are_long size ran (512 * blocks_of names.disks) need have (gives (512 * blocks_of names.disks)) image is (zeros ((bytes_eq-Decides name (45 ∷ [])).0 tests) (512 * blocks_of names.disks)) sized
+      by_name false tests = long_enough size ran (512 * blocks_of names.disks) (512 * blocks_of clean.names.disks) need have (gives (512 * blocks_of names.disks)) image is as_needed (long (λ same. cc (tests, (bytes_eq-Decides name (45 ∷ [])).1 same))) sized
 
   store_works : (i : Option D) (left : ImageState) → IsSome i → IfSome i (λ d. StandsBehind (seen d) left) → IfSome i (λ d. (seen d).faults ≡ 0) → 0 < left.faults → ⊥
   store_works None left some is none rose = cc some

@@ -63,7 +63,11 @@ entry_alone x asked e m given = grind (arith, kept_at, dropped_at, nothing_kept)
 pub history_kept : (x : ℕ) (tellings : List Telling)
     → history x (entries_told tellings) ≡ filter_map kept (seen_at x tellings)
 history_kept x [] = refl
-history_kept x (t ∷ tellings) = grind (arith, entry_alone, kind_of, kept_first, history_kept x tellings)
+history_kept x (t ∷ tellings) =
+    ap (λ (l : List plain.ListEvent). cons_option (disk_event x line.Blank t.entry) l) (history_kept x tellings)
+    ∙ ap (λ (o : Option plain.ListEvent). cons_option o (filter_map kept (seen_at x tellings)))
+    (entry_alone x t.asked t.entry t.means (kind_of t.asked t.entry t.means t.is))
+    ∙ sym (kept_first (disk_event x t.asked t.entry) (seen_at x tellings))
 
 -- THE SAME requests
 pub issued_kept : (es : List plain.ListEvent) → issued (filter_map kept es) ≡ issued es

@@ -1,13 +1,16 @@
 -- What holds of each disk where a script's journal led: its lane, its requests, its reads and its blocks.
-use Rattle.std.proofs.Common.{◌≡◌, ℕ, ◌≤◌, false, List, ◌++◌, length, slice_get, Some, IfSome, ap, ◌∙◌, subst, arith}
+use Rattle.std.proofs.Common.{◌≡◌, ℕ, ◌≤◌, false, List, ◌∷◌, ◌++◌, length, slice_get, Some, IfSome, ap, ◌∙◌, subst}
 use Rattle.runs.specs.Run.{Run, run_split}
 use Rattle.disk_law.specs.ListState.{ImageState}
+use Rattle.world_parts.specs.disk_model.DiskEvent.{Done, Works}
 use Rattle.world_parts.specs.disk_model.LaneState.{IsShape, LaneState, Shape, fresh}
 use Rattle.world_parts.specs.disk_model.LaneStep.{LaneStep}
 use Rattle.domain_script.specs.Declarations.{AreDisks}
 use Rattle.domain_script.specs.declared.event.DiskDecl.{DiskDecl}
 use Rattle.world_parts.specs.world_laws.Along.{happened}
-use Rattle.world_parts.specs.world_laws.Settle.{SettleEntry}
+use Rattle.world_parts.specs.lane_laws.Headline.{CompletionShows}
+use Rattle.world_parts.specs.lane_laws.ImageStep.{region_of}
+use Rattle.world_parts.specs.world_laws.Settle.{OfLane, SettleEntry}
 use Rattle.world_parts.specs.world_laws.Sums.{IsUnforged}
 use Rattle.world_parts.proofs.world_laws.Along.{lane_at, lanes_run, shape_at}
 use Rattle.world_parts.proofs.world_laws.LaneLists.{each_there}
@@ -60,7 +63,20 @@ front_reads : (disks : List DiskDecl) (image : ImageState) (x : ℕ) (shape : Sh
     → (entries : List SettleEntry) (w : WorldState) (s : LaneState)
     → Run WorldStep (fresh_world (shapes_of 0 disks) image) entries w → slice_get w.lanes x ≡ Some s → IsUnforged s
     → s.failed ≡ false → ReadsShow shape x first entries
-front_reads disks image x shape first world told of_shape entries w s run there unforged well = grind (arith, front_completion, shows_last)
+front_reads disks image x shape first world told of_shape entries w s run there unforged well =
+    let shapes : List Shape = shapes_of 0 disks in
+    let completion : (before : List SettleEntry) (id operation status : ℕ) (bytes : List ℕ) (behind : List SettleEntry)
+    → entries ≡ before ++ OfLane x (Works (Done id operation status bytes)) ∷ behind
+    → CompletionShows (region_of shape first) (log_at shape x before) status bytes =
+    λ before id operation status bytes behind is.
+    front_completion shapes image first x shape world told of_shape before id operation status bytes behind w s
+    (subst (λ (l : List SettleEntry). Run WorldStep (fresh_world shapes image) l w) is run) there unforged well in
+    record {
+      shows = completion;
+      undisturbed = λ before id operation status bytes behind is are.
+          shows_last shape x (region_of shape first) before status bytes are
+          (completion before id operation status bytes behind is);
+    }
 
 module _ (disks : List DiskDecl) (nets : List NetShape) (image : ImageState) (are : AreDisks disks)
     (long : IfSome image.told (λ bytes. bytes_needed disks ≤ length bytes)) (entries : List SettleEntry)

@@ -136,7 +136,13 @@ module _ (start : Lanes) (part : List SettleEntry) (behind : Lanes) (out : RunsO
       by_why : MovedBy ports port_entries k (switch.leaves steps.second) ⊎ WaitsBy ports 0 k behind.second
           → MovedBy ports port_entries k (lanes.leaves steps) ⊎ (port_waits s ≡ true)
       by_why (inl moved) = inl (moved_right ports port_entries k (disks.leaves steps.first) (switch.leaves steps.second) moved)
-      by_why (inr at) = grind (arith, slice_get)
+      by_why (inr at) =
+          let number : at.index ≡ k = omega (arith, at.is) in
+          let here : slice_get behind.second k ≡ Some at.lane =
+          subst (λ (i : ℕ). slice_get behind.second i ≡ Some at.lane) number at.there in
+          let both : Some at.lane ≡ Some s = sym here ∙ there in
+          let same : at.lane ≡ s = cc both in
+          inr (subst (λ (x : PortState). port_waits x ≡ true) same at.waits)
 
       by_side : {later rest : List SettleEntry} → InEither (disks.names steps.first behind.first) (switch.names steps.second behind.second) later (UnsettledPort k) rest
           → MovedBy ports port_entries k (lanes.leaves steps) ⊎ (port_waits s ≡ true)

@@ -87,7 +87,12 @@ module _ (disks : List DiskDecl) (nets : List NetShape) (image : ImageState) whe
     -- WHOLE LINES
     whole_lead : (lines : List (world.Line × List SettleEntry)) (v : DomainState)
         → Run world.LineStep Start lines v → LeadsTo disks nets image (world.entries_of_lines lines) v
-    whole_lead lines v run = grind (arith, lines_run, none_over, finished_at, ports_rest_at)
+    whole_lead lines v run = record {
+      run = lines_run Start lines v run;
+      none_left = none_over disks nets image are lines v run;
+      finished = finished_at disks nets image are lines v run;
+      ports_rest = ports_rest_at disks nets image are lines v run;
+    }
 
     lines_lead : (lines : List (Event × List Entry)) (v : DomainState) → Run EventStep Start lines v
         → Leads disks nets image (told lines) v

@@ -140,9 +140,18 @@ module _ {S V E : Type 0} (K : LaneKind S V) (N : Entries V E) where
       → NamedIn K N x (left_names K N k turns w)
   named_where k x i [] w r s place turn there why = absurd (cc turn)
   named_where k x i (q ∷ turns) [] r s place turn there why = absurd (cc there)
-  named_where k x zero (q ∷ turns) (y ∷ w) r s place turn there why = grind (arith, named_here)
+  named_where k x zero (q ∷ turns) (y ∷ w) r s place turn there why =
+      let same : s ≡ y = cc there in
+      let same_turn : r ≡ q = cc turn in
+      let number : k ≡ x = omega (arith, place) in
+      subst (λ (n : ℕ). NamedIn K N n (left_names K N k (q ∷ turns) (y ∷ w))) number
+      (named_here k (all_calm K q) (K.waits_on y) (left_names K N (k + 1) turns w)
+      (subst (λ (z : S). (all_calm K q ≡ false) ⊎ (K.waits_on z ≡ true)) same
+      (subst (λ (l : List V). (all_calm K l ≡ false) ⊎ (K.waits_on s ≡ true)) same_turn why)))
   named_where k x (suc i) (q ∷ turns) (y ∷ w) r s place turn there why =
-      grind (arith, named_further, named_where (k + 1) x i turns w r s (omega (arith, place)) turn there why)
+      named_further x (if all_calm K q && (if K.waits_on y then false else true) then [] else N.left_over k ∷ [])
+      (left_names K N (k + 1) turns w)
+      (named_where (k + 1) x i turns w r s (omega (arith, place)) turn there why)
 
   -- which turn it was that moved
   module _ (one_lane : (j x : ℕ) (e f : V) → N.of_lane j e ≡ N.of_lane x f → j ≡ x)

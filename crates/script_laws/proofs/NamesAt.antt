@@ -136,7 +136,19 @@ pub last_round : (start : Lanes) (so_far : List SettleEntry) (entry : SettleEntr
     (at : NamesAt start so_far entry behind) → LastRound at.last.steps so_far
 last_round start so_far entry behind at =
     let split = run_split (GoesOn lanes) (begin lanes start) at.now at.rounds (at.last ∷ []) at.run in
-    grind (arith, leaves_first, last_entries, append_assoc)
+    let goes : GoesOn lanes split.0 at.last split.2.0 = split.2.1 in
+    let first : LeavesFirst at.last.steps at.last.entries =
+    leaves_first (lanes.quiet at.last.steps) split.0 at.last.steps goes.between at.last.entries split.2.0 goes.behind in
+    let earlier : List SettleEntry = entries_of_rounds at.rounds in
+    let leaves : List SettleEntry = lanes.leaves at.last.steps in
+    record {
+      earlier = earlier;
+      later = first.ticks ++ at.later;
+      is = at.so_far_is ∙ ap (λ (l : List SettleEntry). l ++ at.later) (last_entries at.rounds at.last)
+          ∙ append_assoc earlier at.last.entries at.later
+          ∙ ap (λ (l : List SettleEntry). earlier ++ (l ++ at.later)) first.is
+          ∙ ap (λ (l : List SettleEntry). earlier ++ l) (append_assoc leaves first.ticks at.later);
+    }
 
 -- A WHOLE PART with a name ran out of rounds
 pub ran_out : (start : Lanes) (part : List SettleEntry) (behind : Lanes) → SettlePart lanes start part behind → (entry : SettleEntry)

@@ -1,5 +1,5 @@
 -- A quiet script that fits its journal without a fault is what the plain run makes of it.
-use Rattle.std.proofs.Common.{◌≡◌, ℕ, ◌+◌, ◌*◌, ◌≤◌, List, [], ◌∷◌, length, map, refl, sym, ◌∙◌, ap, subst, arith, None, Some}
+use Rattle.std.proofs.Common.{◌≡◌, ℕ, ◌+◌, ◌*◌, ◌≤◌, List, [], ◌∷◌, ◌++◌, length, map, refl, sym, ◌∙◌, ap, subst, arith, None, Some}
 use Rattle.std.proofs.lemmas.List.FromFn.{length-range_with_len}
 use Rattle.runs.specs.Run.{Run}
 use Rattle.disk_law.specs.ListState.{ImageState}
@@ -13,13 +13,13 @@ use Rattle.world_parts.proofs.domain_laws.ScriptEntries.{lines_run}
 use Rattle.world_parts.specs.domain_laws.Domain.{DomainState, fresh_domain}
 use Rattle.world_parts.specs.domain_laws.Lines.{Line, LineStep, entries_of_lines}
 use Rattle.ldom_report.specs.EntryText.{report_entries}
-use Rattle.ldom_report.specs.Report.{accepted_count, done_count, frame_count, report, reset_count}
+use Rattle.ldom_report.specs.Report.{accepted_count, done_count, end_line, frame_count, report, reset_count}
 use Rattle.ldom_entries.specs.declared.entry.Entry.{Entry}
 use Rattle.ldom_report.specs.declared.status.Mode.TheVariants as mode
 use Rattle.ldom_report.specs.declared.status.Status.TheVariants as status
 use Rattle.script_laws.proofs.EndLine.{ends_agree}
-use Rattle.script_laws.proofs.LaneReport.{SaysSame}
-use Rattle.script_laws.proofs.PlainGrows.{ids_below, listed, run_grows, run_same}
+use Rattle.script_laws.proofs.LaneReport.{SaysSame, Told, ids_in, told_lanes, told_part}
+use Rattle.script_laws.proofs.PlainGrows.{Grows, ids_below, listed, run_grows, run_same}
 use Rattle.script_laws.proofs.LineLists.{RanWhole, ran_whole}
 use Rattle.script_laws.proofs.QuietLanes.{disk_front, disk_shape, quiet_events}
 use Rattle.script_laws.proofs.ThroughLanes.{ThroughLanes, all_shown, of_disks, through_lanes}
@@ -91,11 +91,35 @@ tells_plain : (disk : DiskDecl) (content : List ℕ) (events : List Event) (jour
 tells_plain disk content events journal lines v says shows accepted =
     let p = ran disk content events in
     let shown_same = all_shown disk lines in
-    grind (arith, run_grows, length-range_with_len)
+    let told : told_part disk journal ≡ told_lanes disk (shown_of lines) = says.0 ∙ shown_same in
+    let grows : Grows disk (untouched content) (shown_of lines) p =
+    subst (λ (l : List SettleEntry). Grows disk (untouched content) l p) (sym shows.shows)
+    (run_grows disk (untouched content) events) in
+    let ids : ids_in (shown_of lines) ≡ ids_below p = sym grows.ids in
+    let long : length (ids_in (shown_of lines)) ≡ p.completed =
+    ap (λ (l : List ℕ). length l) ids ∙ length-range_with_len 0 p.completed in
+    record {
+      text = ap (λ (t : Told). t.text) told ∙ sym grows.text;
+      ids = ap (λ (t : Told). t.ids) told ∙ ids;
+      done = ap (λ (t : Told). t.done) told ∙ long;
+      accepted = says.1 ∙ accepted;
+      resets = ap (λ (t : Told). t.resets) told ∙ grows.resets;
+      frames = ap (λ (t : Told). t.frames) told;
+      told = shows.ends.told;
+    }
 
 told_plain : (disk : DiskDecl) (content : List ℕ) (events : List Event) (journal : List Entry) (v : WorldState)
     → Tells disk journal v (ran disk content events) → PlainLaw disk content events journal v
-told_plain disk content events journal v tells = grind (arith, ends_agree)
+told_plain disk content events journal v tells =
+    let p = ran disk content events in
+    let lines = length events in
+    let ends = ends_agree journal p lines tells.done tells.accepted tells.resets tells.frames in
+    record {
+      text = ap (λ (l : List ℕ). l ++ end_line lines journal status.Done) tells.text
+          ∙ ap (λ (l : List ℕ). p.text ++ l) ends;
+      told = tells.told;
+      ids = tells.ids;
+    }
 
 -- A QUIET SCRIPT whose journal fits, over an image that tells its bytes, is long enough and never failed
 pub plain_law : (disk : DiskDecl) (image : ImageState) (content : List ℕ) (parts : ScriptParts) (v : DomainState)

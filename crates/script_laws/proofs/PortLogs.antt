@@ -96,7 +96,11 @@ calm_after l event calm = grind arith
 
 pub calm_log : (events : List SwitchEvent) (l : PortLog) → EachOf IsCalm events → LastIdle l (log_of after l (map at_port events))
 calm_log [] l calm = record { last = l.last_idle; is = refl }
-calm_log (event ∷ events) l calm = grind (arith, calm_after, calm_log events (after l (at_port event)) calm.1)
+calm_log (event ∷ events) l calm =
+    let one : LastIdle l (after l (at_port event)) = calm_after l event calm.0 in
+    let more : LastIdle (after l (at_port event)) (log_of after (after l (at_port event)) (map at_port events)) =
+    calm_log events (after l (at_port event)) calm.1 in
+    record { last = more.last; is = more.is ∙ ap (idle_last more.last) one.is }
 
 pub finished_as : (o p : Option End) (l : PortLog) → IsFinished (idle_last o l) → IsFinished (idle_last p l)
 finished_as o p l at = record { told = at.told; guest = at.guest; hub = at.hub }

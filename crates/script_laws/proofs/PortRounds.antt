@@ -196,7 +196,10 @@ quiet_at : (w : Lanes) (r : AllSteps) (v : Lanes) (later : List SettleEntry) →
     → slice_get w.second k ≡ Some s → InEither (lanes.leaves r) later so_far (OfPort k event) rest → QuietAt k so_far s
 quiet_at w r v later made quiet are k event so_far rest s is there (inl at) =
     none_stand w.second (lanes.leaves r) (round_none w r v made) k event so_far at.rest s is at.is there
-quiet_at w r v later made quiet are k event so_far rest s is there (inr at) = grind (arith, quiet_behind, first_each, of_same)
+quiet_at w r v later made quiet are k event so_far rest s is there (inr at) =
+    subst (λ (l : List SettleEntry). QuietAt k l s) (sym at.before_is)
+    (quiet_behind w r v at.later made quiet
+    (first_each IsTickOfPorts at.later (OfPort k event ∷ rest) (of_same IsTickOfPorts (at.later ++ OfPort k event ∷ rest) later (sym at.is) are)) k s there)
 
 quiet_stand : (w : Lanes) (r : AllSteps) (v : Lanes) (later : List SettleEntry) → lanes.Makes w r v → lanes.quiet r ≡ true → EachEntry IsTickOfPorts later
     → TicksBehindQuiet w.second (lanes.leaves r ++ later)

@@ -1,6 +1,6 @@
 -- Behind a quiet round both ends of a port are still by its log, whose entries leave out its idle steps; and a port that
 -- waits then and that nobody forged lost a packet.
-use Rattle.std.proofs.Common.{◌≡◌, ◌⊎◌, inl, inr, ℕ, ◌+◌, Bool, true, false, Option, List, [], ◌∷◌, ◌++◌, length, map, refl, sym, ap, ◌∙◌, subst, arith, append_assoc}
+use Rattle.std.proofs.Common.{◌≡◌, ◌⊎◌, inl, inr, ℕ, ◌+◌, ◌≤◌, Bool, true, false, Option, List, [], ◌∷◌, ◌++◌, length, map, refl, sym, ap, ◌∙◌, subst, arith, append_assoc}
 use Rattle.std.specs.Prelude.{not, ⊤}
 use Rattle.std.proofs.lemmas.Bool.{eq-eqb, eqb-true}
 use Rattle.runs.specs.Lawful.{log_append, log_of}
@@ -8,6 +8,7 @@ use Rattle.runs.specs.Run.{Run, run_append, run_push}
 use Rattle.world_parts.specs.channel_model.WireLog.{WireLog}
 use Rattle.ldc_queue.specs.declared.end.End.{End}
 use Rattle.ldc_queue.specs.declared.end.End.TheVariants.{A, B}
+use Rattle.ldc_queue.specs.Wire.{peer_of, waiting_for}
 use Rattle.lane_kinds.proofs.EntriesEach.{said_each}
 use Rattle.lane_kinds.proofs.LaneFronts.{of_both}
 use Rattle.lane_kinds.proofs.Moving.{happened_both}
@@ -16,7 +17,7 @@ use Rattle.lane_kinds.proofs.Sums.{and_left, and_right}
 use Rattle.lane_kinds.specs.Lanes.{CalmTurn, EachOf, all_calm}
 use Rattle.world_parts.specs.port_laws.RemainingSteps.{IsCalm as IsCalmAnswer}
 use Rattle.world_parts.specs.port_model.FrameLaws.{IsFinished}
-use Rattle.world_parts.specs.port_model.NetEndStep.{NetAnswer}
+use Rattle.world_parts.specs.port_model.NetEndStep.{Blocked, Idle, NetAnswer}
 use Rattle.world_parts.specs.port_model.NetEvent.{Steps}
 use Rattle.world_parts.specs.port_model.NetLaneState.{IsNetShape, NetShape}
 use Rattle.world_parts.specs.port_model.NetLaneStep.{is_finished}
@@ -87,8 +88,16 @@ still_as : (e : End) (o p : Option End) (l : PortLog) → IsPortStillBy e (idle_
 still_as e o p l given = grind arith
 
 -- AN END THAT MAKES A CALM STEP is still
+full_most : (n m : ℕ) → n + 1 ≡ m → m ≤ n + 1
+full_most n m is = omega (arith, is)
+
 calm_still : (e : End) (l : PortLog) (answer : NetAnswer) → IsCalmAnswer answer → PortMay l (OnLane (Steps e answer)) → IsPortStillBy e l
-calm_still e l answer calm may = grind arith
+calm_still e l Idle calm may = record { up = may.table; still = inl may.idle }
+calm_still e l Blocked calm may = record {
+  up = may.table.0;
+  still = inr (full_most (length (waiting_for (peer_of e) l.wire.wire)) l.shape.entries may.table.1);
+}
+calm_still e l _ calm may = absurd calm
 
 calm_step : (l : PortLog) (answer : NetAnswer) → IsCalmAnswer answer → IsCalm (OnPort (OnLane (Steps A answer)))
 calm_step l answer calm = grind arith

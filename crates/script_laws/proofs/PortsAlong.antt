@@ -172,11 +172,19 @@ module _ (disks : List DiskDecl) (nets : List NetShape) (image : ImageState) (ar
 
     all_switch : (front : List SettleEntry) → entries ≡ front ++ Settled ∷ [] → IsUnforged s
         → frames_lost A (port_events k leads.real) ≡ 0 → frames_switched k entries ≡ frames_queued k entries
-    all_switch front is clean none = grind (arith, switched, rested_to_switch, rests_now, queued)
+    all_switch front is clean none =
+        switched
+        ∙ rested_to_switch (shapes_of 0 disks) image nets are leads.real v k shape s leads.led of_shape there clean none
+        (rests_now front is clean)
+        ∙ sym queued
 
     all_guest : (front : List SettleEntry) → entries ≡ front ++ Settled ∷ [] → IsUnforged s
         → frames_lost B (port_events k leads.real) ≡ 0 → frames_arrived k entries ≡ frames_put k entries
-    all_guest front is clean none = grind (arith, arrived, rested_to_guest, rests_now, put)
+    all_guest front is clean none =
+        arrived
+        ∙ rested_to_guest (shapes_of 0 disks) image nets are leads.real v k shape s leads.led of_shape there clean none
+        (rests_now front is clean)
+        ∙ sym put
 
     -- behind each settle
     rests_behind : (before behind : List SettleEntry) → entries ≡ before ++ Settled ∷ behind
@@ -228,7 +236,16 @@ module _ (disks : List DiskDecl) (nets : List NetShape) (image : ImageState) (ar
       subst (λ (l : List SettleEntry). Run PortsStep (map fresh_port nets) l v.second) real
       (ports_run Start leads.real v leads.led) in
       let split = run_split PortsStep (map fresh_port nets) v.second at.past (entry ∷ at.rest) run in
-      grind arith
+      record {
+        past = at.past;
+        later = entry ∷ at.rest;
+        is = real;
+        told_is = at.past_is;
+        at = split.0;
+        run = split.1;
+        leads = split.2;
+        forwards = split.2.1.entry.step.sees;
+      }
 
   pub ports_stand : PortsStand nets entries v.second
   ports_stand = record { real = leads.real; told_is = leads.told_is; each = of_port; forwards = goes_by }

@@ -123,7 +123,9 @@ module _ (disks : List DiskDecl) (nets : List NetShape) (image : ImageState) (en
   ]
 
   history_is : (x : ℕ) → history x journal ≡ filter_map kept (requests_of (happened x (means_of tells.tellings)))
-  history_is x = grind (arith, history_kept, all_seen)
+  history_is x =
+      ap (λ (l : List Entry). history x l) (sym tells.journal_is) ∙ history_kept x tells.tellings
+      ∙ ap (λ (es : List plain.ListEvent). filter_map kept es) (all_seen x tells.tellings)
 
   pub script_once : (x : ℕ) → CompletesOnceInOrder (history x journal)
   script_once x =

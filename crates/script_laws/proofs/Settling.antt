@@ -197,7 +197,10 @@ module _ (disks : List DiskDecl) (nets : List NetShape) (image : ImageState) (ar
   settled_at : (lines : List (world.Line × List SettleEntry)) (before behind : List SettleEntry)
       (of : LineAt lines before Settled behind)
       → Settles lanes (lanes_in of.at) of.place.line.1 (lanes_in of.next)
-  settled_at lines before behind of = grind (arith, settles_where)
+  settled_at lines before behind of =
+      let line = of.place.line in
+      settles_where line.0 (lanes_in of.at) line.1 of.place.so_far of.place.place.rest (lanes_in of.next) of.moves.part_of
+      of.place.place.is
 
   lanes_finished : (lines : List (world.Line × List SettleEntry)) (before behind : List SettleEntry)
       (of : LineAt lines before Settled behind) → AllFinished of.next.first.lanes

@@ -1,5 +1,5 @@
 -- Each tick in a settle of a script's lines is needed, by the log of its disk.
-use Rattle.std.proofs.Common.{◌≡◌, ◌⊎◌, inl, inr, ℕ, Bool, true, false, List, ◌∷◌, ◌++◌, slice_get, Some, sym, ap, ◌∙◌, subst, arith}
+use Rattle.std.proofs.Common.{◌≡◌, ◌⊎◌, inl, inr, ℕ, Bool, true, false, List, ◌∷◌, ◌++◌, slice_get, Some, sym, ap, ◌∙◌, subst}
 use Rattle.runs.specs.Lawful.{log_of}
 use Rattle.runs.specs.Run.{Run}
 use Rattle.disk_law.specs.ListState.{ImageState}
@@ -57,7 +57,10 @@ pub waits_by : (shape : Shape) (events : List DiskEvent) (s : LaneState) → IsS
 waits_by shape events s sound run waits =
     let both = waits_where (is_finished s.client) s.stopped waits in
     let agrees = run_agrees shape events s sound run in
-    grind (arith, never_finished, is_finished_by)
+    record {
+      runs = sym agrees.stopped ∙ both.1;
+      waits = λ by. never_finished (is_finished s.client) both.0 (is_finished_by shape events s sound run by);
+    }
 
 module _ (disks : List DiskDecl) (nets : List NetShape) (image : ImageState) (are : AreLanes disks nets) (x : ℕ)
     (shape : Shape) (of_shape : slice_get (shapes_of 0 disks) x ≡ Some shape) where

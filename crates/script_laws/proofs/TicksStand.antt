@@ -1,6 +1,6 @@
 -- Each tick in the part of a settle comes where its lane isn't finished though its server runs, and both ends are still;
 -- and where nobody forged the lane, where a packet was lost since the queues were last emptied.
-use Rattle.std.proofs.Common.{◌≡◌, inl, inr, ℕ, suc, ◌+◌, ◌≤◌, Bool, true, false, List, [], ◌∷◌, ◌++◌, slice_get, Some, refl, sym, ap, ◌∙◌, subst, arith, append_assoc, append-nil}
+use Rattle.std.proofs.Common.{◌≡◌, inl, inr, ℕ, zero, suc, ◌+◌, ◌≤◌, Bool, true, false, List, [], ◌∷◌, ◌++◌, slice_get, Some, refl, sym, ap, ◌∙◌, subst, arith, append_assoc, append-nil}
 use Rattle.std.proofs.lemmas.Option.{slice_get_within}
 use Rattle.std.specs.Prelude.{if◌then◌else◌, ⊤}
 use Rattle.ldc_queue.specs.declared.end.End.{End}
@@ -239,9 +239,21 @@ pub record QuietAt (x : ℕ) (s : LaneState) (behind : List LaneState) : Type 0 
 
 pub quiet_at : (lanes : List LaneState) (rounds : List LaneRound) (behind : List LaneState) (x : ℕ) (s : LaneState)
     → OwnTurns disk_kind lanes rounds behind → are_quiet rounds ≡ true → slice_get lanes x ≡ Some s → QuietAt x s behind
+quiet_at [] [] [] x s made quiet there = absurd (cc there)
+quiet_at (y ∷ lanes) (r ∷ rounds) (t ∷ behind) zero s made quiet there =
+    let same : y ≡ s = cc there in
+    record {
+      round = r;
+      lane = t;
+      there = refl;
+      made = subst (λ (l : LaneState). MakesRound l r t) same made.0;
+      quiet = and_left (is_quiet r) (are_quiet rounds) quiet;
+    }
 quiet_at (y ∷ lanes) (r ∷ rounds) (t ∷ behind) (suc x) s made quiet there =
-    grind (arith, and_right, quiet_at lanes rounds behind x s made.1 (and_right (is_quiet r) (are_quiet rounds) quiet) there)
-quiet_at lanes rounds behind x s made quiet there = grind (arith, and_left)
+    let at : QuietAt x s behind =
+    quiet_at lanes rounds behind x s made.1 (and_right (is_quiet r) (are_quiet rounds) quiet) there in
+    record { round = at.round; lane = at.lane; there = at.there; made = at.made; quiet = at.quiet }
+quiet_at _ _ _ x s made quiet there = absurd made
 
 module _ (lanes : List LaneState) (marks : List Bool) (steps : List LaneRound) (between : List LaneState)
     (later : List SettleEntry) (behind : List LaneState) (reached : Each IsReached lanes)
@@ -253,12 +265,34 @@ module _ (lanes : List LaneState) (marks : List Bool) (steps : List LaneRound) (
   -- a tick after all entries of the round
   behind_round : (x : ℕ) (past : List SettleEntry) (s : LaneState) (at : QuietAt x s between) → LostAt x past at.lane
       → slice_get lanes x ≡ Some s → TickAt x (round_entries 0 steps ++ past) s
-  behind_round x past s at lost there = grind (arith, lane_moved, leads, happened_both, append-nil, still_by, calm_round)
+  behind_round x past s at lost there =
+      let round : List SettleEntry = round_entries 0 steps in
+      let moved : Run LaneStep s (happened x round) at.lane =
+      lane_moved 0 x x lanes round between s at.lane (own x) (leads.round lanes steps between made) there
+      at.there in
+      let same : happened x (round ++ past) ≡ happened x round =
+      happened_both x round past ∙ ap (λ (l : List DiskEvent). happened x round ++ l) lost.none
+      ∙ append-nil (happened x round) in
+      record {
+        lane = at.lane;
+        run = subst (λ (l : List DiskEvent). Run LaneStep s l at.lane) (sym same) moved;
+        waits = lost.waits;
+        lost = lost.lost;
+        still = λ shape events sound run.
+            subst (λ (l : List DiskEvent). AreStillBy (log_of after (nothing_yet shape) (events ++ l))) (sym same)
+            (still_by shape events s at.round at.lane x round sound run at.made at.quiet (calm_round 0 steps quiet)
+            moved);
+      }
+    where
+      own : (x : ℕ) → x ≡ 0 + x
+      own x = omega (arith)
 
   quiet_tick : (x : ℕ) (event : DiskEvent) (so_far rest : List SettleEntry) (s : LaneState) → is_tick event ≡ true
       → slice_get lanes x ≡ Some s → InEither (round_entries 0 steps) later so_far (OfLane x event) rest
       → TickAt x so_far s
-  quiet_tick x event so_far rest s is there (inl at) = grind (arith, none_stand, disks_each, tick_steps)
+  quiet_tick x event so_far rest s is there (inl at) =
+      none_stand lanes (round_entries 0 steps) (disks_each NoTick tick_steps lanes steps between made) x event so_far at.rest s is at.is
+      there
   quiet_tick x event so_far rest s is there (inr at) =
       let found : QuietAt x s between = quiet_at lanes steps between x s turns quiet there in
       let all_lost = quiet_lost lanes steps between reached turns quiet in

@@ -31,7 +31,11 @@ lane_told : (many : ℕ) (w : WorldState) (k : ℕ) (event : DiskEvent) (v : Wor
     → Each IsReached w.lanes → OneMoves w k event v → IsTold many (OfLane k event)
 lane_told many w k event v long reached one =
     let at = each_there IsReached w.lanes k one.lane reached one.there in
-    grind (arith, lane_step, slice_get_within, event_words)
+    let step = lane_step one.lane w.image event one.after v.image one.moves in
+    let within = slice_get_within w.lanes k one.lane one.there in (
+      omega (arith, within, long),
+      event_words at.shape at.events one.lane event one.after at.sound at.run step,
+    )
 
 -- AND SO IS EACH ENTRY of a run
 pub run_told : (many ports : ℕ) (w : WorldState) (entries : List SettleEntry) (v : WorldState) → length w.lanes ≡ many

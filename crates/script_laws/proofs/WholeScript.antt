@@ -4,7 +4,7 @@ use Rattle.std.specs.Prelude.{IsSome, IsSomeAnd}
 use Rattle.std.specs.Io.KnownBytes.{Appends}
 use Rattle.disk_law.specs.ListState.{ImageState}
 use Rattle.domain_script.specs.Declarations.{AreDisks, Declared}
-use Rattle.domain_script.specs.ScriptEvents.{no_names}
+use Rattle.domain_script.specs.ScriptEvents.{AllSpell, no_names}
 use Rattle.domain_script.specs.ScriptLines.{script_lines}
 use Rattle.domain_script.specs.NamesState.{NamesState, declared_by}
 use Rattle.domain_script.specs.declared.event.DiskDecl.{DiskDecl}
@@ -25,10 +25,12 @@ use Rattle.script_laws.specs.Counts.{Counts}
 use Rattle.script_laws.specs.Outcomes.{Reports, RunsScript}
 use Rattle.script_laws.specs.Reading.{StopsAt}
 use Rattle.script_laws.specs.Replayed.{FaultsAre, Replayed}
+use Rattle.script_laws.specs.Script.{ReadSoFar}
 use Rattle.script_laws.specs.Sized.{SizeIs}
-use Rattle.script_laws.specs.Whole.{RunsPlainly, RunsWhole}
+use Rattle.script_laws.specs.Whole.{RunsPlainly, RunsWhole, SpellsAll}
 use Rattle.disk_law.specs.ListState.{attached}
 use Rattle.world_parts.specs.Declared.{bytes_needed, nets_of, world_of}
+use Rattle.world_parts.specs.Endings.{EndsSo, ending}
 use Rattle.world_parts.specs.Script.{FitsScript, ScriptParts, events_of, journal_of}
 use Rattle.ldom_report.specs.LinesEnd.{counted_lines}
 use Rattle.script_laws.proofs.OneReading.{all_read, as_many, one_reading}
@@ -43,6 +45,10 @@ long_at_end : {D : Type 0} (size : D → ℕ) (least : ℕ) (told : Option (List
 long_at_end size least told None given is some sized = absurd (cc some)
 long_at_end size least told (Some disk) given is some sized = subst (λ (o : Option (List ℕ)). IfSome o (λ bytes. least ≤ length bytes)) is sized.1
 
+seen_so : {D : Type 0} (seen : D → ImageState) (image : Option D) (i : ImageState) → IfSome image (λ d. StandsBehind (seen d) i) → IsSome image → IsSomeAnd image (λ d. StandsBehind (seen d) i)
+seen_so seen None i is some = absurd (cc some)
+seen_so seen (Some d) i is some = is
+
 -- WHAT A RUN ENDED WITH at the script's end
 module _ {D : Type 0} (shown : Mode) (seen : D → ImageState) (script now : Option (List ℕ)) (gives : ℕ → Option (List ℕ)) (ran : Status) (lines : ℕ) (names : NamesState) (journal : List Entry) (image : Option D) (lanes : Option Lanes) (old new : Option (List ℕ))
     (run : Replayed seen script now gives ran lines names journal image lanes) (why : Status) (reports : Reports ran why old new (report shown (declared_by names) lines journal ran)) (done : why ≡ status.Done) where
@@ -56,6 +62,13 @@ module _ {D : Type 0} (shown : Mode) (seen : D → ImageState) (script now : Opt
   stop = subst (λ (w : Status). StopsAt w run.stopped.left run.stopped.held now names run.stopped.count (length journal)) told.0 run.stopped.stop
 
   -- all lines were read, and in one way
+  all_spelled : SpellsAll script read_events names
+  all_spelled bytes events known_names known spelled =
+      let read : ReadSoFar (Some bytes) run.stopped.left read_events names run.stopped.count =
+      subst (λ (s : Option (List ℕ)). ReadSoFar s run.stopped.left read_events names run.stopped.count) known run.stopped.read in
+      let all : script_lines bytes ≡ read.texts = all_read bytes run.stopped.left read.texts stop.0 read.taken.taken in
+      one_reading read.texts no_names known_names names events read_events (subst (λ (l : List (List ℕ)). AllSpell l no_names events known_names) all spelled) read.spell
+
   lines_are : lines ≡ length read_events
   lines_are =
       let read = run.stopped.read in
@@ -63,13 +76,21 @@ module _ {D : Type 0} (shown : Mode) (seen : D → ImageState) (script now : Opt
       ∙ read.counts ∙ sym (as_many read.texts no_names names read_events read.spell)
 
   text_is : report shown (declared_by names) lines journal ran ≡ report shown (declared_by names) (length read_events) journal status.Done
-  text_is = grind (arith, told, lines_are)
+  text_is =
+      ap (λ (w : Status). report shown (declared_by names) lines journal w) told.0
+      ∙ ap (λ (n : ℕ). report shown (declared_by names) n journal status.Done) lines_are
 
   faults : IsSome image × (run.final.first.image.faults ≡ 0)
   faults = subst (λ (w : Status). FaultsAre w image run.final.first.image.faults) told.0 run.faults_are
 
   pub runs_whole : RunsWhole shown seen script names run.parts run.final journal image old new
-  runs_whole = grind (arith, all_read, stop, one_reading, told, faults, lines_are)
+  runs_whole = record {
+    all = all_spelled;
+    none_cut = subst (λ (w : Status). EndsSo (ending w) run.parts) told.0 run.journal_is.ends;
+    faultless = faults.1;
+    image_is = seen_so seen image run.final.first.image run.image_is faults.0;
+    written = subst (λ (l : List ℕ). Appends old new l) text_is told.1;
+  }
 
 left_so : {D : Type 0} (seen : D → ImageState) (image : Option D) (i : ImageState) (left : List ℕ) → IsSomeAnd image (λ d. StandsBehind (seen d) i) → i.told ≡ Some left
     → IsSomeAnd image (λ d. (seen d).told ≡ Some left)
